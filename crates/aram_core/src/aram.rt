@@ -1,0 +1,57 @@
+//! The memory itself.
+
+ghost use Rattle.std.specs.Prelude.{◌≡◌, length, IfOk};
+ghost use Rattle.aram_core.specs.Memory.{byte_at, word_at, with_byte};
+
+use crate::OutOfMemory;
+use std::alloc::Global;
+use std::marker::Model;
+
+/// The memory of the sound unit: 65,536 bytes at the addresses 0000h to FFFFh.
+#[derive(Drop)]
+pub struct Aram {
+    bytes: Vec<u8>,
+}
+
+impl Model for Aram {
+    ghost use Rattle.std.specs.Prelude.{◌≡◌, List, ℕ, length};
+
+    ghost Value = { List ℕ };
+
+    ghost view = { λ a. a.bytes.items };
+
+    ghost invariant = { λ a. length a.bytes.items ≡ 0x10000 };
+}
+
+impl Aram {
+    /// A copy of an image of 65,536 bytes.
+    pub fn from_image(alloc: Global, bytes: &[u8]) -> Result<Aram, OutOfMemory>
+        requires { length bytes.now ≡ 0x10000 }
+        ensures { IfOk result (λ memory. memory ≡ bytes.now) }
+    {
+        let bytes = Vec::from_slice(alloc, bytes)?;
+        Ok(Aram { bytes })
+    }
+
+    /// The byte at an address.
+    pub fn get(&self, at: u16) -> u8
+        ensures { result ≡ byte_at self.now at }
+    {
+        self.bytes[usize::from(at)]
+    }
+
+    /// Puts a byte at an address.
+    pub fn put(&mut self, at: u16, value: u8)
+        ensures { self.new ≡ with_byte self.old at value }
+    {
+        self.bytes[usize::from(at)] = value;
+    }
+
+    /// The word at an address, low byte first. The word at FFFFh has its high byte at 0000h.
+    #[tactic(auto, unfolding(crate::specs::Memory::word_at))]
+    pub fn word(&self, at: u16) -> u16
+        ensures { result ≡ word_at self.now at }
+    {
+        u16::from(self.get(at)) + 256 * u16::from(self.get(at.wrapping_add(1)))
+    }
+}

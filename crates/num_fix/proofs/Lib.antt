@@ -1,0 +1,2 @@
+-- Bounds: how large a shifted number and a scaled product get.
+pub mod Bounds
