@@ -2,6 +2,10 @@
 #![tactic(auto)]
 
 mod aram;
+mod page_set;
+#[cfg(test)]
+mod tests;
 
 pub use aram::Aram;
+pub use page_set::PageSet;
 pub use std::alloc::AllocError as OutOfMemory;
