@@ -1,0 +1,3 @@
+-- Samples: lists of kept samples, digit by digit. Blocks: the same by groups and blocks.
+pub mod Samples
+pub mod Blocks

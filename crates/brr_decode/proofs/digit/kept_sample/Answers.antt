@@ -1,0 +1,18 @@
+use Rattle.std.proofs.Common.{◌≡◌, ◌+ℤ◌, ◌*ℤ◌, pos, to_z, of_z, arith, rules, ap, ◌∙◌}
+use Rattle.std.specs.Int.{w16}
+use Rattle.std.proofs.lemmas.Int.{ints}
+use Rattle.num_fix.specs.Arithmetic.{clamp16, wrap16}
+use Rattle.brr_decode.specs.Header.{shift_of, filter_of}
+use Rattle.brr_decode.specs.Kept.{kept_sample, shifted_digit, prediction}
+use Rattle.brr_decode.proofs.digit.kept_sample.Goals as goal
+
+pub returns : goal.returns
+unfolding kept_sample
+returns c =
+    let shifted : c.shifted_digit.result ≡ shifted_digit (shift_of c.args.header) c.args.digit = search rules in
+    let predicted : c.prediction.result ≡ prediction (filter_of c.args.header) c.args.p1 c.args.p2 = search rules in
+    let clamped : c.clamp16.result ≡ clamp16 (c.shifted_digit.result +ℤ c.prediction.result) =
+    c.clamp16.ensures ∙ ap clamp16 (omega (arith, ints)) in
+    let doubled : c.wrap16.result ≡ wrap16 (pos 2 *ℤ c.clamp16.result) = c.wrap16.ensures ∙ ap wrap16 (omega (arith, ints)) in
+    let whole : to_z w16 (of_z w16 c.wrap16.result) ≡ c.wrap16.result = search rules in
+    rw (whole, doubled, clamped, shifted, predicted)

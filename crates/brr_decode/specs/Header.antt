@@ -1,0 +1,18 @@
+-- The header of a block, its first byte: the shift in bits 7 to 4, the filter in bits 3 and 2, the loop bit and the end bit.
+use Rattle.std.specs.Prelude.{ℕ, ◌+◌, ◌/◌, ◌%◌, ◌==◌, Bool, if◌then◌else◌}
+
+abbrev pub shift_of : ℕ → ℕ
+shift_of header = header / 0x10
+
+abbrev pub filter_of : ℕ → ℕ
+filter_of header = header / 4 % 4
+
+abbrev pub has_loop : ℕ → Bool
+has_loop header = header / 2 % 2 == 1
+
+abbrev pub has_end : ℕ → Bool
+has_end header = header % 2 == 1
+
+-- the address of the block that follows: the loop word after an end, else 9 bytes on
+abbrev pub next_block : (header block loop_word : ℕ) → ℕ
+next_block header block loop_word = if has_end header then loop_word else (block + 9) % 0x10000

@@ -1,0 +1,5 @@
+-- What a block of BRR means.
+-- Header: the fields of a block's first byte, and the block that follows.
+-- Kept: the sample that is kept of a digit, and the list of kept samples over all blocks.
+pub mod Header
+pub mod Kept

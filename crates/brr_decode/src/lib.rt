@@ -1,0 +1,15 @@
+//! Decodes the blocks of BRR, the compressed samples of the S-DSP (Anomie's S-DSP Doc, "BRR samples").
+#![tactic(auto)]
+
+mod block;
+mod digit;
+mod laws;
+mod stream;
+#[cfg(test)]
+mod tests;
+
+pub use block::{decode_block, decode_group};
+pub use digit::kept_sample;
+pub use laws::each_sample_is_kept;
+pub use std::alloc::AllocError as OutOfMemory;
+pub use stream::{BrrRefusal, decode_stream};

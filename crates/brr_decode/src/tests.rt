@@ -1,0 +1,50 @@
+use crate::{BrrRefusal, decode_block, decode_group, decode_stream, kept_sample};
+use std::test::Fail;
+
+// Shift and filter: the least digit under the shifts 12 and 13, and 4096 falling under filter 1.
+#[test]
+fn shifts_and_filters(rt: HostRuntime) -> Result<(), Fail> {
+    assert_eq!(rt; kept_sample(0xC0, -8, 0, 0), -32768);
+    assert_eq!(rt; decode_group(0xC0, 0x80, 0x00, 0, 0), [-32768, 0, 0, 0]);
+    assert_eq!(rt; decode_group(0xD0, 0xF7, 0x00, 0, 0), [-4096, 0, 0, 0]);
+    assert_eq!(rt; decode_block(b"\xC0\0\0\0\0\0\0\0\x01", 0, 0)[15], 4096);
+    let stream = b"\xC0\0\0\0\0\0\0\0\x01\xC4\0\0\0\0\0\0\0\0";
+    let samples = decode_stream(rt.alloc(), stream)?;
+    assert_eq!(rt; samples.len(), 32);
+    assert_eq!(rt; &samples[14..19], [0, 4096, 3840, 3600, 3374].as_slice());
+    Ok(())
+}
+
+// The sum 57,024 is limited to 32,767 first; its double then wraps to -2.
+#[test]
+fn a_sum_is_limited_and_its_double_wraps(rt: HostRuntime) -> Result<(), Fail> {
+    let stream = b"\xC0\0\0\0\0\0\0\0\x87\xC8\x70\0\0\0\0\0\0\0";
+    let samples = decode_stream(rt.alloc(), stream)?;
+    assert_eq!(rt; samples.len(), 32);
+    assert_eq!(rt; &samples[14..18], [-32768, 28672, -2, -26884].as_slice());
+    Ok(())
+}
+
+#[test]
+fn lengths_that_are_no_blocks(rt: HostRuntime) -> Result<(), Fail> {
+    let bytes = vec![in rt.alloc(); 0u8; 65538]?;
+    for (length, accepted) in [
+        (0, false),
+        (8, false),
+        (9, true),
+        (10, false),
+        (65529, true),
+        (65538, false),
+    ] {
+        assert!(rt; length <= bytes.len());
+        match decode_stream(rt.alloc(), &bytes[..length]) {
+            Ok(samples) => assert_eq!(rt; (accepted, samples.len()), (true, length / 9 * 16)),
+            Err(BrrRefusal::Length(refused)) => assert_eq!(rt;
+                (accepted, refused),
+                (false, length)
+            ),
+            Err(BrrRefusal::OutOfMemory) => panic!(rt; "out of memory at {length}"),
+        }
+    }
+    Ok(())
+}
