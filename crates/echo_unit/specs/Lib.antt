@@ -1,0 +1,6 @@
+-- Flg: the bits of the register FLG that the echo reads.
+-- Fir: the filter over the last eight echo samples of a side.
+-- Echo: what one step of the echo does to its state and to memory, and the frame that it gives.
+pub mod Flg
+pub mod Fir
+pub mod Echo

@@ -1,0 +1,14 @@
+//! The echo of the S-DSP: its buffer in the shared memory, its FIR filter, and the output frame.
+#![tactic(auto)]
+
+mod cell;
+mod echo;
+mod filter;
+mod regs;
+#[cfg(test)]
+mod tests;
+mod volume;
+
+pub use echo::Echo;
+pub use reach_map::Window;
+pub use regs::EchoRegs;

@@ -1,0 +1,94 @@
+use crate::{Echo, EchoRegs, Window};
+use aram_core::Aram;
+use num_fix::Frame;
+use std::test::Fail;
+
+fn both(value: i16) -> Frame {
+    Frame {
+        left: value,
+        right: value,
+    }
+}
+
+// All volumes 7Fh and C7 7Fh, over a buffer of one cell: 4032 is read as 2016, filtered to 4000, and 3968 after EVOL.
+// While FLG mutes, the echo goes on; while it forbids writes, the cell stays.
+#[test]
+fn feedback_mute_and_writes_off(rt: HostRuntime) -> Result<(), Fail> {
+    let zeros = vec![in rt.alloc(); 0u8; 65536]?;
+    let mut memory = Aram::from_image(rt.alloc(), &zeros)?;
+    let mut echo = Echo::new();
+    let mut regs = EchoRegs {
+        esa: 0xE0,
+        edl: 0,
+        flg: 0,
+        efb: 0,
+        mvol_l: 0x7F,
+        mvol_r: 0x7F,
+        evol_l: 0x7F,
+        evol_r: 0x7F,
+        fir: [0, 0, 0, 0, 0, 0, 0, 0x7F],
+    };
+    for (flg, frame, word) in [
+        (0x00, 4000, 4032),
+        (0x00, 7968, 4032),
+        (0x40, 0, 4032),
+        (0x20, 7968, 4032),
+    ] {
+        regs.flg = flg;
+        assert_eq!(rt;
+            echo.step(&mut memory, &regs, both(4032), both(4032)),
+            both(frame)
+        );
+        assert_eq!(rt; memory.word(0xE000), word);
+        assert_eq!(rt; memory.word(0xE002), word);
+    }
+    regs.flg = 0x20;
+    let _ = echo.step(&mut memory, &regs, both(0), both(0));
+    assert_eq!(rt; memory.word(0xE000), 4032);
+    Ok(())
+}
+
+// From FF00h on with EDL 1: 65 cells are written round the end of memory. A new EDL counts from the buffer's first cell on.
+#[test]
+fn the_window_goes_round_and_the_length_waits(rt: HostRuntime) -> Result<(), Fail> {
+    let filled = vec![in rt.alloc(); 0x11u8; 65536]?;
+    let mut memory = Aram::from_image(rt.alloc(), &filled)?;
+    let mut echo = Echo::new();
+    let mut regs = EchoRegs {
+        esa: 0xFF,
+        edl: 1,
+        flg: 0,
+        efb: 0,
+        mvol_l: 0,
+        mvol_r: 0,
+        evol_l: 0,
+        evol_r: 0,
+        fir: [0; 8],
+    };
+    let window = |len: u32| Window { start: 0xFF00, len };
+    assert_eq!(rt; echo.window(0xFF, 0), window(4));
+    for _ in 0..65 {
+        let _ = echo.step(&mut memory, &regs, both(0), both(0));
+    }
+    for (address, byte) in [
+        (0xFEFF, 0x11),
+        (0xFF00, 0),
+        (0xFFFF, 0),
+        (0x0000, 0),
+        (0x0003, 0),
+        (0x0004, 0x11),
+    ] {
+        assert_eq!(rt; memory.get(address), byte, "at {address:04x}");
+    }
+    regs.edl = 2;
+    assert_eq!(rt; echo.window(0xFF, 2), window(4096));
+    for _ in 65..512 {
+        let _ = echo.step(&mut memory, &regs, both(0), both(0));
+    }
+    assert_eq!(rt; echo.window(0xFF, 0), window(2048));
+    memory.put(0xFF00, 0x11);
+    let _ = echo.step(&mut memory, &regs, both(0), both(0));
+    assert_eq!(rt; memory.get(0xFF00), 0);
+    assert_eq!(rt; echo.window(0xFF, 0), window(4096));
+    Ok(())
+}

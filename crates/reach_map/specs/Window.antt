@@ -1,0 +1,16 @@
+-- Windows of memory. A window that passes FFFFh goes on at 0000h.
+use Rattle.std.specs.Prelude.{ℕ, ◌+◌, ◌-◌, ◌*◌, ◌%◌, max, nat_lt, Bool}
+use Rattle.reach_map.specs.declared.Window.{Window}
+
+-- an address is less than the window's length past its start
+abbrev pub is_in_window : Window → (address : ℕ) → Bool
+is_in_window window address = nat_lt ((address + 0x10000 - window.start) % 0x10000) window.len
+
+-- the bytes of echo that the register EDL asks for: its low four bits count units of 2,048 bytes
+abbrev pub echo_length : (edl : ℕ) → ℕ
+echo_length edl = edl % 16 * 0x800
+
+-- Where the echo can stand: from page ESA on the bytes of the length in force or of the length that EDL asks for,
+-- whichever is more, and at least one cell of four bytes.
+abbrev pub echo_window : (esa edl length : ℕ) → Window
+echo_window esa edl length = record { start = esa * 0x100; len = max (max length (echo_length edl)) 4 }
