@@ -1,0 +1,2 @@
+-- Envelope: one step of a voice's envelope.
+pub mod Envelope

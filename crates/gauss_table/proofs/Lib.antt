@@ -1,0 +1,2 @@
+-- Reading: numbers that were read one by one are the numbers that the bytes read as.
+pub mod Reading

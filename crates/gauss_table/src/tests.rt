@@ -1,0 +1,35 @@
+//! The table of straight lines, and what is no table.
+
+use crate::{GaussTable, TableRefusal};
+use std::test::Fail;
+
+#[test]
+fn straight_lines_weigh_the_middle_two(rt: HostRuntime) -> Result<(), Fail> {
+    let table = GaussTable::straight(rt.alloc())?;
+    for (i, samples, want) in [
+        (0, (4096, 4096, 4096, 4096), 4096),
+        (0, (0, 2048, 0, 0), 2044),
+        (0, (0, 0, 2048, 0), 4),
+        (255, (0, 2048, 0, 0), 4),
+        (255, (0, 0, 2048, 0), 2044),
+        (128, (2048, 0, 0, 2048), 0),
+    ] {
+        let (x0, x1, x2, x3) = samples;
+        assert_eq!(rt; table.mix(i, x0, x1, x2, x3), want, "at {i}");
+    }
+    Ok(())
+}
+
+#[test]
+fn a_table_has_1024_bytes(rt: HostRuntime) -> Result<(), Fail> {
+    let bytes = vec![in rt.alloc(); 0x80u8; 1025]?;
+    assert_eq!(rt; bytes.len(), 1025);
+    for length in [1023, 1025] {
+        let refused = GaussTable::read(rt.alloc(), &bytes[..length]).err();
+        assert_eq!(rt; refused, Some(TableRefusal::Length(length)));
+    }
+    let table = GaussTable::read(rt.alloc(), &bytes[..1024])?;
+    // each weight is 8080h, -32,640
+    assert_eq!(rt; table.mix(0, 0, 0, 0, 2048), -32640);
+    Ok(())
+}

@@ -1,0 +1,4 @@
+-- Tables: facts about each entry of the tables of periods and offsets.
+-- Parts: a rate fires where two parts of the counter are 0.
+pub mod Tables
+pub mod Parts

@@ -1,0 +1,30 @@
+-- The counter that all rates look at, from the number of the sample, and when a rate fires.
+use Rattle.std.specs.Prelude.{ℕ, zero, suc, ◌+◌, ◌%◌, List, [], ◌∷◌, Bool, ◌&&◌, ◌==◌, nat_lt, pos, negsuc, unsigned_abs, slice_index}
+use Rattle.std.specs.Int.{int_rem_euclid}
+
+-- the counter while sample number k is made: -(k + 1) modulo 30,720
+abbrev pub counter_at : ℕ → ℕ
+counter_at k = unsigned_abs (int_rem_euclid (negsuc k) (pos 30720))
+
+-- the counter once n samples are made: 0 before the first, and then that of the last
+abbrev pub counter_after : ℕ → ℕ
+counter_after zero = 0
+counter_after (suc k) = counter_at k
+
+-- how many samples lie between two firings of each rate; rate 0 never fires
+abbrev pub periods : List ℕ
+periods =
+    0 ∷ 2048 ∷ 1536 ∷ 1280 ∷ 1024 ∷ 768 ∷ 640 ∷ 512 ∷ 384 ∷ 320 ∷ 256 ∷
+    192 ∷ 160 ∷ 128 ∷ 96 ∷ 80 ∷ 64 ∷ 48 ∷ 40 ∷ 32 ∷ 24 ∷ 20 ∷
+    16 ∷ 12 ∷ 10 ∷ 8 ∷ 6 ∷ 5 ∷ 4 ∷ 3 ∷ 2 ∷ 1 ∷ []
+
+-- what is added to the counter before it is divided by a rate's period
+abbrev pub offsets : List ℕ
+offsets =
+    0 ∷ 0 ∷ 1040 ∷ 536 ∷ 0 ∷ 1040 ∷ 536 ∷ 0 ∷ 1040 ∷ 536 ∷ 0 ∷
+    1040 ∷ 536 ∷ 0 ∷ 1040 ∷ 536 ∷ 0 ∷ 1040 ∷ 536 ∷ 0 ∷ 1040 ∷ 536 ∷
+    0 ∷ 1040 ∷ 536 ∷ 0 ∷ 1040 ∷ 536 ∷ 0 ∷ 1040 ∷ 0 ∷ 0 ∷ []
+
+-- whether a rate fires at a counter
+unfoldable pub fires : ℕ → ℕ → Bool
+fires rate counter = nat_lt 0 rate && ((counter + slice_index offsets rate) % slice_index periods rate == 0)

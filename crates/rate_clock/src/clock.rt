@@ -1,0 +1,113 @@
+//! The counter that all rates look at.
+
+ghost use Rattle.std.specs.Prelude.{◌≡◌, ℕ, ◌+◌, ◌-◌, ◌%◌, ◌==◌, ◌<◌, if◌then◌else◌};
+ghost use Rattle.rate_clock.specs.Counter.{counter_after, fires};
+ghost use Rattle.rate_clock.specs.Inside.{rest_at};
+
+use std::marker::Model;
+
+/// The offset of the rates whose period is three times a power of 2.
+const THIRDS: u16 = 1040;
+
+/// The offset of the rates whose period is five times a power of 2. All other periods are powers of 2.
+const FIFTHS: u16 = 536;
+
+/// The offset of each rate, which is added to the counter.
+const OFFSETS: [u16; 32] = [
+    0, 0, 1040, 536, 0, 1040, 536, 0, 1040, 536, 0, 1040, 536, 0, 1040, 536, 0, 1040, 536, 0, 1040,
+    536, 0, 1040, 536, 0, 1040, 536, 0, 1040, 0, 0,
+];
+
+/// The power of 2 in the period of each rate, less 1.
+const LOW_BITS: [u16; 32] = [
+    0, 2047, 511, 255, 1023, 255, 127, 511, 127, 63, 255, 63, 31, 127, 31, 15, 63, 15, 7, 31, 7, 3,
+    15, 3, 1, 7, 1, 0, 3, 0, 1, 0,
+];
+
+/// The counter, which falls by 1 at each sample: 0 before the first sample, and 30,719 in it.
+/// All 31 rates of envelopes and noise are read off this one counter (Anomie's S-DSP Doc, "Counter").
+#[derive(Clone, Copy, Debug)]
+pub struct RateClock {
+    counter: u16,
+    /// The counter with its offset, modulo 3.
+    thirds: u8,
+    /// The counter with its offset, modulo 5.
+    fifths: u8,
+}
+
+impl Model for RateClock {
+    ghost use Rattle.std.specs.Prelude.{ℕ};
+
+    ghost Value = { ℕ };
+
+    ghost use Rattle.rate_clock.specs.Inside.{IsClock, inside_of, inside_of-counter};
+
+    ghost view = { λ c. c.counter };
+
+    ghost invariant = { IsClock };
+
+    ghost inverse = { inside_of };
+
+    ghost inverse_ok = { inside_of-counter };
+}
+
+/// The number before `n`, from 0 on to the last below `modulus`.
+fn fallen(n: u16, modulus: u16) -> u16
+    requires { n < modulus }
+    ensures value { result ≡ (n + modulus - 1) % modulus }
+    ensures bound { result < modulus }
+{
+    if n == 0 { modulus - 1 } else { n - 1 }
+}
+
+impl RateClock {
+    /// The clock before the first sample.
+    pub fn new() -> Self
+        ensures { result ≡ 0 }
+    {
+        RateClock {
+            counter: 0,
+            thirds: 2,
+            fifths: 1,
+        }
+    }
+
+    /// Goes on to the next sample.
+    pub fn step(&mut self)
+        ensures falls { self.new ≡ (if self.old == 0 then 30719 else self.old - 1) }
+        ensures counts { (n : ℕ) → self.old ≡ counter_after n → self.new ≡ counter_after (n + 1) }
+    {
+        self.counter = fallen(self.counter, 30720);
+        self.thirds = fallen(u16::from(self.thirds), 3) as u8;
+        self.fifths = fallen(u16::from(self.fifths), 5) as u8;
+    }
+
+    /// What the odd part of a period divides, by the offset of its rate: 0 where it divides it.
+    fn rest(&self, offset: u16) -> u8
+        ensures { result ≡ rest_at self.now offset }
+    {
+        if offset == THIRDS {
+            self.thirds
+        } else if offset == FIFTHS {
+            self.fifths
+        } else {
+            0
+        }
+    }
+
+    /// Whether a rate, 0 to 31, fires at this sample. A period is a power of 2, or three or five times
+    /// one, so low bits and a rest tell, and nothing is divided.
+    pub fn fires(&self, rate: u8) -> bool
+        requires { rate < 32 }
+        ensures { result ≡ fires rate self.now }
+    {
+        if rate == 0 {
+            return false;
+        }
+        let place = usize::from(rate);
+        let offset = OFFSETS[place];
+        let low = (self.counter + offset) & LOW_BITS[place];
+        let rest = self.rest(offset);
+        low == 0 && rest == 0
+    }
+}

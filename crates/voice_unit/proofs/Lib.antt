@@ -1,0 +1,2 @@
+-- Twelve: lists of twelve samples, entry by entry.
+pub mod Twelve

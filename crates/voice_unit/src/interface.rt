@@ -1,0 +1,52 @@
+//! What a step of a voice reads beside the memory and the table, and what it gives.
+
+/// The registers of one voice that its step reads (Anomie's S-DSP Doc, "DSP Voices").
+#[derive(Clone, Copy, Debug)]
+pub struct VoiceRegs {
+    /// PITCHL and PITCHH together, at most 3FFFh: 1000h plays a sample of the source in each step.
+    pub pitch: u16,
+    /// The number of the source in the directory.
+    pub srcn: u8,
+    pub adsr1: u8,
+    pub adsr2: u8,
+    pub gain: u8,
+}
+
+/// What else a step reads: registers that all voices share, seen by one voice.
+#[derive(Clone, Copy, Debug)]
+pub struct VoiceIn {
+    /// The page of the directory.
+    pub dir: u8,
+    /// The pitch is changed by the voice before: its PMON bit, never of voice 0.
+    pub modulated: bool,
+    /// The output of the voice before in this sample.
+    pub previous: i16,
+    /// Noise takes the place of the samples: its NON bit.
+    pub noisy: bool,
+    /// The noise, at most 7FFFh.
+    pub noise: u16,
+    /// The soft reset of FLG.
+    pub reset: bool,
+    /// The keys are looked at in this sample, as in every second one.
+    pub poll: bool,
+    pub koff: bool,
+    /// The poll took its KON bit.
+    pub kon: bool,
+}
+
+/// What a step gives.
+#[derive(Clone, Copy, Debug)]
+pub struct VoiceOut {
+    /// The output before its volumes.
+    pub out: i16,
+    /// The level that made it, at most 7FFh.
+    pub level: u16,
+    pub envx: u8,
+    pub outx: u8,
+    /// The address of its block after the step.
+    pub block: u16,
+    /// It came to the end of a block that has its end bit.
+    pub looped: bool,
+    /// It was keyed.
+    pub keyed: bool,
+}

@@ -1,0 +1,12 @@
+//! One voice of the S-DSP: it reads its blocks, interpolates between its samples and follows its envelope.
+#![tactic(auto)]
+
+mod directory;
+mod interface;
+mod level;
+#[cfg(test)]
+mod tests;
+mod voice;
+
+pub use interface::{VoiceIn, VoiceOut, VoiceRegs};
+pub use voice::Voice;
