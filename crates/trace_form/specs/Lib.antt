@@ -1,0 +1,2 @@
+-- Line: the text of a record in a trace.
+pub mod Line

@@ -1,0 +1,15 @@
+//! What a run of the sound unit gives beside its sound: records of events, lists with room for them, and trace lines.
+#![tactic(auto)]
+
+mod lists;
+mod record;
+mod ring;
+#[cfg(test)]
+mod tests;
+mod text;
+
+pub use lists::{Frames, Records};
+pub use record::Record;
+pub use ring::{EventRing, Full};
+pub use std::alloc::AllocError as OutOfMemory;
+pub use text::{TraceLine, line};

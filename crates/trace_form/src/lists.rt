@@ -1,0 +1,119 @@
+// Frames and records with a fixed room, so that adding one takes no memory.
+ghost use Rattle.std.specs.Prelude.{◌≡◌, ◌+◌, ◌<◌, ◌++◌, ◌∷◌, [], length, IfOk};
+
+use crate::{OutOfMemory, Record};
+use num_fix::Frame;
+use std::alloc::Global;
+use std::marker::Model;
+
+/// Up to 128 frames, in the order in which they were made.
+#[derive(Drop)]
+pub struct Frames {
+    items: Vec<Frame>,
+}
+
+impl Model for Frames {
+    ghost use Rattle.std.specs.Prelude.{◌≤◌, List, vec_len, vec_capacity};
+    ghost use Rattle.num_fix.specs.declared.Frame.{Frame};
+
+    ghost Value = { List Frame };
+
+    ghost view = { λ f. f.items.items };
+
+    ghost invariant = { λ f. (128 ≤ vec_capacity f.items) × (vec_len f.items ≤ 128) };
+}
+
+impl Frames {
+    /// No frames, and room for 128.
+    pub fn new(alloc: Global) -> Result<Frames, OutOfMemory>
+        ensures { IfOk result (λ frames. frames ≡ []) }
+    {
+        let items = Vec::with_capacity(alloc, 128)?;
+        Ok(Frames { items })
+    }
+
+    /// How many more there is room for.
+    pub fn room(&self) -> usize
+        ensures { result + length self.now ≡ 128 }
+    {
+        128 - self.items.len()
+    }
+
+    /// Adds a frame.
+    pub fn push(&mut self, item: Frame)
+        requires { length self.old < 128 }
+        ensures { self.new ≡ self.old ++ item ∷ [] }
+    {
+        let _ = self.items.push(item);
+    }
+
+    /// Drops all frames.
+    pub fn clear(&mut self)
+        ensures { self.new ≡ [] }
+    {
+        self.items.clear();
+    }
+
+    /// The frames.
+    pub fn as_slice(&self) -> &[Frame]
+        ensures { result.now ≡ self.now }
+    {
+        self.items.as_slice()
+    }
+}
+
+/// Up to 1,344 records, in the order of the events.
+#[derive(Drop)]
+pub struct Records {
+    items: Vec<Record>,
+}
+
+impl Model for Records {
+    ghost use Rattle.std.specs.Prelude.{◌≤◌, List, vec_len, vec_capacity};
+    ghost use Rattle.trace_form.specs.declared.record.Record.{Record};
+
+    ghost Value = { List Record };
+
+    ghost view = { λ r. r.items.items };
+
+    ghost invariant = { λ r. (1344 ≤ vec_capacity r.items) × (vec_len r.items ≤ 1344) };
+}
+
+impl Records {
+    /// No records, and room for 1,344.
+    pub fn new(alloc: Global) -> Result<Records, OutOfMemory>
+        ensures { IfOk result (λ records. records ≡ []) }
+    {
+        let items = Vec::with_capacity(alloc, 1344)?;
+        Ok(Records { items })
+    }
+
+    /// How many more there is room for.
+    pub fn room(&self) -> usize
+        ensures { result + length self.now ≡ 1344 }
+    {
+        1344 - self.items.len()
+    }
+
+    /// Adds a record.
+    pub fn push(&mut self, item: Record)
+        requires { length self.old < 1344 }
+        ensures { self.new ≡ self.old ++ item ∷ [] }
+    {
+        let _ = self.items.push(item);
+    }
+
+    /// Drops all records.
+    pub fn clear(&mut self)
+        ensures { self.new ≡ [] }
+    {
+        self.items.clear();
+    }
+
+    /// The records.
+    pub fn as_slice(&self) -> &[Record]
+        ensures { result.now ≡ self.now }
+    {
+        self.items.as_slice()
+    }
+}
