@@ -1,0 +1,2 @@
+-- Idle: cycles that bring no tick.
+pub mod Idle

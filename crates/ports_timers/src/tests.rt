@@ -1,0 +1,97 @@
+use crate::Io;
+
+// From zeros with timer 0 enabled: the target 0 means 256 ticks of 128 cycles, and a read clears the output counter.
+// Enabling an enabled timer changes nothing; off and on again clears both counters.
+#[test]
+fn target_0_means_256(rt: HostRuntime) {
+    let mut io = Io::from_cells([0; 16], [0; 64]);
+    io.write(0xF1, 0x01);
+    for clock in 0..32767u64 {
+        io.ticks(clock, 1);
+    }
+    assert_eq!(rt; io.read(0xFD), Some(0));
+    io.ticks(32767, 1);
+    assert_eq!(rt; io.read(0xFD), Some(1));
+    assert_eq!(rt; io.read(0xFD), Some(0));
+
+    for clock in 32768..65536u64 {
+        io.ticks(clock, 1);
+    }
+    let counted = io;
+    io.write(0xF1, 0x01);
+    assert_eq!(rt; io, counted);
+    assert_eq!(rt; io.timer0.output, 1);
+    io.write(0xF1, 0x00);
+    io.write(0xF1, 0x01);
+    assert_eq!(rt; (io.timer0.inner, io.timer0.output), (0, 0));
+}
+
+// Cells FCh = 02h and F1h = 04h: the ticks at 16 and 32 reach the target of timer 2.
+#[test]
+fn timer_2_ticks_every_16_cycles(rt: HostRuntime) {
+    let mut cells = [0; 16];
+    cells[0xC] = 0x02;
+    cells[0x1] = 0x04;
+    let mut io = Io::from_cells(cells, [0; 64]);
+    io.ticks(0, 16);
+    io.ticks(16, 16);
+    assert_eq!(rt; io.read(0xFF), Some(1));
+}
+
+// Each address has F0h + its own number in its cell, so that a read shows whose value it gives.
+#[test]
+fn reads_at_the_ends_of_each_range(rt: HostRuntime) {
+    let cells = [
+        0xF0, 0x00, 0xF2, 0xF3, 0xF4, 0xF5, 0xF6, 0xF7, 0xF8, 0xF9, 0xFA, 0xFB, 0xFC, 0xFD, 0xFE,
+        0xFF,
+    ];
+    let mut io = Io::from_cells(cells, [0xAA; 64]);
+    assert_eq!(rt; io.dsp_address(), 0xF2);
+    for (address, answer) in [
+        (0x00EF, None),
+        (0x00F0, Some(0)),
+        (0x00F1, Some(0)),
+        (0x00F2, Some(0xF2)),
+        (0x00F3, None),
+        (0x00F4, Some(0xF4)),
+        (0x00F7, Some(0xF7)),
+        (0x00F8, None),
+        (0x00F9, None),
+        (0x00FA, Some(0)),
+        (0x00FC, Some(0)),
+        (0x00FD, Some(0x0D)),
+        (0x00FE, Some(0x0E)),
+        (0x00FF, Some(0x0F)),
+        (0x00FF, Some(0)),
+        (0x0100, None),
+        (0xFFBF, None),
+        (0xFFC0, None),
+        (0xFFFF, None),
+    ] {
+        assert_eq!(rt; io.read(address), answer, "at {address:04x}");
+    }
+    io.write(0xF1, 0x80);
+    for (address, answer) in [(0xFFBF, None), (0xFFC0, Some(0xAA)), (0xFFFF, Some(0xAA))] {
+        assert_eq!(rt; io.read(address), answer, "at {address:04x} of the ROM");
+    }
+    let shown = io;
+    io.write(0xFFC0, 0x55);
+    assert_eq!(rt; io, shown);
+}
+
+// Control bits 4 and 5 clear two input latches each; a write of F4h goes to an output latch.
+#[test]
+fn latches(rt: HostRuntime) {
+    let io = Io::from_cells([1; 16], [0; 64]);
+    for (control, input) in [
+        (0x00, [1, 1, 1, 1]),
+        (0x10, [0, 0, 1, 1]),
+        (0x20, [1, 1, 0, 0]),
+        (0x30, [0; 4]),
+    ] {
+        let mut io = io;
+        io.write(0xF1, control);
+        io.write(0xF4, 7);
+        assert_eq!(rt; (io.input, io.output), (input, [7, 0, 0, 0]));
+    }
+}

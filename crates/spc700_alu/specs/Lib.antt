@@ -1,0 +1,10 @@
+-- the status byte and its flags
+pub mod Flags
+-- ADC, SBC, CMP, the logic, the shifts, INC and DEC
+pub mod Bytes
+-- ADDW, SUBW, CMPW, MUL and DIV
+pub mod Words
+-- DAA and DAS
+pub mod Decimal
+-- the operations on one bit
+pub mod Bits

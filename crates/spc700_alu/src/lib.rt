@@ -1,0 +1,35 @@
+//! The arithmetic of the SPC700: the result and the flags of each operation.
+#![tactic(auto)]
+
+pub mod bits;
+pub mod bytes;
+pub mod decimal;
+pub mod flags;
+mod laws;
+#[cfg(test)]
+mod tests;
+pub mod words;
+
+pub use bits::{BitKind, bitop};
+pub use bytes::{LogicKind, ShiftKind, adc, bump, cmp, logic, sbc, shift};
+pub use decimal::{daa, das};
+pub use laws::{flags_change_alone, other_flags_stay};
+pub use words::{addw, cmpw, div, mul, subw};
+
+/// A byte and the status after it was made.
+#[derive(Clone, Copy, Debug, PartialEq, Eq)]
+pub struct Out8 {
+    /// The byte.
+    pub value: u8,
+    /// The status PSW.
+    pub psw: u8,
+}
+
+/// A word and the status after it was made.
+#[derive(Clone, Copy, Debug, PartialEq, Eq)]
+pub struct Out16 {
+    /// The word; of YA, Y is its high byte.
+    pub value: u16,
+    /// The status PSW.
+    pub psw: u8,
+}

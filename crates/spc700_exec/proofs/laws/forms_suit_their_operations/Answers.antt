@@ -1,0 +1,5 @@
+use Rattle.spc700_exec.proofs.Table.{rows_suit}
+use Rattle.spc700_exec.proofs.laws.forms_suit_their_operations.Goals as goal
+
+pub returns : goal.returns
+returns c = rows_suit

@@ -1,0 +1,134 @@
+-- The addressing forms and the stack (Anomie's SPC700 Doc, the addressing modes). Each definition in -ed is the beginning
+-- of a script: it makes its accesses and hands what they gave to the script that follows.
+use Rattle.std.specs.Prelude.{ℕ, ◌+◌, ◌-◌, ◌*◌, ◌/◌, ◌%◌, if◌then◌else◌}
+use Rattle.spc700_alu.specs.Flags.{P, flag}
+use Rattle.spc700_table.specs.declared.Form.{Form}
+use Rattle.spc700_table.specs.declared.Form.TheVariants as F
+use Rattle.spc700_exec.specs.declared.cpu.Cpu.{Cpu}
+use Rattle.spc700_exec.specs.declared.operand.Operand.{Operand}
+use Rattle.spc700_exec.specs.declared.operand.Operand.TheVariants.{A, X, Y, Sp, Psw, Value, At, BitAt, Implied}
+use Rattle.spc700_exec.specs.Script.{Script, Read, Write}
+
+-- the processor with PC one further
+abbrev pub with_next_pc : Cpu → Cpu
+with_next_pc cpu = record cpu { pc = (cpu.pc + 1) % 0x10000 }
+
+-- the byte at PC, and PC goes on
+abbrev pub fetched : Cpu → (ℕ → Cpu → Script) → Script
+fetched cpu next = Read cpu.pc (λ byte. next byte (with_next_pc cpu))
+
+-- two bytes at PC, low then high
+abbrev pub fetched_word : Cpu → (ℕ → Cpu → Script) → Script
+fetched_word cpu next = fetched cpu (λ low cpu. fetched cpu (λ high cpu. next (low + 0x100 * high) cpu))
+
+-- the word at two addresses, low then high
+abbrev pub read_word : (low high : ℕ) → (ℕ → Script) → Script
+read_word at_low at_high next = Read at_low (λ low. Read at_high (λ high. next (low + 0x100 * high)))
+
+-- the address of a byte of the direct page: page 0, or page 1 where P is set
+abbrev pub direct : Cpu → ℕ → ℕ
+direct cpu d = (if flag P cpu.psw then 0x100 else 0) + d % 0x100
+
+-- the next address, which wraps in its page: that of the high byte of a word in the direct page
+abbrev pub next_in_page : ℕ → ℕ
+next_in_page at = at / 0x100 * 0x100 + (at + 1) % 0x100
+
+-- the address of the entry of TCALL's table; BRK has entry 0
+abbrev pub call_entry : ℕ → ℕ
+call_entry n = 0xffde - 2 * n
+
+-- the operand bytes of a form and then its pointer bytes are read; it gives the operand
+abbrev pub addressed : Form → Cpu → (Operand → Cpu → Script) → Script
+addressed F.A cpu next = next A cpu
+addressed F.X cpu next = next X cpu
+addressed F.Y cpu next = next Y cpu
+addressed F.Sp cpu next = next Sp cpu
+addressed F.Psw cpu next = next Psw cpu
+addressed F.Ya cpu next = next Implied cpu
+addressed F.Carry cpu next = next Implied cpu
+addressed F.None cpu next = next Implied cpu
+addressed F.Imm cpu next = fetched cpu (λ i cpu. next (Value i) cpu)
+addressed F.Rel cpu next = fetched cpu (λ r cpu. next (Value r) cpu)
+addressed F.Direct cpu next = fetched cpu (λ d cpu. next (At (direct cpu d)) cpu)
+addressed F.DirectX cpu next = fetched cpu (λ d cpu. next (At (direct cpu (d + cpu.x))) cpu)
+addressed F.DirectY cpu next = fetched cpu (λ d cpu. next (At (direct cpu (d + cpu.y))) cpu)
+addressed F.Abs cpu next = fetched_word cpu (λ a cpu. next (At a) cpu)
+addressed F.AbsX cpu next = fetched_word cpu (λ a cpu. next (At ((a + cpu.x) % 0x10000)) cpu)
+addressed F.AbsY cpu next = fetched_word cpu (λ a cpu. next (At ((a + cpu.y) % 0x10000)) cpu)
+addressed F.PtrX cpu next = next (At (direct cpu cpu.x)) cpu
+addressed F.PtrY cpu next = next (At (direct cpu cpu.y)) cpu
+addressed F.PtrXInc cpu next = next (At (direct cpu cpu.x)) (record cpu { x = (cpu.x + 1) % 0x100 })
+addressed F.IndX cpu next =
+    fetched cpu (λ d cpu. let pointer = direct cpu (d + cpu.x) in
+    read_word pointer (next_in_page pointer) (λ a. next (At a) cpu))
+addressed F.IndY cpu next =
+    fetched cpu (λ d cpu. let pointer = direct cpu d in
+    read_word pointer (next_in_page pointer) (λ a. next (At ((a + cpu.y) % 0x10000)) cpu))
+addressed F.AbsPtrX cpu next =
+    fetched_word cpu (λ a cpu. read_word ((a + cpu.x) % 0x10000) ((a + cpu.x + 1) % 0x10000) (λ a. next (At a) cpu))
+addressed F.Bit cpu next = fetched_word cpu (λ m cpu. next (BitAt (m % 0x2000) (m / 0x2000)) cpu)
+addressed F.NotBit cpu next = fetched_word cpu (λ m cpu. next (BitAt (m % 0x2000) (m / 0x2000)) cpu)
+addressed (F.DirectBit bit) cpu next = fetched cpu (λ d cpu. next (BitAt (direct cpu d) bit) cpu)
+addressed F.Upper cpu next = fetched cpu (λ u cpu. next (At (0xff00 + u)) cpu)
+addressed (F.Table n) cpu next = next (At (call_entry n)) cpu
+
+-- the byte of an operand
+abbrev pub loaded : Operand → Cpu → (ℕ → Script) → Script
+loaded A cpu next = next cpu.a
+loaded X cpu next = next cpu.x
+loaded Y cpu next = next cpu.y
+loaded Sp cpu next = next cpu.sp
+loaded Psw cpu next = next cpu.psw
+loaded (Value byte) cpu next = next byte
+loaded (At at) cpu next = Read at next
+loaded (BitAt at bit) cpu next = Read at next
+loaded Implied cpu next = next 0
+
+-- a byte put into an operand
+abbrev pub stored : Operand → (value : ℕ) → Cpu → (Cpu → Script) → Script
+stored A value cpu next = next (record cpu { a = value })
+stored X value cpu next = next (record cpu { x = value })
+stored Y value cpu next = next (record cpu { y = value })
+stored Sp value cpu next = next (record cpu { sp = value })
+stored Psw value cpu next = next (record cpu { psw = value })
+stored (At at) value cpu next = Write at value (next cpu)
+stored (BitAt at bit) value cpu next = Write at value (next cpu)
+stored (Value byte) value cpu next = next cpu
+stored Implied value cpu next = next cpu
+
+-- the address and the bit of an operand in memory; no instruction asks one of the others
+abbrev pub address_of : Operand → ℕ
+address_of (At at) = at
+address_of (BitAt at bit) = at
+address_of _ = 0
+
+abbrev pub bit_of : Operand → ℕ
+bit_of (BitAt at bit) = bit
+bit_of _ = 0
+
+-- the word of an operand: its low byte, then its high byte
+abbrev pub loaded_word : Operand → (ℕ → Script) → Script
+loaded_word operand next = read_word (address_of operand) (next_in_page (address_of operand)) next
+
+-- a word put there, low byte then high byte
+abbrev pub stored_word : Operand → (value : ℕ) → Script → Script
+stored_word operand value next =
+    Write (address_of operand) (value % 0x100) (Write (next_in_page (address_of operand)) (value / 0x100) next)
+
+-- a byte pushed on the stack, which is page 1
+abbrev pub pushed : (value : ℕ) → Cpu → (Cpu → Script) → Script
+pushed value cpu next = Write (0x100 + cpu.sp) value (next (record cpu { sp = (cpu.sp + 0x100 - 1) % 0x100 }))
+
+-- a byte popped
+abbrev pub popped : Cpu → (ℕ → Cpu → Script) → Script
+popped cpu next =
+    let sp = (cpu.sp + 1) % 0x100 in
+    Read (0x100 + sp) (λ value. next value (record cpu { sp = sp }))
+
+-- a word pushed, high then low
+abbrev pub pushed_word : (value : ℕ) → Cpu → (Cpu → Script) → Script
+pushed_word value cpu next = pushed (value / 0x100) cpu (λ cpu. pushed (value % 0x100) cpu next)
+
+-- a word popped, low then high
+abbrev pub popped_word : Cpu → (ℕ → Cpu → Script) → Script
+popped_word cpu next = popped cpu (λ low cpu. popped cpu (λ high cpu. next (low + 0x100 * high) cpu))

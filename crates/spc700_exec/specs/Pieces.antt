@@ -1,0 +1,89 @@
+-- Words of the contracts of the parts of a step. The promise on a step doesn't speak of them.
+use Rattle.std.specs.Prelude.{◌≡◌, ℕ, ◌+◌, ◌-◌, ◌*◌, ◌/◌, ◌%◌, ◌<◌, ◌≤◌, Bool, true, false}
+use Rattle.spc700_table.specs.declared.Form.{Form}
+use Rattle.spc700_table.specs.declared.Form.TheVariants as F
+use Rattle.spc700_table.specs.declared.Kind.{Kind}
+use Rattle.spc700_table.specs.declared.Kind.TheVariants as K
+use Rattle.spc700_table.specs.declared.OpRow.{OpRow}
+use Rattle.spc700_exec.specs.declared.cpu.Cpu.{Cpu}
+use Rattle.spc700_exec.specs.declared.operand.Operand.{Operand}
+use Rattle.spc700_exec.specs.declared.operand.Operand.TheVariants.{BitAt}
+use Rattle.spc700_exec.specs.Bus.{BusMeaning, byte_read, after_read, after_write}
+use Rattle.spc700_exec.specs.Script.{Script, Read, Write, End, cycles_at, after_rest}
+
+-- the outcome of a script, where the accesses made so far are told by the clock: for a lawful bus the same as `outcome`
+abbrev pub outcome_by_clock : {S : Type 0} → BusMeaning S → (start : ℕ) → Script → S → Cpu × S
+outcome_by_clock bus start (Read at next) s = outcome_by_clock bus start (next (byte_read bus at s)) (after_read bus at s)
+outcome_by_clock bus start (Write at value next) s = outcome_by_clock bus start next (after_write bus at value s)
+outcome_by_clock bus start (End cpu time) s = (cpu, after_rest bus (cycles_at start time) (bus.clock s - start) s)
+
+-- the beginning of a script hands on a value and registers: whatever follows goes on from there
+abbrev pub Gives : {S X : Type 0} → BusMeaning S → ((X → Cpu → Script) → Script) → S → X → Cpu → S → Type 0
+Gives {S} {X} bus part old value cpu new =
+    (start : ℕ) (next : X → Cpu → Script) → outcome_by_clock bus start (part next) old ≡ outcome_by_clock bus start (next value cpu) new
+
+-- the same for a beginning that hands on a value alone, and for one that hands on registers alone
+abbrev pub GivesValue : {S X : Type 0} → BusMeaning S → ((X → Script) → Script) → S → X → S → Type 0
+GivesValue {S} {X} bus part old value new =
+    (start : ℕ) (next : X → Script) → outcome_by_clock bus start (part next) old ≡ outcome_by_clock bus start (next value) new
+
+abbrev pub GivesCpu : {S : Type 0} → BusMeaning S → ((Cpu → Script) → Script) → S → Cpu → S → Type 0
+GivesCpu bus part old cpu new =
+    (start : ℕ) (next : Cpu → Script) → outcome_by_clock bus start (part next) old ≡ outcome_by_clock bus start (next cpu) new
+
+-- a script leads to these registers and, once the rest of these cycles has passed, to this bus
+abbrev pub Does : {S : Type 0} → BusMeaning S → Script → S → Cpu → (cycles : ℕ) → S → Type 0
+Does bus script old cpu cycles new =
+    (start : ℕ) → outcome_by_clock bus start script old ≡ (cpu, after_rest bus cycles (bus.clock new - start) new)
+
+-- the word that two reads give, low then high, and the bus after them
+abbrev pub word_read : {S : Type 0} → BusMeaning S → (low high : ℕ) → S → ℕ
+word_read bus low high s = byte_read bus low s + 0x100 * byte_read bus high (after_read bus low s)
+
+abbrev pub after_word : {S : Type 0} → BusMeaning S → (low high : ℕ) → S → S
+after_word bus low high s = after_read bus high (after_read bus low s)
+
+-- the bus after a word was written, low then high
+abbrev pub after_word_write : {S : Type 0} → BusMeaning S → (low high value : ℕ) → S → S
+after_word_write bus low high value s = after_write bus high (value / 0x100) (after_write bus low (value % 0x100) s)
+
+-- n more accesses and a pass may be made
+pub record HasRoom {S : Type 0} (n : ℕ) (bus : BusMeaning S) (s : S) : Type 0 where
+  pub calls : bus.calls s + 2 * n < 64
+  pub samples : bus.clock s + n < 32 * 4000000000
+
+-- at most n accesses, each with its cycle, lie between two states of a bus
+pub record IsWithin {S : Type 0} (n : ℕ) (bus : BusMeaning S) (old new : S) : Type 0 where
+  pub calls : bus.calls new ≤ bus.calls old + 2 * n
+  pub least : bus.clock old ≤ bus.clock new
+  pub most : bus.clock new ≤ bus.clock old + n
+
+-- the number of a TCALL is at most 15, and a bit at most 7
+abbrev pub FormFits : Form → Type 0
+FormFits (F.Table n) = n < 16
+FormFits (F.DirectBit bit) = bit < 8
+FormFits _ = Unit {0}
+
+-- the bit of an operand is at most 7
+abbrev pub OperandFits : Operand → Type 0
+OperandFits (BitAt at bit) = bit < 8
+OperandFits _ = Unit {0}
+
+-- the kinds that halt the processor
+abbrev pub halts : Kind → Bool
+halts K.Sleep = true
+halts K.Stop = true
+halts _ = false
+
+-- a row of an instruction that doesn't halt
+pub record IsRow (row : OpRow) : Type 0 where
+  pub first : FormFits row.first
+  pub second : FormFits row.second
+  pub some : 1 ≤ row.cycles
+  pub more : row.cycles ≤ row.taken
+  pub few : row.taken ≤ 12
+
+-- the cycles of an instruction lie between those of its row
+pub record IsTime (row : OpRow) (cycles : ℕ) : Type 0 where
+  pub least : row.cycles ≤ cycles
+  pub most : cycles ≤ row.taken

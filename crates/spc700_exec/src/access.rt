@@ -1,0 +1,30 @@
+//! The accesses of an instruction: each passes one cycle and then acts.
+
+ghost use Rattle.std.specs.Prelude.{◌≡◌};
+ghost use Rattle.spc700_exec.specs.Bus.{byte_read, after_read, after_write};
+ghost use Rattle.spc700_exec.specs.Pieces.{HasRoom, IsWithin};
+
+use crate::bus::Bus;
+
+/// The byte at an address.
+#[inline(always)]
+pub fn read<B: Bus>(bus: &mut B, at: u16) -> u8
+    requires { HasRoom 1 B.means bus.old }
+    ensures byte { result ≡ byte_read B.means at bus.old }
+    ensures bus { bus.new ≡ after_read B.means at bus.old }
+    ensures within { IsWithin 1 B.means bus.old bus.new }
+{
+    bus.pass(1);
+    bus.read(at)
+}
+
+/// Writes a byte to an address.
+#[inline(always)]
+pub fn write<B: Bus>(bus: &mut B, at: u16, value: u8)
+    requires { HasRoom 1 B.means bus.old }
+    ensures bus { bus.new ≡ after_write B.means at value bus.old }
+    ensures within { IsWithin 1 B.means bus.old bus.new }
+{
+    bus.pass(1);
+    bus.write(at, value);
+}

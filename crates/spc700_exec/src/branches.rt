@@ -1,0 +1,115 @@
+//! The branches. Each gives its cycles.
+
+ghost use Rattle.std.specs.Prelude.{◌≡◌, ℕ, true};
+ghost use Rattle.spc700_exec.specs.Script.{End, Cycles};
+ghost use Rattle.spc700_exec.specs.Operations.{flag_is};
+ghost use Rattle.spc700_exec.specs.Lines.{branched, branch_target, branch_line, bit_branch_line, compare_branch_line, count_branch_line};
+ghost use Rattle.spc700_exec.specs.Pieces.{HasRoom, IsWithin, Does, IsRow, IsTime};
+
+use crate::bus::Bus;
+use crate::cpu::Cpu;
+use crate::operand::{address, bit_number, fetch, load, store};
+use spc700_alu::flags::is_set;
+use spc700_table::OpRow;
+
+/// The address that a signed distance leads to.
+#[inline]
+fn target(pc: u16, r: u8) -> u16
+    ensures { result ≡ branch_target pc r }
+{
+    let distance = if r < 0x80 {
+        r as u16
+    } else {
+        0xff00 + r as u16
+    };
+    pc.wrapping_add(distance)
+}
+
+/// Takes a branch or not, and gives its cycles.
+#[inline]
+fn branch_if(cpu: &mut Cpu, row: OpRow, taken: bool, r: u8) -> u8
+    requires row { IsRow row }
+    ensures does { branched taken r row cpu.old ≡ End cpu.new (Cycles result) }
+    ensures time { IsTime row result }
+{
+    if taken {
+        cpu.pc = target(cpu.pc, r);
+        row.taken
+    } else {
+        row.cycles
+    }
+}
+
+/// A branch where a flag is set, or where it is clear.
+#[inline]
+pub fn branch_on_flag<B: Bus>(cpu: &mut Cpu, bus: &mut B, row: OpRow, mask: u8, on: bool) -> u8
+    requires room { HasRoom 12 B.means bus.old }
+    requires row { IsRow row }
+    ensures does { Does B.means (branch_line (flag_is mask on) row cpu.old) bus.old cpu.new result bus.new }
+    ensures time { IsTime row result }
+    ensures within { IsWithin 11 B.means bus.old bus.new }
+{
+    let r = fetch(cpu, bus);
+    let taken = is_set(cpu.psw, mask) == on;
+    branch_if(cpu, row, taken, r)
+}
+
+/// BRA.
+#[inline]
+pub fn branch_always<B: Bus>(cpu: &mut Cpu, bus: &mut B, row: OpRow) -> u8
+    requires room { HasRoom 12 B.means bus.old }
+    requires row { IsRow row }
+    ensures does { Does B.means (branch_line (λ _. true) row cpu.old) bus.old cpu.new result bus.new }
+    ensures time { IsTime row result }
+    ensures within { IsWithin 11 B.means bus.old bus.new }
+{
+    let r = fetch(cpu, bus);
+    branch_if(cpu, row, true, r)
+}
+
+/// BBS, or BBC where `on` is false.
+#[inline]
+pub fn branch_on_bit<B: Bus>(cpu: &mut Cpu, bus: &mut B, row: OpRow, on: bool) -> u8
+    requires room { HasRoom 12 B.means bus.old }
+    requires row { IsRow row }
+    ensures does { Does B.means (bit_branch_line on row cpu.old) bus.old cpu.new result bus.new }
+    ensures time { IsTime row result }
+    ensures within { IsWithin 11 B.means bus.old bus.new }
+{
+    let operand = address(cpu, bus, row.first);
+    let r = fetch(cpu, bus);
+    let byte = load(cpu, bus, operand);
+    let taken = is_set(byte, 1 << bit_number(operand)) == on;
+    branch_if(cpu, row, taken, r)
+}
+
+/// CBNE.
+#[inline]
+pub fn branch_if_different<B: Bus>(cpu: &mut Cpu, bus: &mut B, row: OpRow) -> u8
+    requires room { HasRoom 12 B.means bus.old }
+    requires row { IsRow row }
+    ensures does { Does B.means (compare_branch_line row cpu.old) bus.old cpu.new result bus.new }
+    ensures time { IsTime row result }
+    ensures within { IsWithin 11 B.means bus.old bus.new }
+{
+    let operand = address(cpu, bus, row.first);
+    let r = fetch(cpu, bus);
+    let byte = load(cpu, bus, operand);
+    branch_if(cpu, row, cpu.a != byte, r)
+}
+
+/// DBNZ.
+#[inline]
+pub fn count_down<B: Bus>(cpu: &mut Cpu, bus: &mut B, row: OpRow) -> u8
+    requires room { HasRoom 12 B.means bus.old }
+    requires row { IsRow row }
+    ensures does { Does B.means (count_branch_line row cpu.old) bus.old cpu.new result bus.new }
+    ensures time { IsTime row result }
+    ensures within { IsWithin 11 B.means bus.old bus.new }
+{
+    let operand = address(cpu, bus, row.first);
+    let r = fetch(cpu, bus);
+    let less = load(cpu, bus, operand).wrapping_sub(1);
+    store(cpu, bus, operand, less);
+    branch_if(cpu, row, less != 0, r)
+}

@@ -1,0 +1,35 @@
+//! What the processor is connected to.
+
+ghost use Rattle.std.specs.Prelude.{◌≡◌, ◌-◌, ◌%◌, ◌<◌, ◌≤◌};
+ghost use Rattle.spc700_exec.specs.Bus.{BusMeaning, IsLawful};
+
+/// A bus: what its calls answer and leave is told by three functions and three numbers.
+pub trait Bus {
+    /// What contracts see of the bus.
+    ghost means: { BusMeaning Self };
+
+    /// The byte at an address.
+    fn read(&mut self, addr: u16) -> u8
+        requires { means.calls self.old < 64 }
+        ensures answer { result ≡ (means.read self.old addr).0 }
+        ensures next { self.new ≡ (means.read self.old addr).1 };
+
+    /// Writes a byte to an address.
+    fn write(&mut self, addr: u16, value: u8)
+        requires { means.calls self.old < 64 }
+        ensures { self.new ≡ means.write self.old addr value };
+
+    /// Lets 1 to 32 cycles pass.
+    fn pass(&mut self, cycles: u8)
+        requires room { means.calls self.old < 64 }
+        requires some { 1 ≤ cycles }
+        requires few { cycles ≤ 32 }
+        requires time { means.made self.old < 4000000000 }
+        ensures { self.new ≡ means.pass self.old cycles };
+
+    /// The cycles up to the next multiple of 32 of the clock, 1 to 32.
+    fn to_sample(&self) -> u8
+        ensures { result ≡ 32 - means.clock self.now % 32 };
+
+    ghost lawful: { IsLawful means };
+}

@@ -1,0 +1,153 @@
+//! The instructions on bytes. Each gives its cycles.
+
+ghost use Rattle.std.specs.Prelude.{◌≡◌, ℕ};
+ghost use Rattle.spc700_exec.specs.Operations.{xcn_of};
+ghost use Rattle.spc700_exec.specs.Lines.{a_line, with_nz_of_move, move_line, combine_line, compare_line, modify_line};
+ghost use Rattle.spc700_exec.specs.Combinations.{combination, modification};
+ghost use Rattle.spc700_exec.specs.Pieces.{HasRoom, IsWithin, Does, IsRow, IsTime};
+
+use crate::bus::Bus;
+use crate::cpu::Cpu;
+use crate::operand::{Operand, address, load, store};
+use spc700_alu::flags::put_nz;
+use spc700_alu::{LogicKind, Out8, ShiftKind, adc, bump, cmp, logic, sbc, shift};
+use spc700_table::OpRow;
+
+/// What two bytes are combined by.
+#[derive(Clone, Copy, Debug, PartialEq, Eq)]
+pub enum Combination {
+    /// OR, AND or EOR.
+    Logic(LogicKind),
+    /// ADC.
+    Adc,
+    /// SBC.
+    Sbc,
+}
+
+/// What a byte is changed by.
+#[derive(Clone, Copy, Debug, PartialEq, Eq)]
+pub enum Modification {
+    /// ASL, ROL, LSR or ROR.
+    Shift(ShiftKind),
+    /// INC.
+    Up,
+    /// DEC.
+    Down,
+}
+
+/// The two bytes combined, and the status.
+#[inline]
+fn combined(kind: Combination, a: u8, b: u8, psw: u8) -> Out8
+    ensures { result ≡ combination kind a b psw }
+{
+    match kind {
+        Combination::Logic(kind) => logic(kind, a, b, psw),
+        Combination::Adc => adc(a, b, psw),
+        Combination::Sbc => sbc(a, b, psw),
+    }
+}
+
+/// The changed byte, and the status.
+#[inline]
+fn modified(kind: Modification, byte: u8, psw: u8) -> Out8
+    ensures { result ≡ modification kind byte psw }
+{
+    match kind {
+        Modification::Shift(kind) => shift(kind, byte, psw),
+        Modification::Up => bump(byte, true, psw),
+        Modification::Down => bump(byte, false, psw),
+    }
+}
+
+/// A byte that was moved to A, X or Y shows in N and Z.
+#[inline]
+fn show_move(cpu: &mut Cpu, target: Operand, value: u8)
+    ensures { cpu.new ≡ with_nz_of_move target value cpu.old }
+{
+    match target {
+        Operand::A | Operand::X | Operand::Y => cpu.psw = put_nz(cpu.psw, value),
+        _ => {}
+    }
+}
+
+/// The digits of A change places.
+#[inline]
+pub fn exchange(a: u8, psw: u8) -> Out8
+    ensures { result ≡ xcn_of a psw }
+{
+    let value = a % 0x10 * 0x10 + a / 0x10;
+    Out8 {
+        value,
+        psw: put_nz(psw, value),
+    }
+}
+
+/// MOV.
+#[inline]
+pub fn mov<B: Bus>(cpu: &mut Cpu, bus: &mut B, row: OpRow) -> u8
+    requires room { HasRoom 12 B.means bus.old }
+    requires row { IsRow row }
+    ensures does { Does B.means (move_line row cpu.old) bus.old cpu.new result bus.new }
+    ensures time { IsTime row result }
+    ensures within { IsWithin 11 B.means bus.old bus.new }
+{
+    let source = address(cpu, bus, row.second);
+    let target = address(cpu, bus, row.first);
+    let value = load(cpu, bus, source);
+    store(cpu, bus, target, value);
+    show_move(cpu, target, value);
+    row.cycles
+}
+
+/// OR, AND, EOR, ADC and SBC.
+#[inline]
+pub fn combine<B: Bus>(cpu: &mut Cpu, bus: &mut B, row: OpRow, kind: Combination) -> u8
+    requires room { HasRoom 12 B.means bus.old }
+    requires row { IsRow row }
+    ensures does { Does B.means (combine_line (combination kind) row cpu.old) bus.old cpu.new result bus.new }
+    ensures time { IsTime row result }
+    ensures within { IsWithin 11 B.means bus.old bus.new }
+{
+    let source = address(cpu, bus, row.second);
+    let target = address(cpu, bus, row.first);
+    let b = load(cpu, bus, source);
+    let a = load(cpu, bus, target);
+    let out = combined(kind, a, b, cpu.psw);
+    cpu.psw = out.psw;
+    store(cpu, bus, target, out.value);
+    row.cycles
+}
+
+/// CMP.
+#[inline]
+pub fn compare<B: Bus>(cpu: &mut Cpu, bus: &mut B, row: OpRow) -> u8
+    requires room { HasRoom 12 B.means bus.old }
+    requires row { IsRow row }
+    ensures does { Does B.means (compare_line row cpu.old) bus.old cpu.new result bus.new }
+    ensures time { IsTime row result }
+    ensures within { IsWithin 11 B.means bus.old bus.new }
+{
+    let source = address(cpu, bus, row.second);
+    let target = address(cpu, bus, row.first);
+    let b = load(cpu, bus, source);
+    let a = load(cpu, bus, target);
+    cpu.psw = cmp(a, b, cpu.psw);
+    row.cycles
+}
+
+/// The shifts, INC and DEC.
+#[inline]
+pub fn modify<B: Bus>(cpu: &mut Cpu, bus: &mut B, row: OpRow, kind: Modification) -> u8
+    requires room { HasRoom 12 B.means bus.old }
+    requires row { IsRow row }
+    ensures does { Does B.means (modify_line (modification kind) row cpu.old) bus.old cpu.new result bus.new }
+    ensures time { IsTime row result }
+    ensures within { IsWithin 11 B.means bus.old bus.new }
+{
+    let operand = address(cpu, bus, row.first);
+    let byte = load(cpu, bus, operand);
+    let out = modified(kind, byte, cpu.psw);
+    cpu.psw = out.psw;
+    store(cpu, bus, operand, out.value);
+    row.cycles
+}

@@ -1,0 +1,131 @@
+//! The stack's instructions, jumps, calls and returns. Each gives its cycles.
+
+ghost use Rattle.std.specs.Prelude.{◌≡◌, ℕ};
+ghost use Rattle.spc700_exec.specs.Lines.{push_line, pop_line, jump_line, call_line, table_call_line, break_line, return_line, interrupt_return_line};
+ghost use Rattle.spc700_exec.specs.Pieces.{HasRoom, IsWithin, Does, IsRow, IsTime};
+
+use crate::bus::Bus;
+use crate::cpu::Cpu;
+use crate::operand::{Operand, address, address_in_memory, load, load_word, store};
+use crate::stack::{pop, pop_word, push, push_word};
+use spc700_alu::flags::{BREAK, INTERRUPT, put};
+use spc700_table::OpRow;
+
+/// PUSH.
+#[inline]
+pub fn push_register<B: Bus>(cpu: &mut Cpu, bus: &mut B, row: OpRow) -> u8
+    requires room { HasRoom 12 B.means bus.old }
+    requires row { IsRow row }
+    ensures does { Does B.means (push_line row cpu.old) bus.old cpu.new result bus.new }
+    ensures time { IsTime row result }
+    ensures within { IsWithin 11 B.means bus.old bus.new }
+{
+    let operand = address(cpu, bus, row.first);
+    let byte = load(cpu, bus, operand);
+    push(cpu, bus, byte);
+    row.cycles
+}
+
+/// POP.
+#[inline]
+pub fn pop_register<B: Bus>(cpu: &mut Cpu, bus: &mut B, row: OpRow) -> u8
+    requires room { HasRoom 12 B.means bus.old }
+    requires row { IsRow row }
+    ensures does { Does B.means (pop_line row cpu.old) bus.old cpu.new result bus.new }
+    ensures time { IsTime row result }
+    ensures within { IsWithin 11 B.means bus.old bus.new }
+{
+    let operand = address(cpu, bus, row.first);
+    let byte = pop(cpu, bus);
+    store(cpu, bus, operand, byte);
+    row.cycles
+}
+
+/// JMP.
+#[inline]
+pub fn jump<B: Bus>(cpu: &mut Cpu, bus: &mut B, row: OpRow) -> u8
+    requires room { HasRoom 12 B.means bus.old }
+    requires row { IsRow row }
+    ensures does { Does B.means (jump_line row cpu.old) bus.old cpu.new result bus.new }
+    ensures time { IsTime row result }
+    ensures within { IsWithin 11 B.means bus.old bus.new }
+{
+    let operand = address(cpu, bus, row.first);
+    cpu.pc = address_in_memory(operand);
+    row.cycles
+}
+
+/// CALL and PCALL.
+#[inline]
+pub fn call<B: Bus>(cpu: &mut Cpu, bus: &mut B, row: OpRow) -> u8
+    requires room { HasRoom 12 B.means bus.old }
+    requires row { IsRow row }
+    ensures does { Does B.means (call_line row cpu.old) bus.old cpu.new result bus.new }
+    ensures time { IsTime row result }
+    ensures within { IsWithin 11 B.means bus.old bus.new }
+{
+    let operand = address(cpu, bus, row.first);
+    let after = cpu.pc;
+    push_word(cpu, bus, after);
+    cpu.pc = address_in_memory(operand);
+    row.cycles
+}
+
+/// TCALL.
+#[inline]
+pub fn table_call<B: Bus>(cpu: &mut Cpu, bus: &mut B, row: OpRow) -> u8
+    requires room { HasRoom 12 B.means bus.old }
+    requires row { IsRow row }
+    ensures does { Does B.means (table_call_line row cpu.old) bus.old cpu.new result bus.new }
+    ensures time { IsTime row result }
+    ensures within { IsWithin 11 B.means bus.old bus.new }
+{
+    let entry = address(cpu, bus, row.first);
+    push_word(cpu, bus, cpu.pc);
+    cpu.pc = load_word(bus, entry);
+    row.cycles
+}
+
+/// BRK.
+#[inline]
+pub fn brk<B: Bus>(cpu: &mut Cpu, bus: &mut B, row: OpRow) -> u8
+    requires room { HasRoom 12 B.means bus.old }
+    requires row { IsRow row }
+    ensures does { Does B.means (break_line row cpu.old) bus.old cpu.new result bus.new }
+    ensures time { IsTime row result }
+    ensures within { IsWithin 11 B.means bus.old bus.new }
+{
+    push_word(cpu, bus, cpu.pc);
+    push(cpu, bus, cpu.psw);
+    cpu.pc = load_word(bus, Operand::At(0xffde));
+    cpu.psw = put(put(cpu.psw, BREAK, true), INTERRUPT, false);
+    row.cycles
+}
+
+/// RET.
+#[inline]
+pub fn ret<B: Bus>(cpu: &mut Cpu, bus: &mut B, row: OpRow) -> u8
+    requires room { HasRoom 12 B.means bus.old }
+    requires row { IsRow row }
+    ensures does { Does B.means (return_line row cpu.old) bus.old cpu.new result bus.new }
+    ensures time { IsTime row result }
+    ensures within { IsWithin 11 B.means bus.old bus.new }
+{
+    cpu.pc = pop_word(cpu, bus);
+    row.cycles
+}
+
+/// RETI.
+#[inline]
+pub fn reti<B: Bus>(cpu: &mut Cpu, bus: &mut B, row: OpRow) -> u8
+    requires room { HasRoom 12 B.means bus.old }
+    requires row { IsRow row }
+    ensures does { Does B.means (interrupt_return_line row cpu.old) bus.old cpu.new result bus.new }
+    ensures time { IsTime row result }
+    ensures within { IsWithin 11 B.means bus.old bus.new }
+{
+    let psw = pop(cpu, bus);
+    cpu.pc = pop_word(cpu, bus);
+    cpu.psw = psw;
+    row.cycles
+}

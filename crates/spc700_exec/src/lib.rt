@@ -1,0 +1,28 @@
+//! The SPC700 processor: its registers and its step, over any bus.
+#![tactic(auto)]
+
+mod access;
+mod bits;
+mod branches;
+pub mod bus;
+mod bytes;
+pub mod cpu;
+mod jumps;
+mod laws;
+pub mod mem_bus;
+pub mod operand;
+mod registers;
+mod stack;
+mod stepping;
+#[cfg(test)]
+mod tests;
+mod words;
+
+pub use bus::Bus;
+pub use cpu::Cpu;
+pub use laws::{
+    accesses_are_those_of_the_table, asking_makes_the_step, forms_suit_their_operations,
+    steps_are_short,
+};
+pub use mem_bus::MemBus;
+pub use stepping::step;

@@ -1,0 +1,171 @@
+//! Worked programs over plain memory.
+
+ghost use Rattle.std.specs.Prelude.{◌≡◌, ◌+◌, ◌<◌, ◌≤◌, IfOk};
+
+use crate::{
+    Cpu, MemBus, accesses_are_those_of_the_table, asking_makes_the_step,
+    forms_suit_their_operations, step, steps_are_short,
+};
+use aram_core::{Aram, OutOfMemory};
+use std::alloc::Global;
+use std::test::Fail;
+
+/// A bus over memory that is zero but for these bytes from these addresses on.
+fn bus_with(alloc: Global, parts: &[(u16, &[u8])]) -> Result<MemBus, OutOfMemory>
+    ensures { IfOk result (λ bus. bus.clock ≡ 0) }
+{
+    let image = vec![in alloc; 0u8; 65536]?;
+    let mut memory = Aram::from_image(alloc, &image)?;
+    for (start, bytes) in parts {
+        let mut at = *start;
+        for byte in *bytes {
+            memory.put(at, *byte);
+            at = at.wrapping_add(1);
+        }
+    }
+    Ok(MemBus::open(memory))
+}
+
+fn start(pc: u16, x: u8) -> Cpu {
+    Cpu {
+        a: 0,
+        x,
+        y: 0,
+        sp: 0xef,
+        pc,
+        psw: 0,
+        halted: false,
+    }
+}
+
+/// A step after `restart`.
+fn next(cpu: &mut Cpu, bus: &mut MemBus)
+    requires { bus.old.clock < 1000000 }
+    ensures { bus.new.clock ≤ bus.old.clock + 32 }
+{
+    bus.restart();
+    step(cpu, bus);
+}
+
+/// Four steps.
+fn next_four(cpu: &mut Cpu, bus: &mut MemBus)
+    requires { bus.old.clock < 500000 }
+    ensures { bus.new.clock ≤ bus.old.clock + 128 }
+{
+    next(cpu, bus);
+    next(cpu, bus);
+    next(cpu, bus);
+    next(cpu, bus);
+}
+
+#[test]
+fn adds_and_branches(rt: HostRuntime) -> Result<(), Fail> {
+    let mut bus = bus_with(
+        rt.alloc(),
+        &[(0x400, &[0xe8, 0x7f, 0x88, 0x01, 0xf0, 0x02, 0x2f, 0xfe])],
+    )?;
+    let mut cpu = start(0x400, 0);
+    next_four(&mut cpu, &mut bus);
+    assert_eq!(rt; (cpu.a, cpu.psw, cpu.pc), (0x80, 0xc8, 0x406));
+    assert_eq!(rt; bus.clock(), 10);
+    Ok(())
+}
+
+#[test]
+fn wraps_at_the_ends_of_memory_and_of_the_direct_page(rt: HostRuntime) -> Result<(), Fail> {
+    // BRA at FFFFh with its distance at 0000h.
+    let mut bus = bus_with(rt.alloc(), &[(0xffff, &[0x2f, 0xfe])])?;
+    let mut cpu = start(0xffff, 0);
+    next(&mut cpu, &mut bus);
+    assert_eq!(rt; (cpu.pc, bus.clock()), (0xffff, 4));
+
+    // MOVW YA,FFh: the high byte is at 00h.
+    let mut bus = bus_with(
+        rt.alloc(),
+        &[(0x400, &[0xba, 0xff]), (0, &[0x12]), (0xff, &[0x34, 0x99])],
+    )?;
+    let mut cpu = start(0x400, 0);
+    next(&mut cpu, &mut bus);
+    assert_eq!(rt; (cpu.y, cpu.a), (0x12, 0x34));
+
+    // MOV A,[FEh+X] with X 1: the pointer stands at FFh and 00h.
+    let mut bus = bus_with(
+        rt.alloc(),
+        &[
+            (0x400, &[0xe7, 0xfe]),
+            (0, &[0x05]),
+            (0xff, &[0x00, 0x99]),
+            (0x500, &[0x5a]),
+        ],
+    )?;
+    let mut cpu = start(0x400, 1);
+    next(&mut cpu, &mut bus);
+    assert_eq!(rt; cpu.a, 0x5a);
+
+    // JMP [!FFFEh+X] with X 1: the pointer stands at FFFFh and 0000h.
+    let mut bus = bus_with(
+        rt.alloc(),
+        &[
+            (0x400, &[0x1f, 0xfe, 0xff]),
+            (0xffff, &[0x00, 0x06]),
+            (0xff00, &[0x99]),
+        ],
+    )?;
+    let mut cpu = start(0x400, 1);
+    next(&mut cpu, &mut bus);
+    assert_eq!(rt; cpu.pc, 0x600);
+    Ok(())
+}
+
+#[test]
+fn calls_and_returns(rt: HostRuntime) -> Result<(), Fail> {
+    let mut bus = bus_with(
+        rt.alloc(),
+        &[(0x400, &[0x3f, 0x00, 0x05]), (0x500, &[0x6f])],
+    )?;
+    let mut cpu = start(0x400, 0);
+    next(&mut cpu, &mut bus);
+    assert_eq!(rt; (cpu.pc, cpu.sp), (0x500, 0xed));
+    assert_eq!(rt; bus.memory().get(0x1ef), 0x04);
+    assert_eq!(rt; bus.memory().get(0x1ee), 0x03);
+    assert_eq!(rt; bus.clock(), 8);
+    next(&mut cpu, &mut bus);
+    assert_eq!(rt; (cpu.pc, cpu.sp), (0x403, 0xef));
+    assert_eq!(rt; bus.clock(), 13);
+    Ok(())
+}
+
+#[test]
+fn a_halt_passes_the_cycles_to_the_next_sample(rt: HostRuntime) -> Result<(), Fail> {
+    let mut bus = bus_with(rt.alloc(), &[(0x400, &[0xff])])?;
+    let mut cpu = start(0x400, 0);
+    next(&mut cpu, &mut bus);
+    assert_eq!(rt; (cpu.halted, cpu.pc, bus.clock()), (true, 0x401, 32));
+    next(&mut cpu, &mut bus);
+    assert_eq!(rt; (cpu.halted, cpu.pc, bus.clock()), (true, 0x401, 64));
+    Ok(())
+}
+
+#[test]
+fn a_halt_counts_from_its_start(rt: HostRuntime) -> Result<(), Fail> {
+    // MOV A,00h and 14 NOPs take 31 cycles; the fetch of STOP takes the last cycle of the sample.
+    let mut bus = bus_with(rt.alloc(), &[(0x400, &[0xe4, 0x00]), (0x410, &[0xff])])?;
+    let mut cpu = start(0x400, 0);
+    next_four(&mut cpu, &mut bus);
+    next_four(&mut cpu, &mut bus);
+    next_four(&mut cpu, &mut bus);
+    next_four(&mut cpu, &mut bus);
+    assert_eq!(rt; (cpu.halted, cpu.pc, bus.clock()), (true, 0x411, 32));
+    Ok(())
+}
+
+#[test]
+fn the_laws_can_be_called(rt: HostRuntime) -> Result<(), Fail> {
+    let bus = bus_with(rt.alloc(), &[])?;
+    asking_makes_the_step(&bus);
+    accesses_are_those_of_the_table();
+    forms_suit_their_operations();
+    steps_are_short();
+    assert_eq!(rt; bus.clock(), 0);
+    Ok(())
+}

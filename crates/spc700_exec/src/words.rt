@@ -1,0 +1,126 @@
+//! The instructions on words. Each gives its cycles.
+
+ghost use Rattle.std.specs.Prelude.{◌≡◌, ℕ, ◌+◌, ◌-◌, ◌%◌};
+ghost use Rattle.spc700_exec.specs.Operations.{ya};
+ghost use Rattle.spc700_exec.specs.Lines.{with_ya, word_on_ya_line, word_store_line, word_modify_line};
+ghost use Rattle.spc700_exec.specs.Combinations.{word_combination};
+ghost use Rattle.spc700_exec.specs.Pieces.{HasRoom, IsWithin, Does, IsRow, IsTime};
+
+use crate::bus::Bus;
+use crate::cpu::Cpu;
+use crate::operand::{address, load_word, store_word};
+use spc700_alu::flags::put_nz16;
+use spc700_alu::{Out16, addw, cmpw, subw};
+use spc700_table::OpRow;
+
+/// What YA and a word are combined by.
+#[derive(Clone, Copy, Debug, PartialEq, Eq)]
+pub enum WordCombination {
+    /// MOVW: the word itself.
+    Load,
+    /// ADDW.
+    Add,
+    /// SUBW.
+    Subtract,
+    /// CMPW.
+    Compare,
+}
+
+/// YA and the word combined, and the status.
+#[inline]
+fn combined(kind: WordCombination, ya: u16, w: u16, psw: u8) -> Out16
+    ensures { result ≡ word_combination kind ya w psw }
+{
+    match kind {
+        WordCombination::Load => Out16 {
+            value: w,
+            psw: put_nz16(psw, w),
+        },
+        WordCombination::Add => addw(ya, w, psw),
+        WordCombination::Subtract => subw(ya, w, psw),
+        WordCombination::Compare => Out16 {
+            value: ya,
+            psw: cmpw(ya, w, psw),
+        },
+    }
+}
+
+/// Y and A as one word.
+#[inline]
+pub fn word(cpu: &Cpu) -> u16
+    ensures { result ≡ ya cpu.now }
+{
+    0x100 * cpu.y as u16 + cpu.a as u16
+}
+
+/// Puts a word into Y and A, and its status.
+#[inline]
+pub fn put_word(cpu: &mut Cpu, out: Out16)
+    ensures { cpu.new ≡ with_ya out cpu.old }
+{
+    cpu.y = (out.value / 0x100) as u8;
+    cpu.a = (out.value % 0x100) as u8;
+    cpu.psw = out.psw;
+}
+
+/// MOVW YA,d, ADDW, SUBW and CMPW.
+#[inline]
+pub fn word_on_ya<B: Bus>(cpu: &mut Cpu, bus: &mut B, row: OpRow, kind: WordCombination) -> u8
+    requires room { HasRoom 12 B.means bus.old }
+    requires row { IsRow row }
+    ensures does { Does B.means (word_on_ya_line (word_combination kind) row cpu.old) bus.old cpu.new result bus.new }
+    ensures time { IsTime row result }
+    ensures within { IsWithin 11 B.means bus.old bus.new }
+{
+    let operand = address(cpu, bus, row.second);
+    let w = load_word(bus, operand);
+    let out = combined(kind, word(cpu), w, cpu.psw);
+    put_word(cpu, out);
+    row.cycles
+}
+
+/// MOVW d,YA.
+#[inline]
+pub fn move_word<B: Bus>(cpu: &mut Cpu, bus: &mut B, row: OpRow) -> u8
+    requires room { HasRoom 12 B.means bus.old }
+    requires row { IsRow row }
+    ensures does { Does B.means (word_store_line row cpu.old) bus.old cpu.new result bus.new }
+    ensures time { IsTime row result }
+    ensures within { IsWithin 11 B.means bus.old bus.new }
+{
+    let operand = address(cpu, bus, row.first);
+    store_word(bus, operand, word(cpu));
+    row.cycles
+}
+
+/// INCW.
+#[inline]
+pub fn word_up<B: Bus>(cpu: &mut Cpu, bus: &mut B, row: OpRow) -> u8
+    requires room { HasRoom 12 B.means bus.old }
+    requires row { IsRow row }
+    ensures does { Does B.means (word_modify_line (λ w. (w + 1) % 0x10000) row cpu.old) bus.old cpu.new result bus.new }
+    ensures time { IsTime row result }
+    ensures within { IsWithin 11 B.means bus.old bus.new }
+{
+    let operand = address(cpu, bus, row.first);
+    let w = load_word(bus, operand).wrapping_add(1);
+    store_word(bus, operand, w);
+    cpu.psw = put_nz16(cpu.psw, w);
+    row.cycles
+}
+
+/// DECW.
+#[inline]
+pub fn word_down<B: Bus>(cpu: &mut Cpu, bus: &mut B, row: OpRow) -> u8
+    requires room { HasRoom 12 B.means bus.old }
+    requires row { IsRow row }
+    ensures does { Does B.means (word_modify_line (λ w. (w + 0x10000 - 1) % 0x10000) row cpu.old) bus.old cpu.new result bus.new }
+    ensures time { IsTime row result }
+    ensures within { IsWithin 11 B.means bus.old bus.new }
+{
+    let operand = address(cpu, bus, row.first);
+    let w = load_word(bus, operand).wrapping_sub(1);
+    store_word(bus, operand, w);
+    cpu.psw = put_nz16(cpu.psw, w);
+    row.cycles
+}
