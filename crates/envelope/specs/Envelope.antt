@@ -13,7 +13,6 @@ pub record EnvelopeState : Type 0 where
   pub level : ℕ
   pub hidden : ℤ
 
-
 -- the exponential fall: by 1 and a 256th of the rest
 unfoldable pub exponential_fall : ℕ → ℤ
 exponential_fall level = let e = pos level -ℤ pos 1 in e -ℤ floor_shift e 8

@@ -19,5 +19,5 @@ read_words (a ∷ b ∷ bytes) (w ∷ words) e h =
     let number : a + 256 * (b + 256 * 0) ≡ a + 256 * b = omega arith in
     let same : w ≡ signed_word a b = first ∙ ap (λ (n : ℕ). cast_signed w16 n) number in
     let rest : IsReadBy word_value 2 bytes words =
-        λ d k within. (let next : 2 * suc k ≡ suc (suc (2 * k)) = omega arith in rw next at (h d (suc k) (omega arith))) in
+    λ d k within. (let next : 2 * suc k ≡ suc (suc (2 * k)) = omega arith in rw next at (h d (suc k) (omega arith))) in
     rw (same, read_words bytes words (omega arith) rest) refl

@@ -1,8 +1,9 @@
 //! The table and the interpolation.
 
 ghost use Rattle.std.specs.Prelude.{◌≡◌, ◌+◌, ◌<◌, ◌≤◌, ◌≢◌, ◌↔◌, ◌⊎◌, length, unsigned_abs, IfOk, IfErr};
+ghost use Rattle.num_fix.specs.Arithmetic.{wrap16};
 ghost use Rattle.num_fix.specs.Words.{number_at, signed_words};
-ghost use Rattle.gauss_table.specs.Interpolation.{mix, tap};
+ghost use Rattle.gauss_table.specs.Interpolation.{mix, older_taps, tap};
 ghost use Rattle.gauss_table.specs.StraightTable.{straight_table, straight_weight};
 
 use crate::{OutOfMemory, TableRefusal};
@@ -33,7 +34,11 @@ fn straight_weight(i: u16) -> i16
     requires { i < 512 }
     ensures { result ≡ straight_weight i }
 {
-    if i < 256 { 0 } else { (8 * (i - 256) + 4) as i16 }
+    if i < 256 {
+        0
+    } else {
+        (8 * (i - 256) + 4) as i16
+    }
 }
 
 impl GaussTable {
@@ -79,17 +84,30 @@ impl GaussTable {
         scaled(self.weights[place], sample, 11)
     }
 
+    /// The sum of the three older taps at place `i` of 256.
+    fn older_taps(&self, i: u8, x0: i16, x1: i16, x2: i16) -> i32
+        ensures value { result ≡ older_taps self.now i x0 x1 x2 }
+        ensures bound { unsigned_abs result ≤ 0x180000 }
+    {
+        let place = usize::from(i);
+        self.tap(255 - place, x0) + self.tap(511 - place, x1) + self.tap(256 + place, x2)
+    }
+
+    /// That sum at 16 bits, where it wraps.
+    fn wrapped_taps(&self, i: u8, x0: i16, x1: i16, x2: i16) -> i16
+        ensures { result ≡ wrap16 (older_taps self.now i x0 x1 x2) }
+    {
+        wrap16(self.older_taps(i, x0, x1, x2))
+    }
+
     /// The interpolation of four samples, oldest first, at place `i` of 256 between the middle two.
     /// The sum of the three older taps wraps at 16 bits, and the sum with the newest is clamped.
     #[tactic(auto, unfolding(crate::specs::Interpolation::mix))]
     pub fn mix(&self, i: u8, x0: i16, x1: i16, x2: i16, x3: i16) -> i16
         ensures { result ≡ mix self.now i x0 x1 x2 x3 }
     {
-        let place = usize::from(i);
-        let older = wrap16(
-            self.tap(255 - place, x0) + self.tap(511 - place, x1) + self.tap(256 + place, x2),
-        );
-        let sum = i32::from(older) + self.tap(place, x3);
-        clear_bit0(clamp16(sum))
+        let older = i32::from(self.wrapped_taps(i, x0, x1, x2));
+        let newest = self.tap(usize::from(i), x3);
+        clear_bit0(clamp16(older + newest))
     }
 }

@@ -1,5 +1,5 @@
 -- A rate fires where two parts of the counter are 0: the low bits, and the rest modulo 3 or 5. So no division is needed.
-use Rattle.std.proofs.Common.{◌≡◌, ℕ, zero, suc, ◌+◌, ◌-◌, ◌*◌, ◌/◌, ◌%◌, ◌^◌, ◌<◌, Bool, true, false, ◌&&◌, ◌||◌, ◌==◌, get_or, if◌then◌else◌, refl, sym, ap, ◌∙◌, arith, nat_lt}
+use Rattle.std.proofs.Common.{◌≡◌, ℕ, zero, suc, ◌+◌, ◌-◌, ◌*◌, ◌/◌, ◌%◌, ◌^◌, ◌<◌, Bool, true, false, ◌&&◌, ◌||◌, ◌==◌, get_or, if◌then◌else◌, refl, ap, ◌∙◌, arith, nat_lt}
 use Rattle.std.proofs.Math.Nat.{mul-mod_right, div-add-mod, pow-suc}
 use Rattle.std.proofs.lemmas.Nat.{and_mask}
 use Rattle.std.proofs.lemmas.Bool.Decides.{nat_tests}
@@ -80,12 +80,12 @@ test_by_parts : (period low offset k counter : ℕ) → period ≡ odd_part offs
 test_by_parts period low offset k counter whole ones =
     let x : ℕ = counter + offset in
     elim (offset == 1040) as (λ b. (offset == 1040) ≡ b → (x % period == 0) ≡ ((bit_and x low == 0) && (rest_at counter offset == 0))) [
-      true ↦ λ thirds. (let at : offset ≡ 1040 = grind (arith, nat_tests) in
-        from_parts 3 halves_of_three period low (rest_at counter offset) k x (rw thirds at whole) ones (rw at refl))
-    | false ↦ λ other. elim (offset == 536) as (λ b. (offset == 536) ≡ b → (x % period == 0) ≡ ((bit_and x low == 0) && (rest_at counter offset == 0))) [
-        true ↦ λ fifths. (let at : offset ≡ 536 = grind (arith, nat_tests) in
-          from_parts 5 halves_of_five period low (rest_at counter offset) k x (rw (other, fifths) at whole) ones (rw at refl))
-      | false ↦ λ plain. from_parts 1 (λ y h. omega arith) period low (rest_at counter offset) k x (rw (other, plain) at whole) ones (rw (other, plain) (omega arith))
+      | true ↦ λ thirds. (let at : offset ≡ 1040 = grind (arith, nat_tests) in
+          from_parts 3 halves_of_three period low (rest_at counter offset) k x (rw thirds at whole) ones (rw at refl))
+      | false ↦ λ other. elim (offset == 536) as (λ b. (offset == 536) ≡ b → (x % period == 0) ≡ ((bit_and x low == 0) && (rest_at counter offset == 0))) [
+        | true ↦ λ fifths. (let at : offset ≡ 536 = grind (arith, nat_tests) in
+            from_parts 5 halves_of_five period low (rest_at counter offset) k x (rw (other, fifths) at whole) ones (rw at refl))
+        | false ↦ λ plain. from_parts 1 (λ y h. omega arith) period low (rest_at counter offset) k x (rw (other, plain) at whole) ones (rw (other, plain) (omega arith))
       ] refl
     ] refl
 

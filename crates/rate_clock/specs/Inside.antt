@@ -1,6 +1,5 @@
 -- What a clock holds beside its counter, so that a rate is tested without a division.
 use Rattle.std.specs.Prelude.{◌≡◌, ℕ, ◌+◌, ◌%◌, ◌<◌, ◌==◌, if◌then◌else◌}
-use Rattle.std.proofs.Common.{arith}
 use Rattle.rate_clock.specs.declared.clock.RateClock.TheInside.{Inside}
 
 -- what holds of the fields of each clock

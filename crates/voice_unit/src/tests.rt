@@ -1,29 +1,47 @@
 //! A worked example: one key on and eight steps.
 
+ghost use Rattle.std.specs.Prelude.{◌<◌};
+
 use crate::{Voice, VoiceIn, VoiceRegs};
 use aram_core::Aram;
 use gauss_table::GaussTable;
 use rate_clock::RateClock;
 use std::test::Fail;
 
+/// Puts bytes from an address on.
+fn put_all(memory: &mut Aram, from: u16, bytes: &[u8]) {
+    let mut at = from;
+    for byte in bytes {
+        memory.put(at, *byte);
+        at = at.wrapping_add(1);
+    }
+}
+
+/// What a step reads in sample `k`, where a key on waits for the first poll.
+fn input_of(k: u32) -> VoiceIn
+    ensures { result.noise < 0x8000 }
+{
+    VoiceIn {
+        dir: 2,
+        modulated: false,
+        previous: 0,
+        noisy: false,
+        noise: 0x4000,
+        reset: false,
+        poll: k % 2 == 0,
+        koff: false,
+        kon: k == 0,
+    }
+}
+
 #[test]
 fn a_key_on_is_silent_for_six_steps(rt: HostRuntime) -> Result<(), Fail> {
-    let mut bytes = vec![in rt.alloc(); 0u8; 0x10000]?;
-    // entry 0 of the directory, and two blocks that loop at the second
-    for (at, byte) in [(0x0201, 0x05), (0x0203, 0x06), (0x0500, 0xc3), (0x0600, 0xc3)] {
-        if let Some(cell) = bytes.get_mut(at) {
-            *cell = byte;
-        }
-    }
-    for block in [0x0500, 0x0600] {
-        for i in 1..9 {
-            if let Some(cell) = bytes.get_mut(block + i) {
-                *cell = 0x11;
-            }
-        }
-    }
-    assert_eq!(rt; bytes.len(), 0x10000);
-    let memory = Aram::from_image(rt.alloc(), &bytes)?;
+    let zeros = vec![in rt.alloc(); 0u8; 0x10000]?;
+    let mut memory = Aram::from_image(rt.alloc(), &zeros)?;
+    let block = [0xc3, 0x11, 0x11, 0x11, 0x11, 0x11, 0x11, 0x11, 0x11];
+    put_all(&mut memory, 0x0200, &[0x00, 0x05, 0x00, 0x06]);
+    put_all(&mut memory, 0x0500, &block);
+    put_all(&mut memory, 0x0600, &block);
     let table = GaussTable::straight(rt.alloc())?;
     let regs = VoiceRegs {
         pitch: 0x1000,
@@ -34,21 +52,9 @@ fn a_key_on_is_silent_for_six_steps(rt: HostRuntime) -> Result<(), Fail> {
     };
     let mut clock = RateClock::new();
     let mut voice = Voice::new();
-    for k in 0..8u32 {
+    for (k, want) in (0..8u32).zip([0, 0, 0, 0, 0, 0, 4064, 4064]) {
         clock.step();
-        let input = VoiceIn {
-            dir: 2,
-            modulated: false,
-            previous: 0,
-            noisy: false,
-            noise: 0x4000,
-            reset: false,
-            poll: k % 2 == 0,
-            koff: false,
-            kon: k == 0,
-        };
-        let answer = voice.step(&regs, &input, &memory, &table, &clock);
-        let want = if k < 6 { 0 } else { 4064 };
+        let answer = voice.step(&regs, &input_of(k), &memory, &table, &clock);
         assert_eq!(rt; answer.out, want, "at step {k}");
         assert_eq!(rt; answer.keyed, k == 0);
     }

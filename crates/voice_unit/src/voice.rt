@@ -43,6 +43,9 @@ impl Model for Voice {
     ghost inverse = { inside_of };
 }
 
+/// How many samples a voice waits after its key on.
+const KEY_ON_DELAY: u8 = 5;
+
 /// The offset of the last group of a block.
 const LAST_GROUP: u8 = 7;
 
@@ -125,10 +128,9 @@ impl Voice {
     fn step_header(&self, memory: &Aram) -> u8
         ensures { result ≡ step_header self.now memory.now }
     {
-        if self.delay == 5 {
-            0
-        } else {
-            memory.get(self.block)
+        match self.delay {
+            KEY_ON_DELAY => 0,
+            _ => memory.get(self.block),
         }
     }
 
@@ -140,7 +142,7 @@ impl Voice {
         if self.delay == 0 {
             return;
         }
-        if self.delay == 5 {
+        if self.delay == KEY_ON_DELAY {
             self.block = start_word(input.dir, regs.srcn, memory);
             self.offset = 1;
         }
@@ -214,7 +216,7 @@ impl Voice {
         }
         if input.poll && input.kon {
             self.envelope.key();
-            self.delay = 5;
+            self.delay = KEY_ON_DELAY;
         }
         if self.delay == 0 {
             self.envelope.step(regs.adsr1, regs.adsr2, regs.gain, clock);

@@ -1,4 +1,4 @@
-use Rattle.std.proofs.Common.{◌≡◌, ℕ, ◌+◌, ◌<◌, ◌==◌, Bool, true, false, get_or, bit_and, refl, sym, arith, rules}
+use Rattle.std.proofs.Common.{◌≡◌, ◌+◌, ◌<◌, ◌==◌, true, false, get_or, bit_and, refl, arith, rules}
 use Rattle.std.proofs.lemmas.Bool.Decides.{nat_tests}
 use Rattle.rate_clock.specs.Counter.{fires, offsets}
 use Rattle.rate_clock.proofs.Tables.{offset_bound}
@@ -17,7 +17,7 @@ returns-then-low-eq0 c =
     let positive : 0 < c.args.rate = omega arith in
     let place : c.from-place.result ≡ c.args.rate = search rules in
     let low : (bit_and (c.args.self.now + get_or offsets c.args.rate 0) (get_or low_bits c.args.rate 0) == 0) ≡ true =
-        rw (← c.self.view_is, ← place) (grind (arith, nat_tests)) in
+    rw (← c.self.view_is, ← place) (grind (arith, nat_tests)) in
     rw (fires_by_parts c.args.rate c.args.self.now positive c.requires, low, c.rest-rest.ensures, place) refl
 
 pub returns-else-low-eq0 : goal.returns-else-low-eq0
@@ -25,5 +25,5 @@ returns-else-low-eq0 c =
     let positive : 0 < c.args.rate = omega arith in
     let place : c.from-place.result ≡ c.args.rate = search rules in
     let low : (bit_and (c.args.self.now + get_or offsets c.args.rate 0) (get_or low_bits c.args.rate 0) == 0) ≡ false =
-        rw (← c.self.view_is, ← place) (grind (arith, nat_tests)) in
+    rw (← c.self.view_is, ← place) (grind (arith, nat_tests)) in
     rw (fires_by_parts c.args.rate c.args.self.now positive c.requires, low) (grind (arith, nat_tests))
