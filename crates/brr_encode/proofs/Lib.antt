@@ -1,0 +1,16 @@
+-- Leasts: the first place at which a number is least.
+-- Choices: the nearest of the digits so far.
+-- Costs: what a header costs, target by target.
+-- Cheapests: the cheapest of the headers that were tried.
+-- Pairs: two targets more of a block.
+-- Coders: what an encoder holds behind targets.
+-- Digits: the bytes of a block, read as its digits again.
+-- Streams: the blocks of an encoding, one by one and decoded, and their reports.
+pub mod Leasts
+pub mod Choices
+pub mod Costs
+pub mod Cheapests
+pub mod Pairs
+pub mod Coders
+pub mod Digits
+pub mod Streams

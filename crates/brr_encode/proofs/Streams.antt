@@ -1,0 +1,169 @@
+-- The blocks of an encoding, one by one and decoded, and their reports.
+use Rattle.std.proofs.Common.{◌≡◌, ℕ, zero, suc, ◌+◌, ◌*◌, ◌/◌, ◌%◌, ◌<◌, Bool, true, false, ◌==◌, ℤ, pos, List, [], ◌∷◌, ◌++◌, length, take, drop, refl, sym, ap, ◌∙◌, arith, append_assoc, length-append}
+use Rattle.std.proofs.Math.Seq.{drop-append_seam, take-append_seam}
+use Rattle.std.proofs.lemmas.List.{length-take-le, length-drop}
+use Rattle.num_fix.specs.Words.{number_at}
+use Rattle.brr_decode.specs.Kept.{Digit, kept_sample, digits_of, digits_under, samples_of}
+use Rattle.brr_decode.proofs.Samples.{kept_behind, length-kept_behind, samples_of-is}
+use Rattle.brr_encode.specs.Greedy.{nearest_sample, greedy_digits, greedy_samples, squares}
+use Rattle.brr_encode.specs.Encoding.{header_at, best_header, end_bits, digit_bytes, block_of, block_samples, blocks_of, padded, encoding}
+use Rattle.brr_encode.specs.Report.{worst, reports_from, reports_of}
+use Rattle.brr_encode.specs.Steps.{after_targets, coder_behind, block_report, block_reports, all_reports}
+use Rattle.brr_encode.specs.declared.block.Coder.{Coder}
+use Rattle.brr_encode.specs.declared.report.BlockReport.{BlockReport}
+use Rattle.brr_encode.proofs.Coders.{behind_sixteen}
+use Rattle.brr_encode.proofs.Digits.{decoded_digits, digits_of-block}
+
+-- one block more, and the blocks behind it
+pub blocks_next : (items : List ℕ) (first last looped : Bool) (p1 p2 : ℤ) (rest block tail : List ℤ) (new : Coder) (whole : List ℕ)
+    → block ≡ take 16 rest → tail ≡ drop 16 rest → length tail + 16 ≡ length rest → last ≡ (length tail / 16 == 0)
+    → new ≡ after_targets (best_header first p1 p2 block) (coder_behind p1 p2) block
+    → items ++ blocks_of (length rest / 16) first looped p1 p2 rest ≡ whole
+    → (items ++ block_of first last looped p1 p2 block) ++ blocks_of (length tail / 16) false looped new.last new.before tail ≡ whole
+blocks_next items first last looped p1 p2 rest block tail new whole is_block is_tail sized last_is new_is all =
+    let count : length rest / 16 ≡ suc (length tail / 16) = omega (arith, sized) in
+    let sixteen : length block ≡ 16 = ap (λ (l : List ℤ). length l) is_block ∙ length-take-le 16 rest (omega (arith, sized)) in
+    let kept = behind_sixteen (best_header first p1 p2 block) p1 p2 block sixteen in
+    let last_kept : new.last ≡ number_at (block_samples first p1 p2 (take 16 rest)) 15 =
+    ap (λ (c : Coder). c.last) new_is ∙ kept.0 ∙ ap (λ (l : List ℤ). number_at (block_samples first p1 p2 l) 15) is_block in
+    let kept_before : new.before ≡ number_at (block_samples first p1 p2 (take 16 rest)) 14 =
+    ap (λ (c : Coder). c.before) new_is ∙ kept.1 ∙ ap (λ (l : List ℤ). number_at (block_samples first p1 p2 l) 14) is_block in
+    append_assoc items _ _
+    ∙ (λ i. items ++ (block_of first (last_is i) looped p1 p2 (is_block i) ++ blocks_of (length tail / 16) false looped (last_kept i) (kept_before i) (is_tail i)))
+    ∙ ap (λ (n : ℕ). items ++ blocks_of n first looped p1 p2 rest) (sym count) ∙ all
+
+pub reports_next : (items : List BlockReport) (first last looped : Bool) (p1 p2 : ℤ) (rest block tail : List ℤ) (new : Coder) (whole : List BlockReport)
+    → block ≡ take 16 rest → tail ≡ drop 16 rest → length tail + 16 ≡ length rest → last ≡ (length tail / 16 == 0)
+    → new ≡ after_targets (best_header first p1 p2 block) (coder_behind p1 p2) block
+    → items ++ block_reports (length rest / 16) first looped p1 p2 rest ≡ whole
+    → (items ++ block_report first last looped p1 p2 block ∷ []) ++ block_reports (length tail / 16) false looped new.last new.before tail ≡ whole
+reports_next items first last looped p1 p2 rest block tail new whole is_block is_tail sized last_is new_is all =
+    let count : length rest / 16 ≡ suc (length tail / 16) = omega (arith, sized) in
+    let sixteen : length block ≡ 16 = ap (λ (l : List ℤ). length l) is_block ∙ length-take-le 16 rest (omega (arith, sized)) in
+    let kept = behind_sixteen (best_header first p1 p2 block) p1 p2 block sixteen in
+    let last_kept : new.last ≡ number_at (block_samples first p1 p2 (take 16 rest)) 15 =
+    ap (λ (c : Coder). c.last) new_is ∙ kept.0 ∙ ap (λ (l : List ℤ). number_at (block_samples first p1 p2 l) 15) is_block in
+    let kept_before : new.before ≡ number_at (block_samples first p1 p2 (take 16 rest)) 14 =
+    ap (λ (c : Coder). c.before) new_is ∙ kept.1 ∙ ap (λ (l : List ℤ). number_at (block_samples first p1 p2 l) 14) is_block in
+    append_assoc items _ _
+    ∙ (λ i. items ++ (block_report first (last_is i) looped p1 p2 (is_block i) ∷ block_reports (length tail / 16) false looped (last_kept i) (kept_before i) (is_tail i)))
+    ∙ ap (λ (n : ℕ). items ++ block_reports n first looped p1 p2 rest) (sym count) ∙ all
+
+-- a header that is tried leaves room for end and loop bits
+header_at-whole : (place : ℕ) → header_at place % 4 ≡ 0
+header_at-whole place = omega arith
+
+best_header-whole : (first : Bool) (p1 p2 : ℤ) (targets : List ℤ) → best_header first p1 p2 targets % 4 ≡ 0
+unfolding best_header
+best_header-whole first p1 p2 targets = header_at-whole _
+
+end_bits-few : (last looped : Bool) → end_bits last looped < 4
+end_bits-few true true = omega arith
+end_bits-few true false = omega arith
+end_bits-few false looped = omega arith
+
+length-digit_bytes : (h : ℕ) (p1 p2 : ℤ) (targets : List ℤ) → length targets % 2 ≡ 0 → 2 * length (digit_bytes (greedy_digits h p1 p2 targets)) ≡ length targets
+length-digit_bytes h p1 p2 [] even = refl
+length-digit_bytes h p1 p2 (a ∷ []) even = absurd (omega arith)
+length-digit_bytes h p1 p2 (a ∷ b ∷ targets) even =
+    let kept = nearest_sample h a p1 p2 in
+    let ih = length-digit_bytes h (nearest_sample h b kept p1) kept targets (omega arith) in omega (arith, ih)
+
+length-block_of : (first last looped : Bool) (p1 p2 : ℤ) (targets : List ℤ) → length targets ≡ 16 → length (block_of first last looped p1 p2 targets) ≡ 9
+length-block_of first last looped p1 p2 targets sixteen =
+    let digits = length-digit_bytes (best_header first p1 p2 targets) p1 p2 targets (omega arith) in omega (arith, digits, sixteen)
+
+length-greedy_samples : (h : ℕ) (p1 p2 : ℤ) (targets : List ℤ) → length (greedy_samples h p1 p2 targets) ≡ length targets
+length-greedy_samples h p1 p2 [] = refl
+length-greedy_samples h p1 p2 (target ∷ targets) = ap suc (length-greedy_samples h (nearest_sample h target p1 p2) p1 targets)
+
+-- the samples that are kept of all blocks
+abbrev pub kept_of : (count : ℕ) → (first : Bool) → (p1 p2 : ℤ) → (targets : List ℤ) → List ℤ
+kept_of zero first p1 p2 targets = []
+kept_of (suc count) first p1 p2 targets =
+    let kept = block_samples first p1 p2 (take 16 targets) in
+    kept ++ kept_of count false (number_at kept 15) (number_at kept 14) (drop 16 targets)
+
+-- digits behind others go on from the last two samples
+kept_behind-append : (xs ys : List Digit) (p1 p2 : ℤ)
+    → kept_behind (xs ++ ys) p1 p2 ≡ kept_behind xs p1 p2 ++ kept_behind ys (number_at (p2 ∷ p1 ∷ kept_behind xs p1 p2) (suc (length xs))) (number_at (p2 ∷ p1 ∷ kept_behind xs p1 p2) (length xs))
+kept_behind-append [] ys p1 p2 = refl
+kept_behind-append (x ∷ xs) ys p1 p2 =
+    let kept = kept_sample x.header x.value p1 p2 in ap (λ (l : List ℤ). kept ∷ l) (kept_behind-append xs ys kept p1)
+
+-- a block behind p1 and p2, decoded, and what follows it
+decoded_block : (first last looped : Bool) (p1 p2 : ℤ) (targets : List ℤ) (rest : List ℕ) → length targets ≡ 16
+    → let kept = block_samples first p1 p2 targets in
+    kept_behind (digits_of (block_of first last looped p1 p2 targets ++ rest)) p1 p2 ≡ kept ++ kept_behind (digits_of rest) (number_at kept 15) (number_at kept 14)
+decoded_block first last looped p1 p2 targets rest sixteen =
+    let h = best_header first p1 p2 targets in
+    let e = end_bits last looped in
+    let kept = block_samples first p1 p2 targets in
+    let block = block_of first last looped p1 p2 targets in
+    let digits = digits_under (h + e) (digit_bytes (greedy_digits h p1 p2 targets)) in
+    let split : digits_of (block ++ rest) ≡ digits ++ digits_of rest = digits_of-block block rest (length-block_of first last looped p1 p2 targets sixteen) in
+    let decoded : kept_behind digits p1 p2 ≡ kept = decoded_digits h e p1 p2 targets (best_header-whole first p1 p2 targets) (end_bits-few last looped) (omega (arith, sixteen)) in
+    let long : length digits ≡ 16 = sym (length-kept_behind digits p1 p2) ∙ ap (λ (l : List ℤ). length l) decoded ∙ length-greedy_samples h p1 p2 targets ∙ sixteen in
+    ap (λ (ds : List Digit). kept_behind ds p1 p2) split ∙ kept_behind-append digits (digits_of rest) p1 p2
+    ∙ (λ i. decoded i ++ kept_behind (digits_of rest) (number_at (p2 ∷ p1 ∷ decoded i) (suc (long i))) (number_at (p2 ∷ p1 ∷ decoded i) (long i)))
+
+-- all blocks, decoded
+decoded_blocks : (count : ℕ) (first looped : Bool) (p1 p2 : ℤ) (targets : List ℤ) → length targets ≡ 16 * count
+    → kept_behind (digits_of (blocks_of count first looped p1 p2 targets)) p1 p2 ≡ kept_of count first p1 p2 targets
+decoded_blocks zero first looped p1 p2 targets sized = refl
+decoded_blocks (suc count) first looped p1 p2 targets sized =
+    let kept = block_samples first p1 p2 (take 16 targets) in
+    let sixteen : length (take 16 targets) ≡ 16 = length-take-le 16 targets (omega (arith, sized)) in
+    let left : length (drop 16 targets) ≡ 16 * count = length-drop 16 targets ∙ omega (arith, sized) in
+    decoded_block first (count == 0) looped p1 p2 (take 16 targets) (blocks_of count false looped (number_at kept 15) (number_at kept 14) (drop 16 targets)) sixteen
+    ∙ ap (λ (l : List ℤ). kept ++ l) (decoded_blocks count false looped (number_at kept 15) (number_at kept 14) (drop 16 targets) left)
+
+length-blocks_of : (count : ℕ) (first looped : Bool) (p1 p2 : ℤ) (targets : List ℤ) → length targets ≡ 16 * count → length (blocks_of count first looped p1 p2 targets) ≡ 9 * count
+length-blocks_of zero first looped p1 p2 targets sized = refl
+length-blocks_of (suc count) first looped p1 p2 targets sized =
+    let kept = block_samples first p1 p2 (take 16 targets) in
+    let sixteen : length (take 16 targets) ≡ 16 = length-take-le 16 targets (omega (arith, sized)) in
+    let left : length (drop 16 targets) ≡ 16 * count = length-drop 16 targets ∙ omega (arith, sized) in
+    let block = length-block_of first (count == 0) looped p1 p2 (take 16 targets) sixteen in
+    let ih = length-blocks_of count false looped (number_at kept 15) (number_at kept 14) (drop 16 targets) left in
+    length-append (block_of first (count == 0) looped p1 p2 (take 16 targets)) _ ∙ omega (arith, block, ih)
+
+-- the first part of two, where its length is known
+take_first : {X : Type 0} (n : ℕ) (xs ys : List X) → length xs ≡ n → take n (xs ++ ys) ≡ xs
+take_first n xs ys is = ap (λ (k : ℕ). take k (xs ++ ys)) (sym is) ∙ take-append_seam xs ys
+
+drop_first : {X : Type 0} (n : ℕ) (xs ys : List X) → length xs ≡ n → drop n (xs ++ ys) ≡ ys
+drop_first n xs ys is = ap (λ (k : ℕ). drop k (xs ++ ys)) (sym is) ∙ drop-append_seam xs ys
+
+-- the reports, read off the blocks and their kept samples
+reports_of_kept : (count : ℕ) (first looped : Bool) (p1 p2 : ℤ) (targets : List ℤ) → length targets ≡ 16 * count
+    → block_reports count first looped p1 p2 targets ≡ reports_from count (blocks_of count first looped p1 p2 targets) (kept_of count first p1 p2 targets) targets
+reports_of_kept zero first looped p1 p2 targets sized = refl
+reports_of_kept (suc count) first looped p1 p2 targets sized =
+    let block = take 16 targets in
+    let h = best_header first p1 p2 block in
+    let e = end_bits (count == 0) looped in
+    let kept = block_samples first p1 p2 block in
+    let bytes = block_of first (count == 0) looped p1 p2 block in
+    let rest = blocks_of count false looped (number_at kept 15) (number_at kept 14) (drop 16 targets) in
+    let others = kept_of count false (number_at kept 15) (number_at kept 14) (drop 16 targets) in
+    let sixteen : length block ≡ 16 = length-take-le 16 targets (omega (arith, sized)) in
+    let left : length (drop 16 targets) ≡ 16 * count = length-drop 16 targets ∙ omega (arith, sized) in
+    let here = take_first 16 kept others (length-greedy_samples h p1 p2 block ∙ sixteen) in
+    let behind = drop_first 16 kept others (length-greedy_samples h p1 p2 block ∙ sixteen) in
+    let bytes_behind = drop_first 9 bytes rest (length-block_of first (count == 0) looped p1 p2 block sixteen) in
+    ap (λ (l : List BlockReport). record { header = h + e; worst = worst kept block; squares = squares kept block } ∷ l)
+    (reports_of_kept count false looped (number_at kept 15) (number_at kept 14) (drop 16 targets) left)
+    ∙ (λ i. record { header = h + e; worst = worst (sym here i) block; squares = squares (sym here i) block } ∷ reports_from count (sym bytes_behind i) (sym behind i) (drop 16 targets))
+
+-- the reports that are made are those that are read off the encoding
+pub reports_are_true : (samples : List ℤ) (looped : Bool) → length (padded samples) % 16 ≡ 0 → all_reports samples looped ≡ reports_of (encoding samples looped) (padded samples)
+unfolding encoding reports_of
+reports_are_true samples looped whole =
+    let count = length (padded samples) / 16 in
+    let sized : length (padded samples) ≡ 16 * count = omega (arith, whole) in
+    let bytes = blocks_of count true looped (pos 0) (pos 0) (padded samples) in
+    let blocks : length bytes / 9 ≡ count = let l = length-blocks_of count true looped (pos 0) (pos 0) (padded samples) sized in omega (arith, l) in
+    let decoded : samples_of bytes ≡ kept_of count true (pos 0) (pos 0) (padded samples) = samples_of-is bytes ∙ decoded_blocks count true looped (pos 0) (pos 0) (padded samples) sized in
+    reports_of_kept count true looped (pos 0) (pos 0) (padded samples) sized
+    ∙ (λ i. reports_from (sym blocks i) bytes (sym decoded i) (padded samples))

@@ -1,0 +1,15 @@
+use Rattle.std.proofs.Common.{◌≡◌, ◌/◌, ◌%◌, ◌++◌, length}
+use Rattle.brr_encode.specs.Encoding.{encoding, blocks_of}
+use Rattle.brr_encode.specs.Steps.{block_reports, all_reports}
+use Rattle.brr_encode.proofs.encoder.encode.Given as goal
+
+-- the blocks so far, and behind them those of the targets that are left, are all blocks
+abbrev pub invariant-each : goal.invariant-each
+invariant-each l = record {
+  bytes : l.bytes.items ++ blocks_of (length l.rest / 16) l.first l.looped l.coder.last l.coder.before l.rest ≡ encoding l.samples l.looped;
+  reports : l.reports.items ++ block_reports (length l.rest / 16) l.first l.looped l.coder.last l.coder.before l.rest ≡ all_reports l.samples l.looped;
+  whole : length l.rest % 16 ≡ 0;
+}
+
+abbrev pub decreases-each : goal.decreases-each
+decreases-each l = length l.rest

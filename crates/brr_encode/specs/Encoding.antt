@@ -1,0 +1,58 @@
+-- The encoding of samples: blocks of sixteen, each under the header that costs least.
+use Rattle.std.specs.Prelude.{ℕ, zero, suc, ◌+◌, ◌-◌, ◌*◌, ◌/◌, ◌%◌, List, [], ◌∷◌, ◌++◌, length, take, drop, replicate, Bool, true, false, ◌==◌, ℤ, pos, unsigned_abs, if◌then◌else◌}
+use Rattle.std.specs.Int.{int_rem_euclid}
+use Rattle.num_fix.specs.Words.{number_at}
+use Rattle.brr_encode.specs.Least.{least_place}
+use Rattle.brr_encode.specs.Greedy.{greedy_digits, greedy_samples, greedy_squares}
+
+-- the headers in the order in which they are tried: filter 0 with the shifts 0 to 12, then filter 1, and so on up to filter 3
+abbrev pub header_at : (place : ℕ) → ℕ
+header_at place = place % 13 * 0x10 + place / 13 * 4
+
+-- how many of them a block tries: the first block filter 0 alone, as nothing stands before it
+abbrev pub header_count : (first : Bool) → ℕ
+header_count first = if first then 13 else 52
+
+-- the header that costs least, of several the first
+unfoldable pub best_header : (first : Bool) → (p1 p2 : ℤ) → (targets : List ℤ) → ℕ
+best_header first p1 p2 targets = header_at (least_place (λ place. greedy_squares (header_at place) p1 p2 targets) (header_count first))
+
+-- the four bits of a digit
+abbrev pub digit_bits : ℤ → ℕ
+digit_bits digit = unsigned_abs (int_rem_euclid digit (pos 16))
+
+-- digits as bytes, two by two, the high digit first
+abbrev pub digit_bytes : List ℤ → List ℕ
+digit_bytes (high ∷ low ∷ digits) = (digit_bits high * 0x10 + digit_bits low) ∷ digit_bytes digits
+digit_bytes (high ∷ []) = []
+digit_bytes [] = []
+
+-- the end bit, and with looping the loop bit, of the last block
+abbrev pub end_bits : (last looped : Bool) → ℕ
+end_bits last looped = if last then (if looped then 3 else 1) else 0
+
+-- samples, and behind them as many zeros as make whole blocks
+abbrev pub padded : List ℤ → List ℤ
+padded samples = samples ++ replicate ((16 - length samples % 16) % 16) (pos 0)
+
+-- a block of sixteen targets under its best header
+abbrev pub block_of : (first last looped : Bool) → (p1 p2 : ℤ) → (targets : List ℤ) → List ℕ
+block_of first last looped p1 p2 targets =
+    let header = best_header first p1 p2 targets in
+    (header + end_bits last looped) ∷ digit_bytes (greedy_digits header p1 p2 targets)
+
+-- the samples that are kept of it
+abbrev pub block_samples : (first : Bool) → (p1 p2 : ℤ) → (targets : List ℤ) → List ℤ
+block_samples first p1 p2 targets = greedy_samples (best_header first p1 p2 targets) p1 p2 targets
+
+-- so many blocks, behind the kept samples p1 and p2
+abbrev pub blocks_of : (count : ℕ) → (first looped : Bool) → (p1 p2 : ℤ) → (targets : List ℤ) → List ℕ
+blocks_of zero first looped p1 p2 targets = []
+blocks_of (suc count) first looped p1 p2 targets =
+    let kept = block_samples first p1 p2 (take 16 targets) in
+    block_of first (count == 0) looped p1 p2 (take 16 targets)
+    ++ blocks_of count false looped (number_at kept 15) (number_at kept 14) (drop 16 targets)
+
+-- the encoding of samples
+unfoldable pub encoding : (samples : List ℤ) → (looped : Bool) → List ℕ
+encoding samples looped = blocks_of (length (padded samples) / 16) true looped (pos 0) (pos 0) (padded samples)

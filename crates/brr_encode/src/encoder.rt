@@ -1,0 +1,126 @@
+// The blocks of a list of samples.
+ghost use Rattle.std.specs.Prelude.{◌≡◌, ◌+◌, ◌%◌, ◌∷◌, ◌++◌, ◌<◌, ◌≤◌, ◌↔◌, ◌⊎◌, [], length, IfOk, IfErr};
+ghost use Rattle.brr_encode.specs.Encoding.{padded, encoding, best_header, block_of, end_bits};
+ghost use Rattle.brr_encode.specs.Report.{reports_of};
+ghost use Rattle.brr_encode.specs.Steps.{after_targets, coder_behind, block_report};
+ghost use Rattle.brr_encode.specs.declared.encoder.EncodeRefusal.TheVariants.{OutOfMemory as NoMemory};
+
+use crate::block::{Coder, push_digits};
+use crate::search::best_header;
+use crate::{BlockReport, OutOfMemory};
+use std::alloc::Global;
+
+/// Blocks of nine bytes, and a report of each.
+#[derive(Drop)]
+pub struct Encoded {
+    pub bytes: Vec<u8>,
+    pub reports: Vec<BlockReport>,
+}
+
+/// Why samples were not encoded.
+#[derive(Clone, Copy, Debug, PartialEq, Eq)]
+pub enum EncodeRefusal {
+    /// There are no samples.
+    Empty,
+    /// There are more than 116,480 samples, or 7,280 blocks.
+    TooLong,
+    OutOfMemory,
+}
+
+impl From<OutOfMemory> for EncodeRefusal {
+    ghost from_gives = { λ _ refusal. refusal ≡ NoMemory };
+
+    fn from(_: OutOfMemory) -> EncodeRefusal {
+        EncodeRefusal::OutOfMemory
+    }
+}
+
+/// Which block one is: the first and the last differ from the others.
+#[derive(Clone, Copy)]
+struct Place {
+    first: bool,
+    last: bool,
+    looped: bool,
+}
+
+/// The end bit of the last block, and with looping its loop bit.
+fn end_bits(place: Place) -> u8
+    ensures value { result ≡ end_bits place.last place.looped }
+    ensures bound { result ≤ 3 }
+{
+    match (place.last, place.looped) {
+        (true, true) => 3,
+        (true, false) => 1,
+        (false, _) => 0,
+    }
+}
+
+/// Appends the block of sixteen targets and its report, and gives the encoder behind it.
+fn push_block(
+    bytes: &mut Vec<u8>,
+    reports: &mut Vec<BlockReport>,
+    targets: &[i16; 16],
+    place: Place,
+    coder: Coder,
+) -> Result<Coder, OutOfMemory>
+    ensures bytes { IfOk result (λ _. bytes.new.items ≡ bytes.old.items ++ block_of place.first place.last place.looped coder.last coder.before targets.now) }
+    ensures reports { IfOk result (λ _. reports.new.items ≡ reports.old.items ++ block_report place.first place.last place.looped coder.last coder.before targets.now ∷ []) }
+    ensures coder { IfOk result (λ new. new ≡ after_targets (best_header place.first coder.last coder.before targets.now) (coder_behind coder.last coder.before) targets.now) }
+{
+    let header = best_header(place.first, targets, coder.last, coder.before);
+    let flagged = header + end_bits(place);
+    bytes.push(flagged)?;
+    let coder = push_digits(bytes, header, targets, coder.last, coder.before)?;
+    reports.push(BlockReport {
+        header: flagged,
+        worst: coder.worst,
+        squares: coder.squares,
+    })?;
+    Ok(coder)
+}
+
+/// The samples, and behind them as many zeros as make whole blocks.
+fn padded(alloc: Global, samples: &[i16]) -> Result<Vec<i16>, OutOfMemory>
+    requires { length samples.now ≤ 116480 }
+    ensures targets { IfOk result (λ targets. targets.items ≡ padded samples.now) }
+    ensures whole { IfOk result (λ targets. length targets.items % 16 ≡ 0) }
+{
+    let count = samples.len().next_multiple_of(16);
+    let mut targets = Vec::with_capacity(alloc, count)?;
+    targets.extend_from_slice(samples)?;
+    targets.resize(count, 0)?;
+    Ok(targets)
+}
+
+/// Encodes samples as blocks; with `looped` the last block has its loop bit beside its end bit.
+/// Each report has the true error of its block, as a decoder gives it against the padded samples.
+pub fn encode(alloc: Global, samples: &[i16], looped: bool) -> Result<Encoded, EncodeRefusal>
+    ensures bytes { IfOk result (λ encoded. encoded.bytes.items ≡ encoding samples.now looped) }
+    ensures reports { IfOk result (λ encoded. encoded.reports.items ≡ reports_of encoded.bytes.items (padded samples.now)) }
+    ensures empty { (result ≡ Err EncodeRefusal.Empty) ↔ (samples.now ≡ []) }
+    ensures too_long { (result ≡ Err EncodeRefusal.TooLong) ↔ (116480 < length samples.now) }
+{
+    if samples.is_empty() {
+        return Err(EncodeRefusal::Empty);
+    }
+    if samples.len() > 116480 {
+        return Err(EncodeRefusal::TooLong);
+    }
+    let targets = padded(alloc, samples)?;
+    let mut bytes = Vec::with_capacity(alloc, targets.len() / 16 * 9)?;
+    let mut reports = Vec::with_capacity(alloc, targets.len() / 16)?;
+    let mut coder = Coder::start();
+    let mut first = true;
+    let mut rest = targets.as_slice();
+    'each: while let Some((block, tail)) = rest.split_first_chunk::<16>() {
+        let place = Place {
+            first,
+            last: tail.is_empty(),
+            looped,
+        };
+        coder = push_block(&mut bytes, &mut reports, block, place, coder)?;
+        first = false;
+        rest = tail;
+    }
+    Ok(Encoded { bytes, reports })
+}

@@ -1,0 +1,16 @@
+//! Encodes samples as BRR blocks, and reports the true error of each block.
+#![tactic(auto)]
+
+mod block;
+mod encoder;
+mod laws;
+mod nearest;
+mod report;
+mod search;
+#[cfg(test)]
+mod tests;
+
+pub use encoder::{EncodeRefusal, Encoded, encode};
+pub use laws::{best_header_costs_least, least_place_is_first};
+pub use report::BlockReport;
+pub use std::alloc::AllocError as OutOfMemory;

@@ -1,0 +1,86 @@
+-- The report behind the outputs.
+use Rattle.std.proofs.Common.{◌≡◌, Result, Ok, Err, ℕ, ◌-◌, List, [], ◌∷◌, ◌++◌, length, get_or, Some, refl, sym, ◌∙◌, ap, subst, arith, rules, append_assoc}
+use Rattle.std.proofs.lemmas.List.{append-nil}
+use Rattle.snd_host.specs.Host.{HostState, Output, Rose, Writes, WritesAll, rooms_less}
+use Rattle.snd_host.proofs.Writes.{index-rooms_less}
+use Rattle.command_frame.proofs.Places.{index-rooms_less_other}
+use Rattle.command_frame.specs.Delivery.{Gains, IsBegun, Delivers}
+
+pub gains_nothing : (a b : HostState) → b.given ≡ a.given → b.ended ≡ a.ended → b.holds ≡ a.holds → Gains [] [] [] [] a b
+gains_nothing a b given ended holds = record {
+  given = λ g told. given ∙ told ∙ (λ i. Some (record { report = sym (append-nil g.report) i; complaint = sym (append-nil g.complaint) i; created = sym (append-nil g.created) i }));
+  ended = ended ∙ sym (append-nil a.ended);
+  holds = holds;
+}
+
+pub begun_all : (outputs : List Output) → IsBegun outputs outputs
+begun_all [] = tt
+begun_all (o ∷ outputs) = (refl, record { rest = []; split = append-nil o.bytes }, begun_all outputs)
+
+-- the report behind the outputs
+module _ {T E : Type 0} (outputs : List Output) (a b c : HostState) (x : T) (d : Delivers {T = T} {E = E} outputs [] a b (Ok x)) (part : List ℕ) (wrote : Writes 0 part b c) where
+  behind : Gains part [] d.begun d.ended a c
+  behind = record {
+    given = λ g told. wrote.given _ (d.made.given g told) ∙ (λ i. Some (record { report = (append_assoc g.report d.reported part ∙ ap (λ (l : List ℕ). g.report ++ (l ++ part)) d.ok.0) i; complaint = g.complaint ++ []; created = g.created ++ d.begun }));
+    ended = wrote.ended ∙ d.made.ended;
+    holds = wrote.others.holds ∙ d.made.holds;
+  }
+
+  left : (rooms : List ℕ) → a.steady ≡ Some rooms → (after : List ℕ) × (c.steady ≡ Some after) × (get_or after 0 0 ≡ get_or rooms 0 0 - length part) × (get_or after 1 0 ≡ get_or rooms 1 0)
+  left rooms told =
+      let mid = d.rooms rooms told in (
+        rooms_less mid.0 0 (length part),
+        wrote.rooms mid.0 mid.1,
+        omega (arith, index-rooms_less mid.0 0 (length part), mid.2, ap (length {A = ℕ}) d.ok.0),
+        index-rooms_less_other mid.0 0 1 (length part) (λ is. absurd (cc)) ∙ mid.3,
+      )
+
+pub then_report : {T U E : Type 0} (outputs : List Output) (report : List ℕ) (a b c : HostState) (x : T) (r : Result U E) → Delivers {T = T} {E = E} outputs [] a b (Ok x) → WritesAll 0 report b c r → Delivers outputs report a c r
+then_report {T = T} {U = U} {E = E} outputs report a b c x (Ok y) d w =
+    let cause = w.cause.outputs (λ is. absurd (cc)) in
+    record {
+      reported = report;
+      begun = d.begun;
+      ended = d.ended;
+      made = behind {T = T} {E = E} outputs a b c x d report w.wrote;
+      ok = (refl, d.ok.1, d.ok.2);
+      part = tt;
+      inputs = w.wrote.others.inputs ∙ d.inputs;
+      notes = w.cause.notes_kept (λ is. absurd (cc)) ∙ d.notes;
+      cause = record { later = omega (arith, cause.same, d.cause.same); failed = tt; same = cause.same ∙ d.cause.same };
+      enough = λ rooms told have fits. search rules;
+      rooms = left {T = T} {E = E} outputs a b c x d report w.wrote;
+    }
+then_report {T = T} {U = U} {E = E} outputs report a b c x (Err e) d w =
+    let cause = w.cause.outputs (λ is. absurd (cc)) in
+    record {
+      reported = w.part.part;
+      begun = d.begun;
+      ended = d.ended;
+      made = behind {T = T} {E = E} outputs a b c x d w.part.part w.part.wrote;
+      ok = tt;
+      part = (w.part.prefix, subst (λ (l : List Output). IsBegun l outputs) (sym d.ok.1) (begun_all outputs));
+      inputs = w.part.wrote.others.inputs ∙ d.inputs;
+      notes = w.cause.notes_kept (λ is. absurd (cc)) ∙ d.notes;
+      cause = record { later = omega (arith, cause.later, d.cause.same); failed = subst (λ (k : ℕ). Rose k c.faults.outputs) d.cause.same cause.failed; same = tt };
+      enough = λ rooms told have fits.
+          let mid = d.rooms rooms told in
+          let ok = w.steady mid.0 mid.1 (omega (arith, fits, mid.2, ap (length {A = ℕ}) d.ok.0)) in absurd (search rules);
+      rooms = left {T = T} {E = E} outputs a b c x d w.part.part w.part.wrote;
+    }
+
+-- no outputs
+pub no_outputs : {T E : Type 0} (a : HostState) (x : T) → Delivers {T = T} {E = E} [] [] a a (Ok x)
+no_outputs a x = record {
+  reported = [];
+  begun = [];
+  ended = [];
+  made = gains_nothing a a refl refl refl;
+  ok = (refl, refl, refl);
+  part = tt;
+  inputs = refl;
+  notes = refl;
+  cause = record { later = omega arith; failed = tt; same = refl };
+  enough = λ rooms told have fits. search rules;
+  rooms = λ rooms told. (rooms, told, omega arith, refl);
+}

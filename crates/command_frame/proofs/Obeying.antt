@@ -1,0 +1,251 @@
+-- What a command did is what its answer says.
+use Rattle.std.proofs.Common.{◌≡◌, ◌⊎◌, inl, inr, Result, Ok, Err, IsOk, IsSome, ℕ, ◌+◌, ◌≤◌, Bool, true, false, List, [], ◌++◌, length, get_or, Option, Some, None, refl, sym, ◌∙◌, ap, subst, rules}
+use Rattle.std.proofs.lemmas.List.{append-nil}
+use Rattle.snd_host.specs.Host.{HostState, Files, Output, Rose, ChangesInputs}
+use Rattle.snd_host.specs.declared.host.Failed.{Failed}
+use Rattle.command_frame.specs.declared.refusals.Refusal.{Refusal}
+use Rattle.command_frame.specs.declared.refusals.Refusal.TheVariants.{Usage, ReadFault, WriteFault, OutOfMemory}
+use Rattle.command_frame.specs.Delivery.{Gains, HaveRooms, CountsFaults, Delivers, all_ended}
+use Rattle.command_frame.specs.Answer.{Answer, done, refused, refusal_of, outputs_of, report_of, line_of, delivery_refusal}
+use Rattle.command_frame.specs.Conduct.{Delivery, NoneRose, EndsAs, Attempts, WritesComplaint, Obeys, Prepares, CarriesOut}
+use Rattle.command_frame.proofs.Delivering.{gains_nothing}
+
+-- reading changes nothing that was made
+made_behind : (r c : List ℕ) (o : List Output) (e : List Bool) (x y z : HostState) → ChangesInputs x y → Gains r c o e y z → Gains r c o e x z
+made_behind r c o e x y z reads made = record {
+  given = λ g told. made.given g (reads.given ∙ told);
+  ended = made.ended ∙ ap (λ (l : List Bool). l ++ e) reads.ended;
+  holds = made.holds ∙ reads.holds;
+}
+
+-- all was delivered
+all_done : {C T E : Type 0} (outputs : List Output) (report : List ℕ) (x y z : HostState) (t : T) (reads : ChangesInputs x y) (calm : y.faults.inputs ≡ x.faults.inputs) (d : Delivers {T = T} {E = E} outputs report y z (Ok t)) → EndsAs {C = C} (done outputs report) None d.reported d.begun d.ended x z
+all_done outputs report x y z t reads calm d = record {
+  settled = λ same. (d.ok.0, d.ok.1, d.ok.2);
+  written = λ is. absurd (cc);
+  truthful = inl refl;
+  steady = λ steady. inl refl;
+  steady_inputs = λ steady other. d.inputs ∙ calm;
+  enough = λ rooms told have fits. (inl refl, d.cause.same ∙ reads.outputs);
+}
+
+-- a write failed
+part_done : {C T E : Type 0} (outputs : List Output) (report : List ℕ) (x y z : HostState) (e : E) (reads : ChangesInputs x y) (calm : y.faults.inputs ≡ x.faults.inputs) (d : Delivers {T = T} {E = E} outputs report y z (Err e)) → EndsAs {C = C} (done outputs report) (Some WriteFault) d.reported d.begun d.ended x z
+part_done {C = C} {T = T} {E = E} outputs report x y z e reads calm d = record {
+  settled = λ same. absurd (cc);
+  written = λ is. (refl, d.part.0, d.part.1);
+  truthful = inr (inr (inl refl));
+  steady = λ steady. inr (inl refl);
+  steady_inputs = λ steady other. d.inputs ∙ calm;
+  enough = λ rooms told have fits.
+      let ok : IsOk {T = T} {E = E} (Err e) = d.enough rooms (reads.rooms rooms told) (subst (λ (l : List Bool). HaveRooms outputs rooms (length l + 2)) (sym reads.ended) have) fits in absurd (search rules);
+}
+
+-- it was refused as the answer says
+refused_so : {C : Type 0} (why : Refusal C) (x y : HostState) → (why ≡ WriteFault → ⊥) → ChangesInputs x y → ((why ≡ ReadFault → ⊥) → y.faults.inputs ≡ x.faults.inputs) → EndsAs (refused why) (Some why) [] [] [] x y
+refused_so {C = C} why x y no_write reads calm = record {
+  settled = λ same. (refl, refl, refl);
+  written = λ is. absurd (no_write cc);
+  truthful = inl refl;
+  steady = λ steady. inl refl;
+  steady_inputs = λ steady other. calm (λ is. other (ap (λ (r : Refusal C). Some r) is));
+  enough = λ rooms told have fits. (inl refl, reads.outputs);
+}
+
+-- memory was wanting
+no_memory : {C : Type 0} (a : Answer C) (x y : HostState) → ChangesInputs x y → y.faults.inputs ≡ x.faults.inputs → EndsAs a (Some OutOfMemory) [] [] [] x y
+no_memory (done outputs report) x y reads calm = record {
+  settled = λ same. absurd (cc);
+  written = λ is. absurd (cc);
+  truthful = inr (inr (inr refl));
+  steady = λ steady. inr (inr refl);
+  steady_inputs = λ steady other. calm;
+  enough = λ rooms told have fits. (inr refl, reads.outputs);
+}
+no_memory (refused why) x y reads calm = record {
+  settled = λ same. (refl, refl, refl);
+  written = λ is. absurd (cc);
+  truthful = inr (inr (inr refl));
+  steady = λ steady. inr (inr refl);
+  steady_inputs = λ steady other. calm;
+  enough = λ rooms told have fits. (inr refl, reads.outputs);
+}
+
+-- an input was not read
+not_read : {C : Type 0} (a : Answer C) (x y : HostState) → ChangesInputs x y → (IsSome x.steady → a ≡ refused ReadFault) → EndsAs a (Some ReadFault) [] [] [] x y
+not_read {C = C} a x y reads steadily = record {
+  settled = λ same. settled_refused a same;
+  written = λ is. absurd (cc);
+  truthful = inr (inl refl);
+  steady = λ steady. inl (sym (ap refusal_of (steadily steady)));
+  steady_inputs = λ steady other. absurd (other (ap refusal_of (steadily steady)));
+  enough = λ rooms told have fits. (inl (sym (ap refusal_of (steadily (subst (λ (o : Option (List ℕ)). IsSome o) (sym told) (search rules))))), reads.outputs);
+}
+  where
+    settled_refused : (b : Answer C) → Some ReadFault ≡ refusal_of b → ([] ≡ report_of b) × ([] ≡ outputs_of b) × ([] ≡ all_ended (outputs_of b))
+    settled_refused (done outputs report) same = absurd (cc)
+    settled_refused (refused why) same = (refl, refl, refl)
+
+fault : {T E : Type 0} (b a : ℕ) (e : E) → CountsFaults {T = T} {E = E} b a (Err e) → Rose b a
+fault b a e cause = cause.failed
+
+-- the room for the complaint is what it was
+note_room_kept : {T E : Type 0} (outputs : List Output) (report : List ℕ) (x y z : HostState) (r : Result T E) → ChangesInputs x y → Delivers outputs report y z r → (rooms : List ℕ) → x.steady ≡ Some rooms → (after : List ℕ) × (z.steady ≡ Some after) × (get_or after 1 0 ≡ get_or rooms 1 0)
+note_room_kept outputs report x y z r reads d rooms told = let after = d.rooms rooms (reads.rooms rooms told) in (after.0, after.1, after.3)
+
+module _ {P C : Type 0} (makes : P → Delivery) (answer : Files → Answer C) (x y z : HostState) where
+  attempts_done : (plan : P) (refusal : Option (Refusal C)) (p : Prepares makes answer x y (Ok plan)) (outcome : Result (Unit {0}) Failed) → refusal ≡ delivery_refusal outcome → Delivers (makes plan).outputs (makes plan).report y z outcome → Attempts answer true refusal x z
+  attempts_done plan refusal p (Ok t) is d = subst (λ (r : Option (Refusal C)). Attempts answer true r x z) (sym is) (record {
+    report = d.reported;
+    outputs = d.begun;
+    ended = d.ended;
+    made = made_behind d.reported [] d.begun d.ended x y z p.others d.made;
+    ok_inputs = λ _. d.inputs ∙ calm;
+    ok_outputs = λ _. d.cause.same ∙ p.others.outputs;
+    notes = d.notes ∙ p.others.notes;
+    read = λ wrong. absurd (cc);
+    write = λ wrong. absurd (cc);
+    refused = λ some not_write. absurd (some refl);
+    note_room = note_room_kept (makes plan).outputs (makes plan).report x y z (Ok t) p.others d;
+    answered = λ files told. subst (λ (a : Answer C). EndsAs a None d.reported d.begun d.ended x z) (sym (p.ok files told)) (all_done (makes plan).outputs (makes plan).report x y z t p.others calm d);
+  })
+    where
+      calm : y.faults.inputs ≡ x.faults.inputs
+      calm = p.calm (λ wrong. absurd (cc))
+  attempts_done plan refusal p (Err e) is d = subst (λ (r : Option (Refusal C)). Attempts answer true r x z) (sym is) (record {
+    report = d.reported;
+    outputs = d.begun;
+    ended = d.ended;
+    made = made_behind d.reported [] d.begun d.ended x y z p.others d.made;
+    ok_inputs = λ wrong. absurd (cc);
+    ok_outputs = λ wrong. absurd (cc);
+    notes = d.notes ∙ p.others.notes;
+    read = λ wrong. absurd (cc);
+    write = λ _. subst (λ (n : ℕ). Rose n z.faults.outputs) p.others.outputs d.cause.failed;
+    refused = λ some not_write. absurd (not_write refl);
+    note_room = note_room_kept (makes plan).outputs (makes plan).report x y z (Err e) p.others d;
+    answered = λ files told. subst (λ (a : Answer C). EndsAs a (Some WriteFault) d.reported d.begun d.ended x z) (sym (p.ok files told)) (part_done (makes plan).outputs (makes plan).report x y z e p.others calm d);
+  })
+    where
+      calm : y.faults.inputs ≡ x.faults.inputs
+      calm = p.calm (λ wrong. absurd (cc))
+
+  refused_answer : (why : Refusal C) (p : Prepares makes answer x y (Err why)) (files : Files) → x.holds ≡ Some files → EndsAs (answer files) (Some why) [] [] [] x y
+  refused_answer why p files told = by (p.err files told)
+    where
+      no_write : why ≡ WriteFault → ⊥
+      no_write is = p.no_write (ap (λ (r : Refusal C). Err r) is)
+
+      calm : (why ≡ ReadFault → ⊥) → y.faults.inputs ≡ x.faults.inputs
+      calm other = p.calm (λ is. other cc)
+
+      by : (answer files ≡ refused why) ⊎ ((why ≡ ReadFault) ⊎ (why ≡ OutOfMemory)) → EndsAs (answer files) (Some why) [] [] [] x y
+      by (inl is) = subst (λ (a : Answer C). EndsAs a (Some why) [] [] [] x y) (sym is) (refused_so why x y no_write p.others calm)
+      by (inr (inl is)) = subst (λ (r : Refusal C). EndsAs (answer files) (Some r) [] [] [] x y) (sym is) (not_read (answer files) x y p.others (λ steady. p.steady (ap (λ (r : Refusal C). Err r) is) steady files told))
+      by (inr (inr is)) = subst (λ (r : Refusal C). EndsAs (answer files) (Some r) [] [] [] x y) (sym is) (no_memory (answer files) x y p.others (calm (λ wrong. absurd (cc))))
+
+  attempts_refused : (why : Refusal C) (p : Prepares makes answer x y (Err why)) → Attempts answer true (Some why) x y
+  attempts_refused why p = record {
+    report = [];
+    outputs = [];
+    ended = [];
+    made = gains_nothing x y p.others.given p.others.ended p.others.holds;
+    ok_inputs = λ wrong. absurd (cc);
+    ok_outputs = λ wrong. absurd (cc);
+    notes = p.others.notes;
+    read = λ is. (p.read (ap (λ (r : Refusal C). Err r) cc), search rules);
+    write = λ is. absurd (p.no_write (ap (λ (r : Refusal C). Err r) cc));
+    refused = λ some not_write. (refl, refl, refl);
+    note_room = λ rooms told. (rooms, p.others.rooms rooms told, refl);
+    answered = refused_answer why p;
+  }
+
+  pub attempts : (prepared : Result P (Refusal C)) (refusal : Option (Refusal C)) → Prepares makes answer x y prepared → CarriesOut makes prepared y z refusal → Attempts answer true refusal x z
+  attempts (Ok plan) refusal p c = attempts_done plan refusal p c.ok.0 c.ok.1 c.ok.2
+  attempts (Err why) refusal p c =
+      subst (λ (s : HostState). Attempts answer true refusal x s) (sym c.err.1) (subst (λ (r : Option (Refusal C)). Attempts answer true r x y) (sym c.err.0) (attempts_refused why p))
+
+-- the attempt, and then its complaint
+pub obeys : {C : Type 0} (line : C → List ℕ) (answer : Files → Answer C) (names : Bool) (refusal : Option (Refusal C)) (x y z : HostState) → Attempts answer names refusal x y → WritesComplaint (line_of line refusal) y z → (refusal ≡ None → z ≡ y) → Obeys line answer names refusal x z
+obeys {C = C} line answer names refusal x y z t c silent = record {
+  report = t.report;
+  complaint = c.complaint;
+  outputs = t.outputs;
+  ended = t.ended;
+  made = record {
+    given = λ g told. c.wrote.given _ (t.made.given g told) ∙ (λ i. Some (record { report = g.report ++ t.report; complaint = ap (λ (l : List ℕ). l ++ c.complaint) (append-nil g.complaint) i; created = g.created ++ t.outputs }));
+    ended = c.wrote.ended ∙ t.made.ended;
+    holds = c.wrote.others.holds ∙ t.made.holds;
+  };
+  ok = λ is. (λ i. record { inputs = (inputs ∙ t.ok_inputs is) i; notes = (ap (λ (s : HostState). s.faults.notes) (silent is) ∙ t.notes) i; outputs = (c.outputs ∙ t.ok_outputs is) i });
+  read = λ is. let r = t.read is in (subst (λ (n : ℕ). Rose x.faults.inputs n) (sym inputs) r.0, r.1);
+  write = λ is. subst (λ (n : ℕ). Rose x.faults.outputs n) (sym c.outputs) (t.write is);
+  refused = t.refused;
+  complains = record {
+    part = c.complains.part;
+    all = λ calm. c.complains.all (subst (λ (n : ℕ). Rose n z.faults.notes → ⊥) (sym t.notes) calm);
+    steady = λ rooms told fits. let after = t.note_room rooms told in c.complains.steady after.0 after.1 (subst (λ (n : ℕ). length (line_of line refusal) ≤ n) (sym after.2) fits) ∙ t.notes;
+  };
+  answered = λ files told. same (answer files) (t.answered files told);
+  complete = λ files told calm. complete (answer files) (t.answered files told) calm;
+}
+  where
+    inputs : z.faults.inputs ≡ y.faults.inputs
+    inputs = c.wrote.others.inputs
+
+    same : (a : Answer C) → EndsAs a refusal t.report t.outputs t.ended x y → EndsAs a refusal t.report t.outputs t.ended x z
+    same a d = record {
+      settled = d.settled;
+      written = d.written;
+      truthful = d.truthful;
+      steady = d.steady;
+      steady_inputs = λ steady other. inputs ∙ d.steady_inputs steady other;
+      enough = λ rooms told have fits. let e = d.enough rooms told have fits in (e.0, c.outputs ∙ e.1);
+    }
+
+    by_cause : (a : Answer C) → NoneRose x z → (refusal ≡ refusal_of a) ⊎ ((refusal ≡ Some ReadFault) ⊎ ((refusal ≡ Some WriteFault) ⊎ (refusal ≡ Some OutOfMemory))) → (refusal ≡ refusal_of a) ⊎ (refusal ≡ Some OutOfMemory)
+    by_cause a calm (inl is) = inl is
+    by_cause a calm (inr (inl is)) = absurd (calm.inputs (subst (λ (n : ℕ). Rose x.faults.inputs n) (sym inputs) (t.read is).0))
+    by_cause a calm (inr (inr (inl is))) = absurd (calm.outputs (subst (λ (n : ℕ). Rose x.faults.outputs n) (sym c.outputs) (t.write is)))
+    by_cause a calm (inr (inr (inr is))) = inr is
+
+    complete : (a : Answer C) → EndsAs a refusal t.report t.outputs t.ended x y → NoneRose x z → (refusal ≡ refusal_of a) ⊎ (refusal ≡ Some OutOfMemory)
+    complete a d calm = by_cause a calm d.truthful
+
+pub carried_out : {P C : Type 0} (makes : P → Delivery) (plan : P) (x y : HostState) (outcome : Result (Unit {0}) Failed) → Delivers (makes plan).outputs (makes plan).report x y outcome → CarriesOut {C = C} makes (Ok plan) x y (delivery_refusal outcome)
+carried_out makes plan x y outcome d = record { ok = (outcome, refl, d); err = tt }
+
+pub attempts_no_usage : {P C : Type 0} (makes : P → Delivery) (answer : Files → Answer C) (x y z : HostState) (prepared : Result P (Refusal C)) (refusal : Option (Refusal C)) → Prepares makes answer x y prepared → CarriesOut makes prepared y z refusal → refusal ≡ Some Usage → ⊥
+attempts_no_usage {P = P} {C = C} makes answer x y z (Ok plan) refusal p c is = not_fault c.ok.0 (sym c.ok.1 ∙ is)
+  where
+    not_fault : (outcome : Result (Unit {0}) Failed) → delivery_refusal {C = C} outcome ≡ Some Usage → ⊥
+    not_fault (Ok t) wrong = cc
+    not_fault (Err e) wrong = cc
+attempts_no_usage {P = P} {C = C} makes answer x y z (Err why) refusal p c is = p.no_usage (ap (λ (r : Refusal C). Err r) (inside why (sym c.err.0 ∙ is)))
+  where
+    inside : (r : Refusal C) → Some r ≡ Some Usage → r ≡ Usage
+    inside r h = cc
+
+-- words that say no command
+pub attempts_usage : {C : Type 0} (x : HostState) → Attempts {C = C} (λ (files : Files). refused Usage) false (Some Usage) x x
+attempts_usage x = record {
+  report = [];
+  outputs = [];
+  ended = [];
+  made = gains_nothing x x refl refl refl;
+  ok_inputs = λ wrong. refl;
+  ok_outputs = λ wrong. refl;
+  notes = refl;
+  read = λ wrong. absurd (cc);
+  write = λ wrong. absurd (cc);
+  refused = λ some not_write. (refl, refl, refl);
+  note_room = λ rooms told. (rooms, told, refl);
+  answered = λ files told. record {
+    settled = λ same. (refl, refl, refl);
+    written = λ is. absurd (cc);
+    truthful = inl refl;
+    steady = λ steady. inl refl;
+    steady_inputs = λ steady other. refl;
+    enough = λ rooms told have fits. (inl refl, refl);
+  };
+}

@@ -1,0 +1,154 @@
+-- Outputs by their places: what a write at one place leaves of the others.
+use Rattle.std.proofs.Common.{◌≡◌, ◌≢◌, inl, inr, ℕ, zero, suc, ◌+◌, ◌-◌, ◌≤◌, ◌<◌, Bool, true, false, List, [], ◌∷◌, ◌++◌, length, get_or, set, Some, refl, sym, ◌∙◌, ap, subst, arith, rules, append_assoc, length-append}
+use Rattle.std.specs.Prelude.{slice_get}
+use Rattle.std.proofs.lemmas.List.{get_or-set_other, length-set}
+use Rattle.std.proofs.lemmas.Bool.{cases_eq}
+use Rattle.snd_host.specs.Host.{Given, Output, IsOpen, IsPrefix, given_with, outputs_with, rooms_less}
+use Rattle.snd_host.proofs.Writes.{index-rooms_less}
+use Rattle.command_frame.specs.Delivery.{IsBegun, HaveRooms}
+use Rattle.command_frame.specs.Stream.{bytes_of, Left}
+
+pub grown_behind : (created outputs : List Output) (i : ℕ) (bytes : List ℕ) → outputs_with (created ++ outputs) (length created + i) bytes ≡ created ++ outputs_with outputs i bytes
+grown_behind [] outputs i bytes = let same : zero + i ≡ i = omega arith in ap (λ (k : ℕ). outputs_with outputs k bytes) same
+grown_behind (p ∷ created) outputs i bytes =
+    let same : length (p ∷ created) + i ≡ suc (length created + i) = omega arith in
+    ap (λ (k : ℕ). outputs_with (p ∷ (created ++ outputs)) k bytes) same ∙ ap (λ (l : List Output). p ∷ l) (grown_behind created outputs i bytes)
+
+pub get_behind : (flags more : List Bool) (i : ℕ) → slice_get (flags ++ more) (length flags + i) ≡ slice_get more i
+get_behind [] more i = let same : zero + i ≡ i = omega arith in ap (λ (k : ℕ). slice_get more k) same
+get_behind (f ∷ flags) more i =
+    let same : length (f ∷ flags) + i ≡ suc (length flags + i) = omega arith in
+    ap (λ (k : ℕ). slice_get (f ∷ (flags ++ more)) k) same ∙ get_behind flags more i
+
+pub set_behind : (flags more : List Bool) (i : ℕ) (b : Bool) → set (flags ++ more) (length flags + i) b ≡ flags ++ set more i b
+set_behind [] more i b = let same : zero + i ≡ i = omega arith in ap (λ (k : ℕ). set more k b) same
+set_behind (f ∷ flags) more i b =
+    let same : length (f ∷ flags) + i ≡ suc (length flags + i) = omega arith in
+    ap (λ (k : ℕ). set (f ∷ (flags ++ more)) k b) same ∙ ap (λ (l : List Bool). f ∷ l) (set_behind flags more i b)
+
+pub number_is : (n k : ℕ) → n ≡ k + 2 → n ≡ suc (suc k)
+number_is n k is = omega arith
+
+-- a write to the output of the place i among those created since
+pub grown_since : (g : Given) (report complaint : List ℕ) (outputs : List Output) (n k i : ℕ) (bytes : List ℕ) → length g.created ≡ k → n ≡ k + 2 + i →
+    given_with (record { report = report; complaint = complaint; created = g.created ++ outputs }) n bytes ≡ record { report = report; complaint = complaint; created = g.created ++ outputs_with outputs i bytes }
+grown_since g report complaint outputs n k i bytes many is =
+    let place : n ≡ suc (suc (length g.created + i)) = omega arith in
+    ap (λ (m : ℕ). given_with (record { report = report; complaint = complaint; created = g.created ++ outputs }) m bytes) place
+    ∙ ap (λ (l : List Output). record { report = report; complaint = complaint; created = l }) (grown_behind g.created outputs i bytes)
+
+-- an output that was created since, and not ended, is open
+pub open_since : (old flags : List Bool) (n i : ℕ) → n ≡ length old + 2 + i → slice_get flags i ≡ Some false → IsOpen (old ++ flags) n
+open_since old flags n i is unended =
+    let place : n ≡ suc (suc (length old + i)) = omega arith in
+    subst (λ (m : ℕ). IsOpen (old ++ flags) m) (sym place) (get_behind old flags i ∙ unended)
+
+pub unended_since : (old flags : List Bool) (n i : ℕ) → n ≡ length old + 2 + i → slice_get flags i ≡ Some false → slice_get (old ++ flags) (n - 2) ≡ Some false
+unended_since old flags n i is unended = let place : n - 2 ≡ length old + i = omega arith in ap (λ (m : ℕ). slice_get (old ++ flags) m) place ∙ get_behind old flags i ∙ unended
+
+pub ended_since : (old flags : List Bool) (n i : ℕ) → n ≡ length old + 2 + i → set (old ++ flags) (n - 2) true ≡ old ++ set flags i true
+ended_since old flags n i is = let place : n - 2 ≡ length old + i = omega arith in ap (λ (m : ℕ). set (old ++ flags) m true) place ∙ set_behind old flags i true
+
+pub length-outputs_with : (outputs : List Output) (i : ℕ) (bytes : List ℕ) → length (outputs_with outputs i bytes) ≡ length outputs
+length-outputs_with [] i bytes = refl
+length-outputs_with (o ∷ outputs) zero bytes = refl
+length-outputs_with (o ∷ outputs) (suc i) bytes = ap suc (length-outputs_with outputs i bytes)
+
+pub bytes_of-given_with : (outputs : List Output) (i : ℕ) (bytes : List ℕ) → i < length outputs → bytes_of (outputs_with outputs i bytes) i ≡ bytes_of outputs i ++ bytes
+bytes_of-given_with [] i bytes below = absurd (omega arith)
+bytes_of-given_with (o ∷ outputs) zero bytes below = refl
+bytes_of-given_with (o ∷ outputs) (suc i) bytes below = bytes_of-given_with outputs i bytes (omega arith)
+
+pub bytes_of-other : (outputs : List Output) (i j : ℕ) (bytes : List ℕ) → j ≢ i → bytes_of (outputs_with outputs i bytes) j ≡ bytes_of outputs j
+bytes_of-other [] i j bytes other = refl
+bytes_of-other (o ∷ outputs) zero zero bytes other = absurd (other refl)
+bytes_of-other (o ∷ outputs) zero (suc j) bytes other = refl
+bytes_of-other (o ∷ outputs) (suc i) zero bytes other = refl
+bytes_of-other (o ∷ outputs) (suc i) (suc j) bytes other = bytes_of-other outputs i j bytes (λ same. other (ap suc same))
+
+pub bytes_of-end : (outputs : List Output) (name : List ℕ) (j : ℕ) → bytes_of (outputs ++ record { name = name; bytes = [] } ∷ []) j ≡ bytes_of outputs j
+bytes_of-end [] name zero = refl
+bytes_of-end [] name (suc j) = refl
+bytes_of-end (o ∷ outputs) name zero = refl
+bytes_of-end (o ∷ outputs) name (suc j) = bytes_of-end outputs name j
+
+pub index-rooms_less_other : (rooms : List ℕ) (file k count : ℕ) → k ≢ file → get_or (rooms_less rooms file count) k 0 ≡ get_or rooms k 0
+index-rooms_less_other rooms file k count other = get_or-set_other rooms file k (get_or rooms file 0 - count) 0 other
+
+pub left_lowered : (first : ℕ) (outputs : List Output) (report rooms after : List ℕ) (n i : ℕ) (bytes : List ℕ) → Left first outputs report rooms after → 2 ≤ first → n ≡ first + i → i < length outputs →
+    Left first (outputs_with outputs i bytes) report rooms (rooms_less after n (length bytes))
+left_lowered first outputs report rooms after n i bytes left low is below = record {
+  count = length-set after n _ ∙ left.count;
+  report_room = index-rooms_less_other after n 0 (length bytes) (λ same. absurd (omega arith)) ∙ left.report_room;
+  complaint_room = index-rooms_less_other after n 1 (length bytes) (λ same. absurd (omega arith)) ∙ left.complaint_room;
+  each = λ place. elim (cases_eq place i) [
+    | inl same ↦ here place same
+    | inr other ↦ elsewhere place other
+  ];
+}
+  where
+    here : (place : ℕ) → place ≡ i → get_or (rooms_less after n (length bytes)) (first + place) 0 ≡ get_or rooms (first + place) 0 - length (bytes_of (outputs_with outputs i bytes) place)
+    here place same =
+        let number : first + place ≡ n = omega arith in
+        let now : length (bytes_of (outputs_with outputs i bytes) place) ≡ length (bytes_of outputs place) + length bytes =
+        rw same (ap (length {A = ℕ}) (bytes_of-given_with outputs i bytes below) ∙ length-append (bytes_of outputs i) bytes) in
+        let was = left.each place in
+        let taken : get_or (rooms_less after n (length bytes)) (first + place) 0 ≡ get_or after (first + place) 0 - length bytes = rw number (index-rooms_less after n (length bytes)) in
+        omega arith
+
+    elsewhere : (place : ℕ) → place ≢ i → get_or (rooms_less after n (length bytes)) (first + place) 0 ≡ get_or rooms (first + place) 0 - length (bytes_of (outputs_with outputs i bytes) place)
+    elsewhere place other =
+        let unlike : first + place ≢ n = λ same. other (omega arith) in
+        index-rooms_less_other after n (first + place) (length bytes) unlike
+        ∙ left.each place ∙ ap (λ (l : List ℕ). get_or rooms (first + place) 0 - length l) (sym (bytes_of-other outputs i place bytes other))
+
+-- what was begun at a place is a prefix of what is to stand there
+pub begun_at : (begun total : List Output) (i : ℕ) → IsBegun begun total → i < length begun → (o : Output) × (slice_get total i ≡ Some o) × IsPrefix (bytes_of begun i) o.bytes
+begun_at [] total i is below = absurd (omega arith)
+begun_at (b ∷ begun) [] i is below = absurd is
+begun_at (b ∷ begun) (o ∷ total) zero is below = (o, refl, is.1)
+begun_at (b ∷ begun) (o ∷ total) (suc i) is below = begun_at begun total i is.2 (omega arith)
+
+pub have_at : (total : List Output) (rooms : List ℕ) (place i : ℕ) (o : Output) → HaveRooms total rooms place → slice_get total i ≡ Some o → (place + i < length rooms) × (length o.bytes ≤ get_or rooms (place + i) 0) × (length o.name ≤ 200)
+have_at [] rooms place i o have at = absurd (search rules)
+have_at (p ∷ total) rooms place zero o have at =
+    let same : p ≡ o = cc in
+    let here : place + 0 ≡ place = omega arith in
+    rw (here, sym same) (have.0, have.1, have.2)
+have_at (p ∷ total) rooms place (suc i) o have at =
+    let further : place + suc i ≡ place + 1 + i = omega arith in
+    rw further (have_at total rooms (place + 1) i o have.3 at)
+
+pub prefix_then : (xs ys zs : List ℕ) → IsPrefix xs ys → IsPrefix ys zs → IsPrefix xs zs
+prefix_then xs ys zs first second = record { rest = first.rest ++ second.rest; split = sym (append_assoc xs first.rest second.rest) ∙ ap (λ (l : List ℕ). l ++ second.rest) first.split ∙ second.split }
+
+pub prefix_behind : (us xs ys : List ℕ) → IsPrefix xs ys → IsPrefix (us ++ xs) (us ++ ys)
+prefix_behind us xs ys p = record { rest = p.rest; split = append_assoc us xs p.rest ∙ ap (λ (l : List ℕ). us ++ l) p.split }
+
+-- what was begun with a prefix of bytes
+pub begun_less : (begun total : List Output) (i : ℕ) (part bytes : List ℕ) → IsPrefix part bytes → IsBegun (outputs_with begun i bytes) total → IsBegun (outputs_with begun i part) total
+begun_less [] total i part bytes p is = is
+begun_less (b ∷ begun) [] zero part bytes p is = is
+begun_less (b ∷ begun) [] (suc i) part bytes p is = is
+begun_less (b ∷ begun) (o ∷ total) zero part bytes p is = (is.0, prefix_then (b.bytes ++ part) (b.bytes ++ bytes) o.bytes (prefix_behind b.bytes part bytes p) is.1, is.2)
+begun_less (b ∷ begun) (o ∷ total) (suc i) part bytes p is = (is.0, is.1, begun_less begun total i part bytes p is.2)
+
+-- a prefix is no longer than the whole
+pub prefix_short : (xs ys : List ℕ) → IsPrefix xs ys → length xs ≤ length ys
+prefix_short xs ys p = let whole : length xs + length p.rest ≡ length ys = sym (length-append xs p.rest) ∙ ap (length {A = ℕ}) p.split in omega arith
+
+-- a list begins with what its beginning begins with
+pub prefix_front : (xs ys zs : List ℕ) → IsPrefix (xs ++ ys) zs → IsPrefix xs zs
+prefix_front xs ys zs p = record { rest = ys ++ p.rest; split = sym (append_assoc xs ys p.rest) ∙ p.split }
+
+pub open_of : (ended : List Bool) (n : ℕ) → 2 ≤ n → slice_get ended (n - 2) ≡ Some false → IsOpen ended n
+open_of ended zero low is = absurd (omega arith)
+open_of ended (suc zero) low is = absurd (omega arith)
+open_of ended (suc (suc place)) low is = let same : suc (suc place) - 2 ≡ place = omega arith in subst (λ (k : ℕ). slice_get ended k ≡ Some false) same is
+
+pub get_set_other : (flags : List Bool) (i j : ℕ) (b : Bool) → i ≢ j → slice_get (set flags i b) j ≡ slice_get flags j
+get_set_other [] i j b other = refl
+get_set_other (f ∷ flags) zero zero b other = absurd (other refl)
+get_set_other (f ∷ flags) zero (suc j) b other = refl
+get_set_other (f ∷ flags) (suc i) zero b other = refl
+get_set_other (f ∷ flags) (suc i) (suc j) b other = get_set_other flags i j b (λ same. other (ap suc same))

@@ -1,0 +1,295 @@
+-- The steps of a stream.
+use Rattle.std.proofs.Common.{◌≡◌, Result, Ok, Err, IsOk, IsSome, ℕ, ◌+◌, ◌-◌, ◌≤◌, ◌<◌, Bool, true, false, List, [], ◌∷◌, ◌++◌, length, set, map, Option, Some, None, OnOk, OnErr, refl, sym, ◌∙◌, ap, subst, arith, rules, append_assoc}
+use Rattle.std.specs.Prelude.{slice_get}
+use Rattle.std.proofs.lemmas.List.{append-nil}
+use Rattle.snd_host.specs.Host.{HostState, Given, Output, HasCause, ChangesOutputs, KeepsRooms, WritesAll, IsPrefix, IsOpen}
+use Rattle.snd_host.specs.declared.host.Failed.{Failed}
+use Rattle.snd_host.specs.declared.host.OutFile.{OutFile}
+use Rattle.command_frame.specs.declared.streaming.Targets.{Targets}
+use Rattle.command_frame.specs.Delivery.{IsBegun, Delivers}
+use Rattle.command_frame.specs.Stream.{Both, Stands, Stops, pair, flags_of, IsSecond, AreTargets, IsOpenBehind, AreOpen, Begins, Puts, Ends, Pumps}
+use Rattle.command_frame.proofs.Places.{prefix_front, open_of, get_set_other, unended_since}
+use Rattle.command_frame.proofs.Standing.{stands_at_first, stands_created, next_number, stands_written, stops_written, stands_ended, stops_unwritten, delivered}
+
+pub open_first : (ended : List Bool) (targets : Targets) → AreOpen ended targets → IsOpen ended targets.first.0
+open_first ended targets o = open_of ended targets.first.0 o.low o.first_open
+
+pub open_second : (ended : List Bool) (targets : Targets) (file : OutFile) → targets.second ≡ Some file → AreOpen ended targets → IsOpen ended file.0
+open_second ended targets file is o =
+    let behind : IsOpenBehind ended targets.first.0 (Some file) = subst (λ (f : Option OutFile). IsOpenBehind ended targets.first.0 f) is o.second_open in
+    open_of ended file.0 (let low = o.low in let less = behind.0 in omega arith) behind.1
+
+first_place : (second : Option (List ℕ)) (a : HostState) (targets : Targets) → AreTargets second a targets → targets.first.0 ≡ length a.ended + 2 + 0
+first_place second a targets are = let is = are.first in omega arith
+
+first_below : (first : List ℕ) (second : Option (List ℕ)) (us vs : List ℕ) → 0 < length (pair first second us vs)
+first_below first None us vs = omega arith
+first_below first (Some name) us vs = omega arith
+
+-- the first write failed
+pub put_first_failed : (targets : Targets) (xs ys : List ℕ) (old new : HostState) (e : Failed) → WritesAll {T = Unit {0}} {E = Failed} targets.first.0 xs old new (Err e) → Puts targets xs ys old new (Err e)
+put_first_failed targets xs ys old new e w = record { ended = tt; ok = tt; err = failed }
+  where
+    failed : (first : List ℕ) (second : Option (List ℕ)) (us vs : List ℕ) (a : HostState) → AreTargets second a targets → Stands (pair first second us vs) (flags_of second false) [] a old →
+        (ps qs report : List ℕ) → IsPrefix (us ++ xs) ps → IsPrefix (vs ++ ys) qs → Stops (pair first second ps qs) report a new
+    failed first None us vs a are s ps qs report p q =
+        stops_written (pair first None us vs) (flags_of None false) a old s targets.first.0 0 (first_place None a targets are) {T = Unit {0}} {E = Failed} new xs e (pair first None ps qs) report (first_below first None us vs) w (refl, p, tt)
+    failed first (Some name) us vs a are s ps qs report p q =
+        stops_written (pair first (Some name) us vs) (flags_of (Some name) false) a old s targets.first.0 0 (first_place (Some name) a targets are) {T = Unit {0}} {E = Failed} new xs e (pair first (Some name) ps qs) report (first_below first (Some name) us vs) w (refl, p, (refl, prefix_front vs ys qs q, tt))
+
+-- there is no second output
+pub put_first : (targets : Targets) (xs ys : List ℕ) (old new : HostState) (x : Unit {0}) → targets.second ≡ None → WritesAll {T = Unit {0}} {E = Failed} targets.first.0 xs old new (Ok x) → Puts targets xs ys old new (Ok (tt {0}))
+put_first targets xs ys old new x none w = record { ended = w.wrote.ended; ok = put_it; err = tt }
+  where
+    put_it : (first : List ℕ) (second : Option (List ℕ)) (us vs : List ℕ) (a : HostState) → AreTargets second a targets → Stands (pair first second us vs) (flags_of second false) [] a old →
+        Stands (pair first second (us ++ xs) (vs ++ ys)) (flags_of second false) [] a new
+    put_it first None us vs a are s = stands_written (pair first None us vs) (flags_of None false) a old s targets.first.0 0 (first_place None a targets are) {T = Unit {0}} {E = Failed} new xs x (first_below first None us vs) w
+    put_it first (Some name) us vs a are s = absurd (subst (λ (f : Option OutFile). IsSecond (Some name) f (length a.ended + 2)) none are.second_number)
+
+module _ (targets : Targets) (xs ys : List ℕ) (old mid new : HostState) (x : Unit {0}) (file : OutFile) (is : targets.second ≡ Some file) (w : WritesAll {T = Unit {0}} {E = Failed} targets.first.0 xs old mid (Ok x)) where
+  half : (first name us vs : List ℕ) (a : HostState) → AreTargets (Some name) a targets → Stands (pair first (Some name) us vs) (flags_of (Some name) false) [] a old → Stands (pair first (Some name) (us ++ xs) vs) (flags_of (Some name) false) [] a mid
+  half first name us vs a are s = stands_written (pair first (Some name) us vs) (flags_of (Some name) false) a old s targets.first.0 0 (first_place (Some name) a targets are) {T = Unit {0}} {E = Failed} mid xs x (first_below first (Some name) us vs) w
+
+  number : (name : List ℕ) (a : HostState) → AreTargets (Some name) a targets → file.0 ≡ length a.ended + 2 + 1
+  number name a are = subst (λ (f : Option OutFile). IsSecond (Some name) f (length a.ended + 2)) is are.second_number
+
+  pub put_second : (r : Result (Unit {0}) Failed) → WritesAll {T = Unit {0}} {E = Failed} file.0 ys mid new r → Puts targets xs ys old new r
+  put_second (Ok y) v = record { ended = v.wrote.ended ∙ w.wrote.ended; ok = put_it; err = tt }
+    where
+      put_it : (first : List ℕ) (second : Option (List ℕ)) (us vs : List ℕ) (a : HostState) → AreTargets second a targets → Stands (pair first second us vs) (flags_of second false) [] a old →
+          Stands (pair first second (us ++ xs) (vs ++ ys)) (flags_of second false) [] a new
+      put_it first None us vs a are s = absurd (subst (λ (f : Option OutFile). IsSecond None f (length a.ended + 2)) is are.second_number)
+      put_it first (Some name) us vs a are s = stands_written (pair first (Some name) (us ++ xs) vs) (flags_of (Some name) false) a mid (half first name us vs a are s) file.0 1 (number name a are) {T = Unit {0}} {E = Failed} new ys y (omega arith) v
+  put_second (Err e) v = record { ended = tt; ok = tt; err = failed }
+    where
+      failed : (first : List ℕ) (second : Option (List ℕ)) (us vs : List ℕ) (a : HostState) → AreTargets second a targets → Stands (pair first second us vs) (flags_of second false) [] a old →
+          (ps qs report : List ℕ) → IsPrefix (us ++ xs) ps → IsPrefix (vs ++ ys) qs → Stops (pair first second ps qs) report a new
+      failed first None us vs a are s ps qs report p q = absurd (subst (λ (f : Option OutFile). IsSecond None f (length a.ended + 2)) is are.second_number)
+      failed first (Some name) us vs a are s ps qs report p q =
+          stops_written (pair first (Some name) (us ++ xs) vs) (flags_of (Some name) false) a mid (half first name us vs a are s) file.0 1 (number name a are) {T = Unit {0}} {E = Failed} new ys e (pair first (Some name) ps qs) report (omega arith) v (refl, p, (refl, q, tt))
+
+-- nothing was written yet
+pub puts_nothing : (targets : Targets) (old : HostState) → Puts targets [] [] old old (Ok (tt {0}))
+puts_nothing targets old = record {
+  ended = refl;
+  ok = λ first second us vs a are s. subst (λ (l : List ℕ). Stands (pair first second l (vs ++ [])) (flags_of second false) [] a old) (sym (append-nil us))
+      (subst (λ (l : List ℕ). Stands (pair first second us l) (flags_of second false) [] a old) (sym (append-nil vs)) s);
+  err = tt;
+}
+
+-- more was written
+pub puts_then : (targets : Targets) (xs ys ps qs : List ℕ) (old mid new : HostState) (x y : Unit {0}) → Puts targets xs ys old mid (Ok x) → Puts targets ps qs mid new (Ok y) → Puts targets (xs ++ ps) (ys ++ qs) old new (Ok y)
+puts_then targets xs ys ps qs old mid new x y one two = record {
+  ended = two.ended ∙ one.ended;
+  ok = λ first second us vs a are s.
+      subst (λ (l : List ℕ). Stands (pair first second l (vs ++ (ys ++ qs))) (flags_of second false) [] a new) (append_assoc us xs ps)
+      (subst (λ (l : List ℕ). Stands (pair first second (us ++ xs ++ ps) l) (flags_of second false) [] a new) (append_assoc vs ys qs)
+      (two.ok first second (us ++ xs) (vs ++ ys) a are (one.ok first second us vs a are s)));
+  err = tt;
+}
+
+longer : (us xs ps all rest zs : List ℕ) → xs ++ (ps ++ rest) ≡ all → IsPrefix (us ++ all) zs → IsPrefix ((us ++ xs) ++ ps) zs
+longer us xs ps all rest zs is p = record {
+  rest = rest ++ p.rest;
+  split = sym (append_assoc ((us ++ xs) ++ ps) rest p.rest)
+      ∙ ap (λ (l : List ℕ). l ++ p.rest) (append_assoc (us ++ xs) ps rest ∙ append_assoc us xs (ps ++ rest) ∙ ap (λ (l : List ℕ). us ++ l) is)
+      ∙ p.split;
+}
+
+-- a later piece failed
+pub puts_failed : (targets : Targets) (xs ys ps qs all both rest more : List ℕ) (old mid new : HostState) (x : Unit {0}) (e : Failed) → xs ++ (ps ++ rest) ≡ all → ys ++ (qs ++ more) ≡ both →
+    Puts targets xs ys old mid (Ok x) → Puts targets ps qs mid new (Err e) → Puts targets all both old new (Err e)
+puts_failed targets xs ys ps qs all both rest more old mid new x e first_split second_split one two = record {
+  ended = tt;
+  ok = tt;
+  err = λ first second us vs a are s zs ws report p q.
+      two.err first second (us ++ xs) (vs ++ ys) a are (one.ok first second us vs a are s) zs ws report (longer us xs ps all rest zs first_split p) (longer vs ys qs both more ws second_split q);
+}
+
+pub targets_open : (first : List ℕ) (second : Option (List ℕ)) (us vs : List ℕ) (targets : Targets) (a c : HostState) → AreTargets second a targets → Stands (pair first second us vs) (flags_of second false) [] a c → AreOpen c.ended targets
+targets_open first None us vs targets a c are s = let is = are.first in record {
+  low = omega arith;
+  first_open = rw s.made.ended (unended_since a.ended (flags_of None false) targets.first.0 0 (first_place None a targets are) refl);
+  second_open = behind targets.second are.second_number;
+}
+  where
+    behind : (o : Option OutFile) → IsSecond None o (length a.ended + 2) → IsOpenBehind c.ended targets.first.0 o
+    behind None is = tt
+    behind (Some file) is = absurd is
+targets_open first (Some name) us vs targets a c are s = let is = are.first in record {
+  low = omega arith;
+  first_open = rw s.made.ended (unended_since a.ended (flags_of (Some name) false) targets.first.0 0 (first_place (Some name) a targets are) refl);
+  second_open = behind targets.second are.second_number;
+}
+  where
+    behind : (o : Option OutFile) → IsSecond (Some name) o (length a.ended + 2) → IsOpenBehind c.ended targets.first.0 o
+    behind None is = absurd is
+    behind (Some file) is = (let at = are.first in omega arith, rw s.made.ended (unended_since a.ended (flags_of (Some name) false) file.0 1 is refl))
+
+-- the loop begins
+pub pumps_first : (targets : Targets) (all : Both) (old : HostState) → Pumps targets all all old old
+pumps_first targets all old = record { xs = []; ys = []; first_split = refl; second_split = refl; puts = puts_nothing targets old }
+
+-- a piece was written
+pub pumps_next : (targets : Targets) (all left held more : Both) (old mid new : HostState) (y : Unit {0}) → left.first ≡ held.first ++ more.first → left.second ≡ held.second ++ more.second →
+    Pumps targets all left old mid → Puts targets held.first held.second mid new (Ok y) → Pumps targets all more old new
+pumps_next targets all left held more old mid new y first second p puts = record {
+  xs = p.xs ++ held.first;
+  ys = p.ys ++ held.second;
+  first_split = append_assoc p.xs held.first more.first ∙ ap (λ (l : List ℕ). p.xs ++ l) (sym first) ∙ p.first_split;
+  second_split = append_assoc p.ys held.second more.second ∙ ap (λ (l : List ℕ). p.ys ++ l) (sym second) ∙ p.second_split;
+  puts = puts_then targets p.xs p.ys held.first held.second old mid new (tt {0}) y p.puts puts;
+}
+
+-- a piece could not be written
+pub pumps_failed : (targets : Targets) (all left held more : Both) (old mid new : HostState) (e : Failed) → left.first ≡ held.first ++ more.first → left.second ≡ held.second ++ more.second →
+    Pumps targets all left old mid → Puts targets held.first held.second mid new (Err e) → Puts targets all.first all.second old new (Err e)
+pumps_failed targets all left held more old mid new e first second p puts =
+    puts_failed targets p.xs p.ys held.first held.second all.first all.second more.first more.second old mid new (tt {0}) e
+    (ap (λ (l : List ℕ). p.xs ++ l) (sym first) ∙ p.first_split) (ap (λ (l : List ℕ). p.ys ++ l) (sym second) ∙ p.second_split) p.puts puts
+
+-- nothing is left
+pub pumps_done : (targets : Targets) (all left : Both) (old new : HostState) → left.first ≡ [] → left.second ≡ [] → Pumps targets all left old new → Puts targets all.first all.second old new (Ok (tt {0}))
+pumps_done targets all left old new first second p =
+    let xs : p.xs ≡ all.first = sym (append-nil p.xs) ∙ ap (λ (l : List ℕ). p.xs ++ l) (sym first) ∙ p.first_split in
+    let ys : p.ys ≡ all.second = sym (append-nil p.ys) ∙ ap (λ (l : List ℕ). p.ys ++ l) (sym second) ∙ p.second_split in
+    subst (λ (l : List ℕ). Puts targets l all.second old new (Ok (tt {0}))) xs (subst (λ (l : List ℕ). Puts targets p.xs l old new (Ok (tt {0}))) ys p.puts)
+
+-- the first output could not be created
+pub begin_failed : (first : List ℕ) (second : Option (List ℕ)) (a b : HostState) (e : Failed) → ((given : Given) → a.given ≡ Some given → length given.created ≡ length a.ended) →
+    b.given ≡ a.given → b.ended ≡ a.ended → ChangesOutputs a b → b.faults.notes ≡ a.faults.notes → HasCause {T = OutFile} {E = Failed} a.faults.outputs b.faults.outputs (Err e) → KeepsRooms a b →
+    ((rooms : List ℕ) → a.steady ≡ Some rooms → length a.ended + 2 < length rooms → length first ≤ 200 → IsOk {T = OutFile} {E = Failed} (Err e)) → Begins first second a b (Err e)
+begin_failed first second a b e tells given ended others notes cause keeps steady = record { ok = tt; err = stops second }
+  where
+    stops : (second : Option (List ℕ)) (xs ys report : List ℕ) → Stops (pair first second xs ys) report a b
+    stops None xs ys report = stops_unwritten {T = OutFile} {E = Failed} [] [] a a b e (pair first None xs ys) report (stands_at_first a tells) given ended others notes cause keeps tt
+        (λ rooms after told still same have. steady rooms told have.0 have.2)
+    stops (Some name) xs ys report = stops_unwritten {T = OutFile} {E = Failed} [] [] a a b e (pair first (Some name) xs ys) report (stands_at_first a tells) given ended others notes cause keeps tt
+        (λ rooms after told still same have. steady rooms told have.0 have.2)
+
+pub begun_first : (first : List ℕ) (a b : HostState) → ((given : Given) → a.given ≡ Some given → length given.created ≡ length a.ended) → b.ended ≡ a.ended ++ false ∷ [] →
+    ((given : Given) → a.given ≡ Some given → b.given ≡ Some (record given { created = given.created ++ record { name = first; bytes = [] } ∷ [] })) →
+    ChangesOutputs a b → b.faults.notes ≡ a.faults.notes → b.faults.outputs ≡ a.faults.outputs → KeepsRooms a b → Stands (pair first None [] []) (flags_of None false) [] a b
+begun_first first a b tells ended created others notes faults keeps = stands_created [] [] a a b first (stands_at_first a tells) ended created others notes faults keeps
+
+-- there is no second output
+pub begins_one : (first : List ℕ) (a b : HostState) (targets : Targets) → targets.second ≡ None → targets.first.0 ≡ length a.ended + 2 → Stands (pair first None [] []) (flags_of None false) [] a b → Begins first None a b (Ok targets)
+begins_one first a b targets none number s = record {
+  ok = (record { first = number; second_number = subst (λ (o : Option OutFile). IsSecond None o (length a.ended + 2)) (sym none) tt }, s);
+  err = tt;
+}
+
+-- the second output could not be created
+pub begin_failed_second : (first name : List ℕ) (a b d : HostState) (e : Failed) → Stands (pair first None [] []) (flags_of None false) [] a b →
+    d.given ≡ b.given → d.ended ≡ b.ended → ChangesOutputs b d → d.faults.notes ≡ b.faults.notes → HasCause {T = OutFile} {E = Failed} b.faults.outputs d.faults.outputs (Err e) → KeepsRooms b d →
+    ((rooms : List ℕ) → b.steady ≡ Some rooms → length b.ended + 2 < length rooms → length name ≤ 200 → IsOk {T = OutFile} {E = Failed} (Err e)) → Begins first (Some name) a d (Err e)
+begin_failed_second first name a b d e s given ended others notes cause keeps steady = record {
+  ok = tt;
+  err = λ xs ys report. stops_unwritten {T = OutFile} {E = Failed} (pair first None [] []) (flags_of None false) a b d e (pair first (Some name) xs ys) report s given ended others notes cause keeps (refl, record { rest = xs; split = refl }, tt)
+      (λ rooms after told still same have.
+      let many = next_number (pair first None [] []) (flags_of None false) a b (length b.ended + 2) s refl in
+      steady after still (let place = have.3.0 in omega arith) have.3.2);
+}
+
+pub begins_both : (first name : List ℕ) (a b d : HostState) (targets : Targets) (file : OutFile) → targets.second ≡ Some file → targets.first.0 ≡ length a.ended + 2 → file.0 ≡ length b.ended + 2 → Stands (pair first None [] []) (flags_of None false) [] a b →
+    d.ended ≡ b.ended ++ false ∷ [] → ((given : Given) → b.given ≡ Some given → d.given ≡ Some (record given { created = given.created ++ record { name = name; bytes = [] } ∷ [] })) →
+    ChangesOutputs b d → d.faults.notes ≡ b.faults.notes → d.faults.outputs ≡ b.faults.outputs → KeepsRooms b d → Begins first (Some name) a d (Ok targets)
+begins_both first name a b d targets file is number behind s ended created others notes faults keeps = record {
+  ok = (
+    record {
+      first = number;
+      second_number = subst (λ (o : Option OutFile). IsSecond (Some name) o (length a.ended + 2)) (sym is) (next_number (pair first None [] []) (flags_of None false) a b file.0 s behind);
+    },
+    stands_created (pair first None [] []) (flags_of None false) a b d name s ended created others notes faults keeps,
+  );
+  err = tt;
+}
+
+begun_all : (outputs : List Output) → IsBegun outputs outputs
+begun_all [] = tt
+begun_all (o ∷ outputs) = (refl, record { rest = []; split = append-nil o.bytes }, begun_all outputs)
+
+is_steady : (c : HostState) (after : List ℕ) → c.steady ≡ Some after → IsSome c.steady
+is_steady c after told = subst (λ (o : Option (List ℕ)). IsSome o) (sym told) (search rules)
+
+-- the first output could not be ended
+pub end_failed : (targets : Targets) (old new : HostState) (e : Failed) → new.given ≡ old.given → new.ended ≡ old.ended → ChangesOutputs old new → new.faults.notes ≡ old.faults.notes →
+    HasCause {T = Unit {0}} {E = Failed} old.faults.outputs new.faults.outputs (Err e) → KeepsRooms old new → (IsSome old.steady → IsOk {T = Unit {0}} {E = Failed} (Err e)) → Ends targets old new (Err e)
+end_failed targets old new e given ended others notes cause keeps steady = record {
+  ok = tt;
+  err = λ first second xs ys report a are s. stops_unwritten {T = Unit {0}} {E = Failed} (pair first second xs ys) (flags_of second false) a old new e (pair first second xs ys) report s given ended others notes cause keeps (begun_all (pair first second xs ys))
+      (λ rooms after told still same have. steady (is_steady old after still));
+}
+
+-- there is no second output to end
+pub ends_one : (targets : Targets) (old new : HostState) (x : Unit {0}) → targets.second ≡ None → new.given ≡ old.given → new.ended ≡ set old.ended (targets.first.0 - 2) true → ChangesOutputs old new → new.faults.notes ≡ old.faults.notes →
+    HasCause {T = Unit {0}} {E = Failed} old.faults.outputs new.faults.outputs (Ok x) → KeepsRooms old new → Ends targets old new (Ok (tt {0}))
+ends_one targets old new x none given ended others notes cause keeps = record { ok = all; err = tt }
+  where
+    all : (first : List ℕ) (second : Option (List ℕ)) (xs ys : List ℕ) (a : HostState) → AreTargets second a targets → Stands (pair first second xs ys) (flags_of second false) [] a old → Stands (pair first second xs ys) (flags_of second true) [] a new
+    all first None xs ys a are s = stands_ended (pair first None xs ys) (flags_of None false) a old s targets.first.0 0 (first_place None a targets are) {T = Unit {0}} {E = Failed} new x given ended others notes cause keeps
+    all first (Some name) xs ys a are s = absurd (subst (λ (f : Option OutFile). IsSecond (Some name) f (length a.ended + 2)) none are.second_number)
+
+-- the second output is still open when the first one is ended
+pub still_open : (targets : Targets) (file : OutFile) (old new : List Bool) → targets.second ≡ Some file → AreOpen old targets → new ≡ set old (targets.first.0 - 2) true → slice_get new (file.0 - 2) ≡ Some false
+still_open targets file old new is o ended =
+    let behind : IsOpenBehind old targets.first.0 (Some file) = subst (λ (f : Option OutFile). IsOpenBehind old targets.first.0 f) is o.second_open in
+    let low = o.low in
+    let less = behind.0 in
+    rw ended (get_set_other old (targets.first.0 - 2) (file.0 - 2) true (λ same. absurd (omega arith)) ∙ behind.1)
+
+pub second_low : (targets : Targets) (file : OutFile) (old : List Bool) → targets.second ≡ Some file → AreOpen old targets → 2 ≤ file.0
+second_low targets file old is o =
+    let behind : IsOpenBehind old targets.first.0 (Some file) = subst (λ (f : Option OutFile). IsOpenBehind old targets.first.0 f) is o.second_open in
+    let low = o.low in
+    let less = behind.0 in
+    omega arith
+
+module _ (targets : Targets) (file : OutFile) (old mid new : HostState) (x : Unit {0}) (is : targets.second ≡ Some file) (given : mid.given ≡ old.given) (ended : mid.ended ≡ set old.ended (targets.first.0 - 2) true) (others : ChangesOutputs old mid)
+    (notes : mid.faults.notes ≡ old.faults.notes) (cause : HasCause {T = Unit {0}} {E = Failed} old.faults.outputs mid.faults.outputs (Ok x)) (keeps : KeepsRooms old mid) where
+  half_ended : (first name xs ys : List ℕ) (a : HostState) → AreTargets (Some name) a targets → Stands (pair first (Some name) xs ys) (flags_of (Some name) false) [] a old → Stands (pair first (Some name) xs ys) (true ∷ false ∷ []) [] a mid
+  half_ended first name xs ys a are s = stands_ended (pair first (Some name) xs ys) (flags_of (Some name) false) a old s targets.first.0 0 (first_place (Some name) a targets are) {T = Unit {0}} {E = Failed} mid x given ended others notes cause keeps
+
+  second_place : (name : List ℕ) (a : HostState) → AreTargets (Some name) a targets → file.0 ≡ length a.ended + 2 + 1
+  second_place name a are = subst (λ (f : Option OutFile). IsSecond (Some name) f (length a.ended + 2)) is are.second_number
+
+  pub ends_second : (r : Result (Unit {0}) Failed) → new.given ≡ mid.given → OnOk r (new.ended ≡ set mid.ended (file.0 - 2) true) → OnErr r (new.ended ≡ mid.ended) → ChangesOutputs mid new → new.faults.notes ≡ mid.faults.notes →
+      HasCause mid.faults.outputs new.faults.outputs r → KeepsRooms mid new → (IsSome mid.steady → IsOk r) → Ends targets old new r
+  ends_second (Ok y) given2 ended2 kept2 others2 notes2 cause2 keeps2 steady2 = record { ok = all; err = tt }
+    where
+      all : (first : List ℕ) (second : Option (List ℕ)) (xs ys : List ℕ) (a : HostState) → AreTargets second a targets → Stands (pair first second xs ys) (flags_of second false) [] a old → Stands (pair first second xs ys) (flags_of second true) [] a new
+      all first None xs ys a are s = absurd (subst (λ (f : Option OutFile). IsSecond None f (length a.ended + 2)) is are.second_number)
+      all first (Some name) xs ys a are s = stands_ended (pair first (Some name) xs ys) (true ∷ false ∷ []) a mid (half_ended first name xs ys a are s) file.0 1 (second_place name a are) {T = Unit {0}} {E = Failed} new y given2 ended2 others2 notes2 cause2 keeps2
+  ends_second (Err e) given2 ended2 kept2 others2 notes2 cause2 keeps2 steady2 = record { ok = tt; err = failed }
+    where
+      failed : (first : List ℕ) (second : Option (List ℕ)) (xs ys report : List ℕ) (a : HostState) → AreTargets second a targets → Stands (pair first second xs ys) (flags_of second false) [] a old → Stops (pair first second xs ys) report a new
+      failed first None xs ys report a are s = absurd (subst (λ (f : Option OutFile). IsSecond None f (length a.ended + 2)) is are.second_number)
+      failed first (Some name) xs ys report a are s = stops_unwritten {T = Unit {0}} {E = Failed} (pair first (Some name) xs ys) (true ∷ false ∷ []) a mid new e (pair first (Some name) xs ys) report (half_ended first name xs ys a are s) given2 kept2 others2 notes2 cause2 keeps2 (begun_all (pair first (Some name) xs ys))
+          (λ rooms after told still same have. steady2 (is_steady mid after still))
+
+all_ended : (first : List ℕ) (second : Option (List ℕ)) (xs ys : List ℕ) → flags_of second true ≡ map (λ _. true) (pair first second xs ys)
+all_ended first None xs ys = refl
+all_ended first (Some name) xs ys = refl
+
+-- the whole, step by step: the head, the pieces and the end
+module _ (first : List ℕ) (second : Option (List ℕ)) (head xs ys : List ℕ) (a b : HostState) (targets : Targets) (begun : AreTargets second a targets × Stands (pair first second [] []) (flags_of second false) [] a b) where
+  pub head_failed : (c : HostState) (e : Failed) (report : List ℕ) → Puts targets head [] b c (Err e) → Stops (pair first second (head ++ xs) ys) report a c
+  head_failed c e report p = p.err first second [] [] a begun.0 begun.1 (head ++ xs) ys report (record { rest = xs; split = refl }) (record { rest = ys; split = refl })
+
+  headed : (c : HostState) (x : Unit {0}) → Puts targets head [] b c (Ok x) → Stands (pair first second head []) (flags_of second false) [] a c
+  headed c x p = p.ok first second [] [] a begun.0 begun.1
+
+  pub pieces_failed : (c d : HostState) (x : Unit {0}) (e : Failed) (report : List ℕ) → Puts targets head [] b c (Ok x) → Puts targets xs ys c d (Err e) → Stops (pair first second (head ++ xs) ys) report a d
+  pieces_failed c d x e report p q = q.err first second head [] a begun.0 (headed c x p) (head ++ xs) ys report (record { rest = []; split = append-nil (head ++ xs) }) (record { rest = []; split = append-nil ys })
+
+  filled : (c d : HostState) (x y : Unit {0}) → Puts targets head [] b c (Ok x) → Puts targets xs ys c d (Ok y) → Stands (pair first second (head ++ xs) ys) (flags_of second false) [] a d
+  filled c d x y p q = q.ok first second head [] a begun.0 (headed c x p)
+
+  pub end_fails : (c d f : HostState) (x y : Unit {0}) (e : Failed) (report : List ℕ) → Puts targets head [] b c (Ok x) → Puts targets xs ys c d (Ok y) → Ends targets d f (Err e) → Stops (pair first second (head ++ xs) ys) report a f
+  end_fails c d f x y e report p q ends = ends.err first second (head ++ xs) ys report a begun.0 (filled c d x y p q)
+
+  pub all_stands : (c d f : HostState) (x y z : Unit {0}) → Puts targets head [] b c (Ok x) → Puts targets xs ys c d (Ok y) → Ends targets d f (Ok z) → Delivers {T = Unit {0}} {E = Failed} (pair first second (head ++ xs) ys) [] a f (Ok (tt {0}))
+  all_stands c d f x y z p q ends = delivered {T = Unit {0}} {E = Failed} (pair first second (head ++ xs) ys) (flags_of second true) a f (tt {0}) (ends.ok first second (head ++ xs) ys a begun.0 (filled c d x y p q)) (all_ended first second (head ++ xs) ys)
+
+  pub head_open : AreOpen b.ended targets
+  head_open = targets_open first second [] [] targets a b begun.0 begun.1

@@ -1,0 +1,73 @@
+-- Pieces that are written to one output, one after another.
+use Rattle.std.proofs.Common.{Result, Ok, Err, ℕ, List, [], ◌++◌, length, refl, sym, ◌∙◌, ap, subst, arith, rules, append_assoc, length-append}
+use Rattle.std.proofs.lemmas.List.{append-nil}
+use Rattle.snd_host.specs.Host.{HostState, Faults, HasCause, CountsWrite, WritesAll, IsPrefix, rooms_less}
+use Rattle.snd_host.proofs.Writes.{wrote_then, wrote_nothing, counts_ok, index-rooms_less}
+use Rattle.command_frame.specs.Conduct.{WritesComplaint}
+
+-- a prefix of a front is a prefix of the whole
+pub front_prefix : (part front back : List ℕ) → IsPrefix part front → IsPrefix part (front ++ back)
+front_prefix part front back p = record { rest = p.rest ++ back; split = sym (append_assoc part p.rest back) ∙ ap (λ (l : List ℕ). l ++ back) p.split }
+
+pub behind_prefix : (front part back : List ℕ) → IsPrefix part back → IsPrefix (front ++ part) (front ++ back)
+behind_prefix front part back p = record { rest = p.rest; split = append_assoc front part p.rest ∙ ap (λ (l : List ℕ). front ++ l) p.split }
+
+-- the first piece failed
+pub failed_first : {T E : Type 0} (file : ℕ) (xs ys : List ℕ) (a b : HostState) (e : E) → WritesAll {T = T} {E = E} file xs a b (Err e) → WritesAll {T = T} {E = E} file (xs ++ ys) a b (Err e)
+failed_first file xs ys a b e w = record {
+  wrote = tt;
+  part = record { part = w.part.part; prefix = front_prefix w.part.part xs ys w.part.prefix; wrote = w.part.wrote };
+  cause = w.cause;
+  steady = λ rooms told fits. w.steady rooms told (omega (arith, length-append xs ys));
+}
+
+counts_then : {T T' E : Type 0} (file : ℕ) (a b c : Faults) (x : T) (r : Result T' E) → CountsWrite {T = T} {E = E} file a b (Ok x) → CountsWrite file b c r → CountsWrite file a c r
+counts_then {T = T} {T' = T'} {E = E} file a b c x r first second =
+    let kept = counts_ok {T = T} {E = E} file a b x first in
+    record {
+      notes = λ is. subst (λ (n : ℕ). HasCause n c.notes r) kept.0 (second.notes is);
+      notes_kept = λ other. second.notes_kept other ∙ kept.0;
+      outputs = λ other. subst (λ (n : ℕ). HasCause n c.outputs r) kept.1 (second.outputs other);
+      outputs_kept = λ is. second.outputs_kept is ∙ kept.1;
+    }
+
+-- the first piece was written
+pub then_second : {T T' E : Type 0} (file : ℕ) (xs ys : List ℕ) (a b c : HostState) (x : T) (r : Result T' E) → WritesAll {T = T} {E = E} file xs a b (Ok x) → WritesAll file ys b c r → WritesAll file (xs ++ ys) a c r
+then_second {T = T} {T' = T'} {E = E} file xs ys a b c x (Ok y) first second = record {
+  wrote = wrote_then file xs ys a b c first.wrote second.wrote;
+  part = tt;
+  cause = counts_then {T = T} {T' = T'} {E = E} file a.faults b.faults c.faults x (Ok y) first.cause second.cause;
+  steady = λ rooms told fits. search rules;
+}
+then_second {T = T} {T' = T'} {E = E} file xs ys a b c x (Err e) first second = record {
+  wrote = tt;
+  part = record { part = xs ++ second.part.part; prefix = behind_prefix xs second.part.part ys second.part.prefix; wrote = wrote_then file xs second.part.part a b c first.wrote second.part.wrote };
+  cause = counts_then {T = T} {T' = T'} {E = E} file a.faults b.faults c.faults x (Err e) first.cause second.cause;
+  steady = λ rooms told fits. second.steady (rooms_less rooms file (length xs)) (first.wrote.rooms rooms told) (omega (arith, index-rooms_less rooms file (length xs), length-append xs ys));
+}
+
+pub complained : {T E : Type 0} (line : List ℕ) (a b : HostState) (r : Result T E) → WritesAll 1 line a b r → WritesComplaint line a b
+complained line a b (Ok x) w = record {
+  complaint = line;
+  complains = record { part = record { rest = []; split = append-nil line }; all = λ calm. refl; steady = λ rooms told fits. (w.cause.notes refl).same };
+  wrote = w.wrote;
+  outputs = w.cause.outputs_kept refl;
+}
+complained line a b (Err e) w = record {
+  complaint = w.part.part;
+  complains = record {
+    part = w.part.prefix;
+    all = λ calm. absurd (calm (w.cause.notes refl).failed);
+    steady = λ rooms told fits. let ok = w.steady rooms told fits in absurd (search rules);
+  };
+  wrote = w.part.wrote;
+  outputs = w.cause.outputs_kept refl;
+}
+
+pub silent : (a : HostState) → WritesComplaint [] a a
+silent a = record {
+  complaint = [];
+  complains = record { part = record { rest = []; split = refl }; all = λ calm. refl; steady = λ rooms told fits. refl };
+  wrote = wrote_nothing 1 a;
+  outputs = refl;
+}

@@ -1,0 +1,105 @@
+-- How a command may end, and what it leaves on the host. `answer` is what it answers, by what the names of its inputs hold.
+use Rattle.std.specs.Prelude.{◌≡◌, ◌≢◌, ℕ, ◌+◌, ◌≤◌, ◌⊎◌, Bool, List, [], length, Option, Some, None, Result, Err, IfOk, IfErr, IsSome, IsTrue, slice_index}
+use Rattle.snd_host.specs.Host.{HostState, Files, Output, IfTold, Rose, IsPrefix, ChangesInputs, Writes}
+use Rattle.snd_host.specs.declared.host.Failed.{Failed}
+use Rattle.command_frame.specs.Delivery.{Gains, IsBegun, HaveRooms, Delivers, all_ended}
+use Rattle.command_frame.specs.Answer.{Answer, done, refused, refusal_of, outputs_of, report_of, line_of, delivery_refusal}
+use Rattle.command_frame.specs.declared.refusals.Refusal.{Refusal}
+use Rattle.command_frame.specs.declared.refusals.Refusal.TheVariants.{Usage, ReadFault, WriteFault, OutOfMemory}
+
+-- No count of faults rose.
+pub record NoneRose (old new : HostState) : Type 0 where
+  pub inputs : Rose old.faults.inputs new.faults.inputs → ⊥
+  pub notes : Rose old.faults.notes new.faults.notes → ⊥
+  pub outputs : Rose old.faults.outputs new.faults.outputs → ⊥
+
+-- How a command ended, beside its answer a.
+pub record EndsAs {C : Type 0} (a : Answer C) (refusal : Option (Refusal C)) (report : List ℕ) (outputs : List Output) (ended : List Bool) (old new : HostState) : Type 0 where
+  -- Where it ended as the answer says, all was written and ended.
+  pub settled : refusal ≡ refusal_of a → (report ≡ report_of a) × (outputs ≡ outputs_of a) × (ended ≡ all_ended (outputs_of a))
+  -- Where an output could not be written, the answer was no refusal, and prefixes stand.
+  pub written : refusal ≡ Some WriteFault → (refusal_of a ≡ None) × IsPrefix report (report_of a) × IsBegun outputs (outputs_of a)
+  -- Every other end is the answer's, but for an input that could not be read and want of memory.
+  pub truthful : (refusal ≡ refusal_of a) ⊎ (refusal ≡ Some ReadFault) ⊎ (refusal ≡ Some WriteFault) ⊎ (refusal ≡ Some OutOfMemory)
+  -- A steady host fails no input that is there,
+  pub steady : IsSome old.steady → (refusal ≡ refusal_of a) ⊎ (refusal ≡ Some WriteFault) ⊎ (refusal ≡ Some OutOfMemory)
+  pub steady_inputs : IsSome old.steady → refusal_of a ≢ Some ReadFault → new.faults.inputs ≡ old.faults.inputs
+  -- and no output that it has room for.
+  pub enough : IfTold old.steady (λ rooms. HaveRooms (outputs_of a) rooms (length old.ended + 2) → length (report_of a) ≤ slice_index rooms 0 →
+      ((refusal ≡ refusal_of a) ⊎ (refusal ≡ Some OutOfMemory)) × (new.faults.outputs ≡ old.faults.outputs))
+
+-- What a command did before its complaint.
+pub record Attempts {C : Type 0} (answer : Files → Answer C) (names_input : Bool) (refusal : Option (Refusal C)) (old new : HostState) : Type 0 where
+  pub report : List ℕ
+  pub outputs : List Output
+  pub ended : List Bool
+  pub made : Gains report [] outputs ended old new
+  -- whatever is told
+  pub ok_inputs : refusal ≡ None → new.faults.inputs ≡ old.faults.inputs
+  pub ok_outputs : refusal ≡ None → new.faults.outputs ≡ old.faults.outputs
+  pub notes : new.faults.notes ≡ old.faults.notes
+  pub read : refusal ≡ Some ReadFault → Rose old.faults.inputs new.faults.inputs × IsTrue names_input
+  pub write : refusal ≡ Some WriteFault → Rose old.faults.outputs new.faults.outputs
+  pub refused : refusal ≢ None → refusal ≢ Some WriteFault → (report ≡ []) × (outputs ≡ []) × (ended ≡ [])
+  pub note_room : IfTold old.steady (λ rooms. (after : List ℕ) × (new.steady ≡ Some after) × (slice_index after 1 ≡ slice_index rooms 1))
+  -- where it is told what names hold
+  pub answered : IfTold old.holds (λ files. EndsAs (answer files) refusal report outputs ended old new)
+
+-- The complaint grew by a prefix of its line, and by all of it where no write to it failed. A steady host with room for it fails none.
+pub record HasComplaint (line : List ℕ) (complaint : List ℕ) (old new : HostState) : Type 0 where
+  pub part : IsPrefix complaint line
+  pub all : (Rose old.faults.notes new.faults.notes → ⊥) → complaint ≡ line
+  pub steady : IfTold old.steady (λ rooms. length line ≤ slice_index rooms 1 → new.faults.notes ≡ old.faults.notes)
+
+-- A line of complaint was written, or a prefix of it.
+pub record WritesComplaint (line : List ℕ) (old new : HostState) : Type 0 where
+  pub complaint : List ℕ
+  pub complains : HasComplaint line complaint old new
+  pub wrote : Writes 1 complaint old new
+  pub outputs : new.faults.outputs ≡ old.faults.outputs
+
+-- What a command did, its complaint included. `line` is the line of a cause in the bytes of an input.
+pub record Obeys {C : Type 0} (line : C → List ℕ) (answer : Files → Answer C) (names_input : Bool) (refusal : Option (Refusal C)) (old new : HostState) : Type 0 where
+  pub report : List ℕ
+  pub complaint : List ℕ
+  pub outputs : List Output
+  pub ended : List Bool
+  pub made : Gains report complaint outputs ended old new
+  -- whatever is told
+  pub ok : refusal ≡ None → new.faults ≡ old.faults
+  pub read : refusal ≡ Some ReadFault → Rose old.faults.inputs new.faults.inputs × IsTrue names_input
+  pub write : refusal ≡ Some WriteFault → Rose old.faults.outputs new.faults.outputs
+  pub refused : refusal ≢ None → refusal ≢ Some WriteFault → (report ≡ []) × (outputs ≡ []) × (ended ≡ [])
+  pub complains : HasComplaint (line_of line refusal) complaint old new
+  -- where it is told what names hold
+  pub answered : IfTold old.holds (λ files. EndsAs (answer files) refusal report outputs ended old new)
+  pub complete : IfTold old.holds (λ files. NoneRose old new → (refusal ≡ refusal_of (answer files)) ⊎ (refusal ≡ Some OutOfMemory))
+
+-- the outputs and the report that a plan makes
+pub record Delivery : Type 0 where
+  pub outputs : List Output
+  pub report : List ℕ
+
+-- A plan does what the answer says, or it is refused as the answer says, or memory was wanting.
+pub record Plans {P C : Type 0} (makes : P → Delivery) (answer : Answer C) (result : Result P (Refusal C)) : Type 0 where
+  pub ok : IfOk result (λ plan. answer ≡ done (makes plan).outputs (makes plan).report)
+  pub err : IfErr result (λ refusal. (answer ≡ refused refusal) ⊎ (refusal ≡ OutOfMemory))
+  pub no_usage : result ≡ Err Usage → ⊥
+  pub no_read : result ≡ Err ReadFault → ⊥
+  pub no_write : result ≡ Err WriteFault → ⊥
+
+-- Inputs were read and a plan was made by them, or it is told why there is none; nothing was written.
+pub record Prepares {P C : Type 0} (makes : P → Delivery) (answer : Files → Answer C) (old new : HostState) (result : Result P (Refusal C)) : Type 0 where
+  pub others : ChangesInputs old new
+  pub read : result ≡ Err ReadFault → Rose old.faults.inputs new.faults.inputs
+  pub calm : (result ≡ Err ReadFault → ⊥) → new.faults.inputs ≡ old.faults.inputs
+  pub no_usage : result ≡ Err Usage → ⊥
+  pub no_write : result ≡ Err WriteFault → ⊥
+  pub ok : IfOk result (λ plan. IfTold old.holds (λ files. answer files ≡ done (makes plan).outputs (makes plan).report))
+  pub err : IfErr result (λ refusal. IfTold old.holds (λ files. (answer files ≡ refused refusal) ⊎ (refusal ≡ ReadFault) ⊎ (refusal ≡ OutOfMemory)))
+  pub steady : result ≡ Err ReadFault → IsSome old.steady → IfTold old.holds (λ files. answer files ≡ refused ReadFault)
+
+-- A plan was carried out, or there was none.
+pub record CarriesOut {P C : Type 0} (makes : P → Delivery) (prepared : Result P (Refusal C)) (old new : HostState) (refusal : Option (Refusal C)) : Type 0 where
+  pub ok : IfOk prepared (λ plan. (outcome : Result (Unit {0}) Failed) × (refusal ≡ delivery_refusal outcome) × Delivers (makes plan).outputs (makes plan).report old new outcome)
+  pub err : IfErr prepared (λ why. (refusal ≡ Some why) × (new ≡ old))

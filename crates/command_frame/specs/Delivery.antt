@@ -1,0 +1,46 @@
+-- What a delivery makes on a host: outputs that are created, written and ended, and then the report.
+use Rattle.std.specs.Prelude.{◌≡◌, ℕ, ◌+◌, ◌-◌, ◌≤◌, ◌<◌, Bool, true, List, [], ◌∷◌, ◌++◌, length, map, Some, Result, IsOk, OnOk, OnErr, slice_index}
+use Rattle.snd_host.specs.Host.{HostState, Output, IfTold, Rose, IsPrefix}
+
+-- Since the old state the report and the complaint grew by these bytes, and these outputs were created, each with a flag that it was ended.
+pub record Gains (report complaint : List ℕ) (outputs : List Output) (flags : List Bool) (old new : HostState) : Type 0 where
+  pub given : IfTold old.given (λ given. new.given ≡ Some (record { report = given.report ++ report; complaint = given.complaint ++ complaint; created = given.created ++ outputs }))
+  pub ended : new.ended ≡ old.ended ++ flags
+  pub holds : new.holds ≡ old.holds
+
+-- Of these outputs the first were begun, with a prefix of the bytes of each: their names are the first names.
+abbrev pub IsBegun : List Output → List Output → Type 0
+IsBegun [] outputs = Unit {0}
+IsBegun (o ∷ begun) [] = ⊥
+IsBegun (o ∷ begun) (output ∷ outputs) = (o.name ≡ output.name) × IsPrefix o.bytes output.bytes × IsBegun begun outputs
+
+-- Each of these outputs, the first of which gets the number n, has a room that takes it and a name of at most 200 bytes.
+abbrev pub HaveRooms : List Output → List ℕ → ℕ → Type 0
+HaveRooms [] rooms n = Unit {0}
+HaveRooms (output ∷ outputs) rooms n = (n < length rooms) × (length output.bytes ≤ slice_index rooms n) × (length output.name ≤ 200) × HaveRooms outputs rooms (n + 1)
+
+-- a flag for each of these outputs: it was ended
+abbrev pub all_ended : List Output → List Bool
+all_ended outputs = map (λ _. true) outputs
+
+-- A count of faults rose where a call failed, and stayed where none did.
+pub record CountsFaults {T E : Type 0} (before now : ℕ) (result : Result T E) : Type 0 where
+  pub later : before ≤ now
+  pub failed : OnErr result (Rose before now)
+  pub same : OnOk result (now ≡ before)
+
+-- These outputs were created, written and ended, and then the report was written; or a part of that where a call failed.
+pub record Delivers {T E : Type 0} (outputs : List Output) (report : List ℕ) (old new : HostState) (result : Result T E) : Type 0 where
+  pub reported : List ℕ
+  pub begun : List Output
+  pub ended : List Bool
+  pub made : Gains reported [] begun ended old new
+  pub ok : OnOk result ((reported ≡ report) × (begun ≡ outputs) × (ended ≡ all_ended outputs))
+  pub part : OnErr result (IsPrefix reported report × IsBegun begun outputs)
+  pub inputs : new.faults.inputs ≡ old.faults.inputs
+  pub notes : new.faults.notes ≡ old.faults.notes
+  pub cause : CountsFaults old.faults.outputs new.faults.outputs result
+  -- A steady host with rooms for all of it fails no call,
+  pub enough : IfTold old.steady (λ rooms. HaveRooms outputs rooms (length old.ended + 2) → length report ≤ slice_index rooms 0 → IsOk result)
+  -- and the complaint keeps its room.
+  pub rooms : IfTold old.steady (λ rooms. (after : List ℕ) × (new.steady ≡ Some after) × (slice_index after 0 ≡ slice_index rooms 0 - length reported) × (slice_index after 1 ≡ slice_index rooms 1))

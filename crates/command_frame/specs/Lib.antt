@@ -1,0 +1,12 @@
+-- what a command answers, and its line of complaint
+pub mod Answer
+-- how a command may end, and what it leaves on the host
+pub mod Conduct
+-- what a delivery makes on a host
+pub mod Delivery
+-- what a run leaves on a host that tells it
+pub mod Left
+-- what a plan makes
+pub mod Plan
+-- two outputs that are written at once, in pieces
+pub mod Stream

@@ -1,0 +1,24 @@
+-- The outputs and the report that a plan makes.
+use Rattle.std.specs.Prelude.{List, [], ◌∷◌, ◌++◌, Option, Some, None}
+use Rattle.std.specs.Option.{option_map}
+use Rattle.snd_host.specs.Host.{Output}
+use Rattle.command_frame.specs.Conduct.{Delivery}
+use Rattle.command_frame.specs.Stream.{Both, pair}
+use Rattle.command_frame.specs.declared.delivery.Plan.{Plan}
+use Rattle.command_frame.specs.declared.delivery.PlannedOutput.{PlannedOutput}
+use Rattle.command_frame.specs.declared.delivery.StreamedPlan.{StreamedPlan}
+
+abbrev pub planned_outputs : Option PlannedOutput → List Output
+planned_outputs None = []
+planned_outputs (Some output) = record { name = output.name.now; bytes = output.bytes.items } ∷ []
+
+-- what a plan in memory makes
+abbrev pub plan_makes : Plan → Delivery
+plan_makes plan = record { outputs = planned_outputs plan.output; report = plan.report.items }
+
+-- what a plan in pieces makes: the head is written to the first output alone
+abbrev pub stream_makes : {P : Type 0} → (P → Both) → StreamedPlan P → Delivery
+stream_makes to_come plan = record {
+  outputs = pair plan.first.now (option_map (λ name. name.now) plan.second) (plan.head.items ++ (to_come plan.source).first) (to_come plan.source).second;
+  report = plan.report.items;
+}

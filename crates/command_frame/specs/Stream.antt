@@ -1,0 +1,100 @@
+-- Two outputs that are written at once.
+use Rattle.std.specs.Prelude.{◌≡◌, ℕ, zero, suc, ◌+◌, ◌-◌, Bool, true, false, List, [], ◌∷◌, ◌++◌, length, Option, Some, None, Result, Ok, Err, IfOk, IfErr, OnOk, slice_index, slice_get, ◌≤◌, ◌<◌}
+use Rattle.snd_host.specs.Host.{HostState, Given, Output, IsPrefix}
+use Rattle.snd_host.specs.declared.host.Failed.{Failed}
+use Rattle.snd_host.specs.declared.host.OutFile.{OutFile}
+use Rattle.command_frame.specs.declared.streaming.Targets.{Targets}
+use Rattle.command_frame.specs.Delivery.{Gains, Delivers}
+
+-- bytes of a first and of a second output
+pub record Both : Type 0 where
+  pub first : List ℕ
+  pub second : List ℕ
+
+-- the bytes of the output of this place
+abbrev pub bytes_of : List Output → ℕ → List ℕ
+bytes_of [] place = []
+bytes_of (o ∷ outputs) zero = o.bytes
+bytes_of (o ∷ outputs) (suc place) = bytes_of outputs place
+
+-- what is left of the rooms, where the new outputs begin at the number `first`
+pub record Left (first : ℕ) (outputs : List Output) (report rooms after : List ℕ) : Type 0 where
+  pub count : length after ≡ length rooms
+  pub report_room : slice_index after 0 ≡ slice_index rooms 0 - length report
+  pub complaint_room : slice_index after 1 ≡ slice_index rooms 1
+  pub each : (place : ℕ) → slice_index after (first + place) ≡ slice_index rooms (first + place) - length (bytes_of outputs place)
+
+-- Since the state a these outputs were created, with these bytes, of which these were ended, the report was given these bytes, and no call failed.
+pub record Stands (outputs : List Output) (flags : List Bool) (report : List ℕ) (a c : HostState) : Type 0 where
+  pub made : Gains report [] outputs flags a c
+  pub tells_each : (given : Given) → a.given ≡ Some given → length given.created ≡ length a.ended
+  pub even : length flags ≡ length outputs
+  pub inputs : c.faults.inputs ≡ a.faults.inputs
+  pub notes : c.faults.notes ≡ a.faults.notes
+  pub faults : c.faults.outputs ≡ a.faults.outputs
+  pub rooms : (rooms : List ℕ) → a.steady ≡ Some rooms → (after : List ℕ) × (c.steady ≡ Some after) × Left (length a.ended + 2) outputs report rooms after
+
+-- A call failed: of these outputs and this report a part stands.
+abbrev pub Stops : List Output → List ℕ → HostState → HostState → Type 0
+Stops outputs report old new = (e : Failed) → Delivers {T = Unit {0}} {E = Failed} outputs report old new (Err e)
+
+-- the outputs of a stream: the second one only where it has a name
+abbrev pub pair : (first : List ℕ) (second : Option (List ℕ)) → List ℕ → List ℕ → List Output
+pair first None xs ys = record { name = first; bytes = xs } ∷ []
+pair first (Some second) xs ys = record { name = first; bytes = xs } ∷ record { name = second; bytes = ys } ∷ []
+
+-- a flag for each output of a stream
+abbrev pub flags_of : Option (List ℕ) → Bool → List Bool
+flags_of None flag = flag ∷ []
+flags_of (Some second) flag = flag ∷ flag ∷ []
+
+-- the second output, where there is one, has the number after the first, n
+abbrev pub IsSecond : Option (List ℕ) → Option OutFile → ℕ → Type 0
+IsSecond None None n = Unit {0}
+IsSecond None (Some file) n = ⊥
+IsSecond (Some name) None n = ⊥
+IsSecond (Some name) (Some file) n = file.0 ≡ n + 1
+
+-- These are the numbers of a stream that began in the state a.
+pub record AreTargets (second : Option (List ℕ)) (a : HostState) (targets : Targets) : Type 0 where
+  pub first : targets.first.0 ≡ length a.ended + 2
+  pub second_number : IsSecond second targets.second (length a.ended + 2)
+
+abbrev pub IsOpenBehind : List Bool → ℕ → Option OutFile → Type 0
+IsOpenBehind ended n None = Unit {0}
+IsOpenBehind ended n (Some file) = (n < file.0) × (slice_get ended (file.0 - 2) ≡ Some false)
+
+-- The outputs of a stream were created and not ended.
+pub record AreOpen (ended : List Bool) (targets : Targets) : Type 0 where
+  pub low : 2 ≤ targets.first.0
+  pub first_open : slice_get ended (targets.first.0 - 2) ≡ Some false
+  pub second_open : IsOpenBehind ended targets.first.0 targets.second
+
+-- The outputs of a stream were begun.
+pub record Begins (first : List ℕ) (second : Option (List ℕ)) (old new : HostState) (result : Result Targets Failed) : Type 0 where
+  pub ok : IfOk result (λ targets. AreTargets second old targets × Stands (pair first second [] []) (flags_of second false) [] old new)
+  pub err : IfErr result (λ e. (xs ys report : List ℕ) → Stops (pair first second xs ys) report old new)
+
+-- These bytes were added to the outputs of a stream, or prefixes of them where a write failed.
+pub record Puts (targets : Targets) (xs ys : List ℕ) (old new : HostState) (result : Result (Unit {0}) Failed) : Type 0 where
+  pub ended : OnOk result (new.ended ≡ old.ended)
+  pub ok : OnOk result ((first : List ℕ) (second : Option (List ℕ)) (us vs : List ℕ) (a : HostState) → AreTargets second a targets →
+      Stands (pair first second us vs) (flags_of second false) [] a old → Stands (pair first second (us ++ xs) (vs ++ ys)) (flags_of second false) [] a new)
+  pub err : IfErr result (λ e. (first : List ℕ) (second : Option (List ℕ)) (us vs : List ℕ) (a : HostState) → AreTargets second a targets →
+      Stands (pair first second us vs) (flags_of second false) [] a old →
+      (ps qs report : List ℕ) → IsPrefix (us ++ xs) ps → IsPrefix (vs ++ ys) qs → Stops (pair first second ps qs) report a new)
+
+-- The outputs of a stream were ended.
+pub record Ends (targets : Targets) (old new : HostState) (result : Result (Unit {0}) Failed) : Type 0 where
+  pub ok : IfOk result (λ _. (first : List ℕ) (second : Option (List ℕ)) (xs ys : List ℕ) (a : HostState) → AreTargets second a targets →
+      Stands (pair first second xs ys) (flags_of second false) [] a old → Stands (pair first second xs ys) (flags_of second true) [] a new)
+  pub err : IfErr result (λ e. (first : List ℕ) (second : Option (List ℕ)) (xs ys report : List ℕ) (a : HostState) → AreTargets second a targets →
+      Stands (pair first second xs ys) (flags_of second false) [] a old → Stops (pair first second xs ys) report a new)
+
+-- These bytes were added so far, and these are left, of all that are to be added.
+pub record Pumps (targets : Targets) (all left : Both) (old new : HostState) : Type 0 where
+  pub xs : List ℕ
+  pub ys : List ℕ
+  pub first_split : xs ++ left.first ≡ all.first
+  pub second_split : ys ++ left.second ≡ all.second
+  pub puts : Puts targets xs ys old new (Ok (tt {0}))

@@ -1,0 +1,103 @@
+// Plans, and how they are carried out: the outputs are created, written and ended, and then the report is written.
+ghost use Rattle.std.specs.Prelude.{◌≡◌, ◌<◌, length};
+ghost use Rattle.snd_host.specs.Host.{HostState};
+ghost use Rattle.command_frame.specs.Conduct.{CarriesOut};
+ghost use Rattle.command_frame.specs.Delivery.{Delivers};
+ghost use Rattle.command_frame.specs.Plan.{planned_outputs, plan_makes, stream_makes};
+
+use crate::sources::NoPieces;
+use crate::streaming::{REPORT, stream};
+use crate::{Pieces, Refusal};
+use snd_host::{Failed, Host, write_all};
+
+/// The output and the report of a command that holds them in memory.
+#[derive(Drop)]
+pub struct Plan<'a> {
+    pub output: Option<PlannedOutput<'a>>,
+    pub report: Vec<u8>,
+}
+
+/// An output with its bytes.
+#[derive(Drop)]
+pub struct PlannedOutput<'a> {
+    pub name: &'a str,
+    pub bytes: Vec<u8>,
+}
+
+/// The outputs and the report of a command whose outputs are made in pieces, behind the head of the first.
+#[derive(Drop)]
+pub struct StreamedPlan<'a, P: Pieces + Drop> {
+    pub first: &'a str,
+    pub second: Option<&'a str>,
+    pub head: Vec<u8>,
+    pub source: P,
+    pub report: Vec<u8>,
+}
+
+/// Writes the output, if there is one, and then the report.
+fn deliver<H: Host>(host: &mut H, plan: &Plan<'_>) -> Result<(), Failed>
+    requires { length (H.state host.old).ended < 4294966999 }
+    ensures { Delivers (planned_outputs plan.now.output) plan.now.report.items (H.state host.old) (H.state host.new) result }
+{
+    match &plan.output {
+        Some(output) => stream(
+            host,
+            output.name,
+            None,
+            output.bytes.as_slice(),
+            &mut NoPieces,
+            plan.report.as_slice(),
+        ),
+        None => write_all(host, REPORT, plan.report.as_slice()),
+    }
+}
+
+/// Carries out a plan in memory, if there is one.
+pub fn carry_out<H: Host, C: Drop>(
+    host: &mut H,
+    prepared: Result<Plan<'_>, Refusal<C>>,
+) -> Option<Refusal<C>>
+    requires { length (H.state host.old).ended < 4294966999 }
+    ensures { CarriesOut plan_makes prepared.entry (H.state host.old) (H.state host.new) result }
+{
+    match prepared {
+        Ok(plan) => match deliver(host, &plan) {
+            Ok(()) => None,
+            Err(_) => Some(Refusal::WriteFault),
+        },
+        Err(refusal) => Some(refusal),
+    }
+}
+
+/// Carries out a plan in pieces, if there is one.
+pub fn carry_stream<H: Host, P: Pieces + Drop, C: Drop>(
+    host: &mut H,
+    prepared: Result<StreamedPlan<'_, P>, Refusal<C>>,
+) -> Option<Refusal<C>>
+    requires { length (H.state host.old).ended < 4294966999 }
+    ensures { CarriesOut (stream_makes P.to_come) prepared.entry (H.state host.old) (H.state host.new) result }
+{
+    match prepared {
+        Ok(plan) => {
+            let StreamedPlan {
+                first,
+                second,
+                head,
+                mut source,
+                report,
+            } = plan;
+            match stream(
+                host,
+                first,
+                second,
+                head.as_slice(),
+                &mut source,
+                report.as_slice(),
+            ) {
+                Ok(()) => None,
+                Err(_) => Some(Refusal::WriteFault),
+            }
+        }
+        Err(refusal) => Some(refusal),
+    }
+}

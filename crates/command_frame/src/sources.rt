@@ -1,0 +1,55 @@
+// What makes two outputs at once, piece by piece.
+ghost use Rattle.std.specs.Prelude.{◌≡◌, ◌<◌, ℕ, [], ◌++◌, true, false};
+ghost use Rattle.command_frame.specs.Stream.{Both};
+
+/// A source of two outputs that are made at once, in pieces.
+pub trait Pieces {
+    /// The piece that was made last.
+    ghost held: { Self → Both };
+
+    /// What is still to come behind it.
+    ghost to_come: { Self → Both };
+
+    /// How much work is left, at most.
+    ghost work: { Self → ℕ };
+
+    /// Makes the next piece, and answers whether nothing is left behind it.
+    fn make_next(&mut self) -> bool
+        ensures first { (to_come self.old).first ≡ (held self.new).first ++ (to_come self.new).first }
+        ensures second { (to_come self.old).second ≡ (held self.new).second ++ (to_come self.new).second }
+        ensures first_done { result ≡ true → (to_come self.new).first ≡ [] }
+        ensures second_done { result ≡ true → (to_come self.new).second ≡ [] }
+        ensures less_work { result ≡ false → work self.new < work self.old };
+
+    /// The piece's part of the first output.
+    fn first(&self) -> &[u8]
+        ensures { result.now ≡ (held self.now).first };
+
+    /// The piece's part of the second output.
+    fn second(&self) -> &[u8]
+        ensures { result.now ≡ (held self.now).second };
+}
+
+/// A source without pieces.
+#[derive(Clone, Copy)]
+pub(crate) struct NoPieces;
+
+impl Pieces for NoPieces {
+    ghost held = { λ _. record { first = []; second = [] } };
+
+    ghost to_come = { λ _. record { first = []; second = [] } };
+
+    ghost work = { λ _. 0 };
+
+    fn make_next(&mut self) -> bool {
+        true
+    }
+
+    fn first(&self) -> &[u8] {
+        &[]
+    }
+
+    fn second(&self) -> &[u8] {
+        &[]
+    }
+}

@@ -1,0 +1,95 @@
+// Two outputs that are created, written piece by piece and ended, and then the report.
+ghost use Rattle.std.specs.Prelude.{◌≡◌, ◌<◌, ◌++◌, [], length, Option, option_map};
+ghost use Rattle.snd_host.specs.Host.{HostState};
+ghost use Rattle.command_frame.specs.Delivery.{Delivers};
+ghost use Rattle.command_frame.specs.Stream.{Begins, Puts, Ends, AreOpen, pair};
+
+use crate::Pieces;
+use snd_host::{Failed, Host, OutFile, write_all};
+
+pub(crate) const REPORT: OutFile = OutFile(0);
+
+/// The outputs of a stream.
+#[derive(Clone, Copy)]
+pub struct Targets {
+    pub first: OutFile,
+    pub second: Option<OutFile>,
+}
+
+/// Creates the outputs.
+fn begin<H: Host>(host: &mut H, first: &str, second: Option<&str>) -> Result<Targets, Failed>
+    requires { length (H.state host.old).ended < 4294966999 }
+    ensures { Begins first.now (option_map (λ name. name.now) second.entry) (H.state host.old) (H.state host.new) result }
+{
+    let first = host.create(first)?;
+    match second {
+        Some(name) => {
+            let second = host.create(name)?;
+            Ok(Targets {
+                first,
+                second: Some(second),
+            })
+        }
+        None => Ok(Targets {
+            first,
+            second: None,
+        }),
+    }
+}
+
+/// Writes a piece of each output.
+fn put<H: Host>(host: &mut H, targets: Targets, first: &[u8], second: &[u8]) -> Result<(), Failed>
+    requires { AreOpen (H.state host.old).ended targets }
+    ensures { Puts targets first.now second.now (H.state host.old) (H.state host.new) result }
+{
+    write_all(host, targets.first, first)?;
+    match targets.second {
+        Some(file) => write_all(host, file, second),
+        None => Ok(()),
+    }
+}
+
+/// Writes all pieces.
+fn pump<H: Host, P: Pieces>(host: &mut H, targets: Targets, source: &mut P) -> Result<(), Failed>
+    requires { AreOpen (H.state host.old).ended targets }
+    ensures { Puts targets (P.to_come source.old).first (P.to_come source.old).second (H.state host.old) (H.state host.new) result }
+{
+    'pieces: loop {
+        let done = source.make_next();
+        put(host, targets, source.first(), source.second())?;
+        if done {
+            return Ok(());
+        }
+    }
+}
+
+/// Ends the outputs.
+fn end<H: Host>(host: &mut H, targets: Targets) -> Result<(), Failed>
+    requires { AreOpen (H.state host.old).ended targets }
+    ensures { Ends targets (H.state host.old) (H.state host.new) result }
+{
+    host.finish(targets.first)?;
+    match targets.second {
+        Some(file) => host.finish(file),
+        None => Ok(()),
+    }
+}
+
+/// Writes the head and all pieces to the outputs, and then the report.
+pub fn stream<H: Host, P: Pieces>(
+    host: &mut H,
+    first: &str,
+    second: Option<&str>,
+    head: &[u8],
+    source: &mut P,
+    report: &[u8],
+) -> Result<(), Failed>
+    requires { length (H.state host.old).ended < 4294966999 }
+    ensures { Delivers (pair first.now (option_map (λ name. name.now) second.entry) (head.now ++ (P.to_come source.old).first) (P.to_come source.old).second) report.now (H.state host.old) (H.state host.new) result }
+{
+    let targets = begin(host, first, second)?;
+    put(host, targets, head, &[])?;
+    pump(host, targets, source)?;
+    end(host, targets)?;
+    write_all(host, REPORT, report)
+}

@@ -1,0 +1,81 @@
+-- The outputs of a host in memory.
+use Rattle.std.proofs.Common.{◌≡◌, ◌≢◌, ℕ, zero, suc, ◌+◌, ◌-◌, ◌<◌, Bool, false, List, [], ◌∷◌, ◌++◌, length, get_or, set, map, Some, refl, sym, ◌∙◌, ap, subst, arith}
+use Rattle.std.specs.Prelude.{slice_get}
+use Rattle.std.proofs.lemmas.List.{length-map, length-append, map-append, append_assoc}
+use Rattle.snd_host.specs.Host.{Given, Output, IsOpen, given_with, outputs_with, rooms_less}
+use Rattle.snd_host.specs.Memory.{output_of}
+use Rattle.snd_host.specs.declared.memory.Slot.{Slot}
+use Rattle.snd_host.specs.declared.memory.Spare.{Spare}
+
+-- a created output that can be written is there
+pub is_there : (ended : List Bool) (place : ℕ) (b : Bool) → slice_get ended place ≡ Some b → place < length ended
+is_there [] place b h = absurd (cc)
+is_there (e ∷ ended) zero b h = omega arith
+is_there (e ∷ ended) (suc place) b h = omega (arith, is_there ended place b h)
+
+-- an output that is neither the report nor the complaint was created
+pub number_is : (n : ℕ) → n ≢ 0 → n ≢ 1 → n ≡ suc (suc (n - 2))
+number_is n not_report not_complaint = omega arith
+
+pub open_created : (ended : List Bool) (n : ℕ) → n ≢ 0 → n ≢ 1 → IsOpen ended n → slice_get ended (n - 2) ≡ Some false
+open_created ended n not_report not_complaint open_yet = subst (λ (k : ℕ). IsOpen ended k) (number_is n not_report not_complaint) open_yet
+
+pub grown_created : (given : Given) (n : ℕ) (bytes : List ℕ) → n ≢ 0 → n ≢ 1 → given_with given n bytes ≡ record given { created = outputs_with given.created (n - 2) bytes }
+grown_created given n bytes not_report not_complaint = ap (λ (k : ℕ). given_with given k bytes) (number_is n not_report not_complaint)
+
+-- a slot that is replaced by one with more bytes
+pub grown_slots : (slots : List Slot) (place : ℕ) (slot new : Slot) (bytes : List ℕ) → place < length slots → slot ≡ get_or slots place slot → output_of new ≡ record (output_of slot) { bytes = slot.sink.bytes.items ++ bytes } →
+    map output_of (set slots place new) ≡ outputs_with (map output_of slots) place bytes
+grown_slots [] place slot new bytes within is more = absurd (omega arith)
+grown_slots (s ∷ slots) zero slot new bytes within is more = ap (λ (o : Output). o ∷ map output_of slots) (more ∙ ap (λ (t : Slot). record (output_of t) { bytes = t.sink.bytes.items ++ bytes }) is)
+grown_slots (s ∷ slots) (suc place) slot new bytes within is more = ap (λ (l : List Output). output_of s ∷ l) (grown_slots slots place slot new bytes (omega arith) is more)
+
+-- a number that a slot replaced keeps
+pub same_at : {A : Type 0} (f : Slot → A) (slots : List Slot) (place : ℕ) (slot new : Slot) → slot ≡ get_or slots place slot → f new ≡ f slot → map f (set slots place new) ≡ map f slots
+same_at f [] place slot new is same = refl
+same_at f (s ∷ slots) zero slot new is same = ap (λ a. a ∷ map f slots) (same ∙ ap f is)
+same_at f (s ∷ slots) (suc place) slot new is same = ap (λ l. f s ∷ l) (same_at f slots place slot new is same)
+
+-- the room of a created output
+pub room_index : (slots : List Slot) (rest : List ℕ) (place : ℕ) (slot : Slot) → place < length slots → slot ≡ get_or slots place slot → get_or (map (λ s. s.sink.room) slots ++ rest) place 0 ≡ slot.sink.room
+room_index [] rest place slot within is = absurd (omega arith)
+room_index (s ∷ slots) rest zero slot within is = ap (λ (t : Slot). t.sink.room) (sym is)
+room_index (s ∷ slots) rest (suc place) slot within is = room_index slots rest place slot (omega arith) is
+
+pub room_set : (slots : List Slot) (rest : List ℕ) (place : ℕ) (new : Slot) → place < length slots → map (λ s. s.sink.room) (set slots place new) ++ rest ≡ set (map (λ s. s.sink.room) slots ++ rest) place new.sink.room
+room_set [] rest place new within = absurd (omega arith)
+room_set (s ∷ slots) rest zero new within = refl
+room_set (s ∷ slots) rest (suc place) new within = ap (λ (l : List ℕ). s.sink.room ∷ l) (room_set slots rest place new (omega arith))
+
+abbrev pub ended_of : List Slot → List Bool
+ended_of slots = map (λ slot. slot.ended) slots
+
+pub slot_there : (slots : List Slot) (place : ℕ) → slice_get (ended_of slots) place ≡ Some false → place < length slots
+slot_there slots place h = omega (arith, is_there (ended_of slots) place false h, length-map slots (λ slot. slot.ended))
+
+pub created_there : (slots : List Slot) (n : ℕ) → n ≢ 0 → n ≢ 1 → IsOpen (ended_of slots) n → n - 2 < length slots
+created_there slots n not_report not_complaint open_yet = slot_there slots (n - 2) (open_created (ended_of slots) n not_report not_complaint open_yet)
+
+-- the rooms of created and not yet created outputs stay in their order
+pub rooms_created : (slots later : List Slot) (spares rest : List Spare) (spare : Spare) (slot : Slot) → later ≡ slots ++ slot ∷ [] → spares ≡ spare ∷ rest → slot.sink.room ≡ spare.room →
+    map (λ s. s.sink.room) later ++ map (λ s. s.room) rest ≡ map (λ s. s.sink.room) slots ++ map (λ s. s.room) spares
+rooms_created slots later spares rest spare slot pushed popped same =
+    ap (λ (l : List Slot). map (λ s. s.sink.room) l ++ map (λ s. s.room) rest) pushed
+    ∙ ap (λ (l : List ℕ). l ++ map (λ s. s.room) rest) (map-append (λ (s : Slot). s.sink.room) slots (slot ∷ []))
+    ∙ append_assoc (map (λ s. s.sink.room) slots) (slot.sink.room ∷ []) (map (λ s. s.room) rest)
+    ∙ ap (λ (n : ℕ). map (λ s. s.sink.room) slots ++ (n ∷ map (λ s. s.room) rest)) same
+    ∙ ap (λ (l : List Spare). map (λ s. s.sink.room) slots ++ map (λ s. s.room) l) (sym popped)
+
+-- no room is left to take where no spare is
+pub no_spare : (slots : List Slot) (spares : List Spare) (report complaint : ℕ) (rooms : List ℕ) → length spares ≡ 0 → report ∷ complaint ∷ (map (λ s. s.sink.room) slots ++ map (λ s. s.room) spares) ≡ rooms → length (ended_of slots) + 2 < length rooms → ⊥
+no_spare slots spares report complaint rooms none is fits =
+    omega (arith, ap length is, length-append (map (λ s. s.sink.room) slots) (map (λ s. s.room) spares), length-map slots (λ (s : Slot). s.sink.room), length-map spares (λ (s : Spare). s.room), length-map slots (λ (s : Slot). s.ended), fits, none)
+
+-- the outputs and the rooms after a write to a created output
+module _ (slots : List Slot) (place : ℕ) (slot new : Slot) (piece : List ℕ) (within : place < length slots) (is : slot ≡ get_or slots place slot) where
+  pub slot_lowered : (report complaint : ℕ) (rest : List ℕ) → new.sink.room ≡ slot.sink.room - length piece →
+      report ∷ complaint ∷ (map (λ s. s.sink.room) (set slots place new) ++ rest) ≡ rooms_less (report ∷ complaint ∷ (map (λ s. s.sink.room) slots ++ rest)) (suc (suc place)) (length piece)
+  slot_lowered report complaint rest less =
+      let rooms = map (λ (s : Slot). s.sink.room) slots ++ rest in
+      let room : get_or rooms place 0 ≡ slot.sink.room = room_index slots rest place slot within is in
+      ap (λ (l : List ℕ). report ∷ complaint ∷ l) (room_set slots rest place new within ∙ ap (λ (n : ℕ). set rooms place n) (less ∙ ap (λ (n : ℕ). n - length piece) (sym room)))

@@ -1,0 +1,40 @@
+use Rattle.std.proofs.Common.{rules, ◌≡◌, ◌+◌, ◌≤◌, ℕ, List, Some, Ok, length, take, drop, sym, ◌∙◌, ap, arith, length-drop, length-take, vec_len}
+use Rattle.std.proofs.lemmas.List.{drop-drop, places}
+use Rattle.snd_host.proofs.WholeInput.{some_is, none_unless, front_is_whole, is_some_and, length_front, read_more, inputs_then}
+use Rattle.snd_host.proofs.calls.read_whole.Goals as goal
+
+pub returns-in_err-file-clause-steady : goal.returns-in_err-file-clause-steady
+returns-in_err-file-clause-steady g c = λ _ steady files told.
+    none_unless _ (λ there. let ok = c.in_err-file.ensures.steady steady files told there in search rules)
+
+pub returns-then-count-eq0-clause-whole : goal.returns-then-count-eq0-clause-whole
+returns-then-count-eq0-clause-whole g c = λ files told.
+    let whole = some_is _ (c.in_ok-file.ensures.there files told) in
+    let left = c.reading.invariant.left files whole.0 told whole.1 in
+    let none = c.in_ok-count.ensures.end (ap (λ (n : ℕ). Ok n) c.if-count-eq0.true) (search (rules, places)) _ left in
+    whole.1 ∙ ap (λ (l : List ℕ). Some l) (sym (c.reading.invariant.front files whole.0 told whole.1 ∙ front_is_whole (vec_len c.reading.bytes) whole.0 none))
+
+pub reading-preserved : goal.reading-preserved
+reading-preserved g c =
+    let within : c.in_ok-count.count ≤ length c.read.new.buf = omega (arith, c.in_ok-count.ensures.within, c.read.auto.buf) in
+    let more : vec_len c.extend_from_slice.new.self ≡ vec_len c.reading.bytes + c.in_ok-count.count =
+    c.in_ok-extend_from_slice.ensures.len ∙ ap (λ (n : ℕ). vec_len c.reading.bytes + n) (length_front c.read.new.buf _ c.in_ok-count.count within) in
+    record {
+      within = omega (arith, more, c.in_ok-count.ensures.within, length-take c.min-room.result c.reading.buffer);
+      current = c.in_ok-count.ensures.current ∙ c.reading.invariant.current;
+      others = inputs_then _ _ _ c.reading.invariant.others c.in_ok-count.ensures.others;
+      inputs = c.in_ok-count.ensures.cause.same ∙ c.reading.invariant.inputs;
+      front = λ files whole told is. c.in_ok-extend_from_slice.ensures.items ∙ read_more whole c.reading.bytes.items c.read.new.buf _ (vec_len c.reading.bytes) c.in_ok-count.count
+          (c.reading.invariant.front files whole told is) (c.in_ok-count.ensures.front _ (c.reading.invariant.left files whole told is)) within
+          ∙ ap (λ (n : ℕ). take n whole) (sym more);
+      left = λ files whole told is. c.in_ok-count.ensures.left _ (c.reading.invariant.left files whole told is) ∙ ap (λ (l : List ℕ). Some l) (drop-drop c.in_ok-count.count (vec_len c.reading.bytes) whole ∙ ap (λ (n : ℕ). drop n whole) (sym more));
+      available = λ files whole told is.
+          let available = c.in_ok-count.ensures.available _ (c.reading.invariant.left files whole told is) in
+          let before = c.reading.invariant.available files whole told is in
+          omega (arith, more, length-drop (vec_len c.reading.bytes) whole);
+    }
+
+pub returns-clause-too_long : goal.returns-clause-too_long
+returns-clause-too_long g c = λ _ files told.
+    let whole = some_is _ (c.in_ok-file.ensures.there files told) in
+    is_some_and _ whole.0 _ whole.1 (let long = c.reading.invariant.available files whole.0 told whole.1 in omega arith)

@@ -1,0 +1,43 @@
+use Rattle.std.proofs.Common.{rules, ◌≡◌, ℕ, List, take, refl, ◌∙◌, subst, arith, length-drop}
+use Rattle.std.proofs.lemmas.List.{take_rest, take_all}
+use Rattle.std.proofs.lemmas.Result.{err_from_is_err_and}
+use Rattle.snd_host.specs.Host.{Writes}
+use Rattle.snd_host.proofs.Writes.{wrote_nothing, wrote_then, take_then_slice, counts_ok, counts_same, counts_err, part_so_far, room_left}
+use Rattle.snd_host.proofs.calls.write_all.Goals as goal
+
+pub loop-done-init : goal.loop-done-init
+loop-done-init g c = record { within = omega arith; wrote = wrote_nothing _ _; notes = refl; outputs = refl }
+
+pub returns-in_err-done : goal.returns-in_err-done
+returns-in_err-done g c =
+    let p = err_from_is_err_and c.from_residual.result c.from_residual.ensures.1 in
+    let so_far = c.loop-done.invariant in
+    rw (p.1) (record {
+      wrote = tt;
+      part = part_so_far _ _ _ _ _ _ so_far.wrote c.in_err-done.ensures.unwritten;
+      cause = counts_err c.args.out.0 (g.H.Host.state c.args.host.now).faults (g.H.Host.state c.loop-done.host).faults (g.H.Host.state c.write.new.self).faults _ so_far.notes so_far.outputs c.in_err-done.ensures.cause;
+      steady = λ rooms steady fits.
+          let ok = c.in_err-done.ensures.steady _ (so_far.wrote.rooms rooms steady) (room_left rooms c.args.out.0 c.loop-done.done c.args.piece.now so_far.within fits) in
+          absurd (search rules);
+    })
+
+pub returns : goal.returns
+returns g c =
+    let so_far = c.loop-done.invariant in
+    let whole : take c.loop-done.done c.args.piece.now ≡ c.args.piece.now = take_all _ _ (omega arith) in
+    record {
+      wrote = subst (λ (l : List ℕ). Writes c.args.out.0 l (g.H.Host.state c.args.host.now) (g.H.Host.state c.loop-done.host)) whole so_far.wrote;
+      part = tt;
+      cause = counts_same c.args.out.0 (g.H.Host.state c.args.host.now).faults (g.H.Host.state c.loop-done.host).faults _ so_far.notes so_far.outputs;
+      steady = λ rooms steady fits. search rules;
+    }
+
+pub loop-done-preserved : goal.loop-done-preserved
+loop-done-preserved g c =
+    let counts = counts_ok _ _ _ _ c.in_ok-done.ensures.cause in
+    record {
+      within = omega (arith, simp (take_rest, length-drop) at c.in_ok-done.ensures.within);
+      wrote = rw (take_then_slice c.args.piece.now c.loop-done.done c.in_ok-done.field-0) (wrote_then _ _ _ _ _ _ c.loop-done.invariant.wrote c.in_ok-done.ensures.wrote);
+      notes = counts.0 ∙ c.loop-done.invariant.notes;
+      outputs = counts.1 ∙ c.loop-done.invariant.outputs;
+    }

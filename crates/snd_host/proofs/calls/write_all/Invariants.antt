@@ -1,0 +1,15 @@
+use Rattle.std.proofs.Common.{length, take, ◌-◌, ◌≡◌, ◌≤◌}
+use Rattle.snd_host.specs.Host.{Writes}
+use Rattle.snd_host.proofs.calls.write_all.Given as goal
+
+-- the bytes that are done were written, and no write has failed
+abbrev pub invariant-loop-done : goal.invariant-loop-done
+invariant-loop-done g l = record {
+  within : l.done ≤ length l.piece;
+  wrote : Writes l.out.0 (take l.done l.piece) (g.H.Host.state l.fn.host) (g.H.Host.state l.host);
+  notes : (g.H.Host.state l.host).faults.notes ≡ (g.H.Host.state l.fn.host).faults.notes;
+  outputs : (g.H.Host.state l.host).faults.outputs ≡ (g.H.Host.state l.fn.host).faults.outputs;
+}
+
+abbrev pub decreases-loop-done : goal.decreases-loop-done
+decreases-loop-done g l = length l.piece - l.done

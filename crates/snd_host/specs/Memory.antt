@@ -1,0 +1,64 @@
+-- What contracts see of a host in memory.
+use Rattle.std.specs.Prelude.{◌≡◌, length, ℕ, zero, suc, slice_get, slice_index, List, [], ◌∷◌, ◌++◌, Bool, Option, Some, None, map, drop, nat_le, if◌then◌else◌, string_bytes}
+use Rattle.std.specs.List.{list_any}
+use Rattle.std.specs.Option.{option_map, option_map_or}
+use Rattle.std.proofs.Common.{sym, ap, ◌∙◌}
+use Rattle.std.proofs.lemmas.List.{length-map}
+use Rattle.snd_host.specs.Host.{HostState, IfTold, Output}
+use Rattle.snd_host.specs.Files.{File, bytes_at, content_of}
+use Rattle.snd_host.specs.declared.memory.MemHost.{MemHost}
+use Rattle.snd_host.specs.declared.memory.Reading.{Reading}
+use Rattle.snd_host.specs.declared.memory.Slot.{Slot}
+
+abbrev pub left_of : List File → Option Reading → List ℕ
+left_of files None = []
+left_of files (Some reading) = drop reading.at (bytes_at files reading.index)
+
+abbrev pub output_of : Slot → Output
+output_of slot = record { name = string_bytes slot.name; bytes = slot.sink.bytes.items }
+
+-- a number of a failing call is not yet passed
+abbrev pub fails_later : List ℕ → ℕ → Bool
+fails_later failing calls = list_any (λ number. nat_le calls number) failing
+
+abbrev pub rooms_of : MemHost → List ℕ
+rooms_of host = host.report.room ∷ host.complaint.room ∷ (map (λ slot. slot.sink.room) host.created.items ++ map (λ spare. spare.room) host.spare.items)
+
+abbrev pub memory_state : MemHost → HostState
+memory_state host = record {
+  holds = Some (content_of host.files.items);
+  left = Some (left_of host.files.items host.current);
+  given = Some (record { report = host.report.bytes.items; complaint = host.complaint.bytes.items; created = map output_of host.created.items });
+  current = option_map (λ _. host.newest) host.current;
+  ended = map (λ slot. slot.ended) host.created.items;
+  faults = record { inputs = host.in_faults; notes = host.note_faults; outputs = host.out_faults };
+  steady = if fails_later host.failing.items host.calls then None else Some (rooms_of host);
+}
+
+-- the number of calls so far, which stays at 4,294,967,295 once it is there
+abbrev pub calls_of : MemHost → ℕ
+calls_of host = host.calls
+
+-- what the output of this number was given
+abbrev pub bytes_given : MemHost → ℕ → List ℕ
+bytes_given host zero = host.report.bytes.items
+bytes_given host (suc zero) = host.complaint.bytes.items
+bytes_given host (suc (suc place)) = option_map_or (λ slot. slot.sink.bytes.items) (slice_get host.created.items place) []
+
+-- a new host: steady where no call is to fail, with room 0 for the report and the complaint where none is given
+abbrev pub opening_state : List File → List ℕ → List ℕ → HostState
+opening_state files failing rooms = record {
+  holds = Some (content_of files);
+  left = Some [];
+  given = Some (record { report = []; complaint = []; created = [] });
+  current = None;
+  ended = [];
+  faults = record { inputs = 0; notes = 0; outputs = 0 };
+  steady = if fails_later failing 0 then None else Some (slice_index rooms 0 ∷ slice_index rooms 1 ∷ drop 2 rooms);
+}
+
+-- as many outputs are told of as were created
+pub tells_each_lem : (host : MemHost) → IfTold (memory_state host).given (λ given. length given.created ≡ length (memory_state host).ended)
+tells_each_lem host given told =
+    let same : map output_of host.created.items ≡ given.created = cc in
+    sym (ap length same) ∙ length-map host.created.items output_of ∙ sym (length-map host.created.items (λ slot. slot.ended))

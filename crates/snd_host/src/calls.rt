@@ -1,0 +1,86 @@
+// The two loops over a host: a whole piece is written, and a whole input is read.
+ghost use Rattle.std.specs.Prelude.{◌≡◌, ◌≢◌, ◌+◌, ◌<◌, ◌≤◌, ℕ, List, length, Option, IsSome, IsOk, IsErrOf, IsSomeAnd, IfOk, OnOk, OnErr, slice_index, vec_len};
+ghost use Rattle.snd_host.specs.Host.{HostState, IfTold, IsOpen, ChangesInputs, WritesAll, Rose};
+ghost use Rattle.snd_host.specs.declared.calls.ReadRefusal.TheVariants.{Failed as Fault, OutOfMemory as NoMemory};
+
+use crate::{Failed, Host, OutFile, OutOfMemory};
+use std::alloc::Global;
+
+/// Writes all of the piece, or a prefix of it where a write fails.
+pub fn write_all<H: Host>(host: &mut H, out: OutFile, piece: &[u8]) -> Result<(), Failed>
+    requires { IsOpen (H.state host.old).ended out.0 }
+    ensures { WritesAll out.0 piece.now (H.state host.old) (H.state host.new) result }
+{
+    let mut done = 0;
+    while done < piece.len() {
+        done += host.write(out, &piece[done..])?;
+    }
+    Ok(())
+}
+
+/// Why an input was not read.
+#[derive(Clone, Copy, Debug, PartialEq, Eq)]
+pub enum ReadRefusal {
+    /// A call of the host failed.
+    Failed,
+    /// The input has more bytes than the limit.
+    TooLong,
+    /// There was no memory for what was read.
+    OutOfMemory,
+}
+
+impl From<Failed> for ReadRefusal {
+    ghost from_gives = { λ _ refusal. refusal ≡ Fault };
+
+    fn from(_: Failed) -> Self {
+        ReadRefusal::Failed
+    }
+}
+
+impl From<OutOfMemory> for ReadRefusal {
+    ghost from_gives = { λ _ refusal. refusal ≡ NoMemory };
+
+    fn from(_: OutOfMemory) -> Self {
+        ReadRefusal::OutOfMemory
+    }
+}
+
+/// Opens the named input and reads it to its end, or to one byte past the limit.
+pub fn read_whole<H: Host>(
+    alloc: Global,
+    host: &mut H,
+    name: &str,
+    limit: usize,
+) -> Result<Vec<u8>, ReadRefusal>
+    requires { limit ≤ 16777216 }
+
+    ensures whole { IfOk result (λ bytes. IfTold (H.state host.old).holds (λ files. files name.now ≡ Some bytes.items)) }
+    ensures bounded { IfOk result (λ bytes. length bytes.items ≤ limit) }
+    ensures too_long { IsErrOf result ReadRefusal.TooLong →
+        IfTold (H.state host.old).holds (λ files. IsSomeAnd (files name.now) (λ bytes. limit < length bytes)) }
+
+    // The count of faults rises at `Failed` alone, and nothing but the inputs has changed.
+    ensures failed { IsErrOf result ReadRefusal.Failed →
+        Rose (H.state host.old).faults.inputs (H.state host.new).faults.inputs }
+    ensures same { (IsErrOf result ReadRefusal.Failed → ⊥) →
+        (H.state host.new).faults.inputs ≡ (H.state host.old).faults.inputs }
+    ensures later { (H.state host.old).faults.inputs ≤ (H.state host.new).faults.inputs }
+    ensures others { ChangesInputs (H.state host.old) (H.state host.new) }
+
+    // A steady host fails only at a name that is not there.
+    ensures steady { IsErrOf result ReadRefusal.Failed → IsSome (H.state host.old).steady →
+        IfTold (H.state host.old).holds (λ files. files name.now ≡ None) }
+{
+    let file = host.open_in(name)?;
+    let mut bytes = Vec::new(alloc);
+    let mut buffer = [0u8; 4096];
+    'reading: while bytes.len() <= limit {
+        let room = (limit + 1 - bytes.len()).min(4096);
+        let count = host.read(file, &mut buffer[..room])?;
+        if count == 0 {
+            return Ok(bytes);
+        }
+        bytes.extend_from_slice(&buffer[..count])?;
+    }
+    Err(ReadRefusal::TooLong)
+}

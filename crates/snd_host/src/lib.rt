@@ -1,0 +1,15 @@
+//! The one trait of the outside, its host in memory, and the two loops over it.
+#![tactic(auto)]
+
+mod calls;
+mod files;
+mod host;
+mod memory;
+
+pub use calls::{ReadRefusal, read_whole, write_all};
+pub use host::{Failed, Host, InFile, OutFile};
+pub use memory::MemHost;
+pub use std::alloc::AllocError as OutOfMemory;
+
+#[cfg(test)]
+mod tests;

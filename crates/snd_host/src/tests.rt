@@ -1,0 +1,70 @@
+// What a host in memory does at each of its limits, and the two loops over it.
+ghost use Rattle.std.specs.Prelude.{◌≡◌, ◌<◌, [], length, None, IfOk};
+ghost use Rattle.snd_host.specs.Memory.{memory_state};
+
+use crate::{Failed, Host, MemHost, OutFile, ReadRefusal, read_whole, write_all};
+use std::alloc::Global;
+use std::test::Fail;
+
+const REPORT: OutFile = OutFile(0);
+
+const COMPLAINT: OutFile = OutFile(1);
+
+const FIRST: OutFile = OutFile(2);
+
+/// A host with the input `IN` of five bytes and a second entry of that name.
+fn five_bytes(alloc: Global, failing: &[u32], rooms: &[usize]) -> Result<MemHost, Fail>
+    ensures { IfOk result (λ host. (memory_state host).ended ≡ []) }
+{
+    let files = vec![in alloc;
+        (
+            String::from_str(alloc, "IN")?,
+            Vec::from_slice(alloc, b"12345")?
+        ),
+        (
+            String::from_str(alloc, "IN")?,
+            Vec::from_slice(alloc, b"other")?
+        ),
+    ]?;
+    Ok(MemHost::new(alloc, files, failing.to_vec(alloc)?, rooms.to_vec(alloc)?)?)
+}
+
+#[test]
+fn an_input_is_read_up_to_its_limit(rt: HostRuntime) -> Result<(), Fail> {
+    let alloc = rt.alloc();
+    let rows = [
+        ("IN", 6, Ok(5)),
+        ("IN", 5, Ok(5)),
+        ("IN", 4, Err(ReadRefusal::TooLong)),
+        ("NONE", 5, Err(ReadRefusal::Failed)),
+    ];
+    for (name, limit, wanted) in rows {
+        let mut host = five_bytes(alloc, &[], &[])?;
+        match read_whole(alloc, &mut host, name, limit) {
+            Ok(bytes) => {
+                assert_eq!(rt; Ok(bytes.len()), wanted, "{name} {limit}");
+                assert_eq!(rt; bytes.as_slice(), b"12345".as_slice());
+            }
+            Err(refusal) => assert_eq!(rt; Err(refusal), wanted, "{name} {limit}"),
+        }
+    }
+    Ok(())
+}
+
+#[test]
+fn outputs_take_what_they_have_room_for(rt: HostRuntime) -> Result<(), Fail> {
+    let alloc = rt.alloc();
+    let mut host = five_bytes(alloc, &[], &[3, 0, 2])?;
+    assert_eq!(rt; write_all(&mut host, REPORT, b"abc"), Ok(()));
+    assert_eq!(rt; write_all(&mut host, REPORT, b"d"), Err(Failed));
+    assert_eq!(rt; write_all(&mut host, COMPLAINT, b""), Ok(()));
+    assert_eq!(rt; write_all(&mut host, COMPLAINT, b"d"), Err(Failed));
+    assert_eq!(rt; host.create("OUT"), Ok(FIRST));
+    assert_eq!(rt; write_all(&mut host, FIRST, b"xy"), Ok(()));
+    assert_eq!(rt; host.finish(FIRST), Ok(()));
+    assert_eq!(rt; host.create("MORE"), Err(Failed));
+    assert_eq!(rt; host.output(REPORT), b"abc".as_slice());
+    assert_eq!(rt; host.output(FIRST), b"xy".as_slice());
+    assert_eq!(rt; host.calls(), 7);
+    Ok(())
+}

@@ -1,0 +1,172 @@
+-- The clauses of a run, from what its command did.
+use Rattle.std.proofs.Common.{◌≡◌, ◌≢◌, ◌⊎◌, inl, inr, ℕ, ◌≤◌, List, length, Option, Some, None, Bool, [], refl, sym, ◌∙◌, ap, subst}
+use Rattle.std.specs.Prelude.{unwrap_or, slice_index, ◌↔◌}
+use Rattle.snd_host.specs.Host.{HostState, Files, Output}
+use Rattle.command_frame.specs.Answer.{Answer, refusal_of, outputs_of, report_of}
+use Rattle.command_frame.specs.Conduct.{Obeys}
+use Rattle.command_frame.specs.Delivery.{all_ended}
+use Rattle.command_frame.specs.Left.{Leaves, LeavesNothing, LeavesAll, Complains}
+use Rattle.command_frame.specs.declared.refusals.Refusal.{Refusal}
+use Rattle.command_frame.specs.declared.refusals.Refusal.TheVariants.{Usage, ReadFault, WriteFault, OutOfMemory, Input}
+use Rattle.command_frame.proofs.Leaving.{leaves, complains}
+use Rattle.spcwave.specs.declared.statuses.Cause.{Cause}
+use Rattle.spcwave.specs.declared.statuses.Cause.TheVariants.{BrrLength, InputTooLong}
+use Rattle.spcwave.specs.declared.statuses.Status.{Status}
+use Rattle.spcwave.specs.declared.statuses.Status.TheVariants as statuses
+use Rattle.spcwave.specs.Command.{Command, usage, names_input, answer_of}
+use Rattle.spcwave.specs.Status.{status_of, answer_status, plain_end, refusal_line, cause_line}
+use Rattle.spcwave.specs.Run as clause
+
+-- a status without numbers tells its end
+plain_is : (r p : Option (Refusal Cause)) → plain_end (status_of r) ≡ Some p → r ≡ p
+plain_is None p h = cc
+plain_is (Some Usage) p h = cc
+plain_is (Some ReadFault) p h = cc
+plain_is (Some WriteFault) p h = cc
+plain_is (Some OutOfMemory) p h = cc
+plain_is (Some (Input (BrrLength n))) p h = absurd (cc)
+plain_is (Some (Input InputTooLong)) p h = cc
+
+-- an end is that of the answer, or one of three others
+abbrev IsEnd : Option (Refusal Cause) → Answer Cause → Type 0
+IsEnd r a = (r ≡ refusal_of a) ⊎ ((r ≡ Some ReadFault) ⊎ ((r ≡ Some WriteFault) ⊎ (r ≡ Some OutOfMemory)))
+
+-- with the numbers of the answer
+line_end : (r : Option (Refusal Cause)) (a : Answer Cause) → IsEnd r a → unwrap_or (plain_end (status_of r)) (refusal_of a) ≡ r
+line_end None a end = refl
+line_end (Some Usage) a end = refl
+line_end (Some ReadFault) a end = refl
+line_end (Some WriteFault) a end = refl
+line_end (Some OutOfMemory) a end = refl
+line_end (Some (Input (BrrLength n))) a (inl same) = sym same
+line_end (Some (Input (BrrLength n))) a (inr (inl wrong)) = absurd (cc)
+line_end (Some (Input (BrrLength n))) a (inr (inr (inl wrong))) = absurd (cc)
+line_end (Some (Input (BrrLength n))) a (inr (inr (inr wrong))) = absurd (cc)
+line_end (Some (Input InputTooLong)) a end = refl
+
+-- an end that has the status of the answer is the answer's
+same_end : (r : Option (Refusal Cause)) (a : Answer Cause) → IsEnd r a → status_of r ≡ answer_status a → r ≡ refusal_of a
+same_end r a (inl same) equal = same
+same_end r a (inr (inl is)) equal = is ∙ sym (plain_is (refusal_of a) (Some ReadFault) (ap plain_end (sym equal ∙ ap status_of is)))
+same_end r a (inr (inr (inl is))) equal = is ∙ sym (plain_is (refusal_of a) (Some WriteFault) (ap plain_end (sym equal ∙ ap status_of is)))
+same_end r a (inr (inr (inr is))) equal = is ∙ sym (plain_is (refusal_of a) (Some OutOfMemory) (ap plain_end (sym equal ∙ ap status_of is)))
+
+module _ (command : Command) (r : Option (Refusal Cause)) (x z : HostState) (status : Status) (is : status ≡ status_of r)
+    (o : Obeys cause_line (answer_of command) (names_input command) r x z) (misread : (r ≡ Some Usage) ↔ (command ≡ usage)) where
+  end_of : (p : Option (Refusal Cause)) (s : Status) → plain_end s ≡ Some p → status ≡ s → r ≡ p
+  end_of p s plain same = plain_is r p (ap plain_end (sym is ∙ same) ∙ plain)
+
+  status_is : (p : Option (Refusal Cause)) → r ≡ p → status ≡ status_of p
+  status_is p same = is ∙ ap status_of same
+
+  truthful : (files : Files) → x.holds ≡ Some files → IsEnd r (answer_of command files)
+  truthful files told = (o.answered files told).truthful
+
+  left : Leaves o.report o.outputs o.ended x z
+  left = leaves o.report o.complaint o.outputs o.ended x z o.made
+
+  nothing : r ≢ None → r ≢ Some WriteFault → LeavesNothing x z
+  nothing refused not_write =
+      let none = o.refused refused not_write in
+      subst (λ (l : List ℕ). Leaves l [] [] x z) none.0
+      (subst (λ (l : List Output). Leaves o.report l [] x z) none.1
+      (subst (λ (l : List Bool). Leaves o.report o.outputs l x z) none.2 left))
+
+  all : (a : Answer Cause) → (o.report ≡ report_of a) × (o.outputs ≡ outputs_of a) × (o.ended ≡ all_ended (outputs_of a)) → LeavesAll a x z
+  all a are =
+      subst (λ (l : List ℕ). Leaves l (outputs_of a) (all_ended (outputs_of a)) x z) are.0
+      (subst (λ (l : List Output). Leaves o.report l (all_ended (outputs_of a)) x z) are.1
+      (subst (λ (l : List Bool). Leaves o.report o.outputs l x z) are.2 left))
+
+  complains_of : (end : Option (Refusal Cause)) → r ≡ end → Complains (refusal_line end) x z
+  complains_of end same = subst (λ (e : Option (Refusal Cause)). Complains (refusal_line e) x z) same
+      (complains (refusal_line r) o.report o.complaint o.outputs o.ended x z o.made o.complains)
+
+  line_is : (files : Files) → x.holds ≡ Some files → r ≡ unwrap_or (plain_end status) (refusal_of (answer_of command files))
+  line_is files told = sym (ap (λ (s : Status). unwrap_or (plain_end s) (refusal_of (answer_of command files))) is ∙ line_end r (answer_of command files) (truthful files told))
+
+  refused_is : (p : Refusal Cause) → r ≡ Some p → p ≢ WriteFault → LeavesNothing x z
+  refused_is p same other = nothing (λ none. some_none p (sym same ∙ none)) (λ write. other (inside p WriteFault (sym same ∙ write)))
+    where
+      some_none : (p : Refusal Cause) → Some p ≡ None → ⊥
+      some_none p h = cc
+
+      inside : (p q : Refusal Cause) → Some p ≡ Some q → p ≡ q
+      inside p q h = cc
+
+  pub content : clause.Content command x z status
+  content = record {
+    settled = λ files told same. let a = answer_of command files in
+        all a ((o.answered files told).settled (same_end r a (truthful files told) (sym is ∙ same)));
+    ok = λ same. o.ok (end_of None statuses.Ok refl same);
+    complaint = λ files told. complains_of _ (line_is files told);
+  }
+
+  pub read_fault : clause.ReadFault command x z status
+  read_fault = record {
+    cause = λ same. (o.read (end_of (Some ReadFault) statuses.ReadFault refl same)).0;
+    input = λ same. (o.read (end_of (Some ReadFault) statuses.ReadFault refl same)).1;
+    left = λ same. refused_is ReadFault (end_of (Some ReadFault) statuses.ReadFault refl same) (λ wrong. absurd (cc));
+  }
+
+  pub write_fault : clause.WriteFault command x z status
+  write_fault = record {
+    cause = λ same. o.write (end_of (Some WriteFault) statuses.WriteFault refl same);
+    accepted = λ same files told. ap status_of ((o.answered files told).written (end_of (Some WriteFault) statuses.WriteFault refl same)).0;
+    left = λ same files told.
+        let written = (o.answered files told).written (end_of (Some WriteFault) statuses.WriteFault refl same) in
+        record { report = o.report; outputs = o.outputs; flags = o.ended; left = left; reported = written.1; begun = written.2 };
+  }
+
+  pub memory : clause.Memory command x z status
+  memory = record {
+    left = λ same. refused_is OutOfMemory (end_of (Some OutOfMemory) statuses.OutOfMemory refl same) (λ wrong. absurd (cc));
+    never_usage = λ same words. other_usage r (end_of (Some OutOfMemory) statuses.OutOfMemory refl same) (misread.1 words);
+  }
+    where
+      other_usage : (e : Option (Refusal Cause)) → e ≡ Some OutOfMemory → e ≡ Some Usage → ⊥
+      other_usage e memory misread = cc
+
+  pub is_truthful : clause.IsTruthful command x status
+  is_truthful files told = ends (truthful files told)
+    where
+      ends : IsEnd r (answer_of command files) → (status ≡ answer_status (answer_of command files)) ⊎ ((status ≡ statuses.ReadFault) ⊎ ((status ≡ statuses.WriteFault) ⊎ (status ≡ statuses.OutOfMemory)))
+      ends (inl same) = inl (status_is _ same)
+      ends (inr (inl same)) = inr (inl (status_is _ same))
+      ends (inr (inr (inl same))) = inr (inr (inl (status_is _ same)))
+      ends (inr (inr (inr same))) = inr (inr (inr (status_is _ same)))
+
+  either : (a : Answer Cause) → (r ≡ refusal_of a) ⊎ (r ≡ Some OutOfMemory) → (status ≡ answer_status a) ⊎ (status ≡ statuses.OutOfMemory)
+  either a (inl same) = inl (status_is _ same)
+  either a (inr same) = inr (status_is _ same)
+
+  pub completes_calmly : clause.CompletesCalmly command x z status
+  completes_calmly files told calm = either (answer_of command files) (o.complete files told calm)
+
+  pub completes_inputs : clause.CompletesInputs command x z status
+  completes_inputs = record {
+    status_is = λ steady files told. of_three (answer_of command files) ((o.answered files told).steady steady);
+    calm = λ steady files told other. (o.answered files told).steady_inputs steady (λ is_read. other (ap status_of is_read));
+  }
+    where
+      of_three : (a : Answer Cause) → (r ≡ refusal_of a) ⊎ ((r ≡ Some WriteFault) ⊎ (r ≡ Some OutOfMemory)) → (status ≡ answer_status a) ⊎ ((status ≡ statuses.WriteFault) ⊎ (status ≡ statuses.OutOfMemory))
+      of_three a (inl same) = inl (status_is _ same)
+      of_three a (inr (inl same)) = inr (inl (status_is _ same))
+      of_three a (inr (inr same)) = inr (inr (status_is _ same))
+
+  pub completes_outputs : clause.CompletesOutputs command x z status
+  completes_outputs = record {
+    status_is = λ rooms steady files told have fits. either (answer_of command files) ((o.answered files told).enough rooms steady have fits).0;
+    calm = λ rooms steady files told have fits. ((o.answered files told).enough rooms steady have fits).1;
+  }
+
+  pub completes_complaint : clause.CompletesComplaint command x z status
+  completes_complaint rooms steady files told fits =
+      o.complains.steady rooms steady (subst (λ (e : Option (Refusal Cause)). length (refusal_line e) ≤ slice_index rooms 1) (sym (line_is files told)) fits)
+
+  pub untold : clause.Untold command x z status
+  untold = record {
+    misread = (λ same. misread.0 (end_of (Some Usage) statuses.Usage refl same), λ words. status_is _ (misread.1 words));
+    refused = λ not_ok not_write. nothing (λ none. not_ok (status_is _ none)) (λ write. not_write (status_is _ write));
+    complaint = λ end plain. complains_of end (plain_is r end (ap plain_end (sym is) ∙ plain));
+  }

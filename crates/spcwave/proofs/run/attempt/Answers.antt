@@ -1,0 +1,11 @@
+use Rattle.std.proofs.Common.{Some, subst}
+use Rattle.command_frame.specs.declared.refusals.Refusal.TheVariants.{Usage}
+use Rattle.spcwave.specs.Command.{Command, names_input, answer_of}
+use Rattle.command_frame.specs.Conduct.{Attempts}
+use Rattle.command_frame.proofs.Obeying.{attempts_usage}
+use Rattle.spcwave.proofs.run.attempt.Goals as goal
+
+pub returns-in-Usage-clause-attempts : goal.returns-in-Usage-clause-attempts
+returns-in-Usage-clause-attempts g c =
+    let state = g.H.Host.state c.args.host.now in
+    subst (λ (k : Command). Attempts (answer_of k) (names_input k) (Some Usage) state state) c.in-Usage.ensures (attempts_usage state)

@@ -1,0 +1,21 @@
+use Rattle.command_frame.proofs.Obeying.{obeys}
+use Rattle.spcwave.specs.Status.{cause_line}
+use Rattle.spcwave.proofs.Clauses as clauses
+use Rattle.spcwave.proofs.run.run.Goals as goal
+
+pub returns : goal.returns
+returns g c =
+    let attempt = c.attempt-refusal.ensures in
+    let o = obeys cause_line _ _ c.attempt-refusal.result _ _ _ attempt.attempts c.complain.ensures.complained c.complain.ensures.silent in
+    record {
+      content = clauses.content _ _ _ _ _ c.status_for.ensures o attempt.misread;
+      read_fault = clauses.read_fault _ _ _ _ _ c.status_for.ensures o attempt.misread;
+      write_fault = clauses.write_fault _ _ _ _ _ c.status_for.ensures o attempt.misread;
+      memory = clauses.memory _ _ _ _ _ c.status_for.ensures o attempt.misread;
+      status = clauses.is_truthful _ _ _ _ _ c.status_for.ensures o attempt.misread;
+      complete_calm = clauses.completes_calmly _ _ _ _ _ c.status_for.ensures o attempt.misread;
+      complete_inputs = clauses.completes_inputs _ _ _ _ _ c.status_for.ensures o attempt.misread;
+      complete_outputs = clauses.completes_outputs _ _ _ _ _ c.status_for.ensures o attempt.misread;
+      complete_complaint = clauses.completes_complaint _ _ _ _ _ c.status_for.ensures o attempt.misread;
+      untold = clauses.untold _ _ _ _ _ c.status_for.ensures o attempt.misread;
+    }

@@ -1,0 +1,74 @@
+-- What a run of the program does. The answer meant is that of the command, by what the names hold at the call.
+use Rattle.std.specs.Prelude.{◌≡◌, ◌≢◌, ◌↔◌, ◌+◌, ◌≤◌, ◌⊎◌, length, IsTrue, IsSome, slice_index}
+use Rattle.snd_host.specs.Host.{HostState, IfTold, Rose}
+use Rattle.command_frame.specs.Answer.{outputs_of, report_of}
+use Rattle.command_frame.specs.Conduct.{NoneRose}
+use Rattle.command_frame.specs.Delivery.{HaveRooms}
+use Rattle.command_frame.specs.Left.{LeavesNothing, LeavesAll, LeavesPart, Complains}
+use Rattle.spcwave.specs.declared.statuses.Status.{Status}
+use Rattle.spcwave.specs.declared.statuses.Status.TheVariants as statuses
+use Rattle.spcwave.specs.Command.{Command, usage, names_input, answer_of}
+use Rattle.spcwave.specs.Status.{answer_status, plain_end, refusal_line, status_line}
+
+-- What stands on the host where the status is the answer's, and the complaint of every status.
+pub record Content (command : Command) (old new : HostState) (status : Status) : Type 0 where
+  pub settled : IfTold old.holds (λ files. let a = answer_of command files in status ≡ answer_status a → LeavesAll a old new)
+  pub ok : status ≡ statuses.Ok → new.faults ≡ old.faults
+  pub complaint : IfTold old.holds (λ files. Complains (status_line status (answer_of command files)) old new)
+
+-- An input could not be read.
+pub record ReadFault (command : Command) (old new : HostState) (status : Status) : Type 0 where
+  pub cause : status ≡ statuses.ReadFault → Rose old.faults.inputs new.faults.inputs
+  pub input : status ≡ statuses.ReadFault → IsTrue (names_input command)
+  pub left : status ≡ statuses.ReadFault → LeavesNothing old new
+
+-- An output or the report could not be written.
+pub record WriteFault (command : Command) (old new : HostState) (status : Status) : Type 0 where
+  pub cause : status ≡ statuses.WriteFault → Rose old.faults.outputs new.faults.outputs
+  pub accepted : status ≡ statuses.WriteFault → IfTold old.holds (λ files. answer_status (answer_of command files) ≡ statuses.Ok)
+  pub left : status ≡ statuses.WriteFault → IfTold old.holds (λ files. LeavesPart (answer_of command files) old new)
+
+-- There was no memory.
+pub record Memory (command : Command) (old new : HostState) (status : Status) : Type 0 where
+  pub left : status ≡ statuses.OutOfMemory → LeavesNothing old new
+  pub never_usage : status ≡ statuses.OutOfMemory → command ≢ usage
+
+-- Every status but those three is the answer's.
+abbrev pub IsTruthful : Command → HostState → Status → Type 0
+IsTruthful command old status = IfTold old.holds (λ files.
+    (status ≡ answer_status (answer_of command files)) ⊎ (status ≡ statuses.ReadFault) ⊎ (status ≡ statuses.WriteFault) ⊎ (status ≡ statuses.OutOfMemory))
+
+-- Where no count of faults rose, the status is the answer's, or there was no memory.
+abbrev pub CompletesCalmly : Command → HostState → HostState → Status → Type 0
+CompletesCalmly command old new status = IfTold old.holds (λ files.
+    NoneRose old new → (status ≡ answer_status (answer_of command files)) ⊎ (status ≡ statuses.OutOfMemory))
+
+-- On a steady host no input fails that is there,
+pub record CompletesInputs (command : Command) (old new : HostState) (status : Status) : Type 0 where
+  pub status_is : IsSome old.steady → IfTold old.holds (λ files.
+      (status ≡ answer_status (answer_of command files)) ⊎ (status ≡ statuses.WriteFault) ⊎ (status ≡ statuses.OutOfMemory))
+  pub calm : IsSome old.steady → IfTold old.holds (λ files.
+      answer_status (answer_of command files) ≢ statuses.ReadFault → new.faults.inputs ≡ old.faults.inputs)
+
+-- and no output that there is room for,
+pub record CompletesOutputs (command : Command) (old new : HostState) (status : Status) : Type 0 where
+  pub status_is : IfTold old.steady (λ rooms. IfTold old.holds (λ files. let a = answer_of command files in
+      HaveRooms (outputs_of a) rooms (length old.ended + 2) → length (report_of a) ≤ slice_index rooms 0 →
+      (status ≡ answer_status a) ⊎ (status ≡ statuses.OutOfMemory)))
+  pub calm : IfTold old.steady (λ rooms. IfTold old.holds (λ files. let a = answer_of command files in
+      HaveRooms (outputs_of a) rooms (length old.ended + 2) → length (report_of a) ≤ slice_index rooms 0 →
+      new.faults.outputs ≡ old.faults.outputs))
+
+-- and no complaint that there is room for.
+abbrev pub CompletesComplaint : Command → HostState → HostState → Status → Type 0
+CompletesComplaint command old new status = IfTold old.steady (λ rooms. IfTold old.holds (λ files.
+    length (status_line status (answer_of command files)) ≤ slice_index rooms 1 → new.faults.notes ≡ old.faults.notes))
+
+-- What holds on every host, whether it tells anything or not.
+pub record Untold (command : Command) (old new : HostState) (status : Status) : Type 0 where
+  -- Usage comes exactly where the words are no command.
+  pub misread : (status ≡ statuses.Usage) ↔ (command ≡ usage)
+  -- A refusal other than WriteFault leaves nothing.
+  pub refused : status ≢ statuses.Ok → status ≢ statuses.WriteFault → LeavesNothing old new
+  -- A status without numbers has its line.
+  pub complaint : IfTold (plain_end status) (λ end. Complains (refusal_line end) old new)

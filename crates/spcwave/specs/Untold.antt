@@ -1,0 +1,15 @@
+-- A host that tells no contents.
+use Rattle.std.specs.Prelude.{ℕ, List, Bool, Option, None}
+use Rattle.snd_host.specs.Host.{HostState}
+
+-- Only which input is current, what was created and ended, and the counts are told.
+abbrev pub untold_state : (current : Option ℕ) → (ended : List Bool) → (inputs notes outputs : ℕ) → HostState
+untold_state current ended inputs notes outputs = record {
+  holds = None;
+  left = None;
+  given = None;
+  current = current;
+  ended = ended;
+  faults = record { inputs = inputs; notes = notes; outputs = outputs };
+  steady = None;
+}

@@ -1,0 +1,103 @@
+// The command `brr`: blocks of BRR to a sound file of one channel.
+ghost use Rattle.std.specs.Prelude.{◌≡◌, ◌≤◌, ◌<◌, ◌++◌, length, codes, decimal, IfOk, true};
+ghost use Rattle.wav_form.specs.Wave.{mono_wave};
+ghost use Rattle.snd_host.specs.Host.{HostState};
+ghost use Rattle.command_frame.specs.Conduct.{Plans, Prepares, Attempts};
+ghost use Rattle.command_frame.specs.Plan.{plan_makes};
+ghost use Rattle.spcwave.specs.Brr.{decoding_answer, brr_answer};
+
+use crate::statuses::Cause;
+use brr_decode::{BrrRefusal, decode_stream};
+use byteorder::{ByteOrder, LittleEndian};
+use command_frame::{OutOfMemory, Plan, PlannedOutput, Refusal, carry_out};
+use snd_host::{Host, ReadRefusal, read_whole};
+use std::alloc::Global;
+use wav_form::header;
+
+/// The greatest input that is read.
+const LIMIT: usize = 1048576;
+
+/// The bytes of a sound file of one channel.
+fn wave(alloc: Global, samples: &[i16]) -> Result<Vec<u8>, OutOfMemory>
+    requires { length samples.now ≤ 115200000 }
+    ensures { IfOk result (λ wave. wave.items ≡ mono_wave samples.now) }
+{
+    let mut wave = Vec::with_capacity(alloc, 44 + 2 * samples.len())?;
+    wave.extend_from_slice(&header(1, samples.len() as u32))?;
+    for sample in samples {
+        let mut bytes = [0u8; 2];
+        LittleEndian::write_i16(&mut bytes, *sample);
+        wave.extend_from_slice(&bytes)?;
+    }
+    Ok(wave)
+}
+
+/// The line that tells what was decoded.
+fn report(alloc: Global, blocks: usize, samples: usize) -> Result<Vec<u8>, OutOfMemory>
+    ensures { IfOk result (λ report. report.items ≡
+        codes "blocks " ++ decimal blocks ++ codes " samples " ++ decimal samples ++ codes "\n") }
+{
+    let mut number = itoa::Buffer::new();
+    let mut report = Vec::from_slice(alloc, b"blocks ")?;
+    report.extend_from_slice(number.format(blocks).as_bytes())?;
+    report.extend_from_slice(b" samples ")?;
+    report.extend_from_slice(number.format(samples).as_bytes())?;
+    report.extend_from_slice(b"\n")?;
+    Ok(report)
+}
+
+/// Makes the plan for an input that was read.
+fn plan<'a>(alloc: Global, bytes: &[u8], output: &'a str) -> Result<Plan<'a>, Refusal<Cause>>
+    ensures { Plans plan_makes (decoding_answer output.now bytes.now) result }
+{
+    let samples = match decode_stream(alloc, bytes) {
+        Ok(samples) => samples,
+        Err(BrrRefusal::Length(length)) => return Err(Refusal::Input(Cause::BrrLength(length))),
+        Err(BrrRefusal::OutOfMemory) => return Err(Refusal::OutOfMemory),
+    };
+    let Ok(wave) = wave(alloc, &samples) else {
+        return Err(Refusal::OutOfMemory);
+    };
+    let Ok(report) = report(alloc, bytes.len() / 9, samples.len()) else {
+        return Err(Refusal::OutOfMemory);
+    };
+    Ok(Plan {
+        output: Some(PlannedOutput {
+            name: output,
+            bytes: wave,
+        }),
+        report,
+    })
+}
+
+/// Reads the input and makes the plan for it.
+fn prepare<'a, H: Host>(
+    alloc: Global,
+    host: &mut H,
+    input: &str,
+    output: &'a str,
+) -> Result<Plan<'a>, Refusal<Cause>>
+    ensures { Prepares plan_makes (λ files. brr_answer output.now (files input.now)) (H.state host.old) (H.state host.new) result }
+{
+    match read_whole(alloc, host, input, LIMIT) {
+        Ok(bytes) => plan(alloc, &bytes, output),
+        Err(ReadRefusal::Failed) => Err(Refusal::ReadFault),
+        Err(ReadRefusal::TooLong) => Err(Refusal::Input(Cause::InputTooLong)),
+        Err(ReadRefusal::OutOfMemory) => Err(Refusal::OutOfMemory),
+    }
+}
+
+/// Decodes the input to the output.
+pub fn brr<H: Host>(
+    alloc: Global,
+    host: &mut H,
+    input: &str,
+    output: &str,
+) -> Option<Refusal<Cause>>
+    requires { length (H.state host.old).ended < 4294966999 }
+    ensures attempts { Attempts (λ files. brr_answer output.now (files input.now)) true result (H.state host.old) (H.state host.new) }
+    ensures not_usage { result ≡ Some Refusal.Usage → ⊥ }
+{
+    let prepared = prepare(alloc, host, input, output);
+    carry_out(host, prepared)
+}

@@ -1,0 +1,216 @@
+// The host of real files. It is the trusted edge: it tells no contents.
+ghost use Rattle.std.specs.Prelude.{◌≡◌, ◌<◌, ◌≤◌, length, IfOk, drop, None, [], OnOk, OnErr, true, slice_set, option_map};
+ghost use Rattle.spcwave.specs.Untold.{untold_state};
+ghost use Rattle.spcwave.specs.Created.{flags_of};
+
+use snd_host::{Failed, Host, InFile, OutFile};
+use std::alloc::Global;
+use std::fs;
+use std::io::{Read, Write};
+use std::rt::Files;
+
+/// An output that was created.
+#[derive(Drop)]
+struct Created<F> {
+    file: F,
+    ended: bool,
+}
+
+/// Real files, with one writer as report and one as complaint.
+#[derive(Drop)]
+pub struct DiskHost<'r, R: Files, O: Write + Drop, E: Write + Drop> {
+    files: &'r R,
+    report: O,
+    complaint: E,
+    input: Option<R::File>,
+    newest: u32,
+    created: Vec<Created<R::File>>,
+    in_faults: u64,
+    note_faults: u64,
+    out_faults: u64,
+}
+
+impl<'r, R: Files, O: Write + Drop, E: Write + Drop> DiskHost<'r, R, O, E> {
+    /// A host without inputs, outputs or faults.
+    pub fn new(alloc: Global, files: &'r R, report: O, complaint: E) -> Self
+        ensures { ⟦<DiskHost<'r, R, O, E> as Host>⟧.state result ≡ untold_state None [] 0 0 0 }
+    {
+        DiskHost {
+            files,
+            report,
+            complaint,
+            input: None,
+            newest: 0,
+            created: Vec::new(alloc),
+            in_faults: 0,
+            note_faults: 0,
+            out_faults: 0,
+        }
+    }
+}
+
+/// One write, of at least one byte where there is one.
+fn write_some<W: Write>(writer: &mut W, piece: &[u8]) -> Result<usize, Failed>
+    ensures within { IfOk result (λ count. count ≤ length piece.now) }
+    ensures progress { IfOk result (λ count. 0 < length piece.now → 0 < count) }
+{
+    match writer.write(piece) {
+        Ok(count) => {
+            if count == 0 && !piece.is_empty() {
+                Err(Failed)
+            } else {
+                Ok(count)
+            }
+        }
+        Err(_) => Err(Failed),
+    }
+}
+
+/// One read into the front of the buffer.
+fn read_some<F: Read>(file: &mut F, buf: &mut [u8]) -> Result<usize, Failed>
+    ensures within { IfOk result (λ count. count ≤ length buf.old) }
+    ensures behind { IfOk result (λ count. drop count buf.new ≡ drop count buf.old) }
+{
+    let mut chunk = [0u8; 4096];
+    let most = buf.len().min(4096);
+    let Ok(count) = file.read(&mut chunk[..most]) else {
+        return Err(Failed);
+    };
+    buf[..count].copy_from_slice(&chunk[..count]);
+    Ok(count)
+}
+
+/// One write to a created output.
+fn write_created<F: Write>(
+    created: &mut Vec<Created<F>>,
+    place: usize,
+    piece: &[u8],
+) -> Result<usize, Failed>
+    ensures within { IfOk result (λ count. count ≤ length piece.now) }
+    ensures progress { IfOk result (λ count. 0 < length piece.now → 0 < count) }
+    ensures flags { flags_of created.new.items ≡ flags_of created.old.items }
+{
+    match created.get_mut(place) {
+        Some(output) => write_some(&mut output.file, piece),
+        None => Err(Failed),
+    }
+}
+
+/// Ends a created output.
+fn end_created<F: Write>(created: &mut Vec<Created<F>>, place: usize) -> Result<(), Failed>
+    ensures ended { OnOk result (flags_of created.new.items ≡ slice_set (flags_of created.old.items) place true) }
+    ensures not_ended { OnErr result (flags_of created.new.items ≡ flags_of created.old.items) }
+{
+    let Some(output) = created.get_mut(place) else {
+        return Err(Failed);
+    };
+    if output.file.flush().is_err() {
+        return Err(Failed);
+    }
+    output.ended = true;
+    Ok(())
+}
+
+impl<'r, R: Files, O: Write + Drop, E: Write + Drop> Host for DiskHost<'r, R, O, E> {
+    ghost state = { λ host. untold_state (option_map (λ _. host.newest) host.input) (flags_of host.created.items) host.in_faults host.note_faults host.out_faults };
+
+    ghost tells_each = { λ host given told. absurd (Prim.cc) };
+
+    fn open_in(&mut self, name: &str) -> Result<InFile, Failed> {
+        self.input = None;
+        let Ok(file) = fs::open(self.files, name) else {
+            self.in_faults = self.in_faults.saturating_add(1);
+            return Err(Failed);
+        };
+        self.newest = self.newest.wrapping_add(1);
+        self.input = Some(file);
+        Ok(InFile(self.newest))
+    }
+
+    fn read(&mut self, _file: InFile, buf: &mut [u8]) -> Result<usize, Failed> {
+        if let Some(file) = &mut self.input {
+            if let Ok(count) = read_some(file, buf) {
+                return Ok(count);
+            }
+        }
+        self.in_faults = self.in_faults.saturating_add(1);
+        Err(Failed)
+    }
+
+    fn create(&mut self, name: &str) -> Result<OutFile, Failed> {
+        let number = self.created.len() as u32 + 2;
+        if let Ok(file) = fs::create(self.files, name) {
+            if self.created.push(Created { file, ended: false }).is_ok() {
+                return Ok(OutFile(number));
+            }
+        }
+        self.out_faults = self.out_faults.saturating_add(1);
+        Err(Failed)
+    }
+
+    fn write(&mut self, file: OutFile, piece: &[u8]) -> Result<usize, Failed> {
+        if file.0 == 1 {
+            if let Ok(count) = write_some(&mut self.complaint, piece) {
+                return Ok(count);
+            }
+            self.note_faults = self.note_faults.saturating_add(1);
+            return Err(Failed);
+        }
+        if file.0 == 0 {
+            if let Ok(count) = write_some(&mut self.report, piece) {
+                return Ok(count);
+            }
+        } else if let Ok(count) = write_created(&mut self.created, (file.0 - 2) as usize, piece) {
+            return Ok(count);
+        }
+        self.out_faults = self.out_faults.saturating_add(1);
+        Err(Failed)
+    }
+
+    fn finish(&mut self, file: OutFile) -> Result<(), Failed> {
+        if end_created(&mut self.created, (file.0 - 2) as usize).is_ok() {
+            return Ok(());
+        }
+        self.out_faults = self.out_faults.saturating_add(1);
+        Err(Failed)
+    }
+}
+
+#[cfg(test)]
+mod tests {
+    use super::DiskHost;
+    use crate::run::run;
+    use crate::statuses::Status;
+    use std::test::Fail;
+    use std::{env, fs};
+
+    #[test]
+    fn real_files_are_read_and_written(rt: HostRuntime) -> Result<(), Fail> {
+        let alloc = rt.alloc();
+        let id = std::process::id(rt.process());
+        let folder = env::temp_dir(&rt)?;
+        let input = format!(in alloc; "{}/spcwave-{id}.brr", folder.display())?;
+        let output = format!(in alloc; "{}/spcwave-{id}.wav", folder.display())?;
+        fs::write(
+            &rt,
+            input.as_str(),
+            [0xc1, 0x10, 0, 0, 0, 0, 0, 0, 0].as_slice(),
+        )?;
+        let words = vec![in alloc;
+            String::from_str(alloc, "brr")?,
+            input.clone()?,
+            output.clone()?,
+        ]?;
+        let mut host = DiskHost::new(alloc, &rt, Vec::new(alloc), Vec::new(alloc));
+        let status = run(alloc, words.as_slice(), &mut host);
+        let written = fs::read(&rt, output.as_str())?;
+        fs::remove_file(&rt, input.as_str())?;
+        fs::remove_file(&rt, output.as_str())?;
+        assert_eq!(rt; status, Status::Ok);
+        assert_eq!(rt; host.report.as_slice(), b"blocks 1 samples 16\n".as_slice());
+        assert_eq!(rt; host.complaint.len(), 0);
+        assert_eq!(rt; written.len(), 76);
+        assert_eq!(rt; &written[44..48], [0x00, 0x10, 0, 0].as_slice());
+        Ok(())
+    }
+}

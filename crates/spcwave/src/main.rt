@@ -1,0 +1,47 @@
+//! Renders music of the SPC700 and its S-DSP to sound files: the program, over any host and over real files.
+#![tactic(auto)]
+
+mod brr;
+mod disk;
+mod run;
+mod statuses;
+#[cfg(test)]
+mod tests;
+mod words;
+
+use crate::disk::DiskHost;
+use crate::run::run;
+use crate::statuses::{Cause, Status, status_for};
+use command_frame::{Refusal, complain};
+use snd_host::Host;
+use std::alloc::Global;
+use std::process::ExitCode;
+use std::{env, io};
+
+/// The words behind the program's name.
+fn words_of(alloc: Global, rt: &(impl std::rt::Env + AllocGlobal)) -> io::Result<Vec<String>> {
+    let mut words = Vec::new(alloc);
+    for word in env::args(rt)?.skip(1) {
+        words.push(word)?;
+    }
+    Ok(words)
+}
+
+/// Tells why there are no words: one of them is no text, or there was no memory for them.
+fn refuse_words<H: Host>(host: &mut H, error: io::Error) -> Status {
+    let refusal = match error.kind() {
+        io::ErrorKind::OutOfMemory => Refusal::OutOfMemory,
+        _ => Refusal::Usage,
+    };
+    complain::<H, Cause>(host, Some(refusal));
+    status_for(Some(refusal))
+}
+
+fn main(rt: HostRuntime) -> ExitCode {
+    let mut host = DiskHost::new(rt.alloc(), &rt, rt.stdout(), rt.stderr());
+    let status = match words_of(rt.alloc(), &rt) {
+        Ok(words) => run(rt.alloc(), words.as_slice(), &mut host),
+        Err(error) => refuse_words(&mut host, error),
+    };
+    ExitCode::from(status.code())
+}

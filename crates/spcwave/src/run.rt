@@ -1,0 +1,56 @@
+// The whole program over any host.
+ghost use Rattle.std.specs.Prelude.{◌≡◌, ◌<◌, ◌↔◌, length, map, string_bytes};
+ghost use Rattle.snd_host.specs.Host.{HostState};
+ghost use Rattle.command_frame.specs.Conduct.{Attempts};
+ghost use Rattle.spcwave.specs.Command.{command_of, usage, names_input, answer_of};
+ghost use Rattle.spcwave.specs.Run.{Content, ReadFault, WriteFault, Memory, IsTruthful, CompletesCalmly, CompletesInputs, CompletesOutputs, CompletesComplaint, Untold};
+
+use crate::brr::brr;
+use crate::statuses::{Cause, Status, status_for};
+use crate::words::{Command, read_words};
+use command_frame::{Refusal, complain};
+use snd_host::Host;
+use std::alloc::Global;
+
+/// Does what the words say, but for the complaint.
+fn attempt<H: Host>(alloc: Global, words: &[String], host: &mut H) -> Option<Refusal<Cause>>
+    requires { length (H.state host.old).ended < 4294966999 }
+    ensures attempts { let command = command_of (map string_bytes words.now) in
+        Attempts (answer_of command) (names_input command) result (H.state host.old) (H.state host.new) }
+    ensures misread { (result ≡ Some Refusal.Usage) ↔ (command_of (map string_bytes words.now) ≡ usage) }
+{
+    match read_words(words) {
+        Command::Usage => Some(Refusal::Usage),
+        Command::Brr { input, output } => brr(alloc, host, input, output),
+    }
+}
+
+/// Does what the words say, and answers how it ended. `words` are those behind the program's name.
+///
+/// All inputs are read and all memory is taken before the first output is created. A refusal writes one line of
+/// complaint; only where an output could not be written do parts of outputs stay behind.
+pub fn run<H: Host>(alloc: Global, words: &[String], host: &mut H) -> Status
+    requires { length (H.state host.old).ended < 4000000000 }
+
+    // What stands where the status is the answer's, and the line of complaint.
+    ensures content { Content (command_of (map string_bytes words.now)) (H.state host.old) (H.state host.new) result }
+
+    // The three ends that are not the answer's, and what each leaves.
+    ensures read_fault { ReadFault (command_of (map string_bytes words.now)) (H.state host.old) (H.state host.new) result }
+    ensures write_fault { WriteFault (command_of (map string_bytes words.now)) (H.state host.old) (H.state host.new) result }
+    ensures memory { Memory (command_of (map string_bytes words.now)) (H.state host.old) (H.state host.new) result }
+    ensures status { IsTruthful (command_of (map string_bytes words.now)) (H.state host.old) result }
+
+    // Where they do not come: no call failed, or the host is steady and has room.
+    ensures complete_calm { CompletesCalmly (command_of (map string_bytes words.now)) (H.state host.old) (H.state host.new) result }
+    ensures complete_inputs { CompletesInputs (command_of (map string_bytes words.now)) (H.state host.old) (H.state host.new) result }
+    ensures complete_outputs { CompletesOutputs (command_of (map string_bytes words.now)) (H.state host.old) (H.state host.new) result }
+    ensures complete_complaint { CompletesComplaint (command_of (map string_bytes words.now)) (H.state host.old) (H.state host.new) result }
+
+    // What holds on every host.
+    ensures untold { Untold (command_of (map string_bytes words.now)) (H.state host.old) (H.state host.new) result }
+{
+    let refusal = attempt(alloc, words, host);
+    complain(host, refusal);
+    status_for(refusal)
+}

@@ -1,0 +1,175 @@
+// Runs of the program over a host in memory.
+ghost use Rattle.std.specs.Prelude.{◌≡◌, [], IfOk};
+
+use crate::run::run;
+use crate::statuses::Status;
+use snd_host::{MemHost, OutFile};
+use std::alloc::Global;
+use std::test::Fail;
+
+const REPORT: OutFile = OutFile(0);
+
+const COMPLAINT: OutFile = OutFile(1);
+
+const WAV: OutFile = OutFile(2);
+
+/// One block: its first digit is 1 at shift 12, the others are 0.
+const BLOCK: [u8; 9] = [0xc1, 0x10, 0, 0, 0, 0, 0, 0, 0];
+
+/// The 16 samples of that block: 4096, and then zeros.
+const BLOCK_WAV: [u8; 76] =
+    *b"RIFF\x44\0\0\0WAVEfmt \x10\0\0\0\x01\0\x01\0\0\x7d\0\0\0\xfa\0\0\x02\0\x10\0data\x20\0\0\0\
+    \0\x10\0\0\0\0\0\0\0\0\0\0\0\0\0\0\0\0\0\0\0\0\0\0\0\0\0\0\0\0\0\0";
+
+#[derive(Drop)]
+struct Ran {
+    status: Status,
+    host: MemHost,
+}
+
+/// Runs these words over a host that has the input `IN`.
+fn run_words(alloc: Global, words: &[&str], input: &[u8], failing: &[u32]) -> Result<Ran, Fail> {
+    let mut given = Vec::new(alloc);
+    for word in words {
+        given.push(String::from_str(alloc, word)?)?;
+    }
+    let files = vec![in alloc;
+        (
+            String::from_str(alloc, "IN")?,
+            Vec::from_slice(alloc, input)?
+        ),
+    ]?;
+    let rooms = vec![in alloc; 100, 100, 300000]?;
+    let mut host = MemHost::new(alloc, files, failing.to_vec(alloc)?, rooms)?;
+    let status = run(alloc, given.as_slice(), &mut host);
+    Ok(Ran { status, host })
+}
+
+#[test]
+fn one_block_is_decoded(rt: HostRuntime) -> Result<(), Fail> {
+    let Ran { status, host } = run_words(rt.alloc(), &["brr", "IN", "OUT"], &BLOCK, &[])?;
+    assert_eq!(rt; status, Status::Ok);
+    assert_eq!(rt; host.output(REPORT), b"blocks 1 samples 16\n".as_slice());
+    assert_eq!(rt; host.output(COMPLAINT).len(), 0);
+    assert_eq!(rt; host.output(WAV), BLOCK_WAV.as_slice());
+    Ok(())
+}
+
+#[test]
+fn each_length_has_its_status(rt: HostRuntime) -> Result<(), Fail> {
+    let rows = [
+        (
+            0,
+            Status::BrrLength,
+            0,
+            "spcwave: length 0 is not that of BRR blocks\n",
+        ),
+        (
+            8,
+            Status::BrrLength,
+            0,
+            "spcwave: length 8 is not that of BRR blocks\n",
+        ),
+        (
+            10,
+            Status::BrrLength,
+            0,
+            "spcwave: length 10 is not that of BRR blocks\n",
+        ),
+        (65529, Status::Ok, 233036, ""),
+        (
+            65538,
+            Status::BrrLength,
+            0,
+            "spcwave: length 65538 is not that of BRR blocks\n",
+        ),
+        (
+            1048577,
+            Status::InputTooLong,
+            0,
+            "spcwave: input is too long\n",
+        ),
+    ];
+    for (length, wanted, written, line) in rows {
+        let input = vec![in rt.alloc(); 0u8; length]?;
+        let Ran { status, host } = run_words(
+            rt.alloc(),
+            &["brr", "IN", "OUT"],
+            input.as_slice(),
+            &[],
+        )?;
+        assert_eq!(rt; status, wanted, "at {length}");
+        assert_eq!(rt; host.output(WAV).len(), written, "at {length}");
+        assert_eq!(rt; host.output(COMPLAINT), line.as_bytes(), "at {length}");
+        assert_eq!(rt;
+            host.output(REPORT).is_empty(),
+            wanted != Status::Ok,
+            "at {length}"
+        );
+    }
+    Ok(())
+}
+
+#[test]
+fn each_call_of_the_host_may_fail(rt: HostRuntime) -> Result<(), Fail> {
+    let words = ["brr", "IN", "OUT"];
+    let calls = run_words(rt.alloc(), &words, &BLOCK, &[])?.host.calls();
+    assert_eq!(rt; calls, 7);
+    // The input is opened and read twice; then the output is created, written and ended, and the report is written.
+    for call in 0..=calls {
+        let Ran { status, host } = run_words(rt.alloc(), &words, &BLOCK, &[call])?;
+        let (wanted, line) = match call {
+            0..3 => (Status::ReadFault, "spcwave: input could not be read\n"),
+            3..7 => (Status::WriteFault, "spcwave: output could not be written\n"),
+            _ => (Status::Ok, ""),
+        };
+        assert_eq!(rt; status, wanted, "at {call}");
+        assert_eq!(rt; host.output(COMPLAINT), line.as_bytes(), "at {call}");
+        let written = if call < 5 { 0 } else { 76 };
+        assert_eq!(rt; host.output(WAV), &BLOCK_WAV[..written], "at {call}");
+        assert_eq!(rt; host.output(REPORT).is_empty(), call < calls, "at {call}");
+    }
+    Ok(())
+}
+
+#[test]
+fn other_words_are_not_understood(rt: HostRuntime) -> Result<(), Fail> {
+    let rows: [&[&str]; 8] = [
+        &[],
+        &["brr", "IN"],
+        &["brr", "IN", "OUT", "OUT"],
+        &["brr", "A", "-B"],
+        &["brr", "", "OUT"],
+        &["BRR", "IN", "OUT"],
+        &["render", "A", "B"],
+        &["--help"],
+    ];
+    for words in rows {
+        let Ran { status, host } = run_words(rt.alloc(), words, &BLOCK, &[])?;
+        assert_eq!(rt; status, Status::Usage, "{words:?}");
+        assert_eq!(rt;
+            host.output(COMPLAINT),
+            b"spcwave: words not understood\n".as_slice()
+        );
+        assert_eq!(rt; host.output(REPORT).len(), 0);
+        assert_eq!(rt; host.calls(), 1, "nothing is read");
+    }
+    Ok(())
+}
+
+#[test]
+fn statuses_have_their_numbers(rt: HostRuntime) -> Result<(), Fail> {
+    let rows = [
+        (Status::Ok, 0),
+        (Status::Usage, 1),
+        (Status::ReadFault, 2),
+        (Status::WriteFault, 3),
+        (Status::OutOfMemory, 7),
+        (Status::BrrLength, 8),
+        (Status::InputTooLong, 11),
+    ];
+    for (status, number) in rows {
+        assert_eq!(rt; status.code(), number, "{status:?}");
+    }
+    Ok(())
+}

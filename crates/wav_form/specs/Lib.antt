@@ -1,0 +1,2 @@
+-- the bytes of a file that is written
+pub mod Wave

@@ -1,0 +1,25 @@
+// What a file that is written begins with.
+ghost use Rattle.std.specs.Prelude.{◌≡◌, ◌≤◌};
+ghost use Rattle.wav_form.specs.Wave.{header_of};
+
+use byteorder::{ByteOrder, LittleEndian};
+
+/// The 44 bytes before the frames of a file: PCM of 16 bits at 32,000 frames a second (RIFF/WAVE).
+#[tactic(auto, unfolding(crate::specs::Wave::header_of))]
+pub fn header(channels: u16, frames: u32) -> [u8; 44]
+    requires some { 1 ≤ channels }
+    requires mono_or_stereo { channels ≤ 2 }
+    requires limit { frames ≤ 115200000 }
+    ensures { result ≡ header_of channels frames }
+{
+    let frame_size = 2 * u32::from(channels);
+    let size = frames * frame_size;
+    let mut bytes =
+        *b"RIFF\0\0\0\0WAVEfmt \x10\0\0\0\x01\0\0\0\x00\x7d\0\0\0\0\0\0\0\0\x10\0data\0\0\0\0";
+    LittleEndian::write_u32(&mut bytes[4..], 36 + size);
+    LittleEndian::write_u16(&mut bytes[22..], channels);
+    LittleEndian::write_u32(&mut bytes[28..], 32000 * frame_size);
+    LittleEndian::write_u16(&mut bytes[32..], 2 * channels);
+    LittleEndian::write_u32(&mut bytes[40..], size);
+    bytes
+}
