@@ -1,0 +1,9 @@
+use Rattle.std.proofs.Common.{sym}
+use Rattle.spc_form.proofs.Texts.{before_first-at, before_first-none}
+use Rattle.spc_form.proofs.tags.before_zero.Goals as goal
+
+pub returns-in-Some-clause-text : goal.returns-in-Some-clause-text
+returns-in-Some-clause-text c = before_first-at _ c.args.field.now c.in-Some.end (sym c.in-Some.ensures.place)
+
+pub returns-in-None-clause-text : goal.returns-in-None-clause-text
+returns-in-None-clause-text c = before_first-none _ c.args.field.now (sym c.in-None.ensures.place)

@@ -1,0 +1,67 @@
+-- The ID666 tags in their text form (fields: SPC file format text v0.30; the rule of the length is own).
+use Rattle.std.specs.Prelude.{ℕ, ◌+◌, ◌-◌, ◌*◌, ◌==◌, List, take, drop, fold, slice_index, Bool, ◌&&◌, nat_lt, if◌then◌else◌, Option, Some, None, unwrap_or}
+use Rattle.std.specs.List.{before_first, list_all, prefix_len}
+use Rattle.std.specs.Char.{is_ascii_digit}
+use Rattle.spc_form.specs.Layout.{part_of}
+use Rattle.spc_form.specs.declared.tags.Tag.{Tag}
+use Rattle.spc_form.specs.declared.tags.Tag.TheVariants.{Title, Game, Dumper, Comments, Date, Seconds, Fade, Artist}
+use Rattle.spc_form.specs.declared.tags.Length.{Length}
+
+-- where the field of a tag begins
+abbrev pub field_start : Tag → ℕ
+field_start Title = 0x2E
+field_start Game = 0x4E
+field_start Dumper = 0x6E
+field_start Comments = 0x7E
+field_start Date = 0x9E
+field_start Seconds = 0xA9
+field_start Fade = 0xAC
+field_start Artist = 0xB1
+
+-- how many bytes it has
+abbrev pub field_size : Tag → ℕ
+field_size Title = 32
+field_size Game = 32
+field_size Dumper = 16
+field_size Comments = 32
+field_size Date = 11
+field_size Seconds = 3
+field_size Fade = 5
+field_size Artist = 32
+
+-- the text of a tag: its field before the first zero byte
+unfoldable pub text_of : (file : List ℕ) → Tag → List ℕ
+text_of file tag = before_first (λ byte. byte == 0) (part_of file (field_start tag) (field_size tag))
+
+-- the number that digits write
+abbrev pub decimal_value : (digits : List ℕ) → ℕ
+decimal_value digits = fold (λ value digit. 10 * value + (digit - 0x30)) 0 digits
+
+-- the number in a text: one digit or more, with nothing but spaces behind them
+unfoldable pub number_in : (text : List ℕ) → Option ℕ
+number_in text =
+    let count = prefix_len is_ascii_digit text in
+    if nat_lt 0 count && list_all (λ byte. byte == 0x20) (drop count text) then Some (decimal_value (take count text)) else None
+
+-- the byte 23h says that there are tags
+abbrev pub has_tags : (file : List ℕ) → Bool
+has_tags file = slice_index file 0x23 == 0x1A
+
+-- the length of some seconds and a fade of some milliseconds, in frames, of which there are 32,000 a second
+abbrev pub length_of_times : (seconds milliseconds : ℕ) → Length
+length_of_times seconds milliseconds = record { frames = 32000 * seconds + 32 * milliseconds; fade = 32 * milliseconds }
+
+-- three minutes, where the tags give no length
+abbrev pub default_length : Length
+default_length = record { frames = 5760000; fade = 0 }
+
+-- the length by the numbers of both fields
+abbrev pub length_of_numbers : (seconds fade : Option ℕ) → Length
+length_of_numbers None fade = default_length
+length_of_numbers (Some seconds) fade = if seconds == 0 then default_length else length_of_times seconds (unwrap_or fade 0)
+
+-- the length that a file asks for
+unfoldable pub length_of : (file : List ℕ) → Length
+length_of file =
+    if has_tags file then length_of_numbers (number_in (text_of file Seconds)) (number_in (text_of file Fade))
+    else default_length

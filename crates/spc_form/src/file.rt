@@ -1,0 +1,117 @@
+// A file and its fields.
+ghost use Rattle.std.specs.Prelude.{◌≡◌, length, slice_index};
+ghost use Rattle.spc_form.specs.Layout.{pc_of, memory_of, dsp_of, extra_of};
+ghost use Rattle.spc_form.specs.Tags.{text_of};
+ghost use Rattle.spc_form.specs.Accepted.{HasSignature};
+
+use crate::parts::part;
+use byteorder::{ByteOrder, LittleEndian};
+use std::marker::Model;
+
+/// An SPC file: 66,048 bytes that begin with the signature.
+#[derive(Drop)]
+pub struct SpcFile {
+    pub(crate) bytes: Vec<u8>,
+}
+
+impl Model for SpcFile {
+    ghost use Rattle.std.specs.Prelude.{◌≡◌, List, ℕ, vec_len};
+    ghost use Rattle.spc_form.specs.Accepted.{HasSignature};
+
+    ghost Value = { List ℕ };
+
+    ghost view = { λ f. f.bytes.items };
+
+    ghost invariant = { λ f. (vec_len f.bytes ≡ 66048) × HasSignature f.bytes.items };
+}
+
+impl SpcFile {
+    /// The bytes of the file.
+    pub(crate) fn as_slice(&self) -> &[u8]
+        ensures bytes { result.now ≡ self.now }
+        ensures len { length result.now ≡ 66048 }
+        ensures signed { HasSignature self.now }
+    {
+        self.bytes.as_slice()
+    }
+
+    /// The program counter.
+    pub fn pc(&self) -> u16
+        ensures { result ≡ pc_of self.now }
+    {
+        LittleEndian::read_u16(&self.as_slice()[0x25..])
+    }
+
+    /// The register A.
+    pub fn a(&self) -> u8
+        ensures { result ≡ slice_index self.now 0x27 }
+    {
+        self.as_slice()[0x27]
+    }
+
+    /// The register X.
+    pub fn x(&self) -> u8
+        ensures { result ≡ slice_index self.now 0x28 }
+    {
+        self.as_slice()[0x28]
+    }
+
+    /// The register Y.
+    pub fn y(&self) -> u8
+        ensures { result ≡ slice_index self.now 0x29 }
+    {
+        self.as_slice()[0x29]
+    }
+
+    /// The status byte PSW.
+    pub fn psw(&self) -> u8
+        ensures { result ≡ slice_index self.now 0x2A }
+    {
+        self.as_slice()[0x2A]
+    }
+
+    /// The low byte of the stack pointer.
+    pub fn sp(&self) -> u8
+        ensures { result ≡ slice_index self.now 0x2B }
+    {
+        self.as_slice()[0x2B]
+    }
+
+    /// The minor number of the format's version.
+    pub fn minor(&self) -> u8
+        ensures { result ≡ slice_index self.now 0x24 }
+    {
+        self.as_slice()[0x24]
+    }
+
+    /// 1Ah where the file has tags, 1Bh where it has none.
+    pub fn tag_mark(&self) -> u8
+        ensures { result ≡ slice_index self.now 0x23 }
+    {
+        self.as_slice()[0x23]
+    }
+
+    /// The memory, 65,536 bytes.
+    pub fn memory(&self) -> &[u8]
+        ensures memory { result.now ≡ memory_of self.now }
+        ensures len { length result.now ≡ 0x10000 }
+    {
+        part(self.as_slice(), 0x100, 0x10000)
+    }
+
+    /// The registers of the S-DSP, 128 bytes.
+    pub fn dsp(&self) -> &[u8]
+        ensures dsp { result.now ≡ dsp_of self.now }
+        ensures len { length result.now ≡ 128 }
+    {
+        part(self.as_slice(), 0x10100, 128)
+    }
+
+    /// The extra bytes, 64: the memory beneath the boot ROM.
+    pub fn extra(&self) -> &[u8]
+        ensures extra { result.now ≡ extra_of self.now }
+        ensures len { length result.now ≡ 64 }
+    {
+        part(self.as_slice(), 0x101C0, 64)
+    }
+}

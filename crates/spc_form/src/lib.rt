@@ -1,0 +1,19 @@
+//! SPC files, both ways: which bytes are accepted, their fields and tags, and the state that a file opens
+//! (SPC file format text v0.30).
+#![tactic(auto)]
+
+mod file;
+mod laws;
+mod parts;
+mod reading;
+mod state;
+mod tags;
+#[cfg(test)]
+mod tests;
+
+pub use file::SpcFile;
+pub use laws::a_written_file_is_read_as_itself;
+pub use reading::{SpcRefusal, read_spc, write_spc};
+pub use state::{OpenState, opening};
+pub use std::alloc::AllocError as OutOfMemory;
+pub use tags::{Length, Tag};

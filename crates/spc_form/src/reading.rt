@@ -1,0 +1,86 @@
+// Reading and writing.
+ghost use Rattle.std.specs.Prelude.{◌≡◌, ◌+◌, ◌≤◌, ◌++◌, ℕ, List, length, replicate, take, vec_len, IfOk, OnOk, MatchOption};
+ghost use Rattle.spc_form.specs.Accepted.{HasSignature, IsSpcLength, IsFirstDifference, IsAccepted, padded_to, padded};
+ghost use Rattle.spc_form.specs.declared.reading.SpcRefusal.TheVariants.{OutOfMemory as MemoryRefusal};
+
+use crate::{OutOfMemory, SpcFile};
+use std::alloc::Global;
+use thiserror::Error;
+
+/// What a file begins with.
+const SIGNATURE: [u8; 27] = *b"SNES-SPC700 Sound File Data";
+
+/// Why bytes were not read as an SPC file.
+#[derive(Debug, Drop, Error)]
+pub enum SpcRefusal {
+    /// The length is below 65,920 or above 1,048,576.
+    #[error("{0} bytes are no SPC file")]
+    Length(usize),
+    /// The first place at which the bytes differ from the signature.
+    #[error("the signature differs at {0}")]
+    Signature(usize),
+    #[error("out of memory")]
+    OutOfMemory,
+}
+
+impl From<OutOfMemory> for SpcRefusal {
+    ghost from_gives = { λ _ e. e ≡ MemoryRefusal };
+
+    fn from(_e: OutOfMemory) -> SpcRefusal {
+        SpcRefusal::OutOfMemory
+    }
+}
+
+/// The first place at which bytes differ from the signature.
+fn first_difference(bytes: &[u8]) -> Option<usize>
+    requires { 27 ≤ length bytes.now }
+    ensures { MatchOption result (HasSignature bytes.now) (IsFirstDifference bytes.now) }
+{
+    for i in 0..27 {
+        if bytes[i] != SIGNATURE[i] {
+            return Some(i);
+        }
+    }
+    None
+}
+
+/// A copy of the first `size` bytes, with zeros for those that are missing.
+fn padded_to(alloc: Global, bytes: &[u8], size: usize) -> Result<Vec<u8>, OutOfMemory>
+    ensures bytes { IfOk result (λ copy. copy.items ≡ padded_to size bytes.now) }
+    ensures len { IfOk result (λ copy. vec_len copy ≡ size) }
+{
+    let mut copy = Vec::with_capacity(alloc, size)?;
+    copy.extend_from_slice(&bytes[..bytes.len().min(size)])?;
+    copy.resize(size, 0)?;
+    Ok(copy)
+}
+
+/// Reads a file. Nothing but its length and its signature is looked at: the version may be any.
+/// Bytes missing before 66,048 count as 0, and bytes from there on are dropped.
+#[tactic(auto, unfolding(crate::specs::Accepted::padded))]
+pub fn read_spc(alloc: Global, bytes: &[u8]) -> Result<SpcFile, SpcRefusal>
+    ensures file { IfOk result (λ file. file ≡ padded bytes.now) }
+    ensures accepted { OnOk result (IsAccepted bytes.now) }
+    ensures length { ¬ IsSpcLength (length bytes.now) → result ≡ Err (SpcRefusal.Length (length bytes.now)) }
+    ensures length_only { (n : ℕ) → result ≡ Err (SpcRefusal.Length n) → (n ≡ length bytes.now) × (¬ IsSpcLength n) }
+    ensures signature { (at : ℕ) → IsSpcLength (length bytes.now) → IsFirstDifference bytes.now at → result ≡ Err (SpcRefusal.Signature at) }
+    ensures signature_only { (at : ℕ) → result ≡ Err (SpcRefusal.Signature at) → IsSpcLength (length bytes.now) × IsFirstDifference bytes.now at }
+{
+    if bytes.len() < 65920 || bytes.len() > 1048576 {
+        return Err(SpcRefusal::Length(bytes.len()));
+    }
+    if let Some(at) = first_difference(bytes) {
+        return Err(SpcRefusal::Signature(at));
+    }
+    let bytes = padded_to(alloc, bytes, 66048)?;
+    Ok(SpcFile { bytes })
+}
+
+/// The bytes of a file, as they are written: 66,048.
+pub fn write_spc(alloc: Global, file: &SpcFile) -> Result<Vec<u8>, OutOfMemory>
+    ensures bytes { IfOk result (λ bytes. bytes.items ≡ file.now) }
+    ensures len { IfOk result (λ bytes. vec_len bytes ≡ 66048) }
+    ensures accepted { IfOk result (λ bytes. IsAccepted bytes.items) }
+{
+    Vec::from_slice(alloc, file.as_slice())
+}

@@ -1,0 +1,177 @@
+// Tags, and the length that they give.
+ghost use Rattle.std.specs.Prelude.{◌≡◌, ◌+◌, ◌*◌, ◌-◌, ◌^◌, ◌<◌, ◌≤◌, ◌==◌, All, position, length, slice_range, IfSome};
+ghost use Rattle.std.specs.List.{before_first, list_all, prefix_len};
+ghost use Rattle.std.specs.Option.{ForSome};
+ghost use Rattle.std.specs.Char.{IsAsciiDigit, is_ascii_digit};
+ghost use Rattle.spc_form.specs.Tags.{field_start, field_size, text_of, decimal_value, number_in, length_of, length_of_numbers};
+
+use crate::SpcFile;
+use crate::parts::part;
+
+/// The tags of a file.
+#[derive(Clone, Copy, Debug, PartialEq, Eq)]
+pub enum Tag {
+    Title,
+    Game,
+    Dumper,
+    Comments,
+    Date,
+    /// The length in seconds, before the fade.
+    Seconds,
+    /// The length of the fade in milliseconds.
+    Fade,
+    Artist,
+}
+
+/// A length in frames, of which the last `fade` fade out.
+#[derive(Clone, Copy, Debug, PartialEq, Eq)]
+pub struct Length {
+    pub frames: u32,
+    pub fade: u32,
+}
+
+/// Where the field of a tag begins.
+fn field_start(tag: Tag) -> usize
+    ensures start { result ≡ field_start tag }
+    ensures bound { result ≤ 0xB1 }
+{
+    match tag {
+        Tag::Title => 0x2E,
+        Tag::Game => 0x4E,
+        Tag::Dumper => 0x6E,
+        Tag::Comments => 0x7E,
+        Tag::Date => 0x9E,
+        Tag::Seconds => 0xA9,
+        Tag::Fade => 0xAC,
+        Tag::Artist => 0xB1,
+    }
+}
+
+/// How many bytes it has.
+fn field_size(tag: Tag) -> usize
+    ensures size { result ≡ field_size tag }
+    ensures bound { result ≤ 32 }
+{
+    match tag {
+        Tag::Title | Tag::Game | Tag::Comments | Tag::Artist => 32,
+        Tag::Dumper => 16,
+        Tag::Date => 11,
+        Tag::Seconds => 3,
+        Tag::Fade => 5,
+    }
+}
+
+/// The place of the first zero byte.
+fn zero_place(field: &[u8]) -> Option<usize>
+    ensures place { result ≡ position (λ byte. byte == 0) field.now }
+    ensures inside { IfSome result (λ place. place < length field.now) }
+{
+    field.iter().position(|byte| *byte == 0)
+}
+
+/// What stands before the first zero byte.
+fn before_zero(field: &[u8]) -> &[u8]
+    ensures text { result.now ≡ before_first (λ byte. byte == 0) field.now }
+    ensures len { length result.now ≤ length field.now }
+{
+    match zero_place(field) {
+        Some(end) => &field[..end],
+        None => field,
+    }
+}
+
+/// How many digits a text begins with.
+fn digit_count(text: &[u8]) -> usize
+    ensures count { result ≡ prefix_len is_ascii_digit text.now }
+    ensures inside { result ≤ length text.now }
+{
+    text.iter().take_while(|byte| byte.is_ascii_digit()).count()
+}
+
+/// Whether there is nothing but spaces.
+fn is_blank(text: &[u8]) -> bool
+    ensures { result ≡ list_all (λ byte. byte == 0x20) text.now }
+{
+    text.iter().all(|byte| *byte == b' ')
+}
+
+/// The number that digits write.
+fn decimal_value(digits: &[u8]) -> u32
+    requires few { length digits.now ≤ 5 }
+    requires digits { All IsAsciiDigit digits.now }
+    ensures value { result ≡ decimal_value digits.now }
+    ensures bound { result < 10 ^ length digits.now }
+{
+    let mut value = 0u32;
+    for digit in digits {
+        value = 10 * value + u32::from(*digit - b'0');
+    }
+    value
+}
+
+/// The number in a text: one digit or more, with nothing but spaces behind them.
+#[tactic(auto, unfolding(crate::specs::Tags::number_in))]
+fn number_in(text: &[u8]) -> Option<u32>
+    requires { length text.now ≤ 5 }
+    ensures value { result ≡ number_in text.now }
+    ensures five { IfSome result (λ number. number < 100000) }
+    ensures three { length text.now ≤ 3 → IfSome result (λ number. number < 1000) }
+{
+    let count = digit_count(text);
+    if count > 0 && is_blank(&text[count..]) {
+        Some(decimal_value(&text[..count]))
+    } else {
+        None
+    }
+}
+
+/// The length by the numbers of both fields.
+fn length_of_numbers(seconds: Option<u32>, fade: Option<u32>) -> Length
+    requires seconds { ForSome seconds (λ number. number < 1000) }
+    requires fade { ForSome fade (λ number. number < 100000) }
+    ensures length { result ≡ length_of_numbers seconds fade }
+    ensures most { result.frames ≤ 35167968 }
+    ensures fade_within { result.fade ≤ result.frames }
+{
+    match seconds {
+        Some(seconds) if seconds != 0 => {
+            let fade = 32 * fade.unwrap_or(0);
+            Length {
+                frames: 32000 * seconds + fade,
+                fade,
+            }
+        }
+        _ => Length {
+            frames: 5_760_000,
+            fade: 0,
+        },
+    }
+}
+
+impl SpcFile {
+    /// The length and the fade by the tags, in frames, of which there are 32,000 a second;
+    /// three minutes without a fade where the tags give no length.
+    #[tactic(auto, unfolding(crate::specs::Tags::length_of))]
+    pub fn length(&self) -> Length
+        ensures length { result ≡ length_of self.now }
+        ensures most { result.frames ≤ 35167968 }
+        ensures fade_within { result.fade ≤ result.frames }
+    {
+        let tagged = self.tag_mark() == 0x1A;
+        let seconds = if tagged {
+            number_in(self.text(Tag::Seconds))
+        } else {
+            None
+        };
+        length_of_numbers(seconds, number_in(self.text(Tag::Fade)))
+    }
+
+    /// The bytes of a tag's field before its first zero byte, whatever they are, and whether the file has tags or not.
+    #[tactic(auto, unfolding(crate::specs::Tags::text_of))]
+    pub fn text(&self, tag: Tag) -> &[u8]
+        ensures text { result.now ≡ text_of self.now tag }
+        ensures len { length result.now ≤ field_size tag }
+    {
+        before_zero(part(self.as_slice(), field_start(tag), field_size(tag)))
+    }
+}

@@ -1,0 +1,157 @@
+use crate::{Length, SpcFile, SpcRefusal, Tag, opening, read_spc, write_spc};
+use std::alloc::Global;
+use std::test::Fail;
+
+const START: [u8; 50] =
+    *b"SNES-SPC700 Sound File Data v0.30\x1a\x1a\x1b\x1e\x00\x04\x01\x02\x03\x04\xef\0\0Th\\\x07";
+
+// Bytes of some length: the start of a file, zeros, and the bytes that are given by their places.
+fn image(alloc: Global, length: usize, bytes: &[(usize, u8)]) -> Result<Vec<u8>, Fail> {
+    let mut image = vec![in alloc; 0u8; length]?;
+    for (place, byte) in START.iter().enumerate() {
+        if let Some(cell) = image.get_mut(place) {
+            *cell = *byte;
+        }
+    }
+    for (place, byte) in bytes {
+        if let Some(cell) = image.get_mut(*place) {
+            *cell = *byte;
+        }
+    }
+    Ok(image)
+}
+
+fn file(alloc: Global, bytes: &[(usize, u8)]) -> Result<SpcFile, Fail> {
+    let image = image(alloc, 66048, bytes)?;
+    Ok(read_spc(alloc, &image)?)
+}
+
+#[test]
+fn lengths_and_signatures(rt: HostRuntime) -> Result<(), Fail> {
+    for (length, accepted) in [
+        (100, false),
+        (65919, false),
+        (65920, true),
+        (66048, true),
+        (1048576, true),
+        (1048577, false),
+    ] {
+        let image = image(rt.alloc(), length, &[])?;
+        match read_spc(rt.alloc(), &image) {
+            Ok(file) => {
+                assert!(rt; accepted, "at {length}");
+                assert_eq!(rt; write_spc(rt.alloc(), &file)?.len(), 66048);
+            }
+            Err(SpcRefusal::Length(refused)) => assert_eq!(rt;
+                (accepted, refused),
+                (false, length)
+            ),
+            Err(_) => panic!(rt; "at {length}"),
+        }
+    }
+    let version = image(rt.alloc(), 66108, &[(31, b'1')])?;
+    let _ = read_spc(rt.alloc(), &version)?;
+    for (first, second) in [(26, 26), (3, 26)] {
+        let changed = image(rt.alloc(), 66048, &[(first, 0), (second, 0)])?;
+        match read_spc(rt.alloc(), &changed) {
+            Err(SpcRefusal::Signature(at)) => assert_eq!(rt; at, first),
+            _ => panic!(rt; "accepted with a changed byte {first}"),
+        }
+    }
+    Ok(())
+}
+
+#[test]
+fn fields_and_texts(rt: HostRuntime) -> Result<(), Fail> {
+    let alloc = rt.alloc();
+    let file = file(
+        alloc,
+        &[
+            (0x4E, b'G'),
+            (0x6D, 0xFF),
+            (0x100, 9),
+            (0x10100, 8),
+            (0x101C0, 7),
+        ],
+    )?;
+    assert_eq!(rt; (file.pc(), file.sp(), file.psw()), (0x0400, 0xEF, 4));
+    assert_eq!(rt; (file.a(), file.x(), file.y()), (1, 2, 3));
+    assert_eq!(rt; (file.tag_mark(), file.minor()), (0x1B, 30));
+    assert_eq!(rt;
+        (file.memory()[0], file.dsp()[0], file.extra()[0]),
+        (9, 8, 7)
+    );
+    assert_eq!(rt; file.text(Tag::Title), b"Th\\\x07".as_slice());
+    assert_eq!(rt; file.text(Tag::Game), b"G".as_slice());
+    for tag in [
+        Tag::Dumper,
+        Tag::Comments,
+        Tag::Date,
+        Tag::Seconds,
+        Tag::Fade,
+        Tag::Artist,
+    ] {
+        assert_eq!(rt; file.text(tag).len(), 0);
+    }
+    Ok(())
+}
+
+#[test]
+fn lengths_by_the_tags(rt: HostRuntime) -> Result<(), Fail> {
+    let alloc = rt.alloc();
+    for (mark, seconds, fade, frames, faded) in [
+        (0x1A, b"abc", b"\0\0\0\0\0", 5_760_000, 0),
+        (0x1A, b"000", b"10000", 5_760_000, 0),
+        (0x1B, b"120", b"10000", 5_760_000, 0),
+        (0x1A, b"120", b"10000", 4_160_000, 320_000),
+        (0x1A, b"30 ", b"\0\0\0\0\0", 960_000, 0),
+        (0x1A, b"001", b"00001", 32_032, 32),
+        (0x1A, b" 30", b"1 000", 5_760_000, 0),
+        (0x1A, b"999", b"99999", 35_167_968, 3_199_968),
+    ] {
+        let mut bytes = [(0x23, mark); 9];
+        for (i, byte) in seconds.iter().enumerate() {
+            bytes[i] = (0xA9 + i, *byte);
+        }
+        for (i, byte) in fade.iter().enumerate() {
+            bytes[i + 3] = (0xAC + i, *byte);
+        }
+        assert_eq!(rt;
+            file(alloc, &bytes)?.length(),
+            Length {
+                frames,
+                fade: faded
+            }
+        );
+    }
+    Ok(())
+}
+
+// With bit 7 of F1h the last 64 bytes of the memory are the ROM, and the extra bytes stand in their place.
+#[test]
+fn opening_with_and_without_the_rom(rt: HostRuntime) -> Result<(), Fail> {
+    let alloc = rt.alloc();
+    for (control, at_ffc0, rom) in [(0x80, 0x55, 0xAA), (0x7F, 0xAA, 0x00)] {
+        let bytes = [
+            (0x1F1, control),
+            (0x1FF, 3),
+            (0x100C0, 0xAA),
+            (0x101C0, 0x55),
+            (0x1017F, 6),
+        ];
+        let state = opening(alloc, &file(alloc, &bytes)?)?;
+        assert_eq!(rt;
+            (state.cells[1], state.cells[15], state.dsp[127]),
+            (control, 3, 6)
+        );
+        assert_eq!(rt;
+            (
+                state.memory.get(0xF1),
+                state.memory.get(0xFFC0),
+                state.rom[0]
+            ),
+            (control, at_ffc0, rom)
+        );
+    }
+    Ok(())
+}
