@@ -10,7 +10,7 @@ use Rattle.command_frame.specs.declared.refusals.Refusal.{Refusal}
 use Rattle.command_frame.specs.declared.refusals.Refusal.TheVariants.{Usage, ReadFault, WriteFault, OutOfMemory, Input}
 use Rattle.command_frame.proofs.Leaving.{leaves, complains}
 use Rattle.spcwave.specs.declared.statuses.Cause.{Cause}
-use Rattle.spcwave.specs.declared.statuses.Cause.TheVariants.{BrrLength, InputTooLong}
+use Rattle.spcwave.specs.declared.statuses.Cause.TheVariants.{SpcLength, SpcSignature, BrrLength, InputTooLong}
 use Rattle.spcwave.specs.declared.statuses.Status.{Status}
 use Rattle.spcwave.specs.declared.statuses.Status.TheVariants as statuses
 use Rattle.spcwave.specs.Command.{Command, usage, names_input, answer_of}
@@ -24,12 +24,21 @@ plain_is (Some Usage) p h = cc
 plain_is (Some ReadFault) p h = cc
 plain_is (Some WriteFault) p h = cc
 plain_is (Some OutOfMemory) p h = cc
+plain_is (Some (Input (SpcLength n))) p h = absurd (cc)
+plain_is (Some (Input (SpcSignature at))) p h = absurd (cc)
 plain_is (Some (Input (BrrLength n))) p h = absurd (cc)
 plain_is (Some (Input InputTooLong)) p h = cc
 
 -- an end is that of the answer, or one of three others
 abbrev IsEnd : Option (Refusal Cause) → Answer Cause → Type 0
 IsEnd r a = (r ≡ refusal_of a) ⊎ ((r ≡ Some ReadFault) ⊎ ((r ≡ Some WriteFault) ⊎ (r ≡ Some OutOfMemory)))
+
+-- the end of a refused input is that of the answer
+input_end : (cause : Cause) (a : Answer Cause) → IsEnd (Some (Input cause)) a → refusal_of a ≡ Some (Input cause)
+input_end cause a (inl same) = sym same
+input_end cause a (inr (inl wrong)) = absurd (cc)
+input_end cause a (inr (inr (inl wrong))) = absurd (cc)
+input_end cause a (inr (inr (inr wrong))) = absurd (cc)
 
 -- with the numbers of the answer
 line_end : (r : Option (Refusal Cause)) (a : Answer Cause) → IsEnd r a → unwrap_or (plain_end (status_of r)) (refusal_of a) ≡ r
@@ -38,10 +47,9 @@ line_end (Some Usage) a end = refl
 line_end (Some ReadFault) a end = refl
 line_end (Some WriteFault) a end = refl
 line_end (Some OutOfMemory) a end = refl
-line_end (Some (Input (BrrLength n))) a (inl same) = sym same
-line_end (Some (Input (BrrLength n))) a (inr (inl wrong)) = absurd (cc)
-line_end (Some (Input (BrrLength n))) a (inr (inr (inl wrong))) = absurd (cc)
-line_end (Some (Input (BrrLength n))) a (inr (inr (inr wrong))) = absurd (cc)
+line_end (Some (Input (SpcLength n))) a end = input_end (SpcLength n) a end
+line_end (Some (Input (SpcSignature at))) a end = input_end (SpcSignature at) a end
+line_end (Some (Input (BrrLength n))) a end = input_end (BrrLength n) a end
 line_end (Some (Input InputTooLong)) a end = refl
 
 -- an end that has the status of the answer is the answer's

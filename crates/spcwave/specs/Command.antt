@@ -6,12 +6,15 @@ use Rattle.command_frame.specs.Answer.{Answer, refused}
 use Rattle.command_frame.specs.declared.refusals.Refusal.TheVariants.{Usage}
 use Rattle.spcwave.specs.declared.statuses.Cause.{Cause}
 use Rattle.spcwave.specs.Brr.{brr_answer}
+use Rattle.spcwave.specs.Info.{info_answer}
 
 -- a command with its names
 pub data Command : Type 0 where
   usage : Command
   -- decodes the blocks of the first name to the second
   brr : (input output : List ℕ) → Command
+  -- tells the fields of an SPC file
+  info : (input : List ℕ) → Command
 
 -- A word that may name a file isn't empty and doesn't begin with a dash.
 abbrev pub is_name : List ℕ → Bool
@@ -23,17 +26,27 @@ abbrev pub brr_command : List (List ℕ) → Command
 brr_command (input ∷ output ∷ []) = if is_name input && is_name output then brr input output else usage
 brr_command words = usage
 
+-- the words behind `info`
+abbrev pub info_command : List (List ℕ) → Command
+info_command (input ∷ []) = if is_name input then info input else usage
+info_command words = usage
+
 -- the command that the words say
 abbrev pub command_of : List (List ℕ) → Command
 command_of [] = usage
-command_of (name ∷ words) = if bytes_eq name (codes "brr") then brr_command words else usage
+command_of (name ∷ words) =
+    if bytes_eq name (codes "brr") then brr_command words
+    else if bytes_eq name (codes "info") then info_command words
+    else usage
 
 -- whether a command names an input
 abbrev pub names_input : Command → Bool
 names_input usage = false
 names_input (brr input output) = true
+names_input (info input) = true
 
 -- what a command answers, by what the names hold
 abbrev pub answer_of : Command → Files → Answer Cause
 answer_of usage files = refused Usage
 answer_of (brr input output) files = brr_answer output (files input)
+answer_of (info input) files = info_answer (files input)

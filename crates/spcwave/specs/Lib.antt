@@ -4,6 +4,10 @@ pub mod Brr
 pub mod Command
 -- the created outputs of a host of real files
 pub mod Created
+-- what `info` answers
+pub mod Info
+-- how reports print bytes and texts
+pub mod Printing
 -- what a run does: the clauses of the top call
 pub mod Run
 -- the statuses and the lines of complaint

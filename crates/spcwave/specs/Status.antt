@@ -4,7 +4,7 @@ use Rattle.command_frame.specs.Answer.{Answer, refusal_of, line_of}
 use Rattle.command_frame.specs.declared.refusals.Refusal.{Refusal}
 use Rattle.command_frame.specs.declared.refusals.Refusal.TheVariants.{Usage, ReadFault, WriteFault, OutOfMemory, Input}
 use Rattle.spcwave.specs.declared.statuses.Cause.{Cause}
-use Rattle.spcwave.specs.declared.statuses.Cause.TheVariants.{BrrLength, InputTooLong}
+use Rattle.spcwave.specs.declared.statuses.Cause.TheVariants.{SpcLength, SpcSignature, BrrLength, InputTooLong}
 use Rattle.spcwave.specs.declared.statuses.Status.{Status}
 use Rattle.spcwave.specs.declared.statuses.Status.TheVariants as statuses
 
@@ -14,11 +14,15 @@ code_of statuses.Ok = 0
 code_of statuses.Usage = 1
 code_of statuses.ReadFault = 2
 code_of statuses.WriteFault = 3
+code_of statuses.SpcLength = 4
+code_of statuses.SpcSignature = 5
 code_of statuses.OutOfMemory = 7
 code_of statuses.BrrLength = 8
 code_of statuses.InputTooLong = 11
 
 abbrev pub cause_status : Cause → Status
+cause_status (SpcLength n) = statuses.SpcLength
+cause_status (SpcSignature at) = statuses.SpcSignature
 cause_status (BrrLength n) = statuses.BrrLength
 cause_status InputTooLong = statuses.InputTooLong
 
@@ -36,6 +40,8 @@ answer_status a = status_of (refusal_of a)
 
 -- the line of complaint of a cause
 abbrev pub cause_line : Cause → List ℕ
+cause_line (SpcLength n) = codes "spcwave: length " ++ decimal n ++ codes " is not that of an SPC file\n"
+cause_line (SpcSignature at) = codes "spcwave: signature differs at " ++ decimal at ++ codes "\n"
 cause_line (BrrLength n) = codes "spcwave: length " ++ decimal n ++ codes " is not that of BRR blocks\n"
 cause_line InputTooLong = codes "spcwave: input is too long\n"
 
@@ -50,6 +56,8 @@ plain_end statuses.Usage = Some (Some Usage)
 plain_end statuses.ReadFault = Some (Some ReadFault)
 plain_end statuses.WriteFault = Some (Some WriteFault)
 plain_end statuses.OutOfMemory = Some (Some OutOfMemory)
+plain_end statuses.SpcLength = None
+plain_end statuses.SpcSignature = None
 plain_end statuses.BrrLength = None
 plain_end statuses.InputTooLong = Some (Some (Input InputTooLong))
 

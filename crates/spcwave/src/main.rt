@@ -3,6 +3,8 @@
 
 mod brr;
 mod disk;
+mod info;
+mod printing;
 mod run;
 mod statuses;
 #[cfg(test)]

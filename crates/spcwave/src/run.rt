@@ -6,6 +6,7 @@ ghost use Rattle.spcwave.specs.Command.{command_of, usage, names_input, answer_o
 ghost use Rattle.spcwave.specs.Run.{Content, ReadFault, WriteFault, Memory, IsTruthful, CompletesCalmly, CompletesInputs, CompletesOutputs, CompletesComplaint, Untold};
 
 use crate::brr::brr;
+use crate::info::info;
 use crate::statuses::{Cause, Status, status_for};
 use crate::words::{Command, read_words};
 use command_frame::{Refusal, complain};
@@ -22,6 +23,7 @@ fn attempt<H: Host>(alloc: Global, words: &[String], host: &mut H) -> Option<Ref
     match read_words(words) {
         Command::Usage => Some(Refusal::Usage),
         Command::Brr { input, output } => brr(alloc, host, input, output),
+        Command::Info { input } => info(alloc, host, input),
     }
 }
 

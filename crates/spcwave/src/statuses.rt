@@ -12,6 +12,8 @@ pub enum Status {
     Usage,
     ReadFault,
     WriteFault,
+    SpcLength,
+    SpcSignature,
     OutOfMemory,
     BrrLength,
     InputTooLong,
@@ -27,6 +29,8 @@ impl Status {
             Status::Usage => 1,
             Status::ReadFault => 2,
             Status::WriteFault => 3,
+            Status::SpcLength => 4,
+            Status::SpcSignature => 5,
             Status::OutOfMemory => 7,
             Status::BrrLength => 8,
             Status::InputTooLong => 11,
@@ -37,6 +41,8 @@ impl Status {
 /// Why the bytes of an input are refused, with the numbers of the complaint.
 #[derive(Clone, Copy, Debug, PartialEq, Eq)]
 pub enum Cause {
+    SpcLength(usize),
+    SpcSignature(usize),
     BrrLength(usize),
     InputTooLong,
 }
@@ -46,6 +52,15 @@ impl Complaint for Cause {
 
     fn write_line<H: Host>(&self, host: &mut H) -> Result<(), Failed> {
         match self {
+            Cause::SpcLength(length) => note_number(
+                host,
+                b"spcwave: length ",
+                *length,
+                b" is not that of an SPC file\n",
+            ),
+            Cause::SpcSignature(at) => {
+                note_number(host, b"spcwave: signature differs at ", *at, b"\n")
+            }
             Cause::BrrLength(length) => note_number(
                 host,
                 b"spcwave: length ",
@@ -67,6 +82,8 @@ pub fn status_for(refusal: Option<Refusal<Cause>>) -> Status
         Some(Refusal::ReadFault) => Status::ReadFault,
         Some(Refusal::WriteFault) => Status::WriteFault,
         Some(Refusal::OutOfMemory) => Status::OutOfMemory,
+        Some(Refusal::Input(Cause::SpcLength(_))) => Status::SpcLength,
+        Some(Refusal::Input(Cause::SpcSignature(_))) => Status::SpcSignature,
         Some(Refusal::Input(Cause::BrrLength(_))) => Status::BrrLength,
         Some(Refusal::Input(Cause::InputTooLong)) => Status::InputTooLong,
     }

@@ -39,7 +39,7 @@ fn run_words(alloc: Global, words: &[&str], input: &[u8], failing: &[u32]) -> Re
             Vec::from_slice(alloc, input)?
         ),
     ]?;
-    let rooms = vec![in alloc; 100, 100, 300000]?;
+    let rooms = vec![in alloc; 400, 100, 300000]?;
     let mut host = MemHost::new(alloc, files, failing.to_vec(alloc)?, rooms)?;
     let status = run(alloc, given.as_slice(), &mut host);
     Ok(Ran { status, host })
@@ -134,13 +134,16 @@ fn each_call_of_the_host_may_fail(rt: HostRuntime) -> Result<(), Fail> {
 
 #[test]
 fn other_words_are_not_understood(rt: HostRuntime) -> Result<(), Fail> {
-    let rows: [&[&str]; 8] = [
+    let rows: [&[&str]; 11] = [
         &[],
         &["brr", "IN"],
         &["brr", "IN", "OUT", "OUT"],
         &["brr", "A", "-B"],
         &["brr", "", "OUT"],
         &["BRR", "IN", "OUT"],
+        &["info"],
+        &["info", "-A"],
+        &["info", "IN", "OUT"],
         &["render", "A", "B"],
         &["--help"],
     ];
@@ -164,12 +167,89 @@ fn statuses_have_their_numbers(rt: HostRuntime) -> Result<(), Fail> {
         (Status::Usage, 1),
         (Status::ReadFault, 2),
         (Status::WriteFault, 3),
+        (Status::SpcLength, 4),
+        (Status::SpcSignature, 5),
         (Status::OutOfMemory, 7),
         (Status::BrrLength, 8),
         (Status::InputTooLong, 11),
     ];
     for (status, number) in rows {
         assert_eq!(rt; status.code(), number, "{status:?}");
+    }
+    Ok(())
+}
+
+/// What a file begins with: no tags, minor version 30, PC 0400h, SP EFh, and zeros as the other registers.
+const FRONT: [u8; 44] = *b"SNES-SPC700 Sound File Data v0.30\x1a\x1a\x1b\x1e\x00\x04\0\0\0\0\xef";
+
+/// A file of this length with these bytes at these places, and zeros behind its front.
+fn spc_file(alloc: Global, length: usize, edits: &[(usize, u8)]) -> Result<Vec<u8>, Fail> {
+    let mut bytes = Vec::from_slice(alloc, &FRONT)?;
+    bytes.resize(length, 0)?;
+    for (place, value) in edits {
+        if let Some(byte) = bytes.get_mut(*place) {
+            *byte = *value;
+        }
+    }
+    Ok(bytes)
+}
+
+#[test]
+fn each_file_has_its_fields_or_its_refusal(rt: HostRuntime) -> Result<(), Fail> {
+    let registers = "pc 0400 a 00 x 00 y 00 psw 00 sp ef\n";
+    let tags: [(usize, u8); 9] = [
+        (0x23, 0x1a),
+        (0x2e, b'T'),
+        (0x2f, b'h'),
+        (0x30, b'e'),
+        (0x31, b'm'),
+        (0x32, b'e'),
+        (0x4e, b'a'),
+        (0x4f, b'\\'),
+        (0x50, 0x07),
+    ];
+    let tagged =
+        "tags yes\ntitle Theme\ngame a\\x5c\\x07\ndumper \ncomments \ndate \nseconds \nfade \nartist \n";
+    let plain = "tags no\n";
+    let short = "spcwave: length 65919 is not that of an SPC file\n";
+    let long = "spcwave: length 1048577 is not that of an SPC file\n";
+    let tiny = "spcwave: length 100 is not that of an SPC file\n";
+    let rows: [(usize, &[(usize, u8)], Status, &str, &str); 10] = [
+        (65919, &[], Status::SpcLength, "", short),
+        (65920, &[], Status::Ok, plain, ""),
+        (66048, &[], Status::Ok, plain, ""),
+        (1048576, &[], Status::Ok, plain, ""),
+        (1048577, &[], Status::SpcLength, "", long),
+        (
+            66048,
+            &[(26, 0)],
+            Status::SpcSignature,
+            "",
+            "spcwave: signature differs at 26\n",
+        ),
+        (
+            66048,
+            &[(26, 0), (3, 0)],
+            Status::SpcSignature,
+            "",
+            "spcwave: signature differs at 3\n",
+        ),
+        (100, &[(3, 0)], Status::SpcLength, "", tiny),
+        (66048, &[(31, b'1')], Status::Ok, plain, ""),
+        (66108, &tags, Status::Ok, tagged, ""),
+    ];
+    for (length, edits, wanted, lines, line) in rows {
+        let alloc = rt.alloc();
+        let input = spc_file(alloc, length, edits)?;
+        let Ran { status, host } = run_words(alloc, &["info", "IN"], input.as_slice(), &[])?;
+        assert_eq!(rt; status, wanted, "at {length}");
+        assert_eq!(rt; host.output(COMPLAINT), line.as_bytes(), "at {length}");
+        let report = if wanted == Status::Ok {
+            format!(in alloc; "length {length}\nminor 30\n{lines}{registers}")?
+        } else {
+            String::new(alloc)
+        };
+        assert_eq!(rt; host.output(REPORT), report.as_bytes(), "at {length}");
     }
     Ok(())
 }

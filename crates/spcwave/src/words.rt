@@ -1,6 +1,6 @@
 // The words of the command line.
 ghost use Rattle.std.specs.Prelude.{◌≡◌, map, string_bytes};
-ghost use Rattle.spcwave.specs.Command.{command_of, brr_command, is_name as is_name_word};
+ghost use Rattle.spcwave.specs.Command.{command_of, brr_command, info_command, is_name as is_name_word};
 ghost use Rattle.spcwave.specs.Words.{meaning_of};
 
 /// A command with its names.
@@ -8,6 +8,7 @@ ghost use Rattle.spcwave.specs.Words.{meaning_of};
 pub enum Command<'a> {
     Usage,
     Brr { input: &'a str, output: &'a str },
+    Info { input: &'a str },
 }
 
 /// Whether a word may name a file.
@@ -33,6 +34,18 @@ fn read_brr(words: &[String]) -> Command<'_>
     }
 }
 
+/// Reads the words behind `info`.
+fn read_info(words: &[String]) -> Command<'_>
+    ensures { meaning_of result ≡ info_command (map string_bytes words.now) }
+{
+    match words {
+        [input] if is_name(input.as_str()) => Command::Info {
+            input: input.as_str(),
+        },
+        _ => Command::Usage,
+    }
+}
+
 /// Reads the words of the command line.
 pub fn read_words(words: &[String]) -> Command<'_>
     ensures { meaning_of result ≡ command_of (map string_bytes words.now) }
@@ -41,6 +54,7 @@ pub fn read_words(words: &[String]) -> Command<'_>
         [] => Command::Usage,
         [name, rest @ ..] => match name.as_str() {
             "brr" => read_brr(rest),
+            "info" => read_info(rest),
             _ => Command::Usage,
         },
     }

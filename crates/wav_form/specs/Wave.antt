@@ -3,6 +3,7 @@ use Rattle.std.specs.Prelude.{ℕ, ◌+◌, ◌*◌, ℤ, List, ◌++◌, length
 use Rattle.std.specs.List.{flat_map}
 use Rattle.std.specs.Int.{w16, cast_unsigned}
 use Rattle.byteorder.specs.Endian.{little_bytes}
+use Rattle.num_fix.specs.declared.Frame.{Frame}
 
 -- the bytes of a frame: one sample of two bytes for each channel
 abbrev pub frame_size : (channels : ℕ) → ℕ
@@ -28,3 +29,11 @@ sample_bytes sample = little_bytes 2 (cast_unsigned w16 sample)
 -- a whole file of one channel
 abbrev pub mono_wave : (samples : List ℤ) → List ℕ
 mono_wave samples = header_of 1 (length samples) ++ flat_map sample_bytes samples
+
+-- a frame: the sample of the left side, then that of the right
+abbrev pub frame_bytes : Frame → List ℕ
+frame_bytes frame = sample_bytes frame.left ++ sample_bytes frame.right
+
+-- a whole file of two channels
+abbrev pub stereo_wave : (frames : List Frame) → List ℕ
+stereo_wave frames = header_of 2 (length frames) ++ flat_map frame_bytes frames

@@ -1,8 +1,14 @@
 //! Sound files of RIFF/WAVE.
 #![tactic(auto)]
 
+mod chunk;
+mod mono;
+mod refusal;
 #[cfg(test)]
 mod tests;
 mod written;
 
-pub use written::header;
+pub use mono::read_mono;
+pub use refusal::WavRefusal;
+pub use std::alloc::AllocError as OutOfMemory;
+pub use written::{header, put_frame};

@@ -1,5 +1,6 @@
-// Headers of known files.
-use crate::header;
+// Headers, frames and samples of known files.
+use crate::{WavRefusal, header, put_frame, read_mono};
+use num_fix::Frame;
 use std::test::Fail;
 
 #[test]
@@ -20,6 +21,68 @@ fn headers_are_those_of_known_files(rt: HostRuntime) -> Result<(), Fail> {
         assert!(rt; channels == 1 || channels == 2);
         assert!(rt; frames <= 16);
         assert_eq!(rt; header(channels, frames), wanted, "{channels} {frames}");
+    }
+    Ok(())
+}
+
+#[test]
+fn frames_are_left_then_right_with_low_bytes_first(rt: HostRuntime) {
+    let rows = [
+        (4000, 4000, [0xA0, 0x0F, 0xA0, 0x0F]),
+        (1, -2, [0x01, 0x00, 0xFE, 0xFF]),
+        (-32768, 32767, [0x00, 0x80, 0xFF, 0x7F]),
+    ];
+    for (left, right, wanted) in rows {
+        assert_eq!(rt; put_frame(Frame { left, right }), wanted, "{left} {right}");
+    }
+}
+
+#[test]
+fn samples_of_files_with_one_channel(rt: HostRuntime) -> Result<(), Fail> {
+    let start = b"RIFF\xAA\xAA\xAA\xAAWAVELIST\x03\0\0\0abc\0";
+    let mono = b"fmt \x10\0\0\0\x01\0\x01\0\x44\xAC\0\0\x88\x58\x01\0\x02\0\x10\0";
+    let stereo = b"fmt \x10\0\0\0\x01\0\x02\0\x44\xAC\0\0\x10\xB1\x02\0\x04\0\x10\0";
+    let samples = b"data\x04\0\0\0\x01\0\xFF\xFF";
+    let streamed = b"data\xFF\xFF\xFF\xFF\x01\0\xFF\xFF\x07";
+    let cut = b"LIST\x05\0\0\0abcd";
+    for (parts, wanted) in [
+        (
+            [start.as_slice(), mono.as_slice(), samples.as_slice()],
+            None,
+        ),
+        (
+            [start.as_slice(), mono.as_slice(), streamed.as_slice()],
+            None,
+        ),
+        (
+            [start.as_slice(), stereo.as_slice(), samples.as_slice()],
+            Some(WavRefusal::Format),
+        ),
+        (
+            [start.as_slice(), samples.as_slice(), mono.as_slice()],
+            Some(WavRefusal::NoFormat),
+        ),
+        (
+            [start.as_slice(), mono.as_slice(), b"\0\0\0".as_slice()],
+            Some(WavRefusal::NoData),
+        ),
+        (
+            [start.as_slice(), mono.as_slice(), cut.as_slice()],
+            Some(WavRefusal::Cut(48)),
+        ),
+        (
+            [b"RIFX".as_slice(), mono.as_slice(), samples.as_slice()],
+            Some(WavRefusal::NotWave),
+        ),
+    ] {
+        let mut file = Vec::new(rt.alloc());
+        for part in parts {
+            file.extend_from_slice(part)?;
+        }
+        match read_mono(rt.alloc(), &file) {
+            Ok(read) => assert_eq!(rt; (read.as_slice(), wanted), ([1, -1].as_slice(), None)),
+            Err(refusal) => assert_eq!(rt; Some(refusal), wanted),
+        }
     }
     Ok(())
 }

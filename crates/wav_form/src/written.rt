@@ -1,8 +1,9 @@
-// What a file that is written begins with.
+// What a file that is written begins with, and its frames.
 ghost use Rattle.std.specs.Prelude.{◌≡◌, ◌≤◌};
-ghost use Rattle.wav_form.specs.Wave.{header_of};
+ghost use Rattle.wav_form.specs.Wave.{header_of, frame_bytes};
 
 use byteorder::{ByteOrder, LittleEndian};
+use num_fix::Frame;
 
 /// The 44 bytes before the frames of a file: PCM of 16 bits at 32,000 frames a second (RIFF/WAVE).
 #[tactic(auto, unfolding(crate::specs::Wave::header_of))]
@@ -21,5 +22,15 @@ pub fn header(channels: u16, frames: u32) -> [u8; 44]
     LittleEndian::write_u32(&mut bytes[28..], 32000 * frame_size);
     LittleEndian::write_u16(&mut bytes[32..], 2 * channels);
     LittleEndian::write_u32(&mut bytes[40..], size);
+    bytes
+}
+
+/// The four bytes of a frame: left, then right, each with its low byte first (RIFF/WAVE).
+pub fn put_frame(frame: Frame) -> [u8; 4]
+    ensures { result ≡ frame_bytes frame }
+{
+    let mut bytes = [0; 4];
+    LittleEndian::write_i16(&mut bytes, frame.left);
+    LittleEndian::write_i16(&mut bytes[2..], frame.right);
     bytes
 }

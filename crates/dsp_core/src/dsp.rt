@@ -1,0 +1,240 @@
+//! The chip.
+
+ghost use Rattle.std.specs.Prelude.{◌≡◌, ◌≤◌, ◌<◌, ◌+◌, ◌*◌, ◌++◌, ◌∷◌, [], ◌==◌, true, length, map, pos, IfOk, if◌then◌else◌};
+ghost use Rattle.std.specs.List.{filter};
+ghost use Rattle.rate_clock.specs.Counter.{counter_at};
+ghost use Rattle.dsp_core.specs.Run.{run, in_mask, counted};
+ghost use Rattle.dsp_core.specs.Sample.{sample, after_poll, after_noise, results_from, shared_input, records_from};
+ghost use Rattle.dsp_core.specs.Chip.{is_sound, opened_state, register_read, register_write};
+
+use crate::OutOfMemory;
+use crate::mix::side_sums;
+use crate::records::push_records;
+use crate::registers::{ENDX, FLG, KON, VOLL, VOLR, echo_regs};
+use crate::results::put_results;
+use crate::state::{DspState, Hidden};
+use crate::voices::{Common, step_voices};
+use aram_core::Aram;
+use echo_unit::Echo;
+use gauss_table::GaussTable;
+use num_fix::Frame;
+use rate_clock::{Noise, RateClock};
+use std::alloc::Global;
+use std::marker::Model;
+use trace_form::{Frames, Records};
+use voice_unit::{Voice, VoiceOut};
+
+/// What one sample gives: its frame, and the answers of the voices.
+#[derive(Drop)]
+struct Made {
+    frame: Frame,
+    answers: [VoiceOut; 8],
+}
+
+impl DspState {
+    /// Polls the keys at an even sample.
+    #[tactic(auto, unfolding(crate::specs::Sample::after_poll))]
+    fn poll(&mut self, number: u32)
+        ensures { self.new ≡ after_poll self.old number }
+    {
+        if number % 2 == 0 {
+            self.hidden.waiting &= 0xff - self.hidden.taken;
+            self.hidden.taken = self.hidden.waiting;
+        }
+    }
+
+    /// Lets the noise go on where its rate fires.
+    #[tactic(auto, unfolding(crate::specs::Sample::after_noise))]
+    fn step_noise(&mut self, clock: &RateClock)
+        ensures { self.new ≡ after_noise self.old clock.now }
+    {
+        let fired = clock.fires(self.registers[FLG] % 32);
+        self.hidden.noise.step(fired);
+    }
+
+    /// One step of the voices and the sums of their outputs.
+    fn step_voices(&mut self, number: u32, clock: &RateClock, memory: &Aram) -> [VoiceOut; 8]
+        ensures voices { let results = results_from (shared_input self.old memory.now number) 0 (pos 0) self.old.hidden.voices in
+            clock.now ≡ counter_at number → self.new ≡ record self.old { hidden = record self.old.hidden { voices = map (λ one. one.voice) results } } }
+        ensures answers { let results = results_from (shared_input self.old memory.now number) 0 (pos 0) self.old.hidden.voices in
+            clock.now ≡ counter_at number → result ≡ map (λ one. one.answer) results }
+    {
+        let common = Common {
+            noise: self.hidden.noise.value(),
+            taken: self.hidden.taken,
+            is_poll: number % 2 == 0,
+        };
+        step_voices(
+            &mut self.hidden.voices,
+            &self.registers,
+            &common,
+            memory,
+            &self.table,
+            clock,
+        )
+    }
+
+    /// Makes the sample of a number, at which the clock stands.
+    #[tactic(auto, unfolding(crate::specs::Sample::sample, crate::specs::Mix::main_frame, crate::specs::Mix::sent_frame))]
+    fn make_sample(&mut self, number: u32, clock: &RateClock, memory: &mut Aram) -> Made
+        requires { clock.now ≡ counter_at number }
+        ensures state { self.new ≡ (sample number self.old memory.old).state }
+        ensures memory { memory.new ≡ (sample number self.old memory.old).memory }
+        ensures frame { result.frame ≡ (sample number self.old memory.old).frame }
+        ensures answers { records_from number 0 result.answers ≡ (sample number self.old memory.old).voices }
+    {
+        self.poll(number);
+        self.step_noise(clock);
+        let answers = self.step_voices(number, clock, memory);
+        let left = side_sums(&self.registers, VOLL, &answers);
+        let right = side_sums(&self.registers, VOLR, &answers);
+        let main = Frame {
+            left: left.main,
+            right: right.main,
+        };
+        let sent = Frame {
+            left: left.sent,
+            right: right.sent,
+        };
+        let regs = echo_regs(&self.registers);
+        let frame = self.hidden.echo.step(memory, &regs, main, sent);
+        put_results(&mut self.registers, &answers);
+        Made { frame, answers }
+    }
+}
+
+/// The S-DSP. It runs once for each sample, 32,000 times a second of sound.
+#[derive(Drop)]
+pub struct Dsp {
+    state: DspState,
+    clock: RateClock,
+    number: u32,
+    batches: u64,
+}
+
+impl Model for Dsp {
+    ghost use Rattle.dsp_core.specs.Chip.{DspView};
+
+    ghost Value = { DspView };
+
+    ghost use Rattle.dsp_core.specs.Inside.{IsDsp};
+
+    ghost view = { λ d. record { state = d.state; sample = d.number; batches = d.batches } };
+
+    ghost invariant = { IsDsp };
+}
+
+impl Dsp {
+    /// The chip with its registers as a file has them, 128 bytes, and a table of weights, before its first sample.
+    #[tactic(auto, unfolding(crate::specs::Chip::opened_state))]
+    pub fn open(_alloc: Global, registers: &[u8], table: GaussTable) -> Result<Dsp, OutOfMemory>
+        requires { length registers.now ≡ 0x80 }
+        ensures { IfOk result (λ dsp. dsp ≡ record { state = opened_state registers.now table; sample = 0; batches = 0 }) }
+    {
+        let mut own = [0; 128];
+        own.copy_from_slice(registers);
+        let hidden = Hidden {
+            waiting: own[KON],
+            taken: 0,
+            noise: Noise::new(),
+            voices: [Voice::new(); 8],
+            echo: Echo::new(),
+        };
+        Ok(Dsp {
+            state: DspState {
+                registers: own,
+                hidden,
+                table,
+            },
+            clock: RateClock::new(),
+            number: 0,
+            batches: 0,
+        })
+    }
+
+    /// The register at an address, taken modulo 128.
+    #[tactic(auto, unfolding(crate::specs::Chip::register_read))]
+    pub fn reg_read(&self, addr: u8) -> u8
+        ensures { result ≡ register_read self.now.state addr }
+    {
+        self.state.registers[usize::from(addr % 0x80)]
+    }
+
+    /// Writes a register. Any byte clears ENDX, and a write of KON lets its key-ons wait for the next
+    /// poll in place of those that waited. From 80h on a write has no effect.
+    #[tactic(auto, unfolding(crate::specs::Chip::register_write))]
+    pub fn reg_write(&mut self, addr: u8, value: u8)
+        ensures { self.new ≡ record self.old { state = register_write self.old.state addr value } }
+    {
+        if addr >= 0x80 {
+            return;
+        }
+        let place = usize::from(addr);
+        self.state.registers[place] = if place == ENDX { 0 } else { value };
+        if place == KON {
+            self.state.hidden.waiting = value;
+        }
+    }
+
+    /// Makes the next sample.
+    fn make_one(&mut self, memory: &mut Aram, mask: u8, frames: &mut Frames, records: &mut Records)
+        requires frame_room { length frames.old < 128 }
+        requires record_room { length records.old + 8 ≤ 1344 }
+        requires number { self.old.sample < 4000000000 }
+        ensures chip { self.new ≡ record self.old { state = (sample self.old.sample self.old.state memory.old).state; sample = self.old.sample + 1 } }
+        ensures memory { memory.new ≡ (sample self.old.sample self.old.state memory.old).memory }
+        ensures frames { frames.new ≡ frames.old ++ (sample self.old.sample self.old.state memory.old).frame ∷ [] }
+        ensures records { records.new ≡ records.old ++ filter (in_mask mask) (sample self.old.sample self.old.state memory.old).voices }
+        ensures record_count { length records.new ≤ length records.old + 8 }
+    {
+        self.clock.step();
+        let made = self.state.make_sample(self.number, &self.clock, memory);
+        push_records(records, mask, self.number, &made.answers);
+        frames.push(made.frame);
+        self.number += 1;
+    }
+
+    /// Makes the next n samples, at most 64, and adds their frames and the records of the voices in the
+    /// mask; bit v of the mask is voice v.
+    pub fn advance(
+        &mut self,
+        n: u8,
+        memory: &mut Aram,
+        mask: u8,
+        frames: &mut Frames,
+        records: &mut Records,
+    )
+        requires few { n ≤ 64 }
+        requires frame_room { length frames.old + n ≤ 128 }
+        requires record_room { length records.old + 8 * n ≤ 1344 }
+        requires number { self.old.sample + n ≤ 4000000000 }
+        ensures state { self.new.state ≡ (run sample n self.old.sample self.old.state memory.old).state }
+        ensures sample { self.new.sample ≡ self.old.sample + n }
+        ensures batches { self.new.batches ≡ (if n == 0 then self.old.batches else counted self.old.batches) }
+        ensures memory { memory.new ≡ (run sample n self.old.sample self.old.state memory.old).memory }
+        ensures frames { frames.new ≡ frames.old ++ (run sample n self.old.sample self.old.state memory.old).frames }
+        ensures records { records.new ≡ records.old ++ filter (in_mask mask) (run sample n self.old.sample self.old.state memory.old).voices }
+    {
+        'samples: for _ in 0..n {
+            self.make_one(memory, mask, frames, records);
+        }
+        if n != 0 {
+            self.batches = self.batches.saturating_add(1);
+        }
+    }
+
+    /// The number of batches made, each by an `advance` of at least one sample. It stays at its type's end.
+    pub fn batches(&self) -> u64
+        ensures { result ≡ self.now.batches }
+    {
+        self.batches
+    }
+
+    /// The number of samples made, which is the number of the next one.
+    pub fn sample(&self) -> u32
+        ensures number { result ≡ self.now.sample }
+        ensures is_sound { is_sound self.now.state ≡ true }
+    {
+        self.number
+    }
+}

@@ -1,0 +1,16 @@
+//! The S-DSP: eight voices, the echo and the registers, sample by sample.
+#![tactic(auto)]
+
+mod dsp;
+mod mix;
+mod records;
+mod registers;
+mod results;
+mod state;
+#[cfg(test)]
+mod tests;
+mod voices;
+
+pub use dsp::Dsp;
+pub use state::DspState;
+pub use std::alloc::AllocError as OutOfMemory;

@@ -1,0 +1,19 @@
+-- How reports print bytes and texts.
+use Rattle.std.specs.Prelude.{ℕ, ◌/◌, ◌%◌, ◌==◌, ◌&&◌, not, List, [], ◌∷◌, ◌++◌, codes, nat_le, if◌then◌else◌}
+use Rattle.std.specs.List.{flat_map}
+use Rattle.hex.specs.Hex.{encode_lower}
+
+-- a byte as two hexadecimal digits
+abbrev pub digits_of : ℕ → List ℕ
+digits_of byte = encode_lower (byte ∷ [])
+
+-- a byte of a text: a printable character of ASCII as itself, the backslash and every other byte as `\x` and two digits
+abbrev pub shown_byte : ℕ → List ℕ
+shown_byte byte = if nat_le 0x20 byte && (nat_le byte 0x7e && not (byte == 0x5c)) then byte ∷ [] else codes "\\x" ++ digits_of byte
+
+abbrev pub shown_text : List ℕ → List ℕ
+shown_text text = flat_map shown_byte text
+
+-- a word as four hexadecimal digits
+abbrev pub word_digits : ℕ → List ℕ
+word_digits word = digits_of (word / 256) ++ digits_of (word % 256)

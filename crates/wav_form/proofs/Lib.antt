@@ -1,0 +1,2 @@
+-- Walks: the chunks of a file, one by one.
+pub mod Walks
