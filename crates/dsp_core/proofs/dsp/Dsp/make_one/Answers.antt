@@ -6,5 +6,5 @@ pub invariant_of-self : goal.invariant_of-self
 invariant_of-self c = record {
   clock = search rules;
   eight_voices =
-    rw c.make_sample-made.ensures.state (length-voices-sample c.self.inside.number c.self.inside.state c.args.memory.now ∙ c.self.invariant.eight_voices);
+      rw c.make_sample-made.ensures.state (length-voices-sample c.self.inside.number c.self.inside.state c.args.memory.now ∙ c.self.invariant.eight_voices);
 }
