@@ -1,5 +1,5 @@
 -- What contracts see of a chip, its registers from outside, and the chip at its opening.
-use Rattle.std.specs.Prelude.{◌≡◌, ℕ, ◌%◌, ◌==◌, nat_le, Bool, true, length, List, ℤ, replicate, slice_index, slice_set, if◌then◌else◌}
+use Rattle.std.specs.Prelude.{ℕ, ◌%◌, ◌==◌, nat_le, Bool, length, List, ℤ, replicate, slice_index, slice_set, if◌then◌else◌}
 use Rattle.voice_unit.specs.Voice.{silent_voice}
 use Rattle.echo_unit.specs.Echo.{first_echo}
 use Rattle.rate_clock.specs.Noise.{noise_at}

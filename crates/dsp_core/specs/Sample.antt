@@ -1,5 +1,5 @@
 -- One sample of the S-DSP, part by part and in order.
-use Rattle.std.specs.Prelude.{ℕ, ◌+◌, ◌%◌, Bool, ◌&&◌, ◌==◌, nat_lt, List, [], ◌∷◌, map, slice_index, ℤ, pos, if◌then◌else◌}
+use Rattle.std.specs.Prelude.{ℕ, ◌+◌, ◌%◌, ◌&&◌, ◌==◌, nat_lt, List, [], ◌∷◌, map, slice_index, ℤ, pos, if◌then◌else◌}
 use Rattle.num_fix.specs.Arithmetic.{has_bit}
 use Rattle.rate_clock.specs.Counter.{counter_at, fires}
 use Rattle.rate_clock.specs.Noise.{next_noise}

@@ -1,5 +1,5 @@
 -- Numbers that were read one by one, each from its two bytes, are the numbers that the bytes read as.
-use Rattle.std.proofs.Common.{◌≡◌, ℕ, zero, suc, ◌+◌, ◌*◌, ◌<◌, List, [], ◌∷◌, length, get_or, drop, ℤ, pos, refl, ap, arith, ◌∙◌}
+use Rattle.std.proofs.Common.{◌≡◌, ℕ, suc, ◌+◌, ◌*◌, List, [], ◌∷◌, length, drop, ℤ, pos, refl, ap, arith, ◌∙◌}
 use Rattle.std.specs.Int.{w16, cast_signed}
 use Rattle.num_fix.specs.Words.{signed_word, signed_words}
 use Rattle.byteorder.specs.Endian.{little_number, IsReadBy}

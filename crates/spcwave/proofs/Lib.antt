@@ -1,3 +1,4 @@
 pub mod Clauses
 pub mod Commands
+pub mod Encodings
 pub mod Signatures

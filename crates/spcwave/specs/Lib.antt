@@ -4,6 +4,8 @@ pub mod Brr
 pub mod Command
 -- the created outputs of a host of real files
 pub mod Created
+-- what `encode` answers
+pub mod Encode
 -- what `info` answers
 pub mod Info
 -- how reports print bytes and texts

@@ -3,6 +3,7 @@
 
 mod brr;
 mod disk;
+mod encode;
 mod info;
 mod printing;
 mod run;

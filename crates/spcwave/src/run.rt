@@ -6,6 +6,7 @@ ghost use Rattle.spcwave.specs.Command.{command_of, usage, names_input, answer_o
 ghost use Rattle.spcwave.specs.Run.{Content, ReadFault, WriteFault, Memory, IsTruthful, CompletesCalmly, CompletesInputs, CompletesOutputs, CompletesComplaint, Untold};
 
 use crate::brr::brr;
+use crate::encode::encode;
 use crate::info::info;
 use crate::statuses::{Cause, Status, status_for};
 use crate::words::{Command, read_words};
@@ -24,6 +25,11 @@ fn attempt<H: Host>(alloc: Global, words: &[String], host: &mut H) -> Option<Ref
         Command::Usage => Some(Refusal::Usage),
         Command::Brr { input, output } => brr(alloc, host, input, output),
         Command::Info { input } => info(alloc, host, input),
+        Command::Encode {
+            input,
+            output,
+            looped,
+        } => encode(alloc, host, input, output, looped),
     }
 }
 

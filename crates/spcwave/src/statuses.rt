@@ -16,6 +16,8 @@ pub enum Status {
     SpcSignature,
     OutOfMemory,
     BrrLength,
+    WavForm,
+    EncodeSize,
     InputTooLong,
 }
 
@@ -33,6 +35,8 @@ impl Status {
             Status::SpcSignature => 5,
             Status::OutOfMemory => 7,
             Status::BrrLength => 8,
+            Status::WavForm => 9,
+            Status::EncodeSize => 10,
             Status::InputTooLong => 11,
         }
     }
@@ -44,6 +48,8 @@ pub enum Cause {
     SpcLength(usize),
     SpcSignature(usize),
     BrrLength(usize),
+    WavForm,
+    EncodeSize(usize),
     InputTooLong,
 }
 
@@ -67,6 +73,13 @@ impl Complaint for Cause {
                 *length,
                 b" is not that of BRR blocks\n",
             ),
+            Cause::WavForm => write_all(host, COMPLAINT, b"spcwave: not a mono 16-bit PCM WAV\n"),
+            Cause::EncodeSize(samples) => note_number(
+                host,
+                b"spcwave: ",
+                *samples,
+                b" samples cannot be encoded\n",
+            ),
             Cause::InputTooLong => write_all(host, COMPLAINT, b"spcwave: input is too long\n"),
         }
     }
@@ -85,6 +98,8 @@ pub fn status_for(refusal: Option<Refusal<Cause>>) -> Status
         Some(Refusal::Input(Cause::SpcLength(_))) => Status::SpcLength,
         Some(Refusal::Input(Cause::SpcSignature(_))) => Status::SpcSignature,
         Some(Refusal::Input(Cause::BrrLength(_))) => Status::BrrLength,
+        Some(Refusal::Input(Cause::WavForm)) => Status::WavForm,
+        Some(Refusal::Input(Cause::EncodeSize(_))) => Status::EncodeSize,
         Some(Refusal::Input(Cause::InputTooLong)) => Status::InputTooLong,
     }
 }

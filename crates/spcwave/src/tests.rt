@@ -134,7 +134,7 @@ fn each_call_of_the_host_may_fail(rt: HostRuntime) -> Result<(), Fail> {
 
 #[test]
 fn other_words_are_not_understood(rt: HostRuntime) -> Result<(), Fail> {
-    let rows: [&[&str]; 11] = [
+    let rows: [&[&str]; 16] = [
         &[],
         &["brr", "IN"],
         &["brr", "IN", "OUT", "OUT"],
@@ -144,6 +144,11 @@ fn other_words_are_not_understood(rt: HostRuntime) -> Result<(), Fail> {
         &["info"],
         &["info", "-A"],
         &["info", "IN", "OUT"],
+        &["encode", "IN"],
+        &["encode", "IN", "--loop"],
+        &["encode", "IN", "OUT", "--LOOP"],
+        &["encode", "--loop", "IN", "OUT"],
+        &["encode", "IN", "OUT", "--loop", "--loop"],
         &["render", "A", "B"],
         &["--help"],
     ];
@@ -171,6 +176,8 @@ fn statuses_have_their_numbers(rt: HostRuntime) -> Result<(), Fail> {
         (Status::SpcSignature, 5),
         (Status::OutOfMemory, 7),
         (Status::BrrLength, 8),
+        (Status::WavForm, 9),
+        (Status::EncodeSize, 10),
         (Status::InputTooLong, 11),
     ];
     for (status, number) in rows {
@@ -250,6 +257,106 @@ fn each_file_has_its_fields_or_its_refusal(rt: HostRuntime) -> Result<(), Fail> 
             String::new(alloc)
         };
         assert_eq!(rt; host.output(REPORT), report.as_bytes(), "at {length}");
+    }
+    Ok(())
+}
+
+/// What a file of one channel begins with, whose samples go on to its end.
+const MONO: [u8; 44] =
+    *b"RIFF\xff\xff\xff\xffWAVEfmt \x10\0\0\0\x01\0\x01\0\0\x7d\0\0\0\xfa\0\0\x02\0\x10\0data\xff\xff\xff\xff";
+
+/// The same with two channels.
+const STEREO: [u8; 44] =
+    *b"RIFF\xff\xff\xff\xffWAVEfmt \x10\0\0\0\x01\0\x02\0\0\x7d\0\0\0\xfa\0\0\x02\0\x10\0data\xff\xff\xff\xff";
+
+/// A file of this front, these samples, and zeros up to this length.
+fn wave_file(alloc: Global, front: &[u8], samples: &[u8], length: usize) -> Result<Vec<u8>, Fail> {
+    let mut bytes = Vec::from_slice(alloc, front)?;
+    bytes.extend_from_slice(samples)?;
+    bytes.resize(length, 0)?;
+    Ok(bytes)
+}
+
+#[test]
+fn each_sound_has_its_blocks_or_its_refusal(rt: HostRuntime) -> Result<(), Fail> {
+    // Eight times the greatest sample, and eight times the least.
+    let steep =
+        *b"\xff\x7f\xff\x7f\xff\x7f\xff\x7f\xff\x7f\xff\x7f\xff\x7f\xff\x7f\0\x80\0\x80\0\x80\0\x80\0\x80\0\x80\0\x80\0\x80";
+    let plain: &[&str] = &["encode", "IN", "OUT"];
+    let looped: &[&str] = &["encode", "IN", "OUT", "--loop"];
+    let one = "block 0 header 01 worst 0 squares 0\nblocks 1\n";
+    let looping = "block 0 header 03 worst 0 squares 0\nblocks 1\n";
+    let two =
+        "block 0 header 00 worst 0 squares 0\nblock 1 header 01 worst 0 squares 0\nblocks 2\n";
+    let far = "block 0 header c1 worst 4095 squares 134152200\nblocks 1\n";
+    let form = "spcwave: not a mono 16-bit PCM WAV\n";
+    let none = "spcwave: 0 samples cannot be encoded\n";
+    let many = "spcwave: 116481 samples cannot be encoded\n";
+    let long = "spcwave: input is too long\n";
+    let rows: [(&[&str], &[u8], &[u8], usize, Status, &[u8], &str, &str); 9] = [
+        (
+            plain,
+            &MONO,
+            &[],
+            76,
+            Status::Ok,
+            b"\x01\0\0\0\0\0\0\0\0",
+            one,
+            "",
+        ),
+        (
+            looped,
+            &MONO,
+            &[],
+            76,
+            Status::Ok,
+            b"\x03\0\0\0\0\0\0\0\0",
+            looping,
+            "",
+        ),
+        (
+            plain,
+            &MONO,
+            &[],
+            78,
+            Status::Ok,
+            b"\0\0\0\0\0\0\0\0\0\x01\0\0\0\0\0\0\0\0",
+            two,
+            "",
+        ),
+        (
+            plain,
+            &MONO,
+            &steep,
+            76,
+            Status::Ok,
+            b"\xc1\x77\x77\x77\x77\x88\x88\x88\x88",
+            far,
+            "",
+        ),
+        (plain, &STEREO, &[], 76, Status::WavForm, &[], "", form),
+        (plain, &MONO, &[], 44, Status::EncodeSize, &[], "", none),
+        (plain, &MONO, &[], 233006, Status::EncodeSize, &[], "", many),
+        (
+            plain,
+            &MONO,
+            &[],
+            16777217,
+            Status::InputTooLong,
+            &[],
+            "",
+            long,
+        ),
+        (plain, b"", &[], 0, Status::WavForm, &[], "", form),
+    ];
+    for (words, front, samples, length, wanted, blocks, report, line) in rows {
+        let alloc = rt.alloc();
+        let input = wave_file(alloc, front, samples, length)?;
+        let Ran { status, host } = run_words(alloc, words, input.as_slice(), &[])?;
+        assert_eq!(rt; status, wanted, "at {length}");
+        assert_eq!(rt; host.output(WAV), blocks, "at {length}");
+        assert_eq!(rt; host.output(REPORT), report.as_bytes(), "at {length}");
+        assert_eq!(rt; host.output(COMPLAINT), line.as_bytes(), "at {length}");
     }
     Ok(())
 }

@@ -1,5 +1,5 @@
 -- Lists of twelve samples, entry by entry.
-use Rattle.std.proofs.Common.{◌≡◌, ℕ, ◌-◌, ◌<◌, ◌≤◌, List, [], ◌∷◌, ◌++◌, ℤ, pos, length, drop, refl, sym, ap, ◌∙◌, map, arith}
+use Rattle.std.proofs.Common.{◌≡◌, ℕ, List, [], ◌∷◌, ◌++◌, ℤ, pos, length, drop, refl, sym, ap, ◌∙◌, map, arith}
 use Rattle.std.proofs.lemmas.List.{get_or-reverse, drop-append-le}
 use Rattle.brr_decode.specs.Kept.{EndsWith}
 use Rattle.std.specs.List.{range_with_len}

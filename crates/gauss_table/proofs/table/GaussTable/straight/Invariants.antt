@@ -1,4 +1,4 @@
-use Rattle.std.proofs.Common.{◌≡◌, ℕ, ◌<◌, ℤ, pos, get_or, length}
+use Rattle.std.proofs.Common.{◌≡◌, ℕ, ◌<◌, pos, get_or, length}
 use Rattle.gauss_table.specs.StraightTable.{straight_weight}
 use Rattle.gauss_table.proofs.table.GaussTable.straight.Given as goal
 

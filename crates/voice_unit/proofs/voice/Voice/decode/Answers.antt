@@ -1,8 +1,7 @@
-use Rattle.std.proofs.Common.{rules, ◌≡◌, ◌+◌, ◌++◌, List, ℤ, to_z, of_z, refl, sym, ◌∙◌, ap, drop, arith}
+use Rattle.std.proofs.Common.{rules, ◌≡◌, ◌+◌, List, ℤ, to_z, of_z, refl, sym, ◌∙◌, ap, drop}
 use Rattle.std.specs.Int.{w16}
 use Rattle.num_fix.specs.Words.{number_at}
 use Rattle.aram_core.specs.Memory.{byte_at}
-use Rattle.brr_decode.specs.Kept.{with_group}
 use Rattle.voice_unit.specs.Voice.{after_decoding}
 use Rattle.voice_unit.proofs.Twelve.{ends_with_last_two, drop-more}
 use Rattle.voice_unit.proofs.voice.Voice.decode.Goals as goal

@@ -1,4 +1,4 @@
-use Rattle.std.proofs.Common.{◌≡◌, ℕ, List, ℤ, pos, refl, ◌*ℤ◌, arith}
+use Rattle.std.proofs.Common.{◌≡◌, List, ℤ, pos, refl, arith}
 use Rattle.std.proofs.Math.IntN.{*ℤ-zero}
 use Rattle.num_fix.specs.Arithmetic.{clear_bit0, floor_shift, scaled}
 use Rattle.voice_unit.specs.Voice.{VoiceState, output}

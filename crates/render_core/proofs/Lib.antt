@@ -1,0 +1,12 @@
+-- Fading: how large a faded side gets, and the entries of faded frames.
+pub mod Fading
+-- Runs: a run is its next step and the run from there.
+pub mod Runs
+-- Ahead: what was emitted before a run stands before what it emits.
+pub mod Ahead
+-- Counted: a run emits a frame for each sample.
+pub mod Counted
+-- Opened: from the opening that is as many as samples are to be made.
+pub mod Opened
+-- Lists: two lists that make an empty one are empty.
+pub mod Lists

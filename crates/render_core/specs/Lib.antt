@@ -1,0 +1,11 @@
+-- What a reader of the promises needs:
+-- the whole machine that a file opens
+pub mod Opening
+-- a run: steps until so many samples are made
+pub mod Run
+-- the frames and records that a run emits
+pub mod Items
+-- what contracts see of a render: what is still to come, and the next piece of it
+pub mod RenderState
+-- the fade at the end
+pub mod Fade

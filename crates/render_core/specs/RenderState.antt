@@ -1,0 +1,41 @@
+-- What contracts see of a render, and of it the items still to come.
+use Rattle.std.specs.Prelude.{◌≡◌, ℕ, ◌+◌, ◌*◌, ◌<◌, List, [], ◌++◌, length, Bool, true, false, ◌↔◌}
+use Rattle.num_fix.specs.declared.Frame.{Frame}
+use Rattle.trace_form.specs.declared.record.Record.{Record}
+use Rattle.spc700_exec.specs.declared.cpu.Cpu.{Cpu}
+use Rattle.sound_bus.specs.ChipMeaning.{ChipMeaning}
+use Rattle.sound_bus.specs.Machine.{Machine}
+use Rattle.sound_bus.specs.LockStep.{lock_step}
+use Rattle.sound_bus.specs.PlainBus.{plain_emits}
+use Rattle.render_core.specs.Items.{run_frames, run_records}
+
+pub record RenderState (S : Type 0) : Type 0 where
+  -- the whole machine: the processor, and the bus with what it emitted since it was drained
+  pub cpu : Cpu
+  pub bus : Machine S
+  -- the samples to be made
+  pub samples : ℕ
+  -- the piece that was made last
+  pub frames : List Frame
+  pub records : List Record
+
+-- the frames and the records still to come: those that the run from this machine emits until its samples are made
+abbrev pub frames_to_come : {S : Type 0} → ChipMeaning S → RenderState S → List Frame
+frames_to_come chip render = run_frames (lock_step chip) plain_emits render.samples (render.cpu, render.bus)
+
+abbrev pub records_to_come : {S : Type 0} → ChipMeaning S → RenderState S → List Record
+records_to_come chip render = run_records (lock_step chip) plain_emits render.samples (render.cpu, render.bus)
+
+-- frames and records that are the next piece between two states of a render, and whether it is the last one
+pub record IsNextPiece {S : Type 0} (chip : ChipMeaning S) (old new : RenderState S) (given : List Frame) (written : List Record) (is_last : Bool) : Type 0 where
+  -- the piece, followed by what is then still to come, is what was to come before it
+  pub frames : frames_to_come chip old ≡ given ++ frames_to_come chip new
+  pub records : records_to_come chip old ≡ written ++ records_to_come chip new
+  -- it is the last one exactly where nothing is to come behind it
+  pub done : (is_last ≡ true) ↔ ((frames_to_come chip new ≡ []) × (records_to_come chip new ≡ []))
+  -- else it has a frame or a record
+  pub some : is_last ≡ false → 0 < length given + length written
+  -- and the clock went on, so that a loop over the pieces ends
+  pub later : is_last ≡ false → old.bus.clock < new.bus.clock
+  pub below : is_last ≡ false → new.bus.clock < 32 * new.samples
+  pub samples : new.samples ≡ old.samples

@@ -1,0 +1,100 @@
+// One piece, over any bus that emits.
+ghost use Rattle.std.specs.Prelude.{◌≡◌, ◌+◌, ◌*◌, ◌++◌, ◌<◌, ◌≤◌, [], length, true, false};
+ghost use Rattle.render_core.specs.Items.{run_frames, run_records, records_before, sample_number, IsIdle};
+
+use sound_bus::Source;
+use spc700_exec::{Cpu, step};
+use trace_form::{Frames, Record, Records};
+
+/// The sample number of a record.
+fn sample_number(item: &Record) -> u32
+    ensures { result ≡ sample_number item.now }
+{
+    match *item {
+        Record::Reg { sample, .. } => sample,
+        Record::Port { sample, .. } => sample,
+        Record::Voice { sample, .. } => sample,
+    }
+}
+
+/// Takes over the records that stand before the last frame. Behind it a step may have emitted more.
+fn keep_early(drained: &Records, samples: u32, records: &mut Records)
+    ensures { records.new ≡ records_before samples drained.now }
+{
+    records.clear();
+    // Both lists have the same room.
+    let _room = drained.room();
+    for item in drained.as_slice() {
+        if sample_number(item) < samples {
+            records.push(*item);
+        }
+    }
+}
+
+/// Makes all pending samples, once the last one is there.
+fn settle_at_end<B: Source>(bus: &mut B, samples: u32)
+    ensures frames { B.emits.frames bus.new ≡ B.emits.frames bus.old }
+    ensures records { B.emits.records bus.new ≡ B.emits.records bus.old }
+    ensures rest { B.emits.cleared bus.new ≡ B.emits.cleared bus.old }
+    ensures calls { B.means.calls bus.new ≡ B.means.calls bus.old }
+    ensures pending { samples ≤ B.means.made bus.old → B.emits.pending bus.new ≡ 0 }
+{
+    if bus.made() >= samples {
+        bus.settle();
+    }
+}
+
+/// The lists of a piece, and one for the records as they are drained.
+#[derive(Drop)]
+pub(crate) struct Lists {
+    pub(crate) frames: Frames,
+    pub(crate) records: Records,
+    pub(crate) drained: Records,
+}
+
+/// One step, and what was emitted with it.
+fn step_once<B: Source>(cpu: &mut Cpu, bus: &mut B, samples: u32, lists: &mut Lists)
+    requires idle { B.means.calls bus.old ≡ 0 }
+    requires more { B.means.made bus.old < samples }
+    requires few { samples ≤ 115200000 }
+    ensures frames { run_frames B.means B.emits samples (cpu.old, bus.old) ≡ lists.new.frames ++ run_frames B.means B.emits samples (cpu.new, bus.new) }
+    ensures records { run_records B.means B.emits samples (cpu.old, bus.old) ≡ lists.new.records ++ run_records B.means B.emits samples (cpu.new, bus.new) }
+    ensures idle { IsIdle B.means B.emits samples bus.new }
+    ensures later { B.means.clock bus.old < B.means.clock bus.new }
+{
+    step(cpu, bus);
+    settle_at_end(bus, samples);
+    bus.drain(&mut lists.frames, &mut lists.drained);
+    keep_early(&lists.drained, samples, &mut lists.records);
+}
+
+/// Makes the next piece of a run to so many samples, and tells whether it is the last one: steps until a frame or a record
+/// was emitted, or all samples are made.
+pub(crate) fn make_piece<B: Source>(
+    cpu: &mut Cpu,
+    bus: &mut B,
+    samples: u32,
+    lists: &mut Lists,
+) -> bool
+    requires idle { IsIdle B.means B.emits samples bus.old }
+    requires few { samples ≤ 115200000 }
+    ensures frames { run_frames B.means B.emits samples (cpu.old, bus.old) ≡ lists.new.frames ++ run_frames B.means B.emits samples (cpu.new, bus.new) }
+    ensures records { run_records B.means B.emits samples (cpu.old, bus.old) ≡ lists.new.records ++ run_records B.means B.emits samples (cpu.new, bus.new) }
+    ensures idle { IsIdle B.means B.emits samples bus.new }
+    ensures frames_done { result ≡ true → run_frames B.means B.emits samples (cpu.new, bus.new) ≡ [] }
+    ensures records_done { result ≡ true → run_records B.means B.emits samples (cpu.new, bus.new) ≡ [] }
+    ensures some { result ≡ false → 0 < length lists.new.frames + length lists.new.records }
+    ensures more { result ≡ false → 0 < length (run_frames B.means B.emits samples (cpu.new, bus.new)) }
+    ensures later { result ≡ false → B.means.clock bus.old < B.means.clock bus.new }
+    ensures below { result ≡ false → B.means.clock bus.new < 32 * samples }
+{
+    lists.frames.clear();
+    lists.records.clear();
+    'steps: while bus.made() < samples
+        && lists.frames.as_slice().is_empty()
+        && lists.records.as_slice().is_empty()
+    {
+        step_once(cpu, bus, samples, lists);
+    }
+    bus.made() >= samples
+}

@@ -1,0 +1,138 @@
+// A render, piece by piece.
+ghost use Rattle.std.specs.Prelude.{◌≡◌, ◌+◌, ◌<◌, ◌≤◌, [], length, false, IfOk};
+ghost use Rattle.std.specs.Borrow.{sem};
+ghost use Rattle.std.specs.Io.BufRead.{Rests};
+ghost use Rattle.sound_bus.specs.LockStep.{lock_step};
+ghost use Rattle.sound_bus.specs.PlainBus.{plain_emits, plain_counts};
+ghost use Rattle.render_core.specs.Items.{run_frames, run_records};
+ghost use Rattle.render_core.specs.Opening.{opened_whole, opened_cpu};
+ghost use Rattle.render_core.specs.RenderState.{frames_to_come, records_to_come, IsNextPiece};
+ghost use Rattle.render_core.specs.contracts.render.Render.{the_row};
+
+use crate::OutOfMemory;
+use crate::making::{Lists, make_piece};
+use crate::piece::Piece;
+use sound_bus::{Chip, Counts, PlainBus};
+use spc_form::{SpcFile, opening};
+use spc700_exec::Cpu;
+use std::alloc::Global;
+use std::marker::Model;
+use trace_form::{Frames, Records};
+
+/// A render of so many samples over a chip, 32,000 a second.
+#[derive(Drop)]
+pub struct Render<C: Chip> {
+    cpu: Cpu,
+    bus: PlainBus<C>,
+    samples: u32,
+    lists: Lists,
+}
+
+impl<C: Chip> Model for Render<C> {
+    ghost use Rattle.std.specs.Prelude.{◌≤◌};
+    ghost use Rattle.sound_bus.specs.LockStep.{lock_step};
+    ghost use Rattle.sound_bus.specs.PlainBus.{plain_emits};
+    ghost use Rattle.render_core.specs.Items.{IsIdle};
+    ghost use Rattle.render_core.specs.RenderState.{RenderState};
+
+    ghost Value = { RenderState C.State };
+
+    ghost view = { λ r. record {
+      cpu = r.cpu;
+      bus = r.bus;
+      samples = r.samples;
+      frames = r.lists.frames;
+      records = r.lists.records;
+    } };
+
+    ghost invariant = { λ r. (r.samples ≤ 115200000) × IsIdle (lock_step C.meaning) plain_emits r.samples r.bus };
+}
+
+/// The registers of a file.
+fn opened_cpu(file: &SpcFile) -> Cpu
+    ensures { result ≡ opened_cpu file.now }
+{
+    Cpu {
+        a: file.a(),
+        x: file.x(),
+        y: file.y(),
+        sp: file.sp(),
+        pc: file.pc(),
+        psw: file.psw(),
+        halted: false,
+    }
+}
+
+/// What was emitted last.
+fn piece_of<C: Chip>(render: &Render<C>, done: bool) -> Piece<'_>
+    ensures frames { result.frames.now ≡ render.now.frames }
+    ensures records { result.records.now ≡ render.now.records }
+    ensures done { result.done ≡ done }
+{
+    Piece {
+        frames: render.lists.frames.as_slice(),
+        records: render.lists.records.as_slice(),
+        done,
+    }
+}
+
+impl<C: Chip> Render<C> {
+    /// A render of so many samples of a file, over a chip that has made none. It emits the records of the voices in the
+    /// mask; bit v of the mask is voice v. All room is made here, and no later call takes memory.
+    pub fn open(
+        alloc: Global,
+        file: &SpcFile,
+        chip: C,
+        samples: u32,
+        mask: u8,
+    ) -> Result<Render<C>, OutOfMemory>
+        requires few { samples ≤ 115200000 }
+        requires sample { C.sample chip ≡ 0 }
+        requires batches { C.batches chip ≡ 0 }
+        ensures whole { IfOk result (λ render. (render.cpu, render.bus) ≡ opened_whole file.now (C.state chip) mask) }
+        ensures samples { IfOk result (λ render. render.samples ≡ samples) }
+        ensures frames { IfOk result (λ render. frames_to_come C.meaning render ≡ run_frames (lock_step C.meaning) plain_emits samples (opened_whole file.now (C.state chip) mask)) }
+        ensures records { IfOk result (λ render. records_to_come C.meaning render ≡ run_records (lock_step C.meaning) plain_emits samples (opened_whole file.now (C.state chip) mask)) }
+        ensures count { IfOk result (λ render. length (frames_to_come C.meaning render) ≡ samples) }
+    {
+        let state = opening(alloc, file)?;
+        let bus = PlainBus::open(alloc, state, chip, mask)?;
+        let frames = Frames::new(alloc)?;
+        let records = Records::new(alloc)?;
+        let drained = Records::new(alloc)?;
+        Ok(Render {
+            cpu: opened_cpu(file),
+            bus,
+            samples,
+            lists: Lists {
+                frames,
+                records,
+                drained,
+            },
+        })
+    }
+
+    /// Makes the next piece, and tells whether it is the last one.
+    fn make_next(&mut self) -> bool
+        ensures { IsNextPiece C.meaning self.old self.new self.new.frames self.new.records result }
+    {
+        make_piece(&mut self.cpu, &mut self.bus, self.samples, &mut self.lists)
+    }
+
+    /// Makes the next piece: steps until a frame or a record was emitted, or all samples are made. The pieces in order are
+    /// the whole render. Behind the last one each piece is empty and is a last one.
+    pub fn next_piece(&mut self) -> Piece<'_>
+        ensures* next { sem 𝓛 (Rests (the_row C.row C.State.row C.Chip) self.entry (λ new. IsNextPiece C.meaning self.old new result.frames.now result.records.now result.done)) }
+        ensures some { result.done ≡ false → 0 < length result.frames.now + length result.records.now }
+    {
+        let done = self.make_next();
+        piece_of(self, done)
+    }
+
+    /// How often the chip ran so far, and why.
+    pub fn counts(&self) -> Counts
+        ensures { result ≡ plain_counts self.now.bus }
+    {
+        self.bus.counts()
+    }
+}

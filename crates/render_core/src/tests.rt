@@ -1,0 +1,205 @@
+// Worked renders and fades.
+ghost use Rattle.std.specs.Prelude.{◌≤◌};
+
+use crate::{Render, faded};
+use dsp_core::Dsp;
+use gauss_table::GaussTable;
+use num_fix::Frame;
+use spc_form::{SpcFile, read_spc};
+use std::alloc::Global;
+use std::test::Fail;
+use trace_form::Record;
+
+/// The start of a file whose PC is 0400h.
+const START: [u8; 44] = *b"SNES-SPC700 Sound File Data v0.30\x1a\x1a\x1b\x1e\x00\x04\0\0\0\0\xef";
+
+/// The place of the memory in a file, and of the registers of the S-DSP.
+const MEMORY: usize = 0x100;
+
+const DSP: usize = 0x10100;
+
+/// A branch to itself at 0400h, with echo writes off and the sound muted.
+const QUIET: [(usize, &[u8]); 2] = [
+    (MEMORY + 0x0400, &[0x2F, 0xFE]),
+    (DSP + 0x6C, &[0x60, 0xE0]),
+];
+
+/// Voice 0 plays a block that repeats itself.
+const SOUND: [(usize, &[u8]); 11] = [
+    (MEMORY + 0x0200, &[0x00, 0x05, 0x00, 0x06]),
+    (
+        MEMORY + 0x0500,
+        &[0xC3, 0x11, 0x11, 0x11, 0x11, 0x11, 0x11, 0x11, 0x11],
+    ),
+    (
+        MEMORY + 0x0600,
+        &[0xC3, 0x11, 0x11, 0x11, 0x11, 0x11, 0x11, 0x11, 0x11],
+    ),
+    (DSP, &[0x7F, 0x7F]),
+    (DSP + 0x03, &[0x10]),
+    (DSP + 0x07, &[0x7F]),
+    (DSP + 0x0C, &[0x7F]),
+    (DSP + 0x1C, &[0x7F]),
+    (DSP + 0x4C, &[0x01]),
+    (DSP + 0x5D, &[0x02]),
+    (DSP + 0x6C, &[0x20]),
+];
+
+/// Puts pieces of bytes at their places.
+fn put_all(image: &mut [u8], pieces: &[(usize, &[u8])]) {
+    for (place, bytes) in pieces {
+        let mut at = *place;
+        for byte in *bytes {
+            if let Some(cell) = image.get_mut(at) {
+                *cell = *byte;
+            }
+            at = at.wrapping_add(1);
+        }
+    }
+}
+
+/// A file of these pieces, later ones over earlier ones.
+fn file(alloc: Global, sound: &[(usize, &[u8])], program: &[u8]) -> Result<SpcFile, Fail> {
+    let mut image = vec![in alloc; 0u8; 66048]?;
+    put_all(&mut image, &[(0, &START)]);
+    put_all(&mut image, &QUIET);
+    put_all(&mut image, sound);
+    put_all(&mut image, &[(MEMORY + 0x0400, program)]);
+    Ok(read_spc(alloc, &image)?)
+}
+
+/// All frames and records of a render, and the number of its batches.
+#[derive(Drop)]
+struct Given {
+    frames: Vec<Frame>,
+    records: Vec<Record>,
+    batches: u64,
+}
+
+/// Renders so many samples of a file, with the records of voice 0.
+fn rendered(alloc: Global, file: &SpcFile, samples: u32) -> Result<Given, Fail>
+    requires { samples ≤ 115200000 }
+{
+    let chip = Dsp::open(alloc, file.dsp(), GaussTable::straight(alloc)?)?;
+    let mut render = Render::open(alloc, file, chip, samples, 0x01)?;
+    let mut frames = Vec::new(alloc);
+    let mut records = Vec::new(alloc);
+    'pieces: loop {
+        let piece = render.next_piece();
+        frames.extend_from_slice(piece.frames)?;
+        records.extend_from_slice(piece.records)?;
+        if piece.done {
+            break;
+        }
+    }
+    let batches = render.counts().batches;
+    Ok(Given {
+        frames,
+        records,
+        batches,
+    })
+}
+
+/// A record of voice 0 that plays the block at 0500h.
+fn voice(sample: u32, level: u16, out: i16) -> Record {
+    Record::Voice {
+        sample,
+        voice: 0,
+        level,
+        out,
+        block: 0x0500,
+        keyed: false,
+        looped: false,
+    }
+}
+
+const SILENT: Frame = Frame { left: 0, right: 0 };
+
+const LOUD: Frame = Frame {
+    left: 4000,
+    right: 4000,
+};
+
+#[test]
+fn a_voice_is_heard_from_sample_six_on(rt: HostRuntime) -> Result<(), Fail> {
+    let playing = file(rt.alloc(), &SOUND, &[])?;
+    let eight = rendered(rt.alloc(), &playing, 8)?;
+    let frames = [SILENT, SILENT, SILENT, SILENT, SILENT, SILENT, LOUD, LOUD];
+    assert_eq!(rt; eight.frames.as_slice(), frames.as_slice());
+    let keyed = Record::Voice {
+        sample: 0,
+        voice: 0,
+        level: 0,
+        out: 0,
+        block: 0,
+        keyed: true,
+        looped: false,
+    };
+    let records = [
+        keyed,
+        voice(1, 0, 0),
+        voice(2, 0, 0),
+        voice(3, 0, 0),
+        voice(4, 0, 0),
+        voice(5, 0, 0),
+        voice(6, 2032, 4064),
+        voice(7, 2032, 4064),
+    ];
+    assert_eq!(rt; eight.records.as_slice(), records.as_slice());
+    assert_eq!(rt; eight.batches, 8);
+    // It is heard on where the program stops.
+    let stopped = file(rt.alloc(), &SOUND, &[0xFF])?;
+    let long = rendered(rt.alloc(), &stopped, 200)?;
+    assert_eq!(rt; long.frames.len(), 200);
+    assert!(rt; long.frames.iter().take(6).all(|frame| *frame == SILENT));
+    assert!(rt; long.frames.iter().skip(6).all(|frame| *frame == LOUD));
+    Ok(())
+}
+
+#[test]
+fn records_behind_the_last_frame_are_dropped(rt: HostRuntime) -> Result<(), Fail> {
+    // 14 NOPs, and then a write of port 0 whose last cycle is that of a sample's end.
+    let program = [
+        0, 0, 0, 0, 0, 0, 0, 0, 0, 0, 0, 0, 0, 0, 0x8F, 0x5A, 0xF4, 0x2F, 0xFE,
+    ];
+    let quiet = file(rt.alloc(), &[], &program)?;
+    let port = Record::Port {
+        sample: 1,
+        port: 0,
+        value: 0x5A,
+    };
+    for (samples, written) in [(0, 0), (1, 0), (2, 1), (3, 1)] {
+        assert!(rt; samples <= 3);
+        let all = rendered(rt.alloc(), &quiet, samples)?;
+        assert_eq!(rt; all.frames.len(), samples as usize, "{samples}");
+        assert!(rt;
+            all.frames.iter().all(|frame| *frame == SILENT),
+            "{samples}"
+        );
+        let ports = all.records.iter().filter(|item| **item == port).count();
+        assert_eq!(rt; ports, written, "{samples}");
+    }
+    Ok(())
+}
+
+#[test]
+fn a_fade_of_32_frames(rt: HostRuntime) {
+    for (at, left, right, wanted_left, wanted_right) in [
+        (31999, 4000, -4000, 4000, -4000),
+        (32000, 4000, -4000, 3875, -3875),
+        (32001, 4000, -4000, 3750, -3750),
+        (32030, 4000, -4000, 125, -125),
+        (32031, 4000, -4000, 0, 0),
+        // rounded towards zero
+        (32021, 3, -3, 0, 0),
+        (32000, -32768, 32767, -31744, 31743),
+    ] {
+        assert!(rt; at < 32032);
+        let frame = faded(Frame { left, right }, at, 32032, 32);
+        let wanted = Frame {
+            left: wanted_left,
+            right: wanted_right,
+        };
+        assert_eq!(rt; frame, wanted, "at {at}");
+    }
+}

@@ -1,0 +1,13 @@
+-- The S-DSP as a chip.
+use Rattle.dsp_core.specs.declared.state.DspState.{DspState}
+use Rattle.dsp_core.specs.Sample.{sample}
+use Rattle.dsp_core.specs.Chip.{register_read, register_write, is_sound}
+use Rattle.sound_bus.specs.ChipMeaning.{ChipMeaning}
+
+abbrev pub dsp_chip : ChipMeaning DspState
+dsp_chip = record {
+  register_read = register_read;
+  register_write = register_write;
+  sample = sample;
+  is_sound = is_sound;
+}

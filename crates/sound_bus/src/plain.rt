@@ -1,0 +1,275 @@
+// A bus that makes each sample at once.
+ghost use Rattle.std.specs.Prelude.{◌≡◌, ◌+◌, ◌*◌, ◌/◌, ◌<◌, ◌≤◌, ◌++◌, ◌∷◌, [], true, length, IfOk};
+ghost use Rattle.std.specs.List.{filter};
+ghost use Rattle.std.proofs.Common.{refl};
+ghost use Rattle.dsp_core.specs.Run.{in_mask};
+ghost use Rattle.sound_bus.specs.Machine.{opened_machine};
+ghost use Rattle.sound_bus.specs.LockStep.{bus_answer, after_bus_read, after_bus_write, after_bus_pass, lock_step};
+ghost use Rattle.sound_bus.specs.PlainBus.{drained_machine, plain_emits, plain_counts};
+ghost use Rattle.sound_bus.specs.PlainLaws.{emits_frames, emits_records, frame_each};
+
+use crate::OutOfMemory;
+use crate::chip::Chip;
+use crate::counts::Counts;
+use crate::source::Source;
+use aram_core::Aram;
+use ports_timers::Io;
+use spc_form::OpenState;
+use spc700_exec::Bus;
+use std::alloc::Global;
+use std::marker::Model;
+use trace_form::{Frames, Record, Records};
+
+/// A bus over a chip that makes each sample at once. What is emitted waits in it for the next drain.
+#[derive(Drop)]
+pub struct PlainBus<C: Chip> {
+    memory: Aram,
+    io: Io,
+    chip: C,
+    mask: u8,
+    clock: u64,
+    frames: Frames,
+    records: Records,
+    calls: u8,
+}
+
+impl<C: Chip> Model for PlainBus<C> {
+    ghost use Rattle.std.specs.Prelude.{◌≡◌, ◌+◌, ◌*◌, ◌/◌, ◌<◌, ◌≤◌, length};
+    ghost use Rattle.sound_bus.specs.Machine.{Machine};
+
+    ghost Value = { Machine C.State };
+
+    ghost view = { λ b. record {
+      memory = b.memory;
+      io = b.io;
+      chip = C.state b.chip;
+      mask = b.mask;
+      clock = b.clock;
+      frames = b.frames;
+      records = b.records;
+      calls = b.calls;
+    } };
+
+    // A call emits at most one frame and the records of one sample.
+    ghost invariant = { λ b. (C.sample b.chip ≡ b.clock / 32)
+        × (length b.frames ≤ b.calls)
+        × (length b.records ≤ 9 * b.calls)
+        × (b.clock < 128000000032)
+        × (b.calls ≤ 64) };
+}
+
+/// Makes the next sample.
+#[tactic(auto, using(crate::proofs::Records::run_one, crate::proofs::Records::sample_record_count))]
+fn make_sample<C: Chip>(
+    chip: &mut C,
+    memory: &mut Aram,
+    mask: u8,
+    frames: &mut Frames,
+    records: &mut Records,
+)
+    requires is_sound { C.meaning.is_sound (C.state chip.old) ≡ true }
+    requires number { C.sample chip.old < 4000000000 }
+    requires frame_room { length frames.old < 128 }
+    requires record_room { length records.old + 8 ≤ 1344 }
+    ensures state { C.state chip.new ≡ (C.meaning.sample (C.sample chip.old) (C.state chip.old) memory.old).state }
+    ensures sample { C.sample chip.new ≡ C.sample chip.old + 1 }
+    ensures memory { memory.new ≡ (C.meaning.sample (C.sample chip.old) (C.state chip.old) memory.old).memory }
+    ensures frames { frames.new ≡ frames.old ++ (C.meaning.sample (C.sample chip.old) (C.state chip.old) memory.old).frame ∷ [] }
+    ensures records { records.new ≡ records.old ++ filter (in_mask mask) (C.meaning.sample (C.sample chip.old) (C.state chip.old) memory.old).voices }
+    ensures frame_count { length frames.new ≡ length frames.old + 1 }
+    ensures record_count { length records.new ≤ length records.old + 8 }
+{
+    chip.advance(1, memory, mask, frames, records);
+}
+
+impl<C: Chip> PlainBus<C> {
+    /// The bus at clock 0 over a chip that has made no sample. It emits the records of the voices in the mask; bit v of
+    /// the mask is voice v. All room is made here. The chip has its registers already, so the opening's aren't used.
+    pub fn open(alloc: Global, opening: OpenState, chip: C, mask: u8) -> Result<Self, OutOfMemory>
+        requires sample { C.sample chip ≡ 0 }
+        requires batches { C.batches chip ≡ 0 }
+        ensures { IfOk result (λ bus. bus ≡ opened_machine opening.memory opening.cells opening.rom (C.state chip) mask) }
+    {
+        let frames = Frames::new(alloc)?;
+        let records = Records::new(alloc)?;
+        Ok(PlainBus {
+            memory: opening.memory,
+            io: Io::from_cells(opening.cells, opening.rom),
+            chip,
+            mask,
+            clock: 0,
+            frames,
+            records,
+            calls: 0,
+        })
+    }
+
+    /// The samples that the chip hasn't made yet: none.
+    pub fn pending(&self) -> u8
+        ensures { result ≡ 0 }
+    {
+        0
+    }
+
+    /// How often the chip ran: each sample is a batch of its own, and none of them has a cause.
+    pub fn counts(&self) -> Counts
+        ensures { result ≡ plain_counts self.now }
+    {
+        Counts {
+            batches: u64::from(self.made()),
+            register: 0,
+            memory: 0,
+            echo: 0,
+            full: 0,
+            events: 0,
+            end: 0,
+        }
+    }
+
+    /// A read where memory may not be what answers.
+    fn read_port(&mut self, addr: u16) -> u8
+        requires { self.old.calls < 64 }
+        ensures answer { result ≡ bus_answer C.meaning self.old addr }
+        ensures next { self.new ≡ after_bus_read self.old addr }
+    {
+        self.calls += 1;
+        if addr == 0xF3 {
+            return self.chip.reg_read(self.io.dsp_address() % 0x80);
+        }
+        match self.io.read(addr) {
+            Some(byte) => byte,
+            None => self.memory.get(addr),
+        }
+    }
+
+    /// What a write of F0h to FFh does beside memory.
+    fn write_port(&mut self, addr: u16, value: u8)
+        requires calls { self.old.calls < 64 }
+        ensures { self.new ≡ record (after_bus_write C.meaning self.old addr value) { memory = self.old.memory } }
+    {
+        let sample = self.made();
+        let address = self.io.dsp_address();
+        self.calls += 1;
+        match addr {
+            0xF3 if address < 0x80 => {
+                self.chip.reg_write(address, value);
+                self.records.push(Record::Reg {
+                    sample,
+                    addr: address,
+                    value,
+                });
+            }
+            0xF4..=0xF7 => self.records.push(Record::Port {
+                sample,
+                port: (addr - 0xF4) as u8,
+                value,
+            }),
+            _ => {}
+        }
+        self.io.write(addr, value);
+    }
+
+    /// A pass that comes to a multiple of 16 of the clock, where timers may tick and a sample may be due.
+    fn pass_ticks(&mut self, cycles: u8)
+        requires room { self.old.calls < 64 }
+        requires some { 1 ≤ cycles }
+        requires few { cycles ≤ 32 }
+        requires time { self.old.clock / 32 < 4000000000 }
+        ensures { self.new ≡ after_bus_pass C.meaning self.old cycles }
+    {
+        self.calls += 1;
+        let from = self.clock;
+        self.clock = from + u64::from(cycles);
+        self.io.ticks(from, cycles);
+        if u64::from(self.chip.sample()) < self.clock / 32 {
+            make_sample(
+                &mut self.chip,
+                &mut self.memory,
+                self.mask,
+                &mut self.frames,
+                &mut self.records,
+            );
+        }
+    }
+}
+
+impl<C: Chip> Bus for PlainBus<C> {
+    ghost means = { lock_step C.meaning };
+
+    #[inline]
+    fn read(&mut self, addr: u16) -> u8 {
+        match addr {
+            0xF0..=0xFF | 0xFFC0.. => self.read_port(addr),
+            _ => {
+                self.calls += 1;
+                self.memory.get(addr)
+            }
+        }
+    }
+
+    #[inline]
+    fn write(&mut self, addr: u16, value: u8) {
+        self.memory.put(addr, value);
+        match addr {
+            0xF0..=0xFF => self.write_port(addr, value),
+            _ => self.calls += 1,
+        }
+    }
+
+    #[inline]
+    fn pass(&mut self, cycles: u8) {
+        if self.clock % 16 + u64::from(cycles) >= 16 {
+            self.pass_ticks(cycles);
+        } else {
+            self.calls += 1;
+            self.clock += u64::from(cycles);
+        }
+    }
+
+    #[inline]
+    fn to_sample(&self) -> u8 {
+        (32 - self.clock % 32) as u8
+    }
+
+    ghost lawful = { record {
+      read_calls = λ _ _. refl;
+      read_clock = λ _ _. refl;
+      write_calls = λ _ _ _. refl;
+      write_clock = λ _ _ _. refl;
+      pass_calls = λ _ _. refl;
+      pass_clock = λ _ _. refl;
+      samples = λ _. refl;
+    } };
+}
+
+impl<C: Chip> Source for PlainBus<C> {
+    ghost emits = { plain_emits };
+
+    fn made(&self) -> u32 {
+        (self.clock / 32) as u32
+    }
+
+    /// Changes nothing, as no sample is pending.
+    fn settle(&mut self)
+        ensures { self.new ≡ self.old }
+    {}
+
+    /// Clears both lists and moves into them what was emitted since the last drain.
+    fn drain(&mut self, frames: &mut Frames, records: &mut Records)
+        ensures frames { frames.new ≡ self.old.frames }
+        ensures records { records.new ≡ self.old.records }
+        ensures rest { self.new ≡ drained_machine self.old }
+    {
+        frames.clear();
+        std::mem::swap(&mut self.frames, frames);
+        records.clear();
+        std::mem::swap(&mut self.records, records);
+        self.calls = 0;
+    }
+
+    ghost emits_frames = { emits_frames C.meaning };
+
+    ghost emits_records = { emits_records C.meaning };
+
+    ghost frame_each = { frame_each C.meaning };
+}

@@ -1,0 +1,40 @@
+// A bus that emits frames and records and is drained.
+ghost use Rattle.std.specs.Prelude.{◌≡◌, ◌++◌, []};
+ghost use Rattle.spc700_exec.specs.Emitting.{IsEmitting};
+ghost use Rattle.sound_bus.specs.Emits.{Emits, IsFrameEach};
+
+use spc700_exec::Bus;
+use trace_form::{Frames, Records};
+
+/// A bus beneath which frames and records are emitted.
+pub trait Source: Bus {
+    /// What was emitted since the last drain, the bus without it, and the pending samples.
+    ghost emits: { Emits Self };
+
+    /// The samples of the machine, made or pending.
+    fn made(&self) -> u32
+        ensures { result ≡ Self.means.made self.now };
+
+    /// Makes all samples that are pending.
+    fn settle(&mut self)
+        ensures frames { emits.frames self.new ≡ emits.frames self.old }
+        ensures records { emits.records self.new ≡ emits.records self.old }
+        ensures rest { emits.cleared self.new ≡ emits.cleared self.old }
+        ensures calls { Self.means.calls self.new ≡ Self.means.calls self.old }
+        ensures pending { emits.pending self.new ≡ 0 };
+
+    /// Clears both lists and moves into them what was emitted; with samples pending, what stands before the first of them.
+    fn drain(&mut self, frames: &mut Frames, records: &mut Records)
+        ensures frames { emits.frames self.old ≡ frames.new ++ emits.frames self.new }
+        ensures records { emits.records self.old ≡ records.new ++ emits.records self.new }
+        ensures rest { emits.cleared self.new ≡ emits.cleared self.old }
+        ensures calls { Self.means.calls self.new ≡ 0 }
+        ensures all_frames { emits.pending self.old ≡ 0 → emits.frames self.new ≡ [] }
+        ensures all_records { emits.pending self.old ≡ 0 → emits.records self.new ≡ [] };
+
+    ghost emits_frames: { IsEmitting Self.means emits.cleared emits.frames };
+
+    ghost emits_records: { IsEmitting Self.means emits.cleared emits.records };
+
+    ghost frame_each: { IsFrameEach Self.means emits.frames };
+}
