@@ -1,6 +1,6 @@
--- What a run emits: the frames, and the records up to the last of them. Of a machine whose bus has emitted something that
--- was not drained yet this stands first.
-use Rattle.std.specs.Prelude.{◌≡◌, ◌≤◌, ℕ, nat_lt, List, [], filter}
+-- What a run emits: the frames, and the records up to the last of them. What the machine had emitted before, and was not
+-- drained yet, stands first.
+use Rattle.std.specs.Prelude.{ℕ, nat_lt, List, filter}
 use Rattle.num_fix.specs.declared.Frame.{Frame}
 use Rattle.trace_form.specs.declared.record.Record.{Record}
 use Rattle.trace_form.specs.declared.record.Record.TheVariants.{Reg, Port, Voice}
@@ -18,17 +18,11 @@ sample_number (Reg sample addr value) = sample
 sample_number (Port sample port value) = sample
 sample_number (Voice sample voice level out block keyed looped) = sample
 
--- Records that stand before the frame of number `samples - 1`: a record has as its sample the number of those made before
--- it. A step may go on behind its sample, so that it emits later ones.
+-- the records up to the last frame of so many samples: all that have a sample number below that. A step may go on behind
+-- its sample, so that a run emits later ones too
 abbrev pub records_before : (samples : ℕ) → List Record → List Record
 records_before samples records = filter (λ item. nat_lt (sample_number item) samples) records
 
 -- the records of a run to so many samples
 abbrev pub run_records : {S : Type 0} → BusMeaning S → Emits S → (samples : ℕ) → Whole S → List Record
 run_records bus emits samples w = records_before samples (emits.records (after_run bus samples w).1)
-
--- between two steps of a run to so many samples: nothing was called since the last drain, and at its end all was handed over
-pub record IsIdle {S : Type 0} (bus : BusMeaning S) (emits : Emits S) (samples : ℕ) (s : S) : Type 0 where
-  pub calls : bus.calls s ≡ 0
-  pub frames : samples ≤ bus.made s → emits.frames s ≡ []
-  pub records : samples ≤ bus.made s → emits.records s ≡ []

@@ -9,3 +9,5 @@ pub mod Items
 pub mod RenderState
 -- the fade at the end
 pub mod Fade
+-- A word of the contracts within the crate; no promise speaks of it:
+pub mod Idle

@@ -1,6 +1,7 @@
 // One piece, over any bus that emits.
 ghost use Rattle.std.specs.Prelude.{◌≡◌, ◌+◌, ◌*◌, ◌++◌, ◌<◌, ◌≤◌, [], length, true, false};
-ghost use Rattle.render_core.specs.Items.{run_frames, run_records, records_before, sample_number, IsIdle};
+ghost use Rattle.render_core.specs.Idle.{IsIdle};
+ghost use Rattle.render_core.specs.Items.{run_frames, run_records, records_before, sample_number};
 
 use sound_bus::Source;
 use spc700_exec::{Cpu, step};

@@ -32,7 +32,7 @@ impl<C: Chip> Model for Render<C> {
     ghost use Rattle.std.specs.Prelude.{◌≤◌};
     ghost use Rattle.sound_bus.specs.LockStep.{lock_step};
     ghost use Rattle.sound_bus.specs.PlainBus.{plain_emits};
-    ghost use Rattle.render_core.specs.Items.{IsIdle};
+    ghost use Rattle.render_core.specs.Idle.{IsIdle};
     ghost use Rattle.render_core.specs.RenderState.{RenderState};
 
     ghost Value = { RenderState C.State };
@@ -68,7 +68,11 @@ fn piece_of<C: Chip>(render: &Render<C>, done: bool) -> Piece<'_>
     ensures frames { result.frames.now ≡ render.now.frames }
     ensures records { result.records.now ≡ render.now.records }
     ensures done { result.done ≡ done }
+    ensures few_frames { length result.frames.now ≤ 128 }
+    ensures few_records { length result.records.now ≤ 1344 }
 {
+    let _frame_room = render.lists.frames.room();
+    let _record_room = render.lists.records.room();
     Piece {
         frames: render.lists.frames.as_slice(),
         records: render.lists.records.as_slice(),
@@ -120,10 +124,13 @@ impl<C: Chip> Render<C> {
     }
 
     /// Makes the next piece: steps until a frame or a record was emitted, or all samples are made. The pieces in order are
-    /// the whole render. Behind the last one each piece is empty and is a last one.
+    /// the whole render, each with at most 128 frames and 1,344 records. Behind the last one each piece is empty and is a
+    /// last one.
     pub fn next_piece(&mut self) -> Piece<'_>
         ensures* next { sem 𝓛 (Rests (the_row C.row C.State.row C.Chip) self.entry (λ new. IsNextPiece C.meaning self.old new result.frames.now result.records.now result.done)) }
         ensures some { result.done ≡ false → 0 < length result.frames.now + length result.records.now }
+        ensures few_frames { length result.frames.now ≤ 128 }
+        ensures few_records { length result.records.now ≤ 1344 }
     {
         let done = self.make_next();
         piece_of(self, done)

@@ -10,7 +10,7 @@ use Rattle.command_frame.specs.declared.refusals.Refusal.{Refusal}
 use Rattle.command_frame.specs.declared.refusals.Refusal.TheVariants.{Usage, ReadFault, WriteFault, OutOfMemory, Input}
 use Rattle.command_frame.proofs.Leaving.{leaves, complains}
 use Rattle.spcwave.specs.declared.statuses.Cause.{Cause}
-use Rattle.spcwave.specs.declared.statuses.Cause.TheVariants.{SpcLength, SpcSignature, BrrLength, WavForm, EncodeSize, InputTooLong}
+use Rattle.spcwave.specs.declared.statuses.Cause.TheVariants.{SpcLength, SpcSignature, TableLength, BrrLength, WavForm, EncodeSize, InputTooLong}
 use Rattle.spcwave.specs.declared.statuses.Status.{Status}
 use Rattle.spcwave.specs.declared.statuses.Status.TheVariants as statuses
 use Rattle.spcwave.specs.Command.{Command, usage, names_input, answer_of}
@@ -26,6 +26,7 @@ plain_is (Some WriteFault) p h = cc
 plain_is (Some OutOfMemory) p h = cc
 plain_is (Some (Input (SpcLength n))) p h = absurd (cc)
 plain_is (Some (Input (SpcSignature at))) p h = absurd (cc)
+plain_is (Some (Input (TableLength n))) p h = absurd (cc)
 plain_is (Some (Input (BrrLength n))) p h = absurd (cc)
 plain_is (Some (Input WavForm)) p h = cc
 plain_is (Some (Input (EncodeSize n))) p h = absurd (cc)
@@ -51,6 +52,7 @@ line_end (Some WriteFault) a end = refl
 line_end (Some OutOfMemory) a end = refl
 line_end (Some (Input (SpcLength n))) a end = input_end (SpcLength n) a end
 line_end (Some (Input (SpcSignature at))) a end = input_end (SpcSignature at) a end
+line_end (Some (Input (TableLength n))) a end = input_end (TableLength n) a end
 line_end (Some (Input (BrrLength n))) a end = input_end (BrrLength n) a end
 line_end (Some (Input WavForm)) a end = refl
 line_end (Some (Input (EncodeSize n))) a end = input_end (EncodeSize n) a end

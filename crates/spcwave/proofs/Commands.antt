@@ -1,6 +1,6 @@
 -- What the commands answer, case by case.
 use Rattle.std.proofs.Common.{◌≡◌, ap, sym, subst, ◌∙◌, ℕ, ◌<◌, ◌≤◌, ◌%◌, List, [], ◌∷◌, length, Option, Some, None, Bool, true, false, refl, arith, rules}
-use Rattle.std.specs.Prelude.{IsSomeAnd, nat_lt, nat_le, ◌==◌, ◌&&◌, if◌then◌else◌}
+use Rattle.std.specs.Prelude.{IsSomeAnd, Ok, Err, nat_lt, nat_le, ◌==◌, ◌&&◌, if◌then◌else◌}
 use Rattle.std.proofs.lemmas.Bool.Decides.{nat_tests}
 use Rattle.brr_decode.specs.Kept.{IsBlockLength, samples_of}
 use Rattle.wav_form.specs.Wave.{mono_wave}
@@ -8,7 +8,7 @@ use Rattle.command_frame.specs.declared.refusals.Refusal.TheVariants.{Input}
 use Rattle.spcwave.specs.declared.statuses.Cause.TheVariants.{SpcLength, SpcSignature, InputTooLong, BrrLength}
 use Rattle.command_frame.specs.Answer.{done, refused}
 use Rattle.spc_form.specs.Accepted.{IsSpcLength, IsFirstDifference, IsAccepted, signature, padded}
-use Rattle.spcwave.specs.Info.{is_spc_length, first_difference, signed_answer, file_answer, info_answer, info_report}
+use Rattle.spcwave.specs.Inputs.{is_spc_length, first_difference, signed_file, file_of, file_in, table_of, table_in}
 use Rattle.spcwave.proofs.Signatures.{difference, no_difference}
 use Rattle.spcwave.specs.Brr.{brr_answer, decoding_answer, is_length_of_blocks, brr_report}
 
@@ -53,10 +53,10 @@ spc_length_true : (n : ℕ) → IsSpcLength n → is_spc_length n ≡ true
 spc_length_true n is = ap (λ (b : Bool). b && nat_le n 1048576) (le_true 65920 n is.least) ∙ le_true n 1048576 is.most
 
 -- bytes of another length are refused
-pub spc_length_answer : (bytes : List ℕ) (n : ℕ) → n ≡ length bytes → (IsSpcLength n → ⊥) → file_answer bytes ≡ refused (Input (SpcLength n))
-spc_length_answer bytes n is other =
-    ap (λ (b : Bool). if b then signed_answer bytes (first_difference signature bytes) else refused (Input (SpcLength (length bytes)))) (no_length (is_spc_length (length bytes)) refl)
-    ∙ ap (λ (m : ℕ). refused (Input (SpcLength m))) (sym is)
+pub other_length : (bytes : List ℕ) (n : ℕ) → n ≡ length bytes → (IsSpcLength n → ⊥) → file_of bytes ≡ Err (Input (SpcLength n))
+other_length bytes n is other =
+    ap (λ (b : Bool). if b then signed_file bytes (first_difference signature bytes) else Err (Input (SpcLength (length bytes)))) (no_length (is_spc_length (length bytes)) refl)
+    ∙ ap (λ (m : ℕ). Err (Input (SpcLength m))) (sym is)
   where
     no_length : (b : Bool) → is_spc_length (length bytes) ≡ b → is_spc_length (length bytes) ≡ false
     no_length false passed = passed
@@ -64,21 +64,25 @@ spc_length_answer bytes n is other =
         let both = both_true (nat_le 65920 (length bytes)) (nat_le (length bytes) 1048576) passed in
         absurd (other (subst IsSpcLength (sym is) (record { least = passed_le 65920 (length bytes) both.0; most = passed_le (length bytes) 1048576 both.1 })))
 
-sized_answer : (bytes : List ℕ) → IsSpcLength (length bytes) → file_answer bytes ≡ signed_answer bytes (first_difference signature bytes)
-sized_answer bytes is =
-    ap (λ (b : Bool). if b then signed_answer bytes (first_difference signature bytes) else refused (Input (SpcLength (length bytes)))) (spc_length_true (length bytes) is)
+sized_file : (bytes : List ℕ) → IsSpcLength (length bytes) → file_of bytes ≡ signed_file bytes (first_difference signature bytes)
+sized_file bytes is =
+    ap (λ (b : Bool). if b then signed_file bytes (first_difference signature bytes) else Err (Input (SpcLength (length bytes)))) (spc_length_true (length bytes) is)
 
 -- bytes with another signature are refused
-pub signature_answer : (bytes : List ℕ) (at : ℕ) → IsSpcLength (length bytes) → IsFirstDifference bytes at → file_answer bytes ≡ refused (Input (SpcSignature at))
-signature_answer bytes at sized first = sized_answer bytes sized ∙ ap (λ (o : Option ℕ). signed_answer bytes o) (difference bytes at sized.least first)
+pub other_signature : (bytes : List ℕ) (at : ℕ) → IsSpcLength (length bytes) → IsFirstDifference bytes at → file_of bytes ≡ Err (Input (SpcSignature at))
+other_signature bytes at sized first = sized_file bytes sized ∙ ap (λ (o : Option ℕ). signed_file bytes o) (difference bytes at sized.least first)
 
--- all others are told
-pub accepted_answer : (bytes : List ℕ) → IsAccepted bytes → file_answer bytes ≡ done [] (info_report (length bytes) (padded bytes))
-accepted_answer bytes is = sized_answer bytes is.sized ∙ ap (λ (o : Option ℕ). signed_answer bytes o) (no_difference bytes is.sized.least is.signed)
+-- all others are accepted
+pub accepted_file : (bytes : List ℕ) → IsAccepted bytes → file_of bytes ≡ Ok (padded bytes)
+accepted_file bytes is = sized_file bytes is.sized ∙ ap (λ (o : Option ℕ). signed_file bytes o) (no_difference bytes is.sized.least is.signed)
 
-pub long_file_answer : (held : Option (List ℕ)) → IsSomeAnd held (λ bytes. 1048576 < length bytes) → info_answer held ≡ refused (Input (SpcLength 1048577))
-long_file_answer None long = absurd (search rules)
-long_file_answer (Some bytes) long = ap (λ (b : Bool). if b then refused (Input (SpcLength 1048577)) else file_answer bytes) (lt_true 1048576 (length bytes) long)
+pub long_file : (held : Option (List ℕ)) → IsSomeAnd held (λ bytes. 1048576 < length bytes) → file_in held ≡ Err (Input (SpcLength 1048577))
+long_file None long = absurd (search rules)
+long_file (Some bytes) long = ap (λ (b : Bool). if b then Err (Input (SpcLength 1048577)) else file_of bytes) (lt_true 1048576 (length bytes) long)
+
+pub long_table : (held : Option (List ℕ)) → IsSomeAnd held (λ bytes. 1048576 < length bytes) → table_in held ≡ Err (Input InputTooLong)
+long_table None long = absurd (search rules)
+long_table (Some bytes) long = ap (λ (b : Bool). if b then Err (Input InputTooLong) else table_of bytes) (lt_true 1048576 (length bytes) long)
 
 pub too_long_answer : (output : List ℕ) (held : Option (List ℕ)) → IsSomeAnd held (λ bytes. 1048576 < length bytes) → brr_answer output held ≡ refused (Input InputTooLong)
 too_long_answer output None long = absurd (search rules)

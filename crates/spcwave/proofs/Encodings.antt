@@ -1,14 +1,13 @@
 -- What `encode` answers, case by case.
-use Rattle.std.proofs.Common.{◌≡◌, ap, sym, ◌∙◌, ℕ, ◌+◌, ℤ, ◌<◌, ◌≤◌, List, [], ◌∷◌, ◌++◌, length, take, get_or, Option, Some, None, Bool, true, false, refl, arith, rules}
+use Rattle.std.proofs.Common.{◌≡◌, ap, sym, ◌∙◌, ℕ, ◌+◌, ℤ, ◌<◌, ◌≤◌, List, [], ◌∷◌, ◌++◌, length, take, get_or, Option, Some, None, Bool, true, false, arith, rules}
 use Rattle.std.specs.Prelude.{IsSomeAnd, nat_lt, nat_le, ◌&&◌, if◌then◌else◌}
 use Rattle.std.proofs.lemmas.Bool.Decides.{nat_tests}
 use Rattle.std.proofs.lemmas.List.{append-nil, append_assoc, take_more, length-take-le}
 use Rattle.brr_encode.specs.Encoding.{encoding}
 use Rattle.brr_encode.specs.declared.report.BlockReport.{BlockReport}
 use Rattle.wav_form.specs.Mono.{mono_samples}
-use Rattle.command_frame.specs.Answer.{Answer, done, refused}
+use Rattle.command_frame.specs.Answer.{refused}
 use Rattle.command_frame.specs.declared.refusals.Refusal.TheVariants.{Input}
-use Rattle.spcwave.specs.declared.statuses.Cause.{Cause}
 use Rattle.spcwave.specs.declared.statuses.Cause.TheVariants.{EncodeSize, InputTooLong}
 use Rattle.spcwave.specs.Encode.{is_encodable, block_line, block_lines, blocks_answer, encoding_answer, samples_answer, encode_answer}
 

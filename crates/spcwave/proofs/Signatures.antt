@@ -4,7 +4,7 @@ use Rattle.std.specs.Prelude.{◌==◌, if◌then◌else◌}
 use Rattle.std.specs.Option.{option_map}
 use Rattle.std.proofs.lemmas.Bool.Decides.{nat_tests}
 use Rattle.spc_form.specs.Accepted.{HasSignature, IsFirstDifference, signature}
-use Rattle.spcwave.specs.Info.{first_difference}
+use Rattle.spcwave.specs.Inputs.{first_difference}
 
 equal_true : (a b : ℕ) → a ≡ b → (a == b) ≡ true
 equal_true a b h = grind (arith, nat_tests)

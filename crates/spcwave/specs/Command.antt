@@ -1,5 +1,5 @@
 -- The commands of the program, as its words say them, and what they answer.
-use Rattle.std.specs.Prelude.{ℕ, ◌==◌, ◌&&◌, not, Bool, true, false, List, [], ◌∷◌, codes, if◌then◌else◌}
+use Rattle.std.specs.Prelude.{ℕ, ◌&&◌, Bool, true, false, List, [], ◌∷◌, Option, Some, None, codes, if◌then◌else◌}
 use Rattle.std.specs.Str.{bytes_eq}
 use Rattle.snd_host.specs.Host.{Files}
 use Rattle.command_frame.specs.Answer.{Answer, refused}
@@ -7,6 +7,10 @@ use Rattle.command_frame.specs.declared.refusals.Refusal.TheVariants.{Usage}
 use Rattle.spcwave.specs.declared.statuses.Cause.{Cause}
 use Rattle.spcwave.specs.Brr.{brr_answer}
 use Rattle.spcwave.specs.Encode.{encode_answer}
+use Rattle.spcwave.specs.Check.{check_answer}
+use Rattle.spcwave.specs.Demo.{demo_answer}
+use Rattle.spcwave.specs.Options.{Options, is_name, options_in, demo_number_in}
+use Rattle.spcwave.specs.Render.{render_answer}
 use Rattle.spcwave.specs.Info.{info_answer}
 
 -- a command with its names
@@ -18,11 +22,12 @@ pub data Command : Type 0 where
   info : (input : List ℕ) → Command
   -- encodes the sound file of the first name to blocks under the second, with a loop or without
   encode : (input output : List ℕ) → (looped : Bool) → Command
-
--- A word that may name a file isn't empty and doesn't begin with a dash.
-abbrev pub is_name : List ℕ → Bool
-is_name [] = false
-is_name (first ∷ word) = not (first == 45)
+  -- renders the SPC file of the first name over the table of the second to a sound file of the third, and maybe to a trace
+  render : (file table wave : List ℕ) → (options : Options) → Command
+  -- makes the demo file of a number under the name
+  demo : (number : ℕ) → (output : List ℕ) → Command
+  -- tells sums over the frames of the demo file of a number
+  check : (number : ℕ) → Command
 
 -- the words behind `brr`
 abbrev pub brr_command : List (List ℕ) → Command
@@ -41,6 +46,41 @@ encode_command (input ∷ output ∷ option ∷ []) =
     if is_name input && (is_name output && bytes_eq option (codes "--loop")) then encode input output true else usage
 encode_command words = usage
 
+-- the sound file and the trace have the same name
+abbrev pub have_same_name : (wave : List ℕ) → (trace : Option (List ℕ)) → Bool
+have_same_name wave None = false
+have_same_name wave (Some trace) = bytes_eq wave trace
+
+-- `render` with these names and options
+abbrev pub render_with : (file table wave : List ℕ) → Option Options → Command
+render_with file table wave None = usage
+render_with file table wave (Some options) = if have_same_name wave options.trace then usage else render file table wave options
+
+-- the words behind `render`
+abbrev pub render_command : List (List ℕ) → Command
+render_command (file ∷ table ∷ wave ∷ words) =
+    if is_name file && (is_name table && is_name wave) then render_with file table wave (options_in words) else usage
+render_command words = usage
+
+-- `demo` with this name
+abbrev pub demo_with : (number : Option ℕ) → (output : List ℕ) → Command
+demo_with None output = usage
+demo_with (Some number) output = demo number output
+
+-- the words behind `demo`
+abbrev pub demo_command : List (List ℕ) → Command
+demo_command (number ∷ output ∷ []) = if is_name output then demo_with (demo_number_in number) output else usage
+demo_command words = usage
+
+abbrev pub check_with : (number : Option ℕ) → Command
+check_with None = usage
+check_with (Some number) = check number
+
+-- the words behind `check`
+abbrev pub check_command : List (List ℕ) → Command
+check_command (number ∷ []) = check_with (demo_number_in number)
+check_command words = usage
+
 -- the command that the words say
 abbrev pub command_of : List (List ℕ) → Command
 command_of [] = usage
@@ -48,6 +88,9 @@ command_of (name ∷ words) =
     if bytes_eq name (codes "brr") then brr_command words
     else if bytes_eq name (codes "info") then info_command words
     else if bytes_eq name (codes "encode") then encode_command words
+    else if bytes_eq name (codes "render") then render_command words
+    else if bytes_eq name (codes "demo") then demo_command words
+    else if bytes_eq name (codes "check") then check_command words
     else usage
 
 -- whether a command names an input
@@ -56,6 +99,9 @@ names_input usage = false
 names_input (brr input output) = true
 names_input (info input) = true
 names_input (encode input output looped) = true
+names_input (render file table wave options) = true
+names_input (demo number output) = false
+names_input (check number) = false
 
 -- what a command answers, by what the names hold
 abbrev pub answer_of : Command → Files → Answer Cause
@@ -63,3 +109,6 @@ answer_of usage files = refused Usage
 answer_of (brr input output) files = brr_answer output (files input)
 answer_of (info input) files = info_answer (files input)
 answer_of (encode input output looped) files = encode_answer output looped (files input)
+answer_of (render file table wave options) files = render_answer wave options (files file) (files table)
+answer_of (demo number output) files = demo_answer number output
+answer_of (check number) files = check_answer number

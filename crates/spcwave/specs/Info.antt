@@ -1,27 +1,14 @@
 -- What `info` answers.
-use Rattle.std.specs.Prelude.{ℕ, ◌+◌, ◌==◌, ◌&&◌, Bool, List, [], ◌∷◌, ◌++◌, length, slice_index, Option, Some, None, codes, decimal, nat_lt, nat_le, if◌then◌else◌}
+use Rattle.std.specs.Prelude.{ℕ, List, [], ◌∷◌, ◌++◌, length, slice_index, Option, unwrap_or, codes, decimal, if◌then◌else◌}
 use Rattle.std.specs.List.{flat_map}
-use Rattle.std.specs.Option.{option_map}
-use Rattle.command_frame.specs.Answer.{Answer, done, refused}
-use Rattle.command_frame.specs.declared.refusals.Refusal.TheVariants.{ReadFault, Input}
-use Rattle.spc_form.specs.Accepted.{signature, padded}
+use Rattle.command_frame.specs.Answer.{Answer, done}
 use Rattle.spc_form.specs.Layout.{pc_of}
 use Rattle.spc_form.specs.Tags.{has_tags, text_of}
 use Rattle.spc_form.specs.declared.tags.Tag.{Tag}
 use Rattle.spc_form.specs.declared.tags.Tag.TheVariants.{Title, Game, Dumper, Comments, Date, Seconds, Fade, Artist}
 use Rattle.spcwave.specs.Printing.{digits_of, word_digits, shown_text}
 use Rattle.spcwave.specs.declared.statuses.Cause.{Cause}
-use Rattle.spcwave.specs.declared.statuses.Cause.TheVariants.{SpcLength, SpcSignature}
-
--- a length that is accepted
-abbrev pub is_spc_length : ℕ → Bool
-is_spc_length n = nat_le 65920 n && nat_le n 1048576
-
--- the first place at which bytes differ from those that are wanted
-abbrev pub first_difference : (wanted bytes : List ℕ) → Option ℕ
-first_difference [] bytes = None
-first_difference (w ∷ wanted) [] = Some 0
-first_difference (w ∷ wanted) (byte ∷ bytes) = if w == byte then option_map (λ at. at + 1) (first_difference wanted bytes) else Some 0
+use Rattle.spcwave.specs.Inputs.{answer_from, file_in}
 
 abbrev pub tag_name : Tag → List ℕ
 tag_name Title = codes "title"
@@ -69,18 +56,6 @@ info_report size file =
     codes "length " ++ decimal size ++ codes "\nminor " ++ decimal (slice_index file 0x24) ++ codes "\n"
     ++ tag_lines file ++ register_line file
 
--- what bytes of an accepted length answer, by the first place at which they differ from the signature
-abbrev pub signed_answer : (bytes : List ℕ) → Option ℕ → Answer Cause
-signed_answer bytes None = done [] (info_report (length bytes) (padded bytes))
-signed_answer bytes (Some at) = refused (Input (SpcSignature at))
-
--- what bytes answer
-abbrev pub file_answer : (bytes : List ℕ) → Answer Cause
-file_answer bytes =
-    if is_spc_length (length bytes) then signed_answer bytes (first_difference signature bytes)
-    else refused (Input (SpcLength (length bytes)))
-
--- The same by what the input holds. Of a longer input one byte more than the greatest length is read.
-abbrev pub info_answer : Option (List ℕ) → Answer Cause
-info_answer None = refused ReadFault
-info_answer (Some bytes) = if nat_lt 1048576 (length bytes) then refused (Input (SpcLength 1048577)) else file_answer bytes
+-- what `info` answers, by what the input holds
+abbrev pub info_answer : (held : Option (List ℕ)) → Answer Cause
+info_answer held = answer_from (file_in held) (λ file. done [] (info_report (length (unwrap_or held [])) file))

@@ -4,7 +4,7 @@ use Rattle.command_frame.specs.Answer.{Answer, refusal_of, line_of}
 use Rattle.command_frame.specs.declared.refusals.Refusal.{Refusal}
 use Rattle.command_frame.specs.declared.refusals.Refusal.TheVariants.{Usage, ReadFault, WriteFault, OutOfMemory, Input}
 use Rattle.spcwave.specs.declared.statuses.Cause.{Cause}
-use Rattle.spcwave.specs.declared.statuses.Cause.TheVariants.{SpcLength, SpcSignature, BrrLength, WavForm, EncodeSize, InputTooLong}
+use Rattle.spcwave.specs.declared.statuses.Cause.TheVariants.{SpcLength, SpcSignature, TableLength, BrrLength, WavForm, EncodeSize, InputTooLong}
 use Rattle.spcwave.specs.declared.statuses.Status.{Status}
 use Rattle.spcwave.specs.declared.statuses.Status.TheVariants as statuses
 
@@ -16,6 +16,7 @@ code_of statuses.ReadFault = 2
 code_of statuses.WriteFault = 3
 code_of statuses.SpcLength = 4
 code_of statuses.SpcSignature = 5
+code_of statuses.TableLength = 6
 code_of statuses.OutOfMemory = 7
 code_of statuses.BrrLength = 8
 code_of statuses.WavForm = 9
@@ -25,6 +26,7 @@ code_of statuses.InputTooLong = 11
 abbrev pub cause_status : Cause → Status
 cause_status (SpcLength n) = statuses.SpcLength
 cause_status (SpcSignature at) = statuses.SpcSignature
+cause_status (TableLength n) = statuses.TableLength
 cause_status (BrrLength n) = statuses.BrrLength
 cause_status WavForm = statuses.WavForm
 cause_status (EncodeSize n) = statuses.EncodeSize
@@ -46,6 +48,7 @@ answer_status a = status_of (refusal_of a)
 abbrev pub cause_line : Cause → List ℕ
 cause_line (SpcLength n) = codes "spcwave: length " ++ decimal n ++ codes " is not that of an SPC file\n"
 cause_line (SpcSignature at) = codes "spcwave: signature differs at " ++ decimal at ++ codes "\n"
+cause_line (TableLength n) = codes "spcwave: table has " ++ decimal n ++ codes " bytes, not 1024\n"
 cause_line (BrrLength n) = codes "spcwave: length " ++ decimal n ++ codes " is not that of BRR blocks\n"
 cause_line WavForm = codes "spcwave: not a mono 16-bit PCM WAV\n"
 cause_line (EncodeSize n) = codes "spcwave: " ++ decimal n ++ codes " samples cannot be encoded\n"
@@ -64,6 +67,7 @@ plain_end statuses.WriteFault = Some (Some WriteFault)
 plain_end statuses.OutOfMemory = Some (Some OutOfMemory)
 plain_end statuses.SpcLength = None
 plain_end statuses.SpcSignature = None
+plain_end statuses.TableLength = None
 plain_end statuses.BrrLength = None
 plain_end statuses.WavForm = Some (Some (Input WavForm))
 plain_end statuses.EncodeSize = None

@@ -1,19 +1,19 @@
 // The command `info`: the fields of an SPC file.
-ghost use Rattle.std.specs.Prelude.{◌≡◌, ◌<◌, ◌++◌, OnOk, IfOk, length, codes, true};
+ghost use Rattle.std.specs.Prelude.{◌≡◌, ◌<◌, ◌++◌, [], OnOk, IfOk, length, codes, true};
 ghost use Rattle.snd_host.specs.Host.{HostState};
+ghost use Rattle.command_frame.specs.Answer.{done};
 ghost use Rattle.command_frame.specs.Conduct.{Plans, Prepares, Attempts};
 ghost use Rattle.command_frame.specs.Plan.{plan_makes};
-ghost use Rattle.spcwave.specs.Info.{tag_name, tag_line, tag_lines, register_text, counter_text, data_text, status_text, register_line, info_report, file_answer, info_answer};
+ghost use Rattle.spcwave.specs.Inputs.{answer_from, file_of};
+ghost use Rattle.spcwave.specs.Info.{tag_name, tag_line, tag_lines, register_text, counter_text, data_text, status_text, register_line, info_report, info_answer};
 
+use crate::inputs::{LIMIT, accept_file};
 use crate::printing::{put_digits, put_number, put_text, put_word};
 use crate::statuses::Cause;
 use command_frame::{OutOfMemory, Plan, Refusal, carry_out};
 use snd_host::{Host, ReadRefusal, read_whole};
-use spc_form::{SpcFile, SpcRefusal, Tag, read_spc};
+use spc_form::{SpcFile, Tag};
 use std::alloc::Global;
-
-/// The greatest input that is read.
-const LIMIT: usize = 1048576;
 
 /// The tags in the order of their lines.
 const TAGS: [Tag; 8] = [
@@ -127,13 +127,11 @@ fn report(alloc: Global, size: usize, file: &SpcFile) -> Result<Vec<u8>, OutOfMe
 
 /// Makes the plan for an input that was read.
 fn plan(alloc: Global, bytes: &[u8]) -> Result<Plan<'static>, Refusal<Cause>>
-    ensures { Plans plan_makes (file_answer bytes.now) result }
+    ensures { Plans plan_makes (answer_from (file_of bytes.now) (λ file. done [] (info_report (length bytes.now) file))) result }
 {
-    let file = match read_spc(alloc, bytes) {
+    let file = match accept_file(alloc, bytes) {
         Ok(file) => file,
-        Err(SpcRefusal::Length(length)) => return Err(Refusal::Input(Cause::SpcLength(length))),
-        Err(SpcRefusal::Signature(at)) => return Err(Refusal::Input(Cause::SpcSignature(at))),
-        Err(SpcRefusal::OutOfMemory) => return Err(Refusal::OutOfMemory),
+        Err(refusal) => return Err(refusal),
     };
     let Ok(report) = report(alloc, bytes.len(), &file) else {
         return Err(Refusal::OutOfMemory);

@@ -2,11 +2,22 @@
 #![tactic(auto)]
 
 mod brr;
+mod byte_room;
+mod check;
+mod demo;
+#[cfg(test)]
+mod demo_tests;
 mod disk;
 mod encode;
 mod info;
+mod inputs;
+mod options;
 mod printing;
+mod render;
+#[cfg(test)]
+mod render_tests;
 mod run;
+mod sound;
 mod statuses;
 #[cfg(test)]
 mod tests;

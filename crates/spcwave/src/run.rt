@@ -6,8 +6,11 @@ ghost use Rattle.spcwave.specs.Command.{command_of, usage, names_input, answer_o
 ghost use Rattle.spcwave.specs.Run.{Content, ReadFault, WriteFault, Memory, IsTruthful, CompletesCalmly, CompletesInputs, CompletesOutputs, CompletesComplaint, Untold};
 
 use crate::brr::brr;
+use crate::check::check;
+use crate::demo::demo;
 use crate::encode::encode;
 use crate::info::info;
+use crate::render::render;
 use crate::statuses::{Cause, Status, status_for};
 use crate::words::{Command, read_words};
 use command_frame::{Refusal, complain};
@@ -30,6 +33,14 @@ fn attempt<H: Host>(alloc: Global, words: &[String], host: &mut H) -> Option<Ref
             output,
             looped,
         } => encode(alloc, host, input, output, looped),
+        Command::Render {
+            file,
+            table,
+            wave,
+            options,
+        } => render(alloc, host, file, table, wave, options),
+        Command::Demo { number, output } => demo(alloc, host, number, output),
+        Command::Check { number } => check(alloc, host, number),
     }
 }
 

@@ -14,6 +14,7 @@ pub enum Status {
     WriteFault,
     SpcLength,
     SpcSignature,
+    TableLength,
     OutOfMemory,
     BrrLength,
     WavForm,
@@ -33,6 +34,7 @@ impl Status {
             Status::WriteFault => 3,
             Status::SpcLength => 4,
             Status::SpcSignature => 5,
+            Status::TableLength => 6,
             Status::OutOfMemory => 7,
             Status::BrrLength => 8,
             Status::WavForm => 9,
@@ -47,6 +49,7 @@ impl Status {
 pub enum Cause {
     SpcLength(usize),
     SpcSignature(usize),
+    TableLength(usize),
     BrrLength(usize),
     WavForm,
     EncodeSize(usize),
@@ -67,6 +70,12 @@ impl Complaint for Cause {
             Cause::SpcSignature(at) => {
                 note_number(host, b"spcwave: signature differs at ", *at, b"\n")
             }
+            Cause::TableLength(length) => note_number(
+                host,
+                b"spcwave: table has ",
+                *length,
+                b" bytes, not 1024\n",
+            ),
             Cause::BrrLength(length) => note_number(
                 host,
                 b"spcwave: length ",
@@ -97,6 +106,7 @@ pub fn status_for(refusal: Option<Refusal<Cause>>) -> Status
         Some(Refusal::OutOfMemory) => Status::OutOfMemory,
         Some(Refusal::Input(Cause::SpcLength(_))) => Status::SpcLength,
         Some(Refusal::Input(Cause::SpcSignature(_))) => Status::SpcSignature,
+        Some(Refusal::Input(Cause::TableLength(_))) => Status::TableLength,
         Some(Refusal::Input(Cause::BrrLength(_))) => Status::BrrLength,
         Some(Refusal::Input(Cause::WavForm)) => Status::WavForm,
         Some(Refusal::Input(Cause::EncodeSize(_))) => Status::EncodeSize,

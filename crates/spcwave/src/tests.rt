@@ -134,7 +134,7 @@ fn each_call_of_the_host_may_fail(rt: HostRuntime) -> Result<(), Fail> {
 
 #[test]
 fn other_words_are_not_understood(rt: HostRuntime) -> Result<(), Fail> {
-    let rows: [&[&str]; 16] = [
+    let rows: [&[&str]; 28] = [
         &[],
         &["brr", "IN"],
         &["brr", "IN", "OUT", "OUT"],
@@ -150,6 +150,18 @@ fn other_words_are_not_understood(rt: HostRuntime) -> Result<(), Fail> {
         &["encode", "--loop", "IN", "OUT"],
         &["encode", "IN", "OUT", "--loop", "--loop"],
         &["render", "A", "B"],
+        &["render", "A", "B", "-C"],
+        &["render", "A", "B", "C", "--samples"],
+        &["render", "A", "B", "C", "--samples", "115200001"],
+        &["render", "A", "B", "C", "--samples=5"],
+        &["render", "A", "B", "C", "--samples", ""],
+        &["render", "A", "B", "C", "--samples", "0000000001"],
+        &["render", "A", "B", "C", "--samples", "1", "--samples", "1"],
+        &["render", "A", "B", "C", "--trace", "C"],
+        &["render", "A", "B", "C", "--trace", "-T"],
+        &["render", "A", "B", "C", "--voices", "1"],
+        &["render", "A", "B", "C", "--voices", "0g"],
+        &["render", "A", "B", "C", "--loop", "1"],
         &["--help"],
     ];
     for words in rows {
@@ -174,6 +186,7 @@ fn statuses_have_their_numbers(rt: HostRuntime) -> Result<(), Fail> {
         (Status::WriteFault, 3),
         (Status::SpcLength, 4),
         (Status::SpcSignature, 5),
+        (Status::TableLength, 6),
         (Status::OutOfMemory, 7),
         (Status::BrrLength, 8),
         (Status::WavForm, 9),

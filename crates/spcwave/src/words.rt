@@ -1,7 +1,9 @@
 // The words of the command line.
-ghost use Rattle.std.specs.Prelude.{◌≡◌, map, string_bytes};
-ghost use Rattle.spcwave.specs.Command.{command_of, brr_command, info_command, encode_command, is_name as is_name_word};
-ghost use Rattle.spcwave.specs.Words.{meaning_of};
+ghost use Rattle.std.specs.Prelude.{◌≡◌, map, string_bytes, option_map, IfSome};
+ghost use Rattle.spcwave.specs.Command.{command_of, brr_command, info_command, encode_command, have_same_name, render_with, render_command, demo_command, check_command};
+ghost use Rattle.spcwave.specs.Words.{meaning_of, options_of, IsWithinHour, AreWithinHour};
+
+use crate::options::{RenderOptions, demo_number_in, is_name, read_options};
 
 /// A command with its names.
 #[derive(Clone, Copy)]
@@ -19,21 +21,25 @@ pub enum Command<'a> {
         output: &'a str,
         looped: bool,
     },
-}
-
-/// Whether a word may name a file.
-fn is_name(word: &str) -> bool
-    ensures { result ≡ is_name_word word.now }
-{
-    match word.as_bytes() {
-        [] => false,
-        [first, ..] => *first != b'-',
-    }
+    Render {
+        file: &'a str,
+        table: &'a str,
+        wave: &'a str,
+        options: RenderOptions<'a>,
+    },
+    Demo {
+        number: u32,
+        output: &'a str,
+    },
+    Check {
+        number: u32,
+    },
 }
 
 /// Reads the words behind `brr`.
 fn read_brr(words: &[String]) -> Command<'_>
-    ensures { meaning_of result ≡ brr_command (map string_bytes words.now) }
+    ensures meaning { meaning_of result ≡ brr_command (map string_bytes words.now) }
+    ensures within_hour { AreWithinHour result }
 {
     match words {
         [input, output] if is_name(input.as_str()) && is_name(output.as_str()) => Command::Brr {
@@ -46,7 +52,8 @@ fn read_brr(words: &[String]) -> Command<'_>
 
 /// Reads the words behind `info`.
 fn read_info(words: &[String]) -> Command<'_>
-    ensures { meaning_of result ≡ info_command (map string_bytes words.now) }
+    ensures meaning { meaning_of result ≡ info_command (map string_bytes words.now) }
+    ensures within_hour { AreWithinHour result }
 {
     match words {
         [input] if is_name(input.as_str()) => Command::Info {
@@ -58,7 +65,8 @@ fn read_info(words: &[String]) -> Command<'_>
 
 /// Reads the words behind `encode`.
 fn read_encode(words: &[String]) -> Command<'_>
-    ensures { meaning_of result ≡ encode_command (map string_bytes words.now) }
+    ensures meaning { meaning_of result ≡ encode_command (map string_bytes words.now) }
+    ensures within_hour { AreWithinHour result }
 {
     match words {
         [input, output] if is_name(input.as_str()) && is_name(output.as_str()) => {
@@ -81,9 +89,92 @@ fn read_encode(words: &[String]) -> Command<'_>
     }
 }
 
+/// Whether the sound file and the trace have the same name.
+fn have_same_name(wave: &str, trace: Option<&str>) -> bool
+    ensures { result ≡ have_same_name wave.now (option_map (λ name. name.now) trace.entry) }
+{
+    match trace {
+        Some(trace) => wave == trace,
+        None => false,
+    }
+}
+
+/// The command `render` with these names and options.
+fn render_with<'a>(
+    file: &'a str,
+    table: &'a str,
+    wave: &'a str,
+    options: Option<RenderOptions<'a>>,
+) -> Command<'a>
+    requires { IfSome options (λ options. IsWithinHour options.samples) }
+    ensures meaning { meaning_of result ≡ render_with file.now table.now wave.now (option_map options_of options.entry) }
+    ensures within_hour { AreWithinHour result }
+{
+    match options {
+        Some(options) if !have_same_name(wave, options.trace) => Command::Render {
+            file,
+            table,
+            wave,
+            options,
+        },
+        _ => Command::Usage,
+    }
+}
+
+/// Reads the words behind `render`.
+fn read_render(words: &[String]) -> Command<'_>
+    ensures meaning { meaning_of result ≡ render_command (map string_bytes words.now) }
+    ensures within_hour { AreWithinHour result }
+{
+    match words {
+        [file, table, wave, options @ ..]
+            if is_name(file.as_str()) && is_name(table.as_str()) && is_name(wave.as_str()) => {
+            render_with(
+                file.as_str(),
+                table.as_str(),
+                wave.as_str(),
+                read_options(options),
+            )
+        }
+        _ => Command::Usage,
+    }
+}
+
+/// Reads the words behind `demo`.
+fn read_demo(words: &[String]) -> Command<'_>
+    ensures meaning { meaning_of result ≡ demo_command (map string_bytes words.now) }
+    ensures within_hour { AreWithinHour result }
+{
+    match words {
+        [number, output] if is_name(output.as_str()) => match demo_number_in(number.as_bytes()) {
+            Some(number) => Command::Demo {
+                number,
+                output: output.as_str(),
+            },
+            None => Command::Usage,
+        },
+        _ => Command::Usage,
+    }
+}
+
+/// Reads the words behind `check`.
+fn read_check(words: &[String]) -> Command<'_>
+    ensures meaning { meaning_of result ≡ check_command (map string_bytes words.now) }
+    ensures within_hour { AreWithinHour result }
+{
+    match words {
+        [number] => match demo_number_in(number.as_bytes()) {
+            Some(number) => Command::Check { number },
+            None => Command::Usage,
+        },
+        _ => Command::Usage,
+    }
+}
+
 /// Reads the words of the command line.
 pub fn read_words(words: &[String]) -> Command<'_>
-    ensures { meaning_of result ≡ command_of (map string_bytes words.now) }
+    ensures meaning { meaning_of result ≡ command_of (map string_bytes words.now) }
+    ensures within_hour { AreWithinHour result }
 {
     match words {
         [] => Command::Usage,
@@ -91,6 +182,9 @@ pub fn read_words(words: &[String]) -> Command<'_>
             "brr" => read_brr(rest),
             "info" => read_info(rest),
             "encode" => read_encode(rest),
+            "render" => read_render(rest),
+            "demo" => read_demo(rest),
+            "check" => read_check(rest),
             _ => Command::Usage,
         },
     }

@@ -1,5 +1,6 @@
 use Rattle.std.proofs.Common.{◌≡◌, ◌++◌, ◌+◌, ◌*◌, ◌-◌, ◌<◌, ◌≤◌, length}
-use Rattle.render_core.specs.Items.{run_frames, run_records, IsIdle}
+use Rattle.render_core.specs.Idle.{IsIdle}
+use Rattle.render_core.specs.Items.{run_frames, run_records}
 use Rattle.render_core.proofs.making.make_piece.Given as goal
 
 -- what was to come is the piece so far and what is to come

@@ -8,4 +8,4 @@ use Rattle.spcwave.proofs.run.attempt.Goals as goal
 pub returns-in-Usage-clause-attempts : goal.returns-in-Usage-clause-attempts
 returns-in-Usage-clause-attempts g c =
     let state = g.H.Host.state c.args.host.now in
-    subst (λ (k : Command). Attempts (answer_of k) (names_input k) (Some Usage) state state) c.in-Usage.ensures (attempts_usage state)
+    subst (λ (k : Command). Attempts (answer_of k) (names_input k) (Some Usage) state state) c.in-Usage.ensures.meaning (attempts_usage state)

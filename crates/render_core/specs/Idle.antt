@@ -1,0 +1,10 @@
+-- A word of the contracts of making; no promise speaks of it.
+use Rattle.std.specs.Prelude.{◌≡◌, ◌≤◌, ℕ, []}
+use Rattle.spc700_exec.specs.Bus.{BusMeaning}
+use Rattle.sound_bus.specs.Emits.{Emits}
+
+-- between two steps of a run to so many samples: nothing was called since the last drain, and at its end all was handed over
+pub record IsIdle {S : Type 0} (bus : BusMeaning S) (emits : Emits S) (samples : ℕ) (s : S) : Type 0 where
+  pub calls : bus.calls s ≡ 0
+  pub frames : samples ≤ bus.made s → emits.frames s ≡ []
+  pub records : samples ≤ bus.made s → emits.records s ≡ []

@@ -1,0 +1,45 @@
+-- What `check` answers: sums over the frames of a demo file, rendered over the table of straight lines for ten seconds.
+use Rattle.std.specs.Prelude.{ℕ, ◌+◌, ◌*◌, ◌%◌, ◌^◌, ◌≤◌, ℤ, pos, ◌+ℤ◌, unsigned_abs, List, [], ◌++◌, fold, codes, decimal}
+use Rattle.std.specs.Int.{w32, cast_unsigned}
+use Rattle.std.specs.Fmt.{signed_decimal}
+use Rattle.num_fix.specs.declared.Frame.{Frame}
+use Rattle.gauss_table.specs.StraightTable.{straight_table}
+use Rattle.demo_gen.specs.Demo.{demo_bytes}
+use Rattle.command_frame.specs.Answer.{Answer, done}
+use Rattle.spcwave.specs.Tune.{tune_frames}
+use Rattle.spcwave.specs.declared.statuses.Cause.{Cause}
+use Rattle.spcwave.specs.declared.check.Sums.{Sums}
+
+-- a side modulo 2 ^ 32
+abbrev pub wrapped32 : (side : ℤ) → ℕ
+wrapped32 side = cast_unsigned w32 side
+
+-- The mix with one frame more tells the order of the frames too. It is a number below 2 ^ 32.
+abbrev pub next_mix : (mix : ℕ) → Frame → ℕ
+next_mix mix frame = (5 * mix + wrapped32 frame.left + 3 * wrapped32 frame.right) % 2 ^ 32
+
+abbrev pub sums_with : Sums → Frame → Sums
+sums_with sums frame = record {
+  left = sums.left +ℤ frame.left;
+  right = sums.right +ℤ frame.right;
+  mix = next_mix sums.mix frame;
+}
+
+abbrev pub no_sums : Sums
+no_sums = record { left = pos 0; right = pos 0; mix = 0 }
+
+abbrev pub sums_of : List Frame → Sums
+sums_of frames = fold sums_with no_sums frames
+
+-- how large the sums of so many frames get
+pub record AreWithin (frames : ℕ) (sums : Sums) : Type 0 where
+  pub left : unsigned_abs sums.left ≤ 32768 * frames
+  pub right : unsigned_abs sums.right ≤ 32768 * frames
+
+abbrev pub check_report : Sums → List ℕ
+check_report sums =
+    codes "samples 320000\nleft " ++ signed_decimal sums.left ++ codes "\nright " ++ signed_decimal sums.right
+    ++ codes "\nmix " ++ decimal sums.mix ++ codes "\n"
+
+abbrev pub check_answer : (number : ℕ) → Answer Cause
+check_answer number = done [] (check_report (sums_of (tune_frames (demo_bytes number) straight_table 0 320000)))

@@ -1,0 +1,41 @@
+-- What `render` answers.
+use Rattle.std.specs.Prelude.{ℕ, ℤ, List, ◌++◌, Option, Some, None, is_some, unwrap_or, codes, decimal}
+use Rattle.std.specs.Option.{option_map}
+use Rattle.wav_form.specs.Wave.{stereo_wave}
+use Rattle.render_core.specs.Fade.{faded_frames}
+use Rattle.spc_form.specs.Tags.{length_of}
+use Rattle.spc_form.specs.declared.tags.Length.{Length}
+use Rattle.command_frame.specs.Answer.{Answer, done}
+use Rattle.command_frame.specs.Stream.{pair}
+use Rattle.spcwave.specs.Inputs.{answer_from, file_in, table_in}
+use Rattle.spcwave.specs.Options.{Options}
+use Rattle.spcwave.specs.Sound.{trace_of}
+use Rattle.spcwave.specs.Tune.{tune_frames, tune_records}
+use Rattle.spcwave.specs.declared.statuses.Cause.{Cause}
+
+-- the length of a render and its fade: so many samples without a fade, or as the file's tags say
+abbrev pub length_with : (samples : Option ℕ) → (file : List ℕ) → Length
+length_with None file = length_of file
+length_with (Some samples) file = record { frames = samples; fade = 0 }
+
+-- the voices of the trace, where there is a trace: none, unless they are given
+abbrev pub traced_voices : Options → Option ℕ
+traced_voices options = option_map (λ name. unwrap_or options.voices 0) options.trace
+
+-- The sound file, the trace where it has a name, and a report on so many frames.
+abbrev pub sound_answer : (wave : List ℕ) → (trace : Option (List ℕ)) → (frames : ℕ) → (sound lines : List ℕ) → Answer Cause
+sound_answer wave trace frames sound lines = done (pair wave trace sound lines) (codes "samples " ++ decimal frames ++ codes "\n")
+
+-- What a file and a table answer: the frames of the run, faded, and the lines of its records.
+abbrev pub rendering_answer : (wave : List ℕ) → Options → (file : List ℕ) → (table : List ℤ) → Answer Cause
+rendering_answer wave options file table =
+    let length = length_with options.samples file in
+    let voices = traced_voices options in
+    sound_answer wave options.trace length.frames
+    (stereo_wave (faded_frames (tune_frames file table (unwrap_or voices 0) length.frames) length.fade))
+    (trace_of (is_some voices) (tune_records file table (unwrap_or voices 0) length.frames))
+
+-- the same by what the inputs hold: the file comes first
+abbrev pub render_answer : (wave : List ℕ) → Options → (held_file held_table : Option (List ℕ)) → Answer Cause
+render_answer wave options held_file held_table =
+    answer_from (file_in held_file) (λ file. answer_from (table_in held_table) (λ table. rendering_answer wave options file table))

@@ -1,0 +1,164 @@
+// The options of `render`.
+ghost use Rattle.std.specs.Prelude.{◌≡◌, ◌^◌, ◌<◌, ◌≤◌, All, length, map, string_bytes, option_map, true, IfSome};
+ghost use Rattle.std.specs.Char.{IsAsciiDigit, is_ascii_digit};
+ghost use Rattle.std.specs.List.{list_all};
+ghost use Rattle.spc_form.specs.Tags.{decimal_value};
+ghost use Rattle.spcwave.specs.Options.{is_name, is_number, count_in, demo_number_in, name_in, voices_in, options_with, options_in};
+ghost use Rattle.spcwave.specs.Words.{options_of, IsWithinHour};
+
+/// The options with their values, where they were given.
+#[derive(Clone, Copy)]
+pub struct RenderOptions<'a> {
+    /// The number of samples.
+    pub samples: Option<u32>,
+    /// The name of the trace.
+    pub trace: Option<&'a str>,
+    /// The voices of the trace: bit v is voice v.
+    pub voices: Option<u8>,
+}
+
+/// The greatest number of samples: an hour of sound.
+const HOUR: u64 = 115_200_000;
+
+/// Whether a word may name a file.
+pub fn is_name(word: &str) -> bool
+    ensures { result ≡ is_name word.now }
+{
+    match word.as_bytes() {
+        [] => false,
+        [first, ..] => *first != b'-',
+    }
+}
+
+/// Whether all bytes are decimal digits.
+fn are_digits(word: &[u8]) -> bool
+    ensures { result ≡ list_all is_ascii_digit word.now }
+{
+    word.iter().all(|byte| byte.is_ascii_digit())
+}
+
+/// Whether a word is one decimal digit or more, and no more than so many.
+fn is_number(most: usize, word: &[u8]) -> bool
+    ensures { result ≡ is_number most word.now }
+{
+    !word.is_empty() && word.len() <= most && are_digits(word)
+}
+
+/// The number that digits write.
+fn decimal_value(digits: &[u8]) -> u64
+    requires few { length digits.now ≤ 10 }
+    requires digits { All IsAsciiDigit digits.now }
+    ensures value { result ≡ decimal_value digits.now }
+{
+    let mut value = 0u64;
+    for digit in digits {
+        value = 10 * value + u64::from(*digit - b'0');
+    }
+    value
+}
+
+/// The number of samples that a word says.
+fn count_in(word: &[u8]) -> Option<u32>
+    ensures value { result ≡ count_in word.now }
+    ensures within_hour { IsWithinHour result }
+{
+    if !is_number(9, word) {
+        return None;
+    }
+    let count = decimal_value(word);
+    if count <= HOUR {
+        Some(count as u32)
+    } else {
+        None
+    }
+}
+
+/// The number of a demo file that a word says.
+pub fn demo_number_in(word: &[u8]) -> Option<u32>
+    ensures { result ≡ demo_number_in word.now }
+{
+    if !is_number(10, word) {
+        return None;
+    }
+    let number = decimal_value(word);
+    if number <= 4294967295 {
+        Some(number as u32)
+    } else {
+        None
+    }
+}
+
+/// The name that a word says.
+fn name_in(word: &str) -> Option<&str>
+    ensures { option_map (λ name. name.now) result ≡ name_in word.now }
+{
+    if is_name(word) { Some(word) } else { None }
+}
+
+/// The voices that a word says.
+fn voices_in(word: &[u8]) -> Option<u8>
+    ensures { result ≡ voices_in word.now }
+{
+    let mut voices = [0u8; 1];
+    match hex::decode_to_slice(word, &mut voices) {
+        Ok(()) => Some(voices[0]),
+        Err(_) => None,
+    }
+}
+
+/// The options with one more, unless it was given before or its value is out of form.
+fn options_with<'a>(
+    options: RenderOptions<'a>,
+    name: &str,
+    value: &'a str,
+) -> Option<RenderOptions<'a>>
+    requires { IsWithinHour options.samples }
+    ensures options { option_map options_of result ≡ options_with (options_of options.entry) name.now value.now }
+    ensures within_hour { IfSome result (λ options. IsWithinHour options.samples) }
+{
+    match name {
+        "--samples" => match (options.samples, count_in(value.as_bytes())) {
+            (None, Some(samples)) => Some(RenderOptions {
+                samples: Some(samples),
+                ..options
+            }),
+            _ => None,
+        },
+        "--trace" => match (options.trace, name_in(value)) {
+            (None, Some(trace)) => Some(RenderOptions {
+                trace: Some(trace),
+                ..options
+            }),
+            _ => None,
+        },
+        "--voices" => match (options.voices, voices_in(value.as_bytes())) {
+            (None, Some(voices)) => Some(RenderOptions {
+                voices: Some(voices),
+                ..options
+            }),
+            _ => None,
+        },
+        _ => None,
+    }
+}
+
+/// Reads the options: names and values in turn, each name once at most.
+pub fn read_options(words: &[String]) -> Option<RenderOptions<'_>>
+    ensures options { option_map options_of result ≡ options_in (map string_bytes words.now) }
+    ensures within_hour { IfSome result (λ options. IsWithinHour options.samples) }
+{
+    let mut options = RenderOptions {
+        samples: None,
+        trace: None,
+        voices: None,
+    };
+    let mut rest = words;
+    'options: while let [name, value, tail @ ..] = rest {
+        match options_with(options, name.as_str(), value.as_str()) {
+            Some(more) => options = more,
+            None => return None,
+        }
+        rest = tail;
+    }
+    if rest.is_empty() { Some(options) } else { None }
+}
