@@ -1,5 +1,5 @@
 -- What every row of the instruction list keeps, by one test of the whole list.
-use Rattle.std.proofs.Common.{◌≡◌, ℕ, ◌+◌, ◌<◌, ◌≤◌, length, Bool, true, false, ◌&&◌, ◌||◌, nat_lt, nat_le, refl, arith, subst, sym}
+use Rattle.std.proofs.Common.{◌≡◌, ℕ, ◌+◌, ◌<◌, ◌≤◌, length, Bool, true, false, ◌&&◌, ◌||◌, nat_lt, nat_le, nat_eq, not, if◌then◌else◌, refl, arith, subst, sym}
 use Rattle.std.specs.List.{range_with_len, list_all}
 use Rattle.std.proofs.lemmas.Bool.Decides.{nat_tests}
 use Rattle.spc700_table.specs.declared.Form.{Form}
@@ -99,3 +99,37 @@ pub IsRow-row_of : (row : OpRow) (op : ℕ) → row ≡ row_of op → op < 256 �
 IsRow-row_of row op e below runs =
     let P : OpRow → Type 0 = λ r. halts r.kind ≡ false → IsRow r in
     subst P (sym e) (row_from_test (row_of op) (passes op below).fits) runs
+
+-- SLEEP and STOP are the only two that halt
+all_halts : list_all (λ op. if halts (row_of op).kind then nat_eq op 0xef || nat_eq op 0xff else not (nat_eq op 0xef || nat_eq op 0xff)) (range_with_len 0 256) ≡ true
+unfolding row_of columns printed_cycles cycle_map
+all_halts = refl
+
+same_test : (a b : Bool) → (if a then b else not b) ≡ true → b ≡ a
+same_test true true h = refl
+same_test false false h = refl
+same_test true false h = absurd (cc)
+same_test false true h = absurd (cc)
+
+halts-row_of : (op : ℕ) → op < 256 → (nat_eq op 0xef || nat_eq op 0xff) ≡ halts (row_of op).kind
+halts-row_of op below = same_test _ _ (list_all_below (λ op. if halts (row_of op).kind then nat_eq op 0xef || nat_eq op 0xff else not (nat_eq op 0xef || nat_eq op 0xff)) 256 op all_halts below)
+
+first_holds : (a b c : Bool) → (a || b) ≡ c → a ≡ true → a ≡ c
+first_holds true b c e h = e
+first_holds false b c e h = absurd (cc)
+
+first_fails : (a b c : Bool) → (a || b) ≡ c → a ≡ false → b ≡ c
+first_fails false b c e h = e
+first_fails true b c e h = absurd (cc)
+
+is_equal : (a b : ℕ) → a ≡ b → nat_eq a b ≡ true
+is_equal a b h = grind (arith, nat_tests)
+
+is_different : (a b : ℕ) → (a ≡ b → ⊥) → nat_eq a b ≡ false
+is_different a b h = grind (arith, nat_tests)
+
+pub sleep_halts : (op : ℕ) → op < 256 → op ≡ 0xef → nat_eq op 0xef ≡ halts (row_of op).kind
+sleep_halts op below h = first_holds _ _ _ (halts-row_of op below) (is_equal op 0xef h)
+
+pub stop_halts : (op : ℕ) → op < 256 → (op ≡ 0xef → ⊥) → nat_eq op 0xff ≡ halts (row_of op).kind
+stop_halts op below h = first_fails _ _ _ (halts-row_of op below) (is_different op 0xef h)

@@ -1,7 +1,6 @@
 //! The instructions on bits. Each gives its cycles.
 
 ghost use Rattle.std.specs.Prelude.{◌≡◌, ℕ, ◌-◌, bit_and, bit_or};
-ghost use Rattle.spc700_exec.specs.Operations.{by_complement};
 ghost use Rattle.spc700_exec.specs.Lines.{bit_to_carry_line, bit_in_place_line, bit_test_line};
 ghost use Rattle.spc700_exec.specs.Pieces.{HasRoom, IsWithin, Does, IsRow, IsTime};
 
@@ -10,21 +9,10 @@ use crate::cpu::Cpu;
 use crate::operand::{address, bit_number, load, store};
 use spc700_alu::flags::put_nz;
 use spc700_alu::{BitKind, bitop};
-use spc700_table::{Form, OpRow};
-
-/// The operation on a bit, or that on its complement.
-#[inline]
-pub fn by_form(form: Form, complement: BitKind, plain: BitKind) -> BitKind
-    ensures { result ≡ by_complement form complement plain }
-{
-    match form {
-        Form::NotBit => complement,
-        _ => plain,
-    }
-}
+use spc700_table::OpRow;
 
 /// OR1, AND1, EOR1 and MOV1 C,m.b.
-#[inline]
+#[inline(always)]
 pub fn bit_to_carry<B: Bus>(cpu: &mut Cpu, bus: &mut B, row: OpRow, kind: BitKind) -> u8
     requires room { HasRoom 12 B.means bus.old }
     requires row { IsRow row }
@@ -39,7 +27,7 @@ pub fn bit_to_carry<B: Bus>(cpu: &mut Cpu, bus: &mut B, row: OpRow, kind: BitKin
 }
 
 /// SET1, CLR1, NOT1 and MOV1 m.b,C.
-#[inline]
+#[inline(always)]
 pub fn bit_in_place<B: Bus>(cpu: &mut Cpu, bus: &mut B, row: OpRow, kind: BitKind) -> u8
     requires room { HasRoom 12 B.means bus.old }
     requires row { IsRow row }
@@ -55,7 +43,7 @@ pub fn bit_in_place<B: Bus>(cpu: &mut Cpu, bus: &mut B, row: OpRow, kind: BitKin
 }
 
 /// TSET1.
-#[inline]
+#[inline(always)]
 pub fn test_and_set<B: Bus>(cpu: &mut Cpu, bus: &mut B, row: OpRow) -> u8
     requires room { HasRoom 12 B.means bus.old }
     requires row { IsRow row }
@@ -71,7 +59,7 @@ pub fn test_and_set<B: Bus>(cpu: &mut Cpu, bus: &mut B, row: OpRow) -> u8
 }
 
 /// TCLR1.
-#[inline]
+#[inline(always)]
 pub fn test_and_clear<B: Bus>(cpu: &mut Cpu, bus: &mut B, row: OpRow) -> u8
     requires room { HasRoom 12 B.means bus.old }
     requires row { IsRow row }

@@ -13,7 +13,7 @@ use spc700_alu::flags::is_set;
 use spc700_table::OpRow;
 
 /// The address that a signed distance leads to.
-#[inline]
+#[inline(always)]
 fn target(pc: u16, r: u8) -> u16
     ensures { result ≡ branch_target pc r }
 {
@@ -26,7 +26,7 @@ fn target(pc: u16, r: u8) -> u16
 }
 
 /// Takes a branch or not, and gives its cycles.
-#[inline]
+#[inline(always)]
 fn branch_if(cpu: &mut Cpu, row: OpRow, taken: bool, r: u8) -> u8
     requires row { IsRow row }
     ensures does { branched taken r row cpu.old ≡ End cpu.new (Cycles result) }
@@ -41,7 +41,7 @@ fn branch_if(cpu: &mut Cpu, row: OpRow, taken: bool, r: u8) -> u8
 }
 
 /// A branch where a flag is set, or where it is clear.
-#[inline]
+#[inline(always)]
 pub fn branch_on_flag<B: Bus>(cpu: &mut Cpu, bus: &mut B, row: OpRow, mask: u8, on: bool) -> u8
     requires room { HasRoom 12 B.means bus.old }
     requires row { IsRow row }
@@ -55,7 +55,7 @@ pub fn branch_on_flag<B: Bus>(cpu: &mut Cpu, bus: &mut B, row: OpRow, mask: u8, 
 }
 
 /// BRA.
-#[inline]
+#[inline(always)]
 pub fn branch_always<B: Bus>(cpu: &mut Cpu, bus: &mut B, row: OpRow) -> u8
     requires room { HasRoom 12 B.means bus.old }
     requires row { IsRow row }
@@ -68,7 +68,7 @@ pub fn branch_always<B: Bus>(cpu: &mut Cpu, bus: &mut B, row: OpRow) -> u8
 }
 
 /// BBS, or BBC where `on` is false.
-#[inline]
+#[inline(always)]
 pub fn branch_on_bit<B: Bus>(cpu: &mut Cpu, bus: &mut B, row: OpRow, on: bool) -> u8
     requires room { HasRoom 12 B.means bus.old }
     requires row { IsRow row }
@@ -84,7 +84,7 @@ pub fn branch_on_bit<B: Bus>(cpu: &mut Cpu, bus: &mut B, row: OpRow, on: bool) -
 }
 
 /// CBNE.
-#[inline]
+#[inline(always)]
 pub fn branch_if_different<B: Bus>(cpu: &mut Cpu, bus: &mut B, row: OpRow) -> u8
     requires room { HasRoom 12 B.means bus.old }
     requires row { IsRow row }
@@ -99,7 +99,7 @@ pub fn branch_if_different<B: Bus>(cpu: &mut Cpu, bus: &mut B, row: OpRow) -> u8
 }
 
 /// DBNZ.
-#[inline]
+#[inline(always)]
 pub fn count_down<B: Bus>(cpu: &mut Cpu, bus: &mut B, row: OpRow) -> u8
     requires room { HasRoom 12 B.means bus.old }
     requires row { IsRow row }

@@ -36,7 +36,7 @@ pub enum Modification {
 }
 
 /// The two bytes combined, and the status.
-#[inline]
+#[inline(always)]
 fn combined(kind: Combination, a: u8, b: u8, psw: u8) -> Out8
     ensures { result ≡ combination kind a b psw }
 {
@@ -48,7 +48,7 @@ fn combined(kind: Combination, a: u8, b: u8, psw: u8) -> Out8
 }
 
 /// The changed byte, and the status.
-#[inline]
+#[inline(always)]
 fn modified(kind: Modification, byte: u8, psw: u8) -> Out8
     ensures { result ≡ modification kind byte psw }
 {
@@ -60,7 +60,7 @@ fn modified(kind: Modification, byte: u8, psw: u8) -> Out8
 }
 
 /// A byte that was moved to A, X or Y shows in N and Z.
-#[inline]
+#[inline(always)]
 fn show_move(cpu: &mut Cpu, target: Operand, value: u8)
     ensures { cpu.new ≡ with_nz_of_move target value cpu.old }
 {
@@ -71,7 +71,7 @@ fn show_move(cpu: &mut Cpu, target: Operand, value: u8)
 }
 
 /// The digits of A change places.
-#[inline]
+#[inline(always)]
 pub fn exchange(a: u8, psw: u8) -> Out8
     ensures { result ≡ xcn_of a psw }
 {
@@ -83,7 +83,7 @@ pub fn exchange(a: u8, psw: u8) -> Out8
 }
 
 /// MOV.
-#[inline]
+#[inline(always)]
 pub fn mov<B: Bus>(cpu: &mut Cpu, bus: &mut B, row: OpRow) -> u8
     requires room { HasRoom 12 B.means bus.old }
     requires row { IsRow row }
@@ -100,7 +100,7 @@ pub fn mov<B: Bus>(cpu: &mut Cpu, bus: &mut B, row: OpRow) -> u8
 }
 
 /// OR, AND, EOR, ADC and SBC.
-#[inline]
+#[inline(always)]
 pub fn combine<B: Bus>(cpu: &mut Cpu, bus: &mut B, row: OpRow, kind: Combination) -> u8
     requires room { HasRoom 12 B.means bus.old }
     requires row { IsRow row }
@@ -119,7 +119,7 @@ pub fn combine<B: Bus>(cpu: &mut Cpu, bus: &mut B, row: OpRow, kind: Combination
 }
 
 /// CMP.
-#[inline]
+#[inline(always)]
 pub fn compare<B: Bus>(cpu: &mut Cpu, bus: &mut B, row: OpRow) -> u8
     requires room { HasRoom 12 B.means bus.old }
     requires row { IsRow row }
@@ -136,7 +136,7 @@ pub fn compare<B: Bus>(cpu: &mut Cpu, bus: &mut B, row: OpRow) -> u8
 }
 
 /// The shifts, INC and DEC.
-#[inline]
+#[inline(always)]
 pub fn modify<B: Bus>(cpu: &mut Cpu, bus: &mut B, row: OpRow, kind: Modification) -> u8
     requires room { HasRoom 12 B.means bus.old }
     requires row { IsRow row }

@@ -12,7 +12,7 @@ use spc700_alu::flags::{BREAK, INTERRUPT, put};
 use spc700_table::OpRow;
 
 /// PUSH.
-#[inline]
+#[inline(always)]
 pub fn push_register<B: Bus>(cpu: &mut Cpu, bus: &mut B, row: OpRow) -> u8
     requires room { HasRoom 12 B.means bus.old }
     requires row { IsRow row }
@@ -27,7 +27,7 @@ pub fn push_register<B: Bus>(cpu: &mut Cpu, bus: &mut B, row: OpRow) -> u8
 }
 
 /// POP.
-#[inline]
+#[inline(always)]
 pub fn pop_register<B: Bus>(cpu: &mut Cpu, bus: &mut B, row: OpRow) -> u8
     requires room { HasRoom 12 B.means bus.old }
     requires row { IsRow row }
@@ -42,7 +42,7 @@ pub fn pop_register<B: Bus>(cpu: &mut Cpu, bus: &mut B, row: OpRow) -> u8
 }
 
 /// JMP.
-#[inline]
+#[inline(always)]
 pub fn jump<B: Bus>(cpu: &mut Cpu, bus: &mut B, row: OpRow) -> u8
     requires room { HasRoom 12 B.means bus.old }
     requires row { IsRow row }
@@ -56,7 +56,7 @@ pub fn jump<B: Bus>(cpu: &mut Cpu, bus: &mut B, row: OpRow) -> u8
 }
 
 /// CALL and PCALL.
-#[inline]
+#[inline(always)]
 pub fn call<B: Bus>(cpu: &mut Cpu, bus: &mut B, row: OpRow) -> u8
     requires room { HasRoom 12 B.means bus.old }
     requires row { IsRow row }
@@ -72,7 +72,7 @@ pub fn call<B: Bus>(cpu: &mut Cpu, bus: &mut B, row: OpRow) -> u8
 }
 
 /// TCALL.
-#[inline]
+#[inline(always)]
 pub fn table_call<B: Bus>(cpu: &mut Cpu, bus: &mut B, row: OpRow) -> u8
     requires room { HasRoom 12 B.means bus.old }
     requires row { IsRow row }
@@ -87,7 +87,7 @@ pub fn table_call<B: Bus>(cpu: &mut Cpu, bus: &mut B, row: OpRow) -> u8
 }
 
 /// BRK.
-#[inline]
+#[inline(always)]
 pub fn brk<B: Bus>(cpu: &mut Cpu, bus: &mut B, row: OpRow) -> u8
     requires room { HasRoom 12 B.means bus.old }
     requires row { IsRow row }
@@ -103,7 +103,7 @@ pub fn brk<B: Bus>(cpu: &mut Cpu, bus: &mut B, row: OpRow) -> u8
 }
 
 /// RET.
-#[inline]
+#[inline(always)]
 pub fn ret<B: Bus>(cpu: &mut Cpu, bus: &mut B, row: OpRow) -> u8
     requires room { HasRoom 12 B.means bus.old }
     requires row { IsRow row }
@@ -116,7 +116,7 @@ pub fn ret<B: Bus>(cpu: &mut Cpu, bus: &mut B, row: OpRow) -> u8
 }
 
 /// RETI.
-#[inline]
+#[inline(always)]
 pub fn reti<B: Bus>(cpu: &mut Cpu, bus: &mut B, row: OpRow) -> u8
     requires room { HasRoom 12 B.means bus.old }
     requires row { IsRow row }

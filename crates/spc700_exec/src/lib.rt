@@ -10,6 +10,7 @@ pub mod cpu;
 mod jumps;
 mod laws;
 pub mod mem_bus;
+mod opcodes;
 pub mod operand;
 mod registers;
 mod stack;

@@ -11,7 +11,7 @@ use spc700_alu::{Out8, Out16};
 use spc700_table::OpRow;
 
 /// NOP.
-#[inline]
+#[inline(always)]
 pub fn nop(row: OpRow) -> u8
     requires { IsRow row }
     ensures cycles { result ≡ row.cycles }
@@ -21,7 +21,7 @@ pub fn nop(row: OpRow) -> u8
 }
 
 /// CLRP, SETP, CLRC, SETC, EI and DI.
-#[inline]
+#[inline(always)]
 pub fn put_flag(cpu: &mut Cpu, row: OpRow, mask: u8, on: bool) -> u8
     requires { IsRow row }
     ensures cpu { cpu.new ≡ record cpu.old { psw = with_flag mask on cpu.old.psw } }
@@ -33,7 +33,7 @@ pub fn put_flag(cpu: &mut Cpu, row: OpRow, mask: u8, on: bool) -> u8
 }
 
 /// NOTC.
-#[inline]
+#[inline(always)]
 pub fn turn_carry(cpu: &mut Cpu, row: OpRow) -> u8
     requires { IsRow row }
     ensures cpu { cpu.new ≡ record cpu.old { psw = with_flag C (not (flag C cpu.old.psw)) cpu.old.psw } }
@@ -45,7 +45,7 @@ pub fn turn_carry(cpu: &mut Cpu, row: OpRow) -> u8
 }
 
 /// CLRV.
-#[inline]
+#[inline(always)]
 pub fn clear_overflow(cpu: &mut Cpu, row: OpRow) -> u8
     requires { IsRow row }
     ensures cpu { cpu.new ≡ record cpu.old { psw = with_flag H false (with_flag V false cpu.old.psw) } }
@@ -57,7 +57,7 @@ pub fn clear_overflow(cpu: &mut Cpu, row: OpRow) -> u8
 }
 
 /// XCN, DAA and DAS: a new A and status.
-#[inline]
+#[inline(always)]
 pub fn put_a(cpu: &mut Cpu, row: OpRow, out: Out8) -> u8
     requires { IsRow row }
     ensures cpu { cpu.new ≡ record cpu.old { a = out.value; psw = out.psw } }
@@ -70,7 +70,7 @@ pub fn put_a(cpu: &mut Cpu, row: OpRow, out: Out8) -> u8
 }
 
 /// MUL and DIV: a new YA and status.
-#[inline]
+#[inline(always)]
 pub fn put_ya(cpu: &mut Cpu, row: OpRow, out: Out16) -> u8
     requires { IsRow row }
     ensures cpu { cpu.new ≡ with_ya out cpu.old }

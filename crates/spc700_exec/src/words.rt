@@ -27,7 +27,7 @@ pub enum WordCombination {
 }
 
 /// YA and the word combined, and the status.
-#[inline]
+#[inline(always)]
 fn combined(kind: WordCombination, ya: u16, w: u16, psw: u8) -> Out16
     ensures { result ≡ word_combination kind ya w psw }
 {
@@ -46,7 +46,7 @@ fn combined(kind: WordCombination, ya: u16, w: u16, psw: u8) -> Out16
 }
 
 /// Y and A as one word.
-#[inline]
+#[inline(always)]
 pub fn word(cpu: &Cpu) -> u16
     ensures { result ≡ ya cpu.now }
 {
@@ -54,7 +54,7 @@ pub fn word(cpu: &Cpu) -> u16
 }
 
 /// Puts a word into Y and A, and its status.
-#[inline]
+#[inline(always)]
 pub fn put_word(cpu: &mut Cpu, out: Out16)
     ensures { cpu.new ≡ with_ya out cpu.old }
 {
@@ -64,7 +64,7 @@ pub fn put_word(cpu: &mut Cpu, out: Out16)
 }
 
 /// MOVW YA,d, ADDW, SUBW and CMPW.
-#[inline]
+#[inline(always)]
 pub fn word_on_ya<B: Bus>(cpu: &mut Cpu, bus: &mut B, row: OpRow, kind: WordCombination) -> u8
     requires room { HasRoom 12 B.means bus.old }
     requires row { IsRow row }
@@ -80,7 +80,7 @@ pub fn word_on_ya<B: Bus>(cpu: &mut Cpu, bus: &mut B, row: OpRow, kind: WordComb
 }
 
 /// MOVW d,YA.
-#[inline]
+#[inline(always)]
 pub fn move_word<B: Bus>(cpu: &mut Cpu, bus: &mut B, row: OpRow) -> u8
     requires room { HasRoom 12 B.means bus.old }
     requires row { IsRow row }
@@ -94,7 +94,7 @@ pub fn move_word<B: Bus>(cpu: &mut Cpu, bus: &mut B, row: OpRow) -> u8
 }
 
 /// INCW.
-#[inline]
+#[inline(always)]
 pub fn word_up<B: Bus>(cpu: &mut Cpu, bus: &mut B, row: OpRow) -> u8
     requires room { HasRoom 12 B.means bus.old }
     requires row { IsRow row }
@@ -110,7 +110,7 @@ pub fn word_up<B: Bus>(cpu: &mut Cpu, bus: &mut B, row: OpRow) -> u8
 }
 
 /// DECW.
-#[inline]
+#[inline(always)]
 pub fn word_down<B: Bus>(cpu: &mut Cpu, bus: &mut B, row: OpRow) -> u8
     requires room { HasRoom 12 B.means bus.old }
     requires row { IsRow row }
