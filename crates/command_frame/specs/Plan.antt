@@ -1,5 +1,5 @@
 -- The outputs and the report that a plan makes.
-use Rattle.std.specs.Prelude.{List, [], ◌∷◌, ◌++◌, Option, Some, None}
+use Rattle.std.specs.Prelude.{ℕ, List, [], ◌∷◌, ◌++◌, Option, Some, None}
 use Rattle.std.specs.Option.{option_map}
 use Rattle.snd_host.specs.Host.{Output}
 use Rattle.command_frame.specs.Conduct.{Delivery}
@@ -17,8 +17,8 @@ abbrev pub plan_makes : Plan → Delivery
 plan_makes plan = record { outputs = planned_outputs plan.output; report = plan.report.items }
 
 -- what a plan in pieces makes: the head is written to the first output alone
-abbrev pub stream_makes : {P : Type 0} → (P → Both) → StreamedPlan P → Delivery
-stream_makes to_come plan = record {
+abbrev pub stream_makes : {P : Type 0} → (to_come : P → Both) → (report : P → List ℕ) → StreamedPlan P → Delivery
+stream_makes to_come report plan = record {
   outputs = pair plan.first.now (option_map (λ name. name.now) plan.second) (plan.head.items ++ (to_come plan.source).first) (to_come plan.source).second;
-  report = plan.report.items;
+  report = report plan.source;
 }

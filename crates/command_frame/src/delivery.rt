@@ -24,14 +24,13 @@ pub struct PlannedOutput<'a> {
     pub bytes: Vec<u8>,
 }
 
-/// The outputs and the report of a command whose outputs are made in pieces, behind the head of the first.
+/// The outputs of a command that are made in pieces, behind the head of the first, by a source that then has the report.
 #[derive(Drop)]
 pub struct StreamedPlan<'a, P: Pieces + Drop> {
     pub first: &'a str,
     pub second: Option<&'a str>,
     pub head: Vec<u8>,
     pub source: P,
-    pub report: Vec<u8>,
 }
 
 /// Writes the output, if there is one, and then the report.
@@ -45,8 +44,9 @@ fn deliver<H: Host>(host: &mut H, plan: &Plan<'_>) -> Result<(), Failed>
             output.name,
             None,
             output.bytes.as_slice(),
-            &mut NoPieces,
-            plan.report.as_slice(),
+            &mut NoPieces {
+                report: plan.report.as_slice(),
+            },
         ),
         None => write_all(host, REPORT, plan.report.as_slice()),
     }
@@ -75,7 +75,7 @@ pub fn carry_stream<H: Host, P: Pieces + Drop, C: Drop>(
     prepared: Result<StreamedPlan<'_, P>, Refusal<C>>,
 ) -> Option<Refusal<C>>
     requires { length (H.state host.old).ended < 4294966999 }
-    ensures { CarriesOut (stream_makes P.to_come) prepared.entry (H.state host.old) (H.state host.new) result }
+    ensures { CarriesOut (stream_makes P.to_come P.report) prepared.entry (H.state host.old) (H.state host.new) result }
 {
     match prepared {
         Ok(plan) => {
@@ -84,16 +84,8 @@ pub fn carry_stream<H: Host, P: Pieces + Drop, C: Drop>(
                 second,
                 head,
                 mut source,
-                report,
             } = plan;
-            match stream(
-                host,
-                first,
-                second,
-                head.as_slice(),
-                &mut source,
-                report.as_slice(),
-            ) {
+            match stream(host, first, second, head.as_slice(), &mut source) {
                 Ok(()) => None,
                 Err(_) => Some(Refusal::WriteFault),
             }

@@ -1,5 +1,5 @@
 // Two outputs that are created, written piece by piece and ended, and then the report.
-ghost use Rattle.std.specs.Prelude.{◌≡◌, ◌<◌, ◌++◌, [], length, Option, option_map};
+ghost use Rattle.std.specs.Prelude.{◌≡◌, ◌<◌, ◌++◌, [], length, true, Option, option_map, OnOk};
 ghost use Rattle.snd_host.specs.Host.{HostState};
 ghost use Rattle.command_frame.specs.Delivery.{Delivers};
 ghost use Rattle.command_frame.specs.Stream.{Begins, Puts, Ends, AreOpen, pair};
@@ -52,7 +52,9 @@ fn put<H: Host>(host: &mut H, targets: Targets, first: &[u8], second: &[u8]) -> 
 /// Writes all pieces.
 fn pump<H: Host, P: Pieces>(host: &mut H, targets: Targets, source: &mut P) -> Result<(), Failed>
     requires { AreOpen (H.state host.old).ended targets }
-    ensures { Puts targets (P.to_come source.old).first (P.to_come source.old).second (H.state host.old) (H.state host.new) result }
+    ensures puts { Puts targets (P.to_come source.old).first (P.to_come source.old).second (H.state host.old) (H.state host.new) result }
+    ensures report { P.report source.new ≡ P.report source.old }
+    ensures is_done { OnOk result (P.is_done source.new ≡ true) }
 {
     'pieces: loop {
         let done = source.make_next();
@@ -75,21 +77,20 @@ fn end<H: Host>(host: &mut H, targets: Targets) -> Result<(), Failed>
     }
 }
 
-/// Writes the head and all pieces to the outputs, and then the report.
+/// Writes the head and all pieces to the outputs, and then the report of the source.
 pub fn stream<H: Host, P: Pieces>(
     host: &mut H,
     first: &str,
     second: Option<&str>,
     head: &[u8],
     source: &mut P,
-    report: &[u8],
 ) -> Result<(), Failed>
     requires { length (H.state host.old).ended < 4294966999 }
-    ensures { Delivers (pair first.now (option_map (λ name. name.now) second.entry) (head.now ++ (P.to_come source.old).first) (P.to_come source.old).second) report.now (H.state host.old) (H.state host.new) result }
+    ensures { Delivers (pair first.now (option_map (λ name. name.now) second.entry) (head.now ++ (P.to_come source.old).first) (P.to_come source.old).second) (P.report source.old) (H.state host.old) (H.state host.new) result }
 {
     let targets = begin(host, first, second)?;
     put(host, targets, head, &[])?;
     pump(host, targets, source)?;
     end(host, targets)?;
-    write_all(host, REPORT, report)
+    write_all(host, REPORT, source.report())
 }

@@ -15,15 +15,17 @@ length-map : (results : List VoiceResult) → length (map (λ (one : VoiceResult
 length-map [] = refl
 length-map (one ∷ results) = ap suc (length-map results)
 
-polled_voices : (b : Bool) (s : DspState) (waiting : ℕ)
-    → (if b then record s { hidden = record s.hidden { waiting = waiting; taken = waiting } } else s).hidden.voices ≡ s.hidden.voices
-polled_voices true s waiting = refl
-polled_voices false s waiting = refl
+-- the poll leaves a part of the state alone that has neither waiting nor taken key-ons
+pub polled_part : {X : Type 0} (part : DspState → X) (b : Bool) (s : DspState) (waiting : ℕ)
+    → part (record s { hidden = record s.hidden { waiting = waiting; taken = waiting } }) ≡ part s
+    → part (if b then record s { hidden = record s.hidden { waiting = waiting; taken = waiting } } else s) ≡ part s
+polled_part part true s waiting same = same
+polled_part part false s waiting same = refl
 
 -- the poll and the noise leave the voices alone
 pub voices-before_step : (s : DspState) (k : ℕ) → (after_noise (after_poll s k) (counter_at k)).hidden.voices ≡ s.hidden.voices
 unfolding after_poll after_noise
-voices-before_step s k = polled_voices (k % 2 == 0) s (without_bits s.hidden.waiting s.hidden.taken)
+voices-before_step s k = polled_part (λ s. s.hidden.voices) (k % 2 == 0) s (without_bits s.hidden.waiting s.hidden.taken) refl
 
 pub length-voices-sample : (k : ℕ) (s : DspState) (memory : List ℕ) → length (sample k s memory).state.hidden.voices ≡ length s.hidden.voices
 unfolding sample

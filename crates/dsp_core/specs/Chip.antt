@@ -1,5 +1,5 @@
 -- What contracts see of a chip, its registers from outside, and the chip at its opening.
-use Rattle.std.specs.Prelude.{ℕ, ◌%◌, ◌==◌, nat_le, Bool, length, List, ℤ, replicate, slice_index, slice_set, if◌then◌else◌}
+use Rattle.std.specs.Prelude.{ℕ, ◌%◌, ◌==◌, nat_le, List, ℤ, replicate, slice_index, slice_set, if◌then◌else◌}
 use Rattle.voice_unit.specs.Voice.{silent_voice}
 use Rattle.echo_unit.specs.Echo.{first_echo}
 use Rattle.rate_clock.specs.Noise.{noise_at}
@@ -11,10 +11,6 @@ pub record DspView : Type 0 where
   pub state : DspState
   pub sample : ℕ
   pub batches : ℕ
-
--- the states that a chip can be in have eight voices
-abbrev pub is_sound : DspState → Bool
-is_sound s = length s.hidden.voices == 8
 
 -- the state at the opening: the key-ons of the register wait, and no key, sound or echo is left from before
 unfoldable pub opened_state : (registers : List ℕ) → (table : List ℤ) → DspState

@@ -3,6 +3,8 @@
 -- Results: what a sample leaves in the registers.
 -- Sample: one sample, part by part.
 -- Run: several samples of any chip, and the records of a mask.
+-- Sound: the states that a chip can be in.
+-- Reach: the pages that the samples to come can read and write.
 -- Inside: what holds of the fields of each chip.
 -- Chip: what contracts see of a chip, and the chip at its opening.
 pub mod Registers
@@ -11,4 +13,6 @@ pub mod Results
 pub mod Sample
 pub mod Run
 pub mod Chip
+pub mod Sound
+pub mod Reach
 pub mod Inside

@@ -1,7 +1,13 @@
 -- What a sample leaves in the registers: ENVX and OUTX of each voice, and ENDX.
-use Rattle.std.specs.Prelude.{ℕ, ◌+◌, ◌-◌, ◌*◌, ◌^◌, List, [], ◌∷◌, Bool, slice_index, slice_set, bit_and, bit_or, if◌then◌else◌}
+use Rattle.std.specs.Prelude.{ℕ, ◌+◌, ◌-◌, ◌*◌, ◌%◌, ◌^◌, ◌==◌, ◌||◌, List, [], ◌∷◌, Bool, slice_index, slice_set, bit_and, bit_or, if◌then◌else◌}
 use Rattle.voice_unit.specs.declared.interface.VoiceOut.{VoiceOut}
 use Rattle.dsp_core.specs.declared.registers.TheConstants.{ENVX, OUTX, ENDX}
+
+-- the registers that samples write, by their addresses modulo 128
+abbrev pub is_result : (address : ℕ) → Bool
+is_result address =
+    let register = address % 0x80 in
+    register % 16 == ENVX || register % 16 == OUTX || register == ENDX
 
 -- the bits of the voices from v on whose answers pass a test
 abbrev pub bits_from : (test : VoiceOut → Bool) → (v : ℕ) → List VoiceOut → ℕ

@@ -5,7 +5,9 @@ ghost use Rattle.std.specs.List.{filter};
 ghost use Rattle.rate_clock.specs.Counter.{counter_at};
 ghost use Rattle.dsp_core.specs.Run.{run, in_mask, counted};
 ghost use Rattle.dsp_core.specs.Sample.{sample, after_poll, after_noise, results_from, shared_input, records_from};
-ghost use Rattle.dsp_core.specs.Chip.{is_sound, opened_state, register_read, register_write};
+ghost use Rattle.dsp_core.specs.Sound.{is_sound};
+ghost use Rattle.dsp_core.specs.Reach.{chip_reach};
+ghost use Rattle.dsp_core.specs.Chip.{opened_state, register_read, register_write};
 
 use crate::OutOfMemory;
 use crate::mix::side_sums;
@@ -19,6 +21,7 @@ use echo_unit::Echo;
 use gauss_table::GaussTable;
 use num_fix::Frame;
 use rate_clock::{Noise, RateClock};
+use reach_map::ReachPages;
 use std::alloc::Global;
 use std::marker::Model;
 use trace_form::{Frames, Records};
@@ -236,5 +239,12 @@ impl Dsp {
         ensures is_sound { is_sound self.now.state ≡ true }
     {
         self.number
+    }
+
+    /// What the next 64 samples can read and write.
+    pub fn reach(&self, memory: &Aram) -> ReachPages
+        ensures { result ≡ chip_reach self.now.state memory.now }
+    {
+        self.state.reach(memory)
     }
 }

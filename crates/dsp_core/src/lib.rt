@@ -3,6 +3,7 @@
 
 mod dsp;
 mod mix;
+mod reach;
 mod records;
 mod registers;
 mod results;
@@ -12,5 +13,6 @@ mod tests;
 mod voices;
 
 pub use dsp::Dsp;
+pub use reach_map::ReachPages;
 pub use state::DspState;
 pub use std::alloc::AllocError as OutOfMemory;

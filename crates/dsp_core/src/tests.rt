@@ -1,9 +1,9 @@
-//! Worked examples over whole samples: keys, and the echo's window.
+//! Worked examples over whole samples: keys, the echo's window, and the reach.
 
 ghost use Rattle.std.specs.Prelude.{◌≤◌};
 
 use crate::Dsp;
-use aram_core::Aram;
+use aram_core::{Aram, PageSet};
 use gauss_table::GaussTable;
 use num_fix::Frame;
 use std::alloc::Global;
@@ -159,5 +159,29 @@ fn the_echo_goes_round_its_window(rt: HostRuntime) -> Result<(), Fail> {
         play(&mut dsp, &mut memory, 64, &mut frames, &mut records);
     }
     assert_eq!(rt; (dsp.sample(), zeros_from(&memory, 0xff00)), (1025, 0x804));
+    Ok(())
+}
+
+/// Whether a set has exactly the pages of these numbers.
+fn has_exactly(pages: &PageSet, numbers: &[u8]) -> bool {
+    (0..=255u8).all(|page| pages.has(page) == numbers.contains(&page))
+}
+
+#[test]
+fn the_reach_has_the_start_of_a_voice_whose_key_on_waits(rt: HostRuntime) -> Result<(), Fail> {
+    let (mut dsp, memory) = one_voice(rt.alloc())?;
+    // the block at 0000h of all voices, the directory's entry at 0200h, and the echo's cell at E000h
+    let idle = dsp.reach(&memory);
+    assert!(rt; has_exactly(&idle.read_pages, &[0x00, 0x02, 0xe0]));
+    assert!(rt; has_exactly(&idle.write_pages, &[]));
+    assert_eq!(rt; idle.entangled, false);
+    // with the first block of voice 0 and the one to which it loops; and an echo that writes where that one is
+    dsp.reg_write(0x4c, 0x01);
+    dsp.reg_write(0x6c, 0x00);
+    dsp.reg_write(0x6d, 0x06);
+    let keyed = dsp.reach(&memory);
+    assert!(rt; has_exactly(&keyed.read_pages, &[0x00, 0x02, 0x05, 0x06]));
+    assert!(rt; has_exactly(&keyed.write_pages, &[0x06]));
+    assert_eq!(rt; keyed.entangled, true);
     Ok(())
 }

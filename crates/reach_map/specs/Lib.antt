@@ -1,2 +1,6 @@
 -- Window: a part of memory that may go round its end, and the one in which the echo buffer lies.
 pub mod Window
+-- Reach: the pages that the samples to come can read and write.
+pub mod Reach
+-- Added: a set of pages with the pages of a list added.
+pub mod Added

@@ -1,9 +1,73 @@
-//! The parts of memory that the S-DSP can meet in the samples to come: the window of its echo.
+//! The parts of memory that the S-DSP can meet in the samples to come.
 #![tactic(auto)]
+
+mod pages;
+#[cfg(test)]
+mod tests;
+mod voices;
+
+ghost use Rattle.std.specs.Prelude.{◌≡◌, ◌≤◌, length};
+ghost use Rattle.reach_map.specs.Reach.{reach};
+
+use crate::pages::add_window;
+use crate::voices::voice_pages;
+use aram_core::{Aram, PageSet};
 
 /// A part of memory: `len` bytes from `start` on, which go on at 0000h behind FFFFh.
 #[derive(Clone, Copy, Debug, PartialEq, Eq)]
 pub struct Window {
     pub start: u16,
     pub len: u32,
+}
+
+/// Where a voice can be in its sample: a block, and the block to which it goes behind one that ends.
+#[derive(Clone, Copy, Debug, Default, PartialEq, Eq)]
+pub struct ChainStart {
+    pub block: u16,
+    pub loop_word: u16,
+}
+
+/// The pages that the samples to come can read and those that they can write, and whether a voice can read what the echo
+/// writes.
+#[derive(Clone, Copy, Debug)]
+pub struct ReachPages {
+    pub read_pages: PageSet,
+    pub write_pages: PageSet,
+    pub entangled: bool,
+}
+
+/// The reach of voices at the starts of chains, with their entries of the directory, and of an echo with its window, which
+/// writes where `writes_on` is set.
+#[tactic(auto, unfolding(crate::specs::Reach::reach))]
+pub fn reach(
+    memory: &Aram,
+    starts: &[ChainStart],
+    entries: &[u16],
+    window: Window,
+    writes_on: bool,
+) -> ReachPages
+    requires starts { length starts.now ≤ 16 }
+    requires entries { length entries.now ≤ 8 }
+    requires some { 1 ≤ window.len }
+    requires most { window.len ≤ 0x10000 }
+    ensures { result ≡ reach memory.now starts.now entries.now window writes_on }
+{
+    let voices = voice_pages(memory, starts, entries);
+    let mut read_pages = voices;
+    add_window(&mut read_pages, window);
+    if writes_on {
+        let mut write_pages = PageSet::empty();
+        add_window(&mut write_pages, window);
+        ReachPages {
+            read_pages,
+            write_pages,
+            entangled: voices.meets(&write_pages),
+        }
+    } else {
+        ReachPages {
+            read_pages,
+            write_pages: PageSet::empty(),
+            entangled: false,
+        }
+    }
 }

@@ -1,5 +1,5 @@
 -- What was emitted before a run stands before what the run emits, and makes no other difference.
-use Rattle.std.proofs.Common.{◌≡◌, ℕ, zero, suc, ◌-◌, ◌*◌, ◌/◌, ◌<◌, Bool, true, false, nat_le, nat_lt, List, ◌++◌, refl, sym, ◌∙◌, ap, subst}
+use Rattle.std.proofs.Common.{◌≡◌, ◌≤◌, inl, inr, ℕ, zero, suc, ◌-◌, ◌*◌, ◌/◌, ◌<◌, Bool, true, false, nat_le, nat_lt, List, ◌++◌, refl, sym, ◌∙◌, ap, subst}
 use Rattle.std.specs.Prelude.{if◌then◌else◌}
 use Rattle.std.proofs.lemmas.List.Elements.{filter-append}
 use Rattle.spc700_exec.specs.declared.cpu.Cpu.{Cpu}
@@ -9,8 +9,9 @@ use Rattle.spc700_exec.specs.Emitting.{IsEmitting, IsAhead}
 use Rattle.spc700_exec.proofs.Alike.{clock-cleared, IsAhead-step_outcome}
 use Rattle.trace_form.specs.declared.record.Record.{Record}
 use Rattle.render_core.specs.Run.{Whole, after_step, after_steps, after_run}
-use Rattle.render_core.specs.Items.{records_before, sample_number}
-use Rattle.render_core.proofs.Runs.{after_run-next}
+use Rattle.sound_bus.specs.Merge.{sample_number}
+use Rattle.render_core.specs.Items.{records_before}
+use Rattle.render_core.proofs.Runs.{lt_or, after_run-reached}
 
 module _ {S I : Type 0} (bus : BusMeaning S) (lawful : IsLawful bus) (cleared : S → S) (items : S → List I) (law : IsEmitting bus cleared items) where
   -- the same registers, and a bus that is ahead by some items
@@ -51,17 +52,41 @@ module _ {S I : Type 0} (bus : BusMeaning S) (lawful : IsLawful bus) (cleared : 
         let ahead : AreAhead got (cpu, s) (cpu, t) = (refl, record { same = sym same; front = split }) in
         (AreAhead-run got (cpu, s) (cpu, t) ahead).1.front
 
-    stepped : (cpu next_cpu : Cpu) (s next : S) → (next_cpu, next) ≡ step_outcome bus cpu s → bus.made s < samples → items (after_run bus samples (cpu, s)).1 ≡ items (after_run bus samples (next_cpu, next)).1
-    unfolding after_step
-    stepped cpu next_cpu s next does more =
-        ap (λ (w : Whole S). items w.1) (after_run-next bus lawful samples (cpu, s) more) ∙ ap (λ (w : Whole S). items (after_run bus samples w).1) (sym does)
+    -- nor does it change what doesn't depend on the items
+    pub counts-after_run-drained : {N : Type 0} (counts : S → N) → ((s : S) → counts (cleared s) ≡ counts s) → (cpu : Cpu) (s t : S) (got : List I) → items s ≡ got ++ items t → cleared t ≡ cleared s
+        → counts (after_run bus samples (cpu, s)).1 ≡ counts (after_run bus samples (cpu, t)).1
+    counts-after_run-drained counts beside cpu s t got split same =
+        let ahead : AreAhead got (cpu, s) (cpu, t) = (refl, record { same = sym same; front = split }) in
+        sym (beside _) ∙ ap counts (AreAhead-run got (cpu, s) (cpu, t) ahead).1.same ∙ beside _
 
-    -- a step, what settles the bus, and a drain
-    pub items-after_run-once : (cpu next_cpu : Cpu) (s next settled drained : S) (got : List I) → (next_cpu, next) ≡ step_outcome bus cpu s → bus.made s < samples
-        → items settled ≡ items next → cleared settled ≡ cleared next → items settled ≡ got ++ items drained → cleared drained ≡ cleared settled
-        → items (after_run bus samples (cpu, s)).1 ≡ got ++ items (after_run bus samples (next_cpu, drained)).1
-    items-after_run-once cpu next_cpu s next settled drained got does more kept same split rest =
-        stepped cpu next_cpu s next does more ∙ items-after_run-drained next_cpu next drained got (sym kept ∙ split) (rest ∙ same)
+    -- a bus that is settled once the samples are made, and then drained
+    module _ (cpu : Cpu) (next settled drained : S) (got : List I) (kept : items settled ≡ items next) (clock : bus.clock settled ≡ bus.clock next) (still : bus.made next < samples → settled ≡ next)
+        (split : items settled ≡ got ++ items drained) (same : cleared drained ≡ cleared settled) where
+      made-settled : bus.made settled ≡ bus.made next
+      made-settled = lawful.samples settled ∙ ap (λ (k : ℕ). k / 32) clock ∙ sym (lawful.samples next)
+
+      made-drained : bus.made drained ≡ bus.made next
+      made-drained = made-cleared drained settled same ∙ made-settled
+
+      pub items-after_run-settled : items (after_run bus samples (cpu, next)).1 ≡ got ++ items (after_run bus samples (cpu, drained)).1
+      items-after_run-settled = elim (lt_or (bus.made next) samples) [
+        | inl more ↦ items-after_run-drained cpu next drained got (ap items (sym (still more)) ∙ split) (same ∙ ap cleared (still more))
+        | inr all ↦
+            let all_drained : samples ≤ bus.made drained = subst (λ (n : ℕ). samples ≤ n) (sym made-drained) all in
+            ap (λ (w : Whole S). items w.1) (after_run-reached bus lawful samples (cpu, next) all)
+            ∙ sym kept ∙ split ∙ ap (λ (w : Whole S). got ++ items w.1) (sym (after_run-reached bus lawful samples (cpu, drained) all_drained))
+      ]
+
+      pub counts-after_run-settled : {N : Type 0} (counts : S → N) → ((s : S) → counts (cleared s) ≡ counts s) → counts settled ≡ counts next
+          → counts (after_run bus samples (cpu, next)).1 ≡ counts (after_run bus samples (cpu, drained)).1
+      counts-after_run-settled counts beside told = elim (lt_or (bus.made next) samples) [
+        | inl more ↦ counts-after_run-drained counts beside cpu next drained got (ap items (sym (still more)) ∙ split) (same ∙ ap cleared (still more))
+        | inr all ↦
+            let all_drained : samples ≤ bus.made drained = subst (λ (n : ℕ). samples ≤ n) (sym made-drained) all in
+            ap (λ (w : Whole S). counts w.1) (after_run-reached bus lawful samples (cpu, next) all)
+            ∙ sym told ∙ sym (beside settled) ∙ ap counts (sym same) ∙ beside drained
+            ∙ ap (λ (w : Whole S). counts w.1) (sym (after_run-reached bus lawful samples (cpu, drained) all_drained))
+      ]
 
 pub records_before-append : (samples : ℕ) (xs ys : List Record) → records_before samples (xs ++ ys) ≡ records_before samples xs ++ records_before samples ys
 records_before-append samples xs ys = filter-append (λ item. nat_lt (sample_number item) samples) xs ys

@@ -10,3 +10,9 @@ pub mod Counted
 pub mod Opened
 -- Lists: two lists that make an empty one are empty.
 pub mod Lists
+-- Seen: a bus with something beside it makes the same runs.
+pub mod Seen
+-- Lagged: the machine with the lag book beside it makes the same runs.
+pub mod Lagged
+-- Pieces: the next piece of a render, from a run of the machine with the lag book.
+pub mod Pieces

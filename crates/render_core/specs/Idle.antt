@@ -8,3 +8,4 @@ pub record IsIdle {S : Type 0} (bus : BusMeaning S) (emits : Emits S) (samples :
   pub calls : bus.calls s ≡ 0
   pub frames : samples ≤ bus.made s → emits.frames s ≡ []
   pub records : samples ≤ bus.made s → emits.records s ≡ []
+  pub pending : samples ≤ bus.made s → emits.pending s ≡ 0

@@ -3,20 +3,14 @@
 use Rattle.std.specs.Prelude.{ℕ, nat_lt, List, filter}
 use Rattle.num_fix.specs.declared.Frame.{Frame}
 use Rattle.trace_form.specs.declared.record.Record.{Record}
-use Rattle.trace_form.specs.declared.record.Record.TheVariants.{Reg, Port, Voice}
 use Rattle.spc700_exec.specs.Bus.{BusMeaning}
 use Rattle.sound_bus.specs.Emits.{Emits}
+use Rattle.sound_bus.specs.Merge.{sample_number}
 use Rattle.render_core.specs.Run.{Whole, after_run}
 
 -- the frames of a run to so many samples
 abbrev pub run_frames : {S : Type 0} → BusMeaning S → Emits S → (samples : ℕ) → Whole S → List Frame
 run_frames bus emits samples w = emits.frames (after_run bus samples w).1
-
--- the sample number of a record: the number of samples made before it, or of a voice its sample's own
-abbrev pub sample_number : Record → ℕ
-sample_number (Reg sample addr value) = sample
-sample_number (Port sample port value) = sample
-sample_number (Voice sample voice level out block keyed looped) = sample
 
 -- the records up to the last frame of so many samples: all that have a sample number below that. A step may go on behind
 -- its sample, so that a run emits later ones too

@@ -5,6 +5,8 @@ pub mod Opening
 pub mod Run
 -- the frames and records that a run emits
 pub mod Items
+-- how often the chip makes samples in a run, and why
+pub mod Batches
 -- what contracts see of a render: what is still to come, and the next piece of it
 pub mod RenderState
 -- the fade at the end

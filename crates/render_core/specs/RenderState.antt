@@ -4,27 +4,33 @@ use Rattle.num_fix.specs.declared.Frame.{Frame}
 use Rattle.trace_form.specs.declared.record.Record.{Record}
 use Rattle.spc700_exec.specs.declared.cpu.Cpu.{Cpu}
 use Rattle.sound_bus.specs.ChipMeaning.{ChipMeaning}
-use Rattle.sound_bus.specs.Machine.{Machine}
+use Rattle.sound_bus.specs.declared.counts.Counts.{Counts}
+use Rattle.sound_bus.specs.Lagging.{Lagging}
 use Rattle.sound_bus.specs.LockStep.{lock_step}
 use Rattle.sound_bus.specs.PlainBus.{plain_emits}
 use Rattle.render_core.specs.Items.{run_frames, run_records}
+use Rattle.render_core.specs.Batches.{run_counts}
 
 pub record RenderState (S : Type 0) : Type 0 where
-  -- the whole machine: the processor, and the bus with what it emitted since it was drained
+  -- the whole machine: the processor, and the bus with its book and what it emitted since it was drained
   pub cpu : Cpu
-  pub bus : Machine S
+  pub bus : Lagging S
   -- the samples to be made
   pub samples : ℕ
   -- the piece that was made last
   pub frames : List Frame
   pub records : List Record
 
--- the frames and the records still to come: those that the run from this machine emits until its samples are made
+-- the frames and the records still to come: those that the machine in lock step emits from here until its samples are made
 abbrev pub frames_to_come : {S : Type 0} → ChipMeaning S → RenderState S → List Frame
-frames_to_come chip render = run_frames (lock_step chip) plain_emits render.samples (render.cpu, render.bus)
+frames_to_come chip render = run_frames (lock_step chip) plain_emits render.samples (render.cpu, render.bus.machine)
 
 abbrev pub records_to_come : {S : Type 0} → ChipMeaning S → RenderState S → List Record
-records_to_come chip render = run_records (lock_step chip) plain_emits render.samples (render.cpu, render.bus)
+records_to_come chip render = run_records (lock_step chip) plain_emits render.samples (render.cpu, render.bus.machine)
+
+-- the counts of batches that there will be once the samples are made
+abbrev pub counts_to_come : {S : Type 0} → ChipMeaning S → RenderState S → Counts
+counts_to_come chip render = run_counts chip render.samples (render.cpu, render.bus)
 
 -- frames and records that are the next piece between two states of a render, and whether it is the last one
 pub record IsNextPiece {S : Type 0} (chip : ChipMeaning S) (old new : RenderState S) (given : List Frame) (written : List Record) (is_last : Bool) : Type 0 where
@@ -36,6 +42,9 @@ pub record IsNextPiece {S : Type 0} (chip : ChipMeaning S) (old new : RenderStat
   -- else it has a frame or a record
   pub some : is_last ≡ false → 0 < length given + length written
   -- and the clock went on, so that a loop over the pieces ends
-  pub later : is_last ≡ false → old.bus.clock < new.bus.clock
-  pub below : is_last ≡ false → new.bus.clock < 32 * new.samples
+  pub later : is_last ≡ false → old.bus.machine.clock < new.bus.machine.clock
+  pub below : is_last ≡ false → new.bus.machine.clock < 32 * new.samples
+  -- the counts will be the same, and with the last piece they are there
+  pub counts : counts_to_come chip new ≡ counts_to_come chip old
+  pub counted : is_last ≡ true → new.bus.book.counts ≡ counts_to_come chip new
   pub samples : new.samples ≡ old.samples

@@ -1,22 +1,12 @@
 // One piece, over any bus that emits.
 ghost use Rattle.std.specs.Prelude.{◌≡◌, ◌+◌, ◌*◌, ◌++◌, ◌<◌, ◌≤◌, [], length, true, false};
 ghost use Rattle.render_core.specs.Idle.{IsIdle};
-ghost use Rattle.render_core.specs.Items.{run_frames, run_records, records_before, sample_number};
+ghost use Rattle.render_core.specs.Run.{after_run};
+ghost use Rattle.render_core.specs.Items.{run_frames, run_records, records_before};
 
-use sound_bus::Source;
+use sound_bus::{Source, sample_number};
 use spc700_exec::{Cpu, step};
-use trace_form::{Frames, Record, Records};
-
-/// The sample number of a record.
-fn sample_number(item: &Record) -> u32
-    ensures { result ≡ sample_number item.now }
-{
-    match *item {
-        Record::Reg { sample, .. } => sample,
-        Record::Port { sample, .. } => sample,
-        Record::Voice { sample, .. } => sample,
-    }
-}
+use trace_form::{Frames, Records};
 
 /// Takes over the records that stand before the last frame. Behind it a step may have emitted more.
 fn keep_early(drained: &Records, samples: u32, records: &mut Records)
@@ -26,7 +16,7 @@ fn keep_early(drained: &Records, samples: u32, records: &mut Records)
     // Both lists have the same room.
     let _room = drained.room();
     for item in drained.as_slice() {
-        if sample_number(item) < samples {
+        if sample_number(*item) < samples {
             records.push(*item);
         }
     }
@@ -36,8 +26,10 @@ fn keep_early(drained: &Records, samples: u32, records: &mut Records)
 fn settle_at_end<B: Source>(bus: &mut B, samples: u32)
     ensures frames { B.emits.frames bus.new ≡ B.emits.frames bus.old }
     ensures records { B.emits.records bus.new ≡ B.emits.records bus.old }
-    ensures rest { B.emits.cleared bus.new ≡ B.emits.cleared bus.old }
+    ensures still { B.means.made bus.old < samples → bus.new ≡ bus.old }
+    ensures clock { B.means.clock bus.new ≡ B.means.clock bus.old }
     ensures calls { B.means.calls bus.new ≡ B.means.calls bus.old }
+    ensures counts { B.emits.counts bus.new ≡ B.emits.counts bus.old }
     ensures pending { samples ≤ B.means.made bus.old → B.emits.pending bus.new ≡ 0 }
 {
     if bus.made() >= samples {
@@ -53,17 +45,45 @@ pub(crate) struct Lists {
     pub(crate) drained: Records,
 }
 
-/// One step, and what was emitted with it.
-fn step_once<B: Source>(cpu: &mut Cpu, bus: &mut B, samples: u32, lists: &mut Lists)
+/// A step of the run, unless it is at its end.
+fn step_on<B: Source>(cpu: &mut Cpu, bus: &mut B, samples: u32)
+    requires calls { B.means.calls bus.old ≤ 32 }
+    requires few { samples ≤ 115200000 }
+    ensures run { after_run B.means samples (cpu.old, bus.old) ≡ after_run B.means samples (cpu.new, bus.new) }
+    ensures calls { B.means.calls bus.new ≤ B.means.calls bus.old + 13 }
+    ensures later { B.means.made bus.old < samples → B.means.clock bus.old < B.means.clock bus.new }
+    ensures on { B.means.clock bus.old ≤ B.means.clock bus.new }
+{
+    if bus.made() < samples {
+        step(cpu, bus);
+    }
+}
+
+/// Some steps of the run, one at least: a drained bus has room for three of them.
+fn take_steps<B: Source>(cpu: &mut Cpu, bus: &mut B, samples: u32)
+    requires calls { B.means.calls bus.old ≡ 0 }
+    requires more { B.means.made bus.old < samples }
+    requires few { samples ≤ 115200000 }
+    ensures run { after_run B.means samples (cpu.old, bus.old) ≡ after_run B.means samples (cpu.new, bus.new) }
+    ensures later { B.means.clock bus.old < B.means.clock bus.new }
+{
+    step_on(cpu, bus, samples);
+    step_on(cpu, bus, samples);
+    step_on(cpu, bus, samples);
+}
+
+/// Some steps, and what was emitted with them.
+fn step_and_drain<B: Source>(cpu: &mut Cpu, bus: &mut B, samples: u32, lists: &mut Lists)
     requires idle { B.means.calls bus.old ≡ 0 }
     requires more { B.means.made bus.old < samples }
     requires few { samples ≤ 115200000 }
     ensures frames { run_frames B.means B.emits samples (cpu.old, bus.old) ≡ lists.new.frames ++ run_frames B.means B.emits samples (cpu.new, bus.new) }
     ensures records { run_records B.means B.emits samples (cpu.old, bus.old) ≡ lists.new.records ++ run_records B.means B.emits samples (cpu.new, bus.new) }
+    ensures counts { B.emits.counts (after_run B.means samples (cpu.old, bus.old)).1 ≡ B.emits.counts (after_run B.means samples (cpu.new, bus.new)).1 }
     ensures idle { IsIdle B.means B.emits samples bus.new }
     ensures later { B.means.clock bus.old < B.means.clock bus.new }
 {
-    step(cpu, bus);
+    take_steps(cpu, bus, samples);
     settle_at_end(bus, samples);
     bus.drain(&mut lists.frames, &mut lists.drained);
     keep_early(&lists.drained, samples, &mut lists.records);
@@ -82,6 +102,9 @@ pub(crate) fn make_piece<B: Source>(
     ensures frames { run_frames B.means B.emits samples (cpu.old, bus.old) ≡ lists.new.frames ++ run_frames B.means B.emits samples (cpu.new, bus.new) }
     ensures records { run_records B.means B.emits samples (cpu.old, bus.old) ≡ lists.new.records ++ run_records B.means B.emits samples (cpu.new, bus.new) }
     ensures idle { IsIdle B.means B.emits samples bus.new }
+    ensures counts { B.emits.counts (after_run B.means samples (cpu.old, bus.old)).1 ≡ B.emits.counts (after_run B.means samples (cpu.new, bus.new)).1 }
+    ensures over { result ≡ true → after_run B.means samples (cpu.new, bus.new) ≡ (cpu.new, bus.new) }
+    ensures settled { result ≡ true → B.emits.pending bus.new ≡ 0 }
     ensures frames_done { result ≡ true → run_frames B.means B.emits samples (cpu.new, bus.new) ≡ [] }
     ensures records_done { result ≡ true → run_records B.means B.emits samples (cpu.new, bus.new) ≡ [] }
     ensures some { result ≡ false → 0 < length lists.new.frames + length lists.new.records }
@@ -95,7 +118,7 @@ pub(crate) fn make_piece<B: Source>(
         && lists.frames.as_slice().is_empty()
         && lists.records.as_slice().is_empty()
     {
-        step_once(cpu, bus, samples, lists);
+        step_and_drain(cpu, bus, samples, lists);
     }
     bus.made() >= samples
 }

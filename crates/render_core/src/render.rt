@@ -3,16 +3,17 @@ ghost use Rattle.std.specs.Prelude.{◌≡◌, ◌+◌, ◌<◌, ◌≤◌, [], 
 ghost use Rattle.std.specs.Borrow.{sem};
 ghost use Rattle.std.specs.Io.BufRead.{Rests};
 ghost use Rattle.sound_bus.specs.LockStep.{lock_step};
-ghost use Rattle.sound_bus.specs.PlainBus.{plain_emits, plain_counts};
+ghost use Rattle.sound_bus.specs.PlainBus.{plain_emits};
 ghost use Rattle.render_core.specs.Items.{run_frames, run_records};
+ghost use Rattle.render_core.specs.Batches.{with_opened_book, run_counts};
 ghost use Rattle.render_core.specs.Opening.{opened_whole, opened_cpu};
-ghost use Rattle.render_core.specs.RenderState.{frames_to_come, records_to_come, IsNextPiece};
+ghost use Rattle.render_core.specs.RenderState.{frames_to_come, records_to_come, counts_to_come, IsNextPiece};
 ghost use Rattle.render_core.specs.contracts.render.Render.{the_row};
 
 use crate::OutOfMemory;
 use crate::making::{Lists, make_piece};
 use crate::piece::Piece;
-use sound_bus::{Chip, Counts, PlainBus};
+use sound_bus::{Chip, Counts, LagBus};
 use spc_form::{SpcFile, opening};
 use spc700_exec::Cpu;
 use std::alloc::Global;
@@ -23,19 +24,23 @@ use trace_form::{Frames, Records};
 #[derive(Drop)]
 pub struct Render<C: Chip> {
     cpu: Cpu,
-    bus: PlainBus<C>,
+    bus: LagBus<C>,
     samples: u32,
     lists: Lists,
 }
 
 impl<C: Chip> Model for Render<C> {
     ghost use Rattle.std.specs.Prelude.{◌≤◌};
-    ghost use Rattle.sound_bus.specs.LockStep.{lock_step};
-    ghost use Rattle.sound_bus.specs.PlainBus.{plain_emits};
+    ghost use Rattle.sound_bus.specs.Lagging.{lagging};
+    ghost use Rattle.sound_bus.specs.LagEmits.{lag_emits};
     ghost use Rattle.render_core.specs.Idle.{IsIdle};
     ghost use Rattle.render_core.specs.RenderState.{RenderState};
+    ghost use Rattle.std.specs.Coded.{codes};
+    ghost use Rattle.aram_core.specs.contracts.page_set.PageSet as page_set;
 
     ghost Value = { RenderState C.State };
+
+    ghost coded = { Prim.hlevel (codes, page_set.the_row.coded) };
 
     ghost view = { λ r. record {
       cpu = r.cpu;
@@ -45,7 +50,7 @@ impl<C: Chip> Model for Render<C> {
       records = r.lists.records;
     } };
 
-    ghost invariant = { λ r. (r.samples ≤ 115200000) × IsIdle (lock_step C.meaning) plain_emits r.samples r.bus };
+    ghost invariant = { λ r. (r.samples ≤ 115200000) × IsIdle (lagging C.meaning) (lag_emits C.meaning) r.samples r.bus };
 }
 
 /// The registers of a file.
@@ -93,14 +98,15 @@ impl<C: Chip> Render<C> {
         requires few { samples ≤ 115200000 }
         requires sample { C.sample chip ≡ 0 }
         requires batches { C.batches chip ≡ 0 }
-        ensures whole { IfOk result (λ render. (render.cpu, render.bus) ≡ opened_whole file.now (C.state chip) mask) }
+        ensures whole { IfOk result (λ render. (render.cpu, render.bus) ≡ with_opened_book C.meaning (opened_whole file.now (C.state chip) mask)) }
         ensures samples { IfOk result (λ render. render.samples ≡ samples) }
         ensures frames { IfOk result (λ render. frames_to_come C.meaning render ≡ run_frames (lock_step C.meaning) plain_emits samples (opened_whole file.now (C.state chip) mask)) }
         ensures records { IfOk result (λ render. records_to_come C.meaning render ≡ run_records (lock_step C.meaning) plain_emits samples (opened_whole file.now (C.state chip) mask)) }
+        ensures counts { IfOk result (λ render. counts_to_come C.meaning render ≡ run_counts C.meaning samples (with_opened_book C.meaning (opened_whole file.now (C.state chip) mask))) }
         ensures count { IfOk result (λ render. length (frames_to_come C.meaning render) ≡ samples) }
     {
         let state = opening(alloc, file)?;
-        let bus = PlainBus::open(alloc, state, chip, mask)?;
+        let bus = LagBus::open(alloc, state, chip, mask)?;
         let frames = Frames::new(alloc)?;
         let records = Records::new(alloc)?;
         let drained = Records::new(alloc)?;
@@ -138,7 +144,7 @@ impl<C: Chip> Render<C> {
 
     /// How often the chip ran so far, and why.
     pub fn counts(&self) -> Counts
-        ensures { result ≡ plain_counts self.now.bus }
+        ensures { result ≡ self.now.bus.book.counts }
     {
         self.bus.counts()
     }

@@ -1,5 +1,5 @@
 -- How many records a sample gives, and a run of one sample.
-use Rattle.std.proofs.Common.{◌≡◌, ℕ, ◌+◌, ◌≤◌, List, [], ◌∷◌, ◌++◌, Bool, true, false, length, refl, arith, rules, add-zero}
+use Rattle.std.proofs.Common.{◌≡◌, ℕ, ◌+◌, ◌≤◌, List, [], ◌∷◌, Bool, true, false, length, refl, arith, rules, add-zero}
 use Rattle.std.specs.Prelude.{if◌then◌else◌}
 use Rattle.std.specs.List.{filter}
 use Rattle.trace_form.specs.declared.record.Record.{Record}
@@ -9,7 +9,7 @@ use Rattle.sound_bus.specs.ChipMeaning.{ChipMeaning}
 use Rattle.sound_bus.specs.ChipLaws.{IsLawfulChip, are_voice_records}
 
 -- a filter keeps no more than there is
-length-filter-at_most : {X : Type 0} (test : X → Bool) (xs : List X) → length (filter test xs) ≤ length xs
+pub length-filter-at_most : {X : Type 0} (test : X → Bool) (xs : List X) → length (filter test xs) ≤ length xs
 length-filter-at_most test [] = omega arith
 length-filter-at_most {X} test (x ∷ xs) = one (test x) (length-filter-at_most test xs)
   where
@@ -18,7 +18,7 @@ length-filter-at_most {X} test (x ∷ xs) = one (test x) (length-filter-at_most 
     one false h = omega arith
 
 -- the records of the voices from v to 7 are 8 - v
-length-are_voice_records : (k v : ℕ) (records : List Record) → are_voice_records k v records ≡ true → length records + v ≡ 8
+pub length-are_voice_records : (k v : ℕ) (records : List Record) → are_voice_records k v records ≡ true → length records + v ≡ 8
 unfolding are_voice_records
 length-are_voice_records k v [] h = let e : v ≡ 8 = search rules in omega arith
 length-are_voice_records k v (Voice sample voice level out block keyed looped ∷ rest) h =

@@ -1,5 +1,6 @@
 -- What contracts see of a chip: functions on its states. S is the type of the states.
 use Rattle.std.specs.Prelude.{ℕ, List, Bool}
+use Rattle.reach_map.specs.declared.ReachPages.{ReachPages}
 use Rattle.dsp_core.specs.Run.{Sampled}
 
 pub record ChipMeaning (S : Type 0) : Type 0 where
@@ -9,5 +10,7 @@ pub record ChipMeaning (S : Type 0) : Type 0 where
   pub register_write : S → (address byte : ℕ) → S
   -- the sample of number k over a memory: what it leaves and gives
   pub sample : (k : ℕ) → S → (memory : List ℕ) → Sampled S
+  -- the pages that the next 64 samples over a memory can read and write
+  pub reach : S → (memory : List ℕ) → ReachPages
   -- the test of the states that a chip can be in
   pub is_sound : S → Bool

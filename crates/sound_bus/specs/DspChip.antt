@@ -1,7 +1,9 @@
 -- The S-DSP as a chip.
 use Rattle.dsp_core.specs.declared.state.DspState.{DspState}
 use Rattle.dsp_core.specs.Sample.{sample}
-use Rattle.dsp_core.specs.Chip.{register_read, register_write, is_sound}
+use Rattle.dsp_core.specs.Chip.{register_read, register_write}
+use Rattle.dsp_core.specs.Reach.{chip_reach}
+use Rattle.dsp_core.specs.Sound.{is_sound}
 use Rattle.sound_bus.specs.ChipMeaning.{ChipMeaning}
 
 abbrev pub dsp_chip : ChipMeaning DspState
@@ -9,5 +11,6 @@ dsp_chip = record {
   register_read = register_read;
   register_write = register_write;
   sample = sample;
+  reach = chip_reach;
   is_sound = is_sound;
 }

@@ -9,10 +9,6 @@ use Rattle.sound_bus.specs.Emits.{Emits}
 abbrev pub drained_machine : {S : Type 0} → Machine S → Machine S
 drained_machine m = record m { frames = []; records = []; calls = 0 }
 
--- its samples are never pending
-abbrev pub plain_emits : {S : Type 0} → Emits (Machine S)
-plain_emits = record { frames = λ m. m.frames; records = λ m. m.records; cleared = drained_machine; pending = λ m. 0 }
-
 -- each sample is a batch of its own, and none of them has a cause
 abbrev pub plain_counts : {S : Type 0} → Machine S → Counts
 plain_counts m = record {
@@ -23,4 +19,14 @@ plain_counts m = record {
   full = 0;
   events = 0;
   «end» = 0;
+}
+
+-- its samples are never pending
+abbrev pub plain_emits : {S : Type 0} → Emits (Machine S)
+plain_emits = record {
+  frames = λ m. m.frames;
+  records = λ m. m.records;
+  cleared = drained_machine;
+  pending = λ m. 0;
+  counts = plain_counts;
 }

@@ -6,6 +6,7 @@ ghost use Rattle.sound_bus.specs.ChipMeaning.{ChipMeaning};
 ghost use Rattle.sound_bus.specs.ChipLaws.{IsLawfulChip};
 
 use aram_core::Aram;
+use reach_map::ReachPages;
 use trace_form::{Frames, Records};
 
 /// A sound chip: registers, and samples over a memory. Nothing here makes a chip or copies one, so what a bus emits comes
@@ -56,6 +57,10 @@ pub trait Chip: Drop {
         ensures memory { memory.new ≡ (run meaning.sample n (sample self.old) (state self.old) memory.old).memory }
         ensures frames { frames.new ≡ frames.old ++ (run meaning.sample n (sample self.old) (state self.old) memory.old).frames }
         ensures records { records.new ≡ records.old ++ filter (in_mask mask) (run meaning.sample n (sample self.old) (state self.old) memory.old).voices };
+
+    /// The pages that the next 64 samples can read and write.
+    fn reach(&self, memory: &Aram) -> ReachPages
+        ensures { result ≡ meaning.reach (state self.now) memory.now };
 
     /// The number of batches made, each by an `advance` of at least one sample. It stays at its type's end.
     fn batches(&self) -> u64

@@ -6,6 +6,7 @@ ghost use Rattle.sound_bus.specs.DspLaws.{dsp_is_lawful};
 use crate::chip::Chip;
 use aram_core::Aram;
 use dsp_core::{Dsp, DspState};
+use reach_map::ReachPages;
 use trace_form::{Frames, Records};
 
 impl Chip for Dsp {
@@ -39,6 +40,10 @@ impl Chip for Dsp {
         records: &mut Records,
     ) {
         self.advance(n, memory, mask, frames, records);
+    }
+
+    fn reach(&self, memory: &Aram) -> ReachPages {
+        self.reach(memory)
     }
 
     #[inline]

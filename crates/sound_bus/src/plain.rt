@@ -272,4 +272,6 @@ impl<C: Chip> Source for PlainBus<C> {
     ghost emits_records = { emits_records C.meaning };
 
     ghost frame_each = { frame_each C.meaning };
+
+    ghost counted_beside = { λ _. refl };
 }

@@ -1,14 +1,14 @@
 // A bus that emits frames and records and is drained.
 ghost use Rattle.std.specs.Prelude.{◌≡◌, ◌++◌, []};
 ghost use Rattle.spc700_exec.specs.Emitting.{IsEmitting};
-ghost use Rattle.sound_bus.specs.Emits.{Emits, IsFrameEach};
+ghost use Rattle.sound_bus.specs.Emits.{Emits, IsFrameEach, AreCountedBeside};
 
 use spc700_exec::Bus;
 use trace_form::{Frames, Records};
 
 /// A bus beneath which frames and records are emitted.
 pub trait Source: Bus {
-    /// What was emitted since the last drain, the bus without it, and the pending samples.
+    /// What was emitted since the last drain, the bus without it, the pending samples, and how often the chip ran.
     ghost emits: { Emits Self };
 
     /// The samples of the machine, made or pending.
@@ -19,8 +19,9 @@ pub trait Source: Bus {
     fn settle(&mut self)
         ensures frames { emits.frames self.new ≡ emits.frames self.old }
         ensures records { emits.records self.new ≡ emits.records self.old }
-        ensures rest { emits.cleared self.new ≡ emits.cleared self.old }
+        ensures clock { Self.means.clock self.new ≡ Self.means.clock self.old }
         ensures calls { Self.means.calls self.new ≡ Self.means.calls self.old }
+        ensures counts { emits.counts self.new ≡ emits.counts self.old }
         ensures pending { emits.pending self.new ≡ 0 };
 
     /// Clears both lists and moves into them what was emitted; with samples pending, what stands before the first of them.
@@ -29,6 +30,7 @@ pub trait Source: Bus {
         ensures records { emits.records self.old ≡ records.new ++ emits.records self.new }
         ensures rest { emits.cleared self.new ≡ emits.cleared self.old }
         ensures calls { Self.means.calls self.new ≡ 0 }
+        ensures pending { emits.pending self.new ≡ emits.pending self.old }
         ensures all_frames { emits.pending self.old ≡ 0 → emits.frames self.new ≡ [] }
         ensures all_records { emits.pending self.old ≡ 0 → emits.records self.new ≡ [] };
 
@@ -37,4 +39,6 @@ pub trait Source: Bus {
     ghost emits_records: { IsEmitting Self.means emits.cleared emits.records };
 
     ghost frame_each: { IsFrameEach Self.means emits.frames };
+
+    ghost counted_beside: { AreCountedBeside emits };
 }

@@ -1,8 +1,8 @@
-//! Calls of the bus that makes each sample at once, and runs of the processor over it.
+//! Calls of both buses, and runs of the processor over the one that makes each sample at once.
 
 ghost use Rattle.std.specs.Prelude.{◌≡◌, ◌+◌, ◌<◌, IfOk};
 
-use crate::{Chip, Counts, PlainBus, Source};
+use crate::{Chip, Counts, LagBus, PlainBus, Source};
 use aram_core::Aram;
 use dsp_core::Dsp;
 use gauss_table::GaussTable;
@@ -41,15 +41,12 @@ const KEYED: [(usize, u8); 9] = [
     (0x6C, 0x20),
 ];
 
-/// A bus at its opening, without a boot ROM, over memory and registers that are zero but for these.
-fn open_bus(
+/// The opening of a bus, without a boot ROM, over memory and registers that are zero but for these.
+fn opening_of(
     alloc: Global,
     bytes: &[(u16, &[u8])],
     registers: &[(usize, u8)],
-    mask: u8,
-) -> Result<PlainBus<Dsp>, Fail>
-    ensures { IfOk result (λ bus. (bus.calls ≡ 0) × (bus.clock ≡ 0)) }
-{
+) -> Result<OpenState, Fail> {
     let image = vec![in alloc; 0u8; 0x10000]?;
     let mut memory = Aram::from_image(alloc, &image)?;
     for (start, run) in bytes {
@@ -65,42 +62,67 @@ fn open_bus(
             *register = *value;
         }
     }
-    let chip = Dsp::open(alloc, &dsp, GaussTable::straight(alloc)?)?;
-    let opening = OpenState {
+    Ok(OpenState {
         memory,
         cells: [0; 16],
         rom: [0; 64],
         dsp,
-    };
+    })
+}
+
+/// The bus at such an opening that makes each sample at once.
+fn open_bus(
+    alloc: Global,
+    bytes: &[(u16, &[u8])],
+    registers: &[(usize, u8)],
+    mask: u8,
+) -> Result<PlainBus<Dsp>, Fail>
+    ensures { IfOk result (λ bus. (bus.calls ≡ 0) × (bus.clock ≡ 0)) }
+{
+    let opening = opening_of(alloc, bytes, registers)?;
+    let chip = Dsp::open(alloc, &opening.dsp, GaussTable::straight(alloc)?)?;
     Ok(PlainBus::open(alloc, opening, chip, mask)?)
 }
 
+/// The bus over the source that makes samples late, at an opening with such registers.
+fn open_lag_bus(alloc: Global, registers: &[(usize, u8)], mask: u8) -> Result<LagBus<Dsp>, Fail>
+    ensures { IfOk result (λ bus. (bus.machine.calls ≡ 0) × (bus.machine.clock ≡ 0)) }
+{
+    let opening = opening_of(alloc, &SOURCE, registers)?;
+    let chip = Dsp::open(alloc, &opening.dsp, GaussTable::straight(alloc)?)?;
+    Ok(LagBus::open(alloc, opening, chip, mask)?)
+}
+
 /// A pass of 32 cycles.
-fn pass_32(bus: &mut PlainBus<Dsp>)
-    requires room { bus.old.calls < 64 }
-    requires time { bus.old.clock < 1000000 }
-    ensures calls { bus.new.calls ≡ bus.old.calls + 1 }
-    ensures clock { bus.new.clock ≡ bus.old.clock + 32 }
+fn pass_32<B: Bus>(bus: &mut B)
+    requires room { B.means.calls bus.old < 64 }
+    requires time { B.means.clock bus.old < 1000000 }
+    ensures calls { B.means.calls bus.new ≡ B.means.calls bus.old + 1 }
+    ensures clock { B.means.clock bus.new ≡ B.means.clock bus.old + 32 }
 {
     bus.pass(32);
 }
 
-fn read(bus: &mut PlainBus<Dsp>, addr: u16) -> u8
-    requires { bus.old.calls < 64 }
-    ensures { bus.new.calls ≡ bus.old.calls + 1 }
+fn read<B: Bus>(bus: &mut B, addr: u16) -> u8
+    requires { B.means.calls bus.old < 64 }
+    ensures calls { B.means.calls bus.new ≡ B.means.calls bus.old + 1 }
+    ensures clock { B.means.clock bus.new ≡ B.means.clock bus.old }
 {
     bus.read(addr)
 }
 
-fn write(bus: &mut PlainBus<Dsp>, addr: u16, value: u8)
-    requires { bus.old.calls < 64 }
-    ensures { bus.new.calls ≡ bus.old.calls + 1 }
+fn write<B: Bus>(bus: &mut B, addr: u16, value: u8)
+    requires { B.means.calls bus.old < 64 }
+    ensures calls { B.means.calls bus.new ≡ B.means.calls bus.old + 1 }
+    ensures clock { B.means.clock bus.new ≡ B.means.clock bus.old }
 {
     bus.write(addr, value);
 }
 
 /// The lists that a drain fills: how many frames, whether all are silent, and how many records.
-fn drained(alloc: Global, bus: &mut PlainBus<Dsp>) -> Result<(usize, bool, usize), Fail> {
+fn drained<B: Source>(alloc: Global, bus: &mut B) -> Result<(usize, bool, usize), Fail>
+    ensures calls { IfOk result (λ _. B.means.calls bus.new ≡ 0) }
+{
     let mut frames = Frames::new(alloc)?;
     let mut records = Records::new(alloc)?;
     bus.drain(&mut frames, &mut records);
@@ -135,6 +157,72 @@ fn each_call_acts_at_once(rt: HostRuntime) -> Result<(), Fail> {
         end: 0,
     };
     assert_eq!(rt; bus.counts(), counts);
+    Ok(())
+}
+
+/// The same calls: no sample is made before one of them needs it.
+#[test]
+fn samples_wait_until_they_are_needed(rt: HostRuntime) -> Result<(), Fail> {
+    let mut bus = open_lag_bus(rt.alloc(), &KEYED, 0)?;
+    pass_32(&mut bus);
+    pass_32(&mut bus);
+    pass_32(&mut bus);
+    assert_eq!(rt; bus.pending(), 3);
+    assert_eq!(rt; read(&mut bus, 0x00F3), 0x7F);
+    write(&mut bus, 0x0700, 0x01);
+    assert_eq!(rt; bus.pending(), 3);
+    write(&mut bus, 0x0500, 0xC3);
+    assert_eq!(rt; bus.pending(), 0);
+    assert_eq!(rt; read(&mut bus, 0x0700), 0x01);
+    assert_eq!(rt; read(&mut bus, 0x0500), 0xC3);
+    assert_eq!(rt; (bus.made(), bus.to_sample()), (3, 32));
+    assert_eq!(rt; drained(rt.alloc(), &mut bus)?, (3, true, 0));
+    let counts = Counts {
+        batches: 1,
+        register: 0,
+        memory: 1,
+        echo: 0,
+        full: 0,
+        events: 0,
+        end: 0,
+    };
+    assert_eq!(rt; bus.counts(), counts);
+    Ok(())
+}
+
+/// Once all voices play and the echo is elsewhere, no sample reads page 0. A write of a port between two samples then waits
+/// for the first of them, and comes before the voices of the second.
+#[test]
+fn what_waits_is_handed_over_in_order(rt: HostRuntime) -> Result<(), Fail> {
+    let registers = [(0x4C, 0xFF), (0x5D, 0x02), (0x6C, 0x20), (0x6D, 0x80)];
+    let mut bus = open_lag_bus(rt.alloc(), &registers, 0x01)?;
+    pass_32(&mut bus);
+    pass_32(&mut bus);
+    write(&mut bus, 0x0500, 0xC3);
+    pass_32(&mut bus);
+    write(&mut bus, 0x00F4, 0x5A);
+    pass_32(&mut bus);
+    assert_eq!(rt; drained(rt.alloc(), &mut bus)?, (2, true, 2));
+    assert_eq!(rt; bus.pending(), 2);
+    bus.settle();
+    let mut frames = Frames::new(rt.alloc())?;
+    let mut records = Records::new(rt.alloc())?;
+    bus.drain(&mut frames, &mut records);
+    let port = Record::Port {
+        sample: 3,
+        port: 0,
+        value: 0x5A,
+    };
+    match records.as_slice() {
+        [
+            Record::Voice { sample: 2, .. },
+            event,
+            Record::Voice { sample: 3, .. },
+        ] => {
+            assert_eq!(rt; *event, port);
+        }
+        _ => panic!(rt; "not in order"),
+    }
     Ok(())
 }
 

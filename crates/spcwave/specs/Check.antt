@@ -1,12 +1,15 @@
--- What `check` answers: sums over the frames of a demo file, rendered over the table of straight lines for ten seconds.
+-- What `check` answers: sums over the frames of a demo file, rendered over the table of straight lines for ten seconds, and the
+-- counts of the batches in which they were made.
 use Rattle.std.specs.Prelude.{ℕ, ◌+◌, ◌*◌, ◌%◌, ◌^◌, ◌≤◌, ℤ, pos, ◌+ℤ◌, unsigned_abs, List, [], ◌++◌, fold, codes, decimal}
 use Rattle.std.specs.Int.{w32, cast_unsigned}
 use Rattle.std.specs.Fmt.{signed_decimal}
 use Rattle.num_fix.specs.declared.Frame.{Frame}
+use Rattle.sound_bus.specs.declared.counts.Counts.{Counts}
 use Rattle.gauss_table.specs.StraightTable.{straight_table}
 use Rattle.demo_gen.specs.Demo.{demo_bytes}
 use Rattle.command_frame.specs.Answer.{Answer, done}
-use Rattle.spcwave.specs.Tune.{tune_frames}
+use Rattle.spcwave.specs.Batches.{batch_line}
+use Rattle.spcwave.specs.Tune.{tune_frames, tune_counts}
 use Rattle.spcwave.specs.declared.statuses.Cause.{Cause}
 use Rattle.spcwave.specs.declared.check.Sums.{Sums}
 
@@ -36,10 +39,10 @@ pub record AreWithin (frames : ℕ) (sums : Sums) : Type 0 where
   pub left : unsigned_abs sums.left ≤ 32768 * frames
   pub right : unsigned_abs sums.right ≤ 32768 * frames
 
-abbrev pub check_report : Sums → List ℕ
-check_report sums =
+abbrev pub check_report : Sums → Counts → List ℕ
+check_report sums counts =
     codes "samples 320000\nleft " ++ signed_decimal sums.left ++ codes "\nright " ++ signed_decimal sums.right
-    ++ codes "\nmix " ++ decimal sums.mix ++ codes "\n"
+    ++ codes "\nmix " ++ decimal sums.mix ++ codes "\n" ++ batch_line counts
 
 abbrev pub check_answer : (number : ℕ) → Answer Cause
-check_answer number = done [] (check_report (sums_of (tune_frames (demo_bytes number) straight_table 0 320000)))
+check_answer number = done [] (check_report (sums_of (tune_frames (demo_bytes number) straight_table 0 320000)) (tune_counts (demo_bytes number) straight_table 0 320000))

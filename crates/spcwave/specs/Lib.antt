@@ -1,3 +1,5 @@
+-- what a render reports
+pub mod Batches
 -- what `brr` answers
 pub mod Brr
 -- what `check` answers

@@ -1,7 +1,8 @@
 -- What `render` answers.
-use Rattle.std.specs.Prelude.{ℕ, ℤ, List, ◌++◌, Option, Some, None, is_some, unwrap_or, codes, decimal}
+use Rattle.std.specs.Prelude.{ℕ, ℤ, List, Option, Some, None, is_some, unwrap_or}
 use Rattle.std.specs.Option.{option_map}
 use Rattle.wav_form.specs.Wave.{stereo_wave}
+use Rattle.sound_bus.specs.declared.counts.Counts.{Counts}
 use Rattle.render_core.specs.Fade.{faded_frames}
 use Rattle.spc_form.specs.Tags.{length_of}
 use Rattle.spc_form.specs.declared.tags.Length.{Length}
@@ -10,7 +11,8 @@ use Rattle.command_frame.specs.Stream.{pair}
 use Rattle.spcwave.specs.Inputs.{answer_from, file_in, table_in}
 use Rattle.spcwave.specs.Options.{Options}
 use Rattle.spcwave.specs.Sound.{trace_of}
-use Rattle.spcwave.specs.Tune.{tune_frames, tune_records}
+use Rattle.spcwave.specs.Batches.{sound_report}
+use Rattle.spcwave.specs.Tune.{tune_frames, tune_records, tune_counts}
 use Rattle.spcwave.specs.declared.statuses.Cause.{Cause}
 
 -- the length of a render and its fade: so many samples without a fade, or as the file's tags say
@@ -22,16 +24,16 @@ length_with (Some samples) file = record { frames = samples; fade = 0 }
 abbrev pub traced_voices : Options → Option ℕ
 traced_voices options = option_map (λ name. unwrap_or options.voices 0) options.trace
 
--- The sound file, the trace where it has a name, and a report on so many frames.
-abbrev pub sound_answer : (wave : List ℕ) → (trace : Option (List ℕ)) → (frames : ℕ) → (sound lines : List ℕ) → Answer Cause
-sound_answer wave trace frames sound lines = done (pair wave trace sound lines) (codes "samples " ++ decimal frames ++ codes "\n")
+-- The sound file, the trace where it has a name, and a report on so many frames and on the batches in which they were made.
+abbrev pub sound_answer : (wave : List ℕ) → (trace : Option (List ℕ)) → (frames : ℕ) → Counts → (sound lines : List ℕ) → Answer Cause
+sound_answer wave trace frames counts sound lines = done (pair wave trace sound lines) (sound_report frames counts)
 
--- What a file and a table answer: the frames of the run, faded, and the lines of its records.
+-- What a file and a table answer: the frames of the run, faded, the lines of its records, and the counts of its batches.
 abbrev pub rendering_answer : (wave : List ℕ) → Options → (file : List ℕ) → (table : List ℤ) → Answer Cause
 rendering_answer wave options file table =
     let length = length_with options.samples file in
     let voices = traced_voices options in
-    sound_answer wave options.trace length.frames
+    sound_answer wave options.trace length.frames (tune_counts file table (unwrap_or voices 0) length.frames)
     (stereo_wave (faded_frames (tune_frames file table (unwrap_or voices 0) length.frames) length.fade))
     (trace_of (is_some voices) (tune_records file table (unwrap_or voices 0) length.frames))
 

@@ -5,6 +5,7 @@ use Rattle.trace_form.specs.declared.record.Record.{Record}
 use Rattle.spc_form.specs.Layout.{dsp_of}
 use Rattle.dsp_core.specs.declared.state.DspState.{DspState}
 use Rattle.dsp_core.specs.Chip.{opened_state}
+use Rattle.sound_bus.specs.declared.counts.Counts.{Counts}
 use Rattle.sound_bus.specs.DspChip.{dsp_chip}
 use Rattle.sound_bus.specs.Machine.{Machine}
 use Rattle.sound_bus.specs.LockStep.{lock_step}
@@ -12,6 +13,7 @@ use Rattle.sound_bus.specs.PlainBus.{plain_emits}
 use Rattle.render_core.specs.Run.{Whole}
 use Rattle.render_core.specs.Opening.{opened_whole}
 use Rattle.render_core.specs.Items.{run_frames, run_records}
+use Rattle.render_core.specs.Batches.{with_opened_book, run_counts}
 
 -- the whole machine that the file opens; bit v of the mask lets it emit the records of voice v
 abbrev pub opened_tune : (file : List ℕ) → (table : List ℤ) → (mask : ℕ) → Whole (Machine DspState)
@@ -24,3 +26,7 @@ tune_frames file table mask samples = run_frames (lock_step dsp_chip) plain_emit
 -- and the records up to the last of them
 abbrev pub tune_records : (file : List ℕ) → (table : List ℤ) → (mask samples : ℕ) → List Record
 tune_records file table mask samples = run_records (lock_step dsp_chip) plain_emits samples (opened_tune file table mask)
+
+-- and how often the chip ran for them, and why
+abbrev pub tune_counts : (file : List ℕ) → (table : List ℤ) → (mask samples : ℕ) → Counts
+tune_counts file table mask samples = run_counts dsp_chip samples (with_opened_book dsp_chip (opened_tune file table mask))

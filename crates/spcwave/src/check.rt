@@ -1,17 +1,20 @@
-// The command `check`: sums over the frames of a demo file.
+// The command `check`: sums over the frames of a demo file, and the counts of its batches.
 ghost use Rattle.std.specs.Prelude.{◌≡◌, ◌+◌, ◌<◌, ◌≤◌, ◌++◌, [], IfOk, OnOk, length, codes, fold, false};
 ghost use Rattle.std.specs.Fmt.{signed_decimal};
 ghost use Rattle.sound_bus.specs.DspChip.{dsp_chip};
-ghost use Rattle.render_core.specs.RenderState.{frames_to_come};
+ghost use Rattle.sound_bus.specs.declared.counts.Counts.{Counts};
+ghost use Rattle.render_core.specs.RenderState.{frames_to_come, counts_to_come};
 ghost use Rattle.snd_host.specs.Host.{HostState};
 ghost use Rattle.command_frame.specs.Answer.{done};
 ghost use Rattle.command_frame.specs.Conduct.{Plans, Attempts};
 ghost use Rattle.command_frame.specs.Plan.{plan_makes};
 ghost use Rattle.gauss_table.specs.StraightTable.{straight_table};
 ghost use Rattle.demo_gen.specs.Demo.{demo_bytes};
-ghost use Rattle.spcwave.specs.Tune.{tune_frames};
+ghost use Rattle.spcwave.specs.Tune.{tune_frames, tune_counts};
 ghost use Rattle.spcwave.specs.Check.{next_mix, sums_with, sums_of, AreWithin, check_report, check_answer};
 
+use crate::batches::put_batches;
+use crate::byte_room::ByteRoom;
 use crate::printing::put_number;
 use crate::statuses::Cause;
 use command_frame::{OutOfMemory, Plan, Refusal, carry_out};
@@ -20,6 +23,7 @@ use gauss_table::GaussTable;
 use num_fix::Frame;
 use render_core::Render;
 use snd_host::Host;
+use sound_bus::Counts;
 use std::alloc::Global;
 
 /// Ten seconds.
@@ -75,7 +79,8 @@ fn sums_with_all(sums: Sums, frames: &[Frame], before: u32) -> Sums
 /// The sums of all frames to come.
 fn sums_of(render: &mut Render<Dsp>) -> Sums
     requires { length (frames_to_come dsp_chip render.old) ≤ 320000 }
-    ensures { result ≡ sums_of (frames_to_come dsp_chip render.old) }
+    ensures sums { result ≡ sums_of (frames_to_come dsp_chip render.old) }
+    ensures counts { render.new.bus.book.counts ≡ counts_to_come dsp_chip render.old }
 {
     let mut sums = Sums {
         left: 0,
@@ -102,9 +107,9 @@ fn put_signed(report: &mut Vec<u8>, name: &[u8], number: i64) -> Result<(), OutO
     report.extend_from_slice(buffer.format(number).as_bytes())
 }
 
-/// The report on sums.
-fn report(alloc: Global, sums: Sums) -> Result<Vec<u8>, OutOfMemory>
-    ensures { IfOk result (λ report. report.items ≡ check_report sums) }
+/// The report on sums and batches.
+fn report(alloc: Global, sums: Sums, counts: Counts) -> Result<Vec<u8>, OutOfMemory>
+    ensures { IfOk result (λ report. report.items ≡ check_report sums counts) }
 {
     let mut report = Vec::new(alloc);
     put_signed(&mut report, b"samples 320000\nleft ", sums.left)?;
@@ -112,26 +117,41 @@ fn report(alloc: Global, sums: Sums) -> Result<Vec<u8>, OutOfMemory>
     report.extend_from_slice(b"\nmix ")?;
     put_number(&mut report, sums.mix as usize)?;
     report.extend_from_slice(b"\n")?;
+    let mut batches = ByteRoom::new(alloc)?;
+    put_batches(&mut batches, counts);
+    report.extend_from_slice(batches.as_slice())?;
     Ok(report)
 }
 
+/// The sums of a render and the counts of its batches.
+#[derive(Clone, Copy)]
+struct Findings {
+    sums: Sums,
+    counts: Counts,
+}
+
 /// Renders the demo file of a number, and sums its frames.
-fn checked(alloc: Global, number: u32) -> Result<Sums, OutOfMemory>
-    ensures { IfOk result (λ sums. sums ≡ sums_of (tune_frames (demo_bytes number) straight_table 0 320000)) }
+fn checked(alloc: Global, number: u32) -> Result<Findings, OutOfMemory>
+    ensures sums { IfOk result (λ checked. checked.sums ≡ sums_of (tune_frames (demo_bytes number) straight_table 0 320000)) }
+    ensures counts { IfOk result (λ checked. checked.counts ≡ tune_counts (demo_bytes number) straight_table 0 320000) }
 {
     let file = demo_gen::demo(alloc, number)?;
     let table = GaussTable::straight(alloc)?;
     let chip = Dsp::open(alloc, file.dsp(), table)?;
     let mut render = Render::open(alloc, &file, chip, SAMPLES, 0)?;
-    Ok(sums_of(&mut render))
+    let sums = sums_of(&mut render);
+    Ok(Findings {
+        sums,
+        counts: render.counts(),
+    })
 }
 
 /// The plan with its report.
 fn plan_report<'a>(alloc: Global, number: u32) -> Result<Plan<'a>, OutOfMemory>
     ensures { IfOk result (λ plan. check_answer number ≡ done (plan_makes plan).outputs (plan_makes plan).report) }
 {
-    let sums = checked(alloc, number)?;
-    let report = report(alloc, sums)?;
+    let checked = checked(alloc, number)?;
+    let report = report(alloc, checked.sums, checked.counts)?;
     Ok(Plan {
         output: None,
         report,

@@ -1,6 +1,7 @@
 //! Renders music of the SPC700 and its S-DSP to sound files: the program, over any host and over real files.
 #![tactic(auto)]
 
+mod batches;
 mod brr;
 mod byte_room;
 mod check;
@@ -9,8 +10,12 @@ mod demo;
 mod demo_tests;
 mod disk;
 mod encode;
+#[cfg(test)]
+mod encode_tests;
 mod info;
 mod inputs;
+#[cfg(test)]
+mod lag_tests;
 mod options;
 mod printing;
 mod render;
@@ -20,7 +25,11 @@ mod run;
 mod sound;
 mod statuses;
 #[cfg(test)]
+mod test_support;
+#[cfg(test)]
 mod tests;
+#[cfg(test)]
+mod trace_tests;
 mod words;
 
 use crate::disk::DiskHost;

@@ -5,15 +5,14 @@ ghost use Rattle.command_frame.specs.Conduct.{Plans, Prepares, Attempts};
 ghost use Rattle.command_frame.specs.Plan.{stream_makes};
 ghost use Rattle.spcwave.specs.Inputs.{answer_from, table_in};
 ghost use Rattle.spcwave.specs.Render.{length_with, traced_voices, rendering_answer, render_answer};
-ghost use Rattle.spcwave.specs.Sound.{to_come_of};
+ghost use Rattle.spcwave.specs.Sound.{to_come_of, report_of};
 ghost use Rattle.spcwave.specs.Words.{options_of, IsWithinHour};
 
 use crate::inputs::{read_file, read_table};
 use crate::options::RenderOptions;
-use crate::printing::put_number;
 use crate::sound::Sound;
 use crate::statuses::Cause;
-use command_frame::{OutOfMemory, Refusal, StreamedPlan, carry_stream};
+use command_frame::{Refusal, StreamedPlan, carry_stream};
 use gauss_table::GaussTable;
 use snd_host::Host;
 use spc_form::{Length, SpcFile};
@@ -43,16 +42,6 @@ fn traced_voices(options: RenderOptions<'_>) -> Option<u8>
     }
 }
 
-/// The line that tells how many samples were made.
-fn report(alloc: Global, frames: u32) -> Result<Vec<u8>, OutOfMemory>
-    ensures { IfOk result (λ report. report.items ≡ codes "samples " ++ decimal frames ++ codes "\n") }
-{
-    let mut report = Vec::from_slice(alloc, b"samples ")?;
-    put_number(&mut report, frames as usize)?;
-    report.extend_from_slice(b"\n")?;
-    Ok(report)
-}
-
 /// Makes the plan for a file and a table.
 fn plan<'a>(
     alloc: Global,
@@ -62,7 +51,7 @@ fn plan<'a>(
     options: RenderOptions<'a>,
 ) -> Result<StreamedPlan<'a, Sound>, Refusal<Cause>>
     requires { IsWithinHour options.samples }
-    ensures { Plans (stream_makes to_come_of) (rendering_answer wave.now (options_of options.entry) file.now table) result }
+    ensures { Plans (stream_makes to_come_of report_of) (rendering_answer wave.now (options_of options.entry) file.now table) result }
 {
     let length = length_with(options.samples, file);
     let voices = traced_voices(options);
@@ -72,15 +61,11 @@ fn plan<'a>(
     let Ok(head) = Vec::from_slice(alloc, &header(2, length.frames)) else {
         return Err(Refusal::OutOfMemory);
     };
-    let Ok(report) = report(alloc, length.frames) else {
-        return Err(Refusal::OutOfMemory);
-    };
     Ok(StreamedPlan {
         first: wave,
         second: options.trace,
         head,
         source,
-        report,
     })
 }
 
@@ -94,7 +79,7 @@ fn prepare_with<'a, H: Host>(
     options: RenderOptions<'a>,
 ) -> Result<StreamedPlan<'a, Sound>, Refusal<Cause>>
     requires { IsWithinHour options.samples }
-    ensures { Prepares (stream_makes to_come_of) (λ files. answer_from (table_in (files table.now)) (λ table. rendering_answer wave.now (options_of options.entry) file.now table)) (H.state host.old) (H.state host.new) result }
+    ensures { Prepares (stream_makes to_come_of report_of) (λ files. answer_from (table_in (files table.now)) (λ table. rendering_answer wave.now (options_of options.entry) file.now table)) (H.state host.old) (H.state host.new) result }
 {
     match read_table(alloc, host, table) {
         Ok(table) => plan(alloc, file, table, wave, options),
@@ -112,7 +97,7 @@ fn prepare<'a, H: Host>(
     options: RenderOptions<'a>,
 ) -> Result<StreamedPlan<'a, Sound>, Refusal<Cause>>
     requires { IsWithinHour options.samples }
-    ensures { Prepares (stream_makes to_come_of) (λ files. render_answer wave.now (options_of options.entry) (files file.now) (files table.now)) (H.state host.old) (H.state host.new) result }
+    ensures { Prepares (stream_makes to_come_of report_of) (λ files. render_answer wave.now (options_of options.entry) (files file.now) (files table.now)) (H.state host.old) (H.state host.new) result }
 {
     match read_file(alloc, host, file) {
         Ok(file) => prepare_with(alloc, host, &file, table, wave, options),

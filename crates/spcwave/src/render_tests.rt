@@ -1,75 +1,11 @@
 // Renders by the program over a host in memory.
-ghost use Rattle.std.specs.Prelude.{◌≡◌, ◌≤◌, [], IfOk};
-
-use crate::run::run;
 use crate::statuses::Status;
-use snd_host::{MemHost, OutFile};
+use crate::test_support::{
+    DSP, Frames, Heard, MEMORY, NO_BATCH, ONE_BATCH, Pieces, Ran, SOUND, STOP, expected_report,
+    file_of, has_frames, render_failing, rendered, run_words, straight_table,
+};
 use std::alloc::Global;
 use std::test::Fail;
-
-const REPORT: OutFile = OutFile(0);
-
-const COMPLAINT: OutFile = OutFile(1);
-
-const WAV: OutFile = OutFile(2);
-
-const TRACE: OutFile = OutFile(3);
-
-/// The place of the memory in a file, and of the registers of the S-DSP.
-const MEMORY: usize = 0x100;
-
-const DSP: usize = 0x10100;
-
-/// Bytes at places.
-type Pieces = &'static [(usize, &'static [u8])];
-
-/// No tags, minor version 30, PC 0400h, SP EFh; a branch to itself at 0400h; the sound muted and its echo not written.
-const QUIET: [(usize, &[u8]); 4] = [
-    (
-        0,
-        b"SNES-SPC700 Sound File Data v0.30\x1a\x1a\x1b\x1e\x00\x04\0\0\0\0\xef",
-    ),
-    (MEMORY + 0x0400, b"\x2f\xfe"),
-    (DSP + 0x6c, b"\x60"),
-    (DSP + 0x6d, b"\xe0"),
-];
-
-/// Voice 0 plays a block that repeats itself.
-const SOUND: [(usize, &[u8]); 11] = [
-    (MEMORY + 0x0200, b"\x00\x05\x00\x06"),
-    (MEMORY + 0x0500, b"\xc3\x11\x11\x11\x11\x11\x11\x11\x11"),
-    (MEMORY + 0x0600, b"\xc3\x11\x11\x11\x11\x11\x11\x11\x11"),
-    (DSP, b"\x7f\x7f"),
-    (DSP + 0x03, b"\x10"),
-    (DSP + 0x07, b"\x7f"),
-    (DSP + 0x0c, b"\x7f"),
-    (DSP + 0x1c, b"\x7f"),
-    (DSP + 0x4c, b"\x01"),
-    (DSP + 0x5d, b"\x02"),
-    (DSP + 0x6c, b"\x20"),
-];
-
-/// Puts pieces of bytes at their places.
-fn put_all(image: &mut [u8], pieces: Pieces) {
-    for (place, bytes) in pieces {
-        let mut at = *place;
-        for byte in *bytes {
-            if let Some(cell) = image.get_mut(at) {
-                *cell = *byte;
-            }
-            at = at.wrapping_add(1);
-        }
-    }
-}
-
-/// A file of these pieces, later ones over earlier ones.
-fn file_of(alloc: Global, sound: Pieces, more: Pieces) -> Result<Vec<u8>, Fail> {
-    let mut image = vec![in alloc; 0u8; 66048]?;
-    put_all(&mut image, &QUIET);
-    put_all(&mut image, sound);
-    put_all(&mut image, more);
-    Ok(image)
-}
 
 /// A table whose entries are all the same.
 fn flat_table(alloc: Global, weight: i16) -> Result<Vec<u8>, Fail> {
@@ -79,93 +15,6 @@ fn flat_table(alloc: Global, weight: i16) -> Result<Vec<u8>, Fail> {
     }
     Ok(table)
 }
-
-/// The table of straight lines: 256 zeros, and then 4, 12, 20 and so on.
-fn straight_table(alloc: Global) -> Result<Vec<u8>, Fail> {
-    let mut table = vec![in alloc; 0u8; 512]?;
-    for i in 0..256u16 {
-        table.extend_from_slice(&(8 * i + 4).to_le_bytes())?;
-    }
-    Ok(table)
-}
-
-/// A sound file of so many frames, the same on both sides: six of silence, two of these, and then the third one.
-fn wave_of(alloc: Global, frames: u32, sides: [i16; 3]) -> Result<Vec<u8>, Fail>
-    requires { frames ≤ 200 }
-{
-    let mut wave = Vec::from_slice(alloc, b"RIFF")?;
-    wave.extend_from_slice(&(36 + 4 * frames).to_le_bytes())?;
-    wave.extend_from_slice(
-        b"WAVEfmt \x10\0\0\0\x01\0\x02\0\0\x7d\0\0\0\xf4\x01\0\x04\0\x10\0data",
-    )?;
-    wave.extend_from_slice(&(4 * frames).to_le_bytes())?;
-    for at in 0..frames {
-        let side = match at {
-            0..6 => 0,
-            6 => sides[0],
-            7 => sides[1],
-            _ => sides[2],
-        };
-        wave.extend_from_slice(&side.to_le_bytes())?;
-        wave.extend_from_slice(&side.to_le_bytes())?;
-    }
-    Ok(wave)
-}
-
-#[derive(Drop)]
-struct Ran {
-    status: Status,
-    host: MemHost,
-}
-
-/// Runs these words over a host that has the inputs `SPC` and `TABLE`.
-fn run_words(
-    alloc: Global,
-    words: &[&str],
-    spc: &[u8],
-    table: &[u8],
-    failing: &[u32],
-) -> Result<Ran, Fail> {
-    let mut given = Vec::new(alloc);
-    for word in words {
-        given.push(String::from_str(alloc, word)?)?;
-    }
-    let files = vec![in alloc;
-        (
-            String::from_str(alloc, "SPC")?,
-            Vec::from_slice(alloc, spc)?
-        ),
-        (
-            String::from_str(alloc, "TABLE")?,
-            Vec::from_slice(alloc, table)?
-        ),
-    ]?;
-    let rooms = vec![in alloc; 400, 100, 300000, 3000]?;
-    let mut host = MemHost::new(alloc, files, failing.to_vec(alloc)?, rooms)?;
-    let status = run(alloc, given.as_slice(), &mut host);
-    Ok(Ran { status, host })
-}
-
-/// Whether a render of so many samples has these frames.
-fn has_frames(
-    alloc: Global,
-    sound: Pieces,
-    more: Pieces,
-    samples: &str,
-    frames: u32,
-    sides: [i16; 3],
-) -> Result<bool, Fail>
-    requires { frames ≤ 200 }
-{
-    let spc = file_of(alloc, sound, more)?;
-    let table = straight_table(alloc)?;
-    let words = ["render", "SPC", "TABLE", "OUT", "--samples", samples];
-    let Ran { status, host } = run_words(alloc, &words, &spc, &table, &[])?;
-    let wanted = wave_of(alloc, frames, sides)?;
-    Ok(status == Status::Ok && host.output(WAV) == wanted.as_slice())
-}
-
-const STOP: Pieces = &[(MEMORY + 0x0400, b"\xff")];
 
 const RING: Pieces = &[(MEMORY + 0x0200, b"\x00\x05\x00\x05")];
 
@@ -179,274 +28,241 @@ const ECHO: Pieces = &[
     (DSP + 0x7f, b"\x7f"),
 ];
 
+/// Silence, and a voice.
+const VOICES: &[Heard] = &[
+    Heard {
+        shows: "no samples",
+        sound: &[],
+        more: &[],
+        word: "0",
+        samples: "0",
+        frames: &[],
+        batches: NO_BATCH,
+    },
+    Heard {
+        shows: "silence",
+        sound: &[],
+        more: &[],
+        word: "4",
+        samples: "4",
+        frames: &[(4, 0)],
+        batches: ONE_BATCH,
+    },
+    Heard {
+        shows: "a voice",
+        sound: SOUND,
+        more: &[],
+        word: "8",
+        samples: "8",
+        frames: &[(6, 0), (2, 4000)],
+        batches: ONE_BATCH,
+    },
+];
+
 #[test]
 fn silence_and_a_voice_have_their_frames(rt: HostRuntime) -> Result<(), Fail> {
-    let alloc = rt.alloc();
-    assert!(rt; has_frames(alloc, &[], &[], "0", 0, [0, 0, 0])?);
-    assert!(rt; has_frames(alloc, &[], &[], "4", 4, [0, 0, 0])?);
-    assert!(rt; has_frames(alloc, &SOUND, &[], "8", 8, [4000, 4000, 0])?);
+    for row in VOICES {
+        assert!(rt; row.holds(rt.alloc())?, "{}", row.shows);
+    }
     Ok(())
 }
+
+/// Three batches of 64 samples, and one of those that are left.
+const FOUR_BATCHES: &str = "batches 4 register 0 memory 0 echo 0 full 3 events 0 end 1\n";
+
+/// A voice that goes on.
+const LONG: &[Heard] = &[
+    Heard {
+        shows: "the program goes on",
+        sound: SOUND,
+        more: &[],
+        word: "200",
+        samples: "200",
+        frames: &[(6, 0), (194, 4000)],
+        batches: FOUR_BATCHES,
+    },
+    Heard {
+        shows: "the program stops",
+        sound: SOUND,
+        more: STOP,
+        word: "200",
+        samples: "200",
+        frames: &[(6, 0), (194, 4000)],
+        batches: FOUR_BATCHES,
+    },
+    Heard {
+        shows: "the block repeats itself",
+        sound: SOUND,
+        more: RING,
+        word: "000000200",
+        samples: "200",
+        frames: &[(6, 0), (194, 4000)],
+        batches: FOUR_BATCHES,
+    },
+];
 
 #[test]
 fn a_voice_goes_on_where_the_program_stops(rt: HostRuntime) -> Result<(), Fail> {
-    let alloc = rt.alloc();
-    assert!(rt; has_frames(alloc, &SOUND, STOP, "200", 200, [4000, 4000, 4000])?);
-    assert!(rt; has_frames(alloc, &SOUND, RING, "000000200", 200, [4000, 4000, 4000])?);
+    for row in LONG {
+        assert!(rt; row.holds(rt.alloc())?, "{}", row.shows);
+    }
     Ok(())
 }
 
+/// A voice of noise, and one with echo.
+const NOISE_AND_ECHO: &[Heard] = &[
+    Heard {
+        shows: "noise",
+        sound: SOUND,
+        more: NOISE,
+        word: "8",
+        samples: "8",
+        frames: &[(6, 0), (1, 250), (1, 124)],
+        batches: ONE_BATCH,
+    },
+    Heard {
+        shows: "echo",
+        sound: SOUND,
+        more: ECHO,
+        word: "9",
+        samples: "9",
+        frames: &[(6, 0), (1, 4000), (2, 7968)],
+        batches: ONE_BATCH,
+    },
+];
+
 #[test]
 fn noise_and_echo_have_their_frames(rt: HostRuntime) -> Result<(), Fail> {
-    let alloc = rt.alloc();
-    assert!(rt; has_frames(alloc, &SOUND, NOISE, "8", 8, [250, 124, 0])?);
-    assert!(rt; has_frames(alloc, &SOUND, ECHO, "9", 9, [4000, 7968, 7968])?);
+    for row in NOISE_AND_ECHO {
+        assert!(rt; row.holds(rt.alloc())?, "{}", row.shows);
+    }
     Ok(())
+}
+
+/// Whether the voice has these samples over a table whose entries are all the same.
+fn is_weighed(alloc: Global, weight: i16, frames: Frames) -> Result<bool, Fail> {
+    let file = file_of(alloc, SOUND, &[])?;
+    let table = flat_table(alloc, weight)?;
+    let options = ["--samples", "8"];
+    let ran = render_failing(alloc, file.as_slice(), table.as_slice(), &options, &[])?;
+    let report = expected_report(alloc, "8", ONE_BATCH)?;
+    has_frames(alloc, &ran, frames, report.as_str())
 }
 
 #[test]
 fn a_table_weighs_the_samples(rt: HostRuntime) -> Result<(), Fail> {
-    let alloc = rt.alloc();
-    let spc = file_of(alloc, &SOUND, &[])?;
-    let words = ["render", "SPC", "TABLE", "OUT", "--samples", "8"];
-    for (weight, side) in [(-32768, -32006), (10000, 14125)] {
-        let table = flat_table(alloc, weight)?;
-        let host = run_words(alloc, &words, &spc, &table, &[])?.host;
-        let wanted = wave_of(alloc, 8, [side, side, 0])?;
-        assert_eq!(rt; host.output(WAV), wanted.as_slice(), "at {weight}");
-        assert_eq!(rt; host.output(REPORT), b"samples 8\n".as_slice());
-    }
+    assert!(rt; is_weighed(rt.alloc(), -32768, &[(6, 0), (2, -32006)])?);
+    assert!(rt; is_weighed(rt.alloc(), 10000, &[(6, 0), (2, 14125)])?);
     Ok(())
 }
 
-/// Whether a render of so many samples has this trace, and without it the same sound.
-fn has_trace(
-    alloc: Global,
-    sound: Pieces,
-    more: Pieces,
-    samples: &str,
-    voices: &str,
-    trace: &str,
-) -> Result<bool, Fail> {
-    let spc = file_of(alloc, sound, more)?;
-    let table = straight_table(alloc)?;
-    let words = [
-        "render",
-        "SPC",
-        "TABLE",
-        "OUT",
-        "--voices",
-        voices,
-        "--trace",
-        "T",
-        "--samples",
-        samples,
-    ];
-    let traced = run_words(alloc, &words, &spc, &table, &[])?.host;
-    let plain = ["render", "SPC", "TABLE", "OUT", "--samples", samples];
-    let host = run_words(alloc, &plain, &spc, &table, &[])?.host;
-    Ok(traced.output(TRACE) == trace.as_bytes() && traced.output(WAV) == host.output(WAV))
+/// Tags: a second, and a fade of a millisecond.
+const TAGS: Pieces = &[(0x23, b"\x1a"), (0xa9, b"001"), (0xac, b"00001")];
+
+/// Whether the frame of this number in a sound file is this one on both sides. The header is as long as 11 frames.
+fn has_frame(wave: &[u8], at: usize, side: i16) -> bool {
+    let [low, high] = side.to_le_bytes();
+    let frame = wave.chunks_exact(4).nth(11usize.wrapping_add(at));
+    frame == Some([low, high, low, high].as_slice())
 }
 
-const WRITE: Pieces = &[(MEMORY + 0x0400, b"\x8f\x6c\xf2\x8f\x20\xf3\x2f\xfe")];
-
-const IGNORED: Pieces = &[(MEMORY + 0x0400, b"\x8f\xcc\xf2\x8f\x20\xf3\x2f\xfe")];
-
-const OVERWRITTEN: Pieces = &[
-    (DSP + 0x6c, b"\x00\x04"),
-    (DSP + 0x6d, b"\x04"),
-    (MEMORY + 0x0404, b"\x8f\x5a\xf4\x2f\xfe"),
+/// Places of frames, and what stands there.
+const FADED: &[(usize, i16)] = &[
+    (5, 0),
+    (6, 4000),
+    (31999, 4000),
+    (32000, 3875),
+    (32001, 3750),
+    (32030, 125),
+    (32031, 0),
 ];
-
-const PORT: Pieces = &[(
-    MEMORY + 0x0400,
-    b"\0\0\0\0\0\0\0\0\0\0\0\0\0\0\x8f\x5a\xf4\x2f\xfe",
-)];
-
-#[test]
-fn a_voice_has_a_line_for_each_sample(rt: HostRuntime) -> Result<(), Fail> {
-    let alloc = rt.alloc();
-    let lines =
-        "V 0 0 0 0 0000 k-\nV 1 0 0 0 0500 --\nV 2 0 0 0 0500 --\nV 3 0 0 0 0500 --\nV 4 0 0 0 0500 --\n\
-        V 5 0 0 0 0500 --\nV 6 0 2032 4064 0500 --\nV 7 0 2032 4064 0500 --\n";
-    assert!(rt; has_trace(alloc, &SOUND, &[], "8", "01", lines)?);
-    assert!(rt; has_trace(alloc, &SOUND, &[], "8", "00", "")?);
-    assert!(rt; has_trace(alloc, &[], &[], "0", "fF", "")?);
-    Ok(())
-}
-
-#[test]
-fn writes_have_their_lines(rt: HostRuntime) -> Result<(), Fail> {
-    let alloc = rt.alloc();
-    assert!(rt; has_trace(alloc, &[], WRITE, "1", "00", "R 0 6c 20\n")?);
-    assert!(rt; has_trace(alloc, &[], IGNORED, "1", "00", "")?);
-    assert!(rt; has_trace(alloc, &[], OVERWRITTEN, "3", "00", "P 1 0 5a\n")?);
-    Ok(())
-}
-
-#[test]
-fn a_write_behind_the_last_sample_has_none(rt: HostRuntime) -> Result<(), Fail> {
-    let alloc = rt.alloc();
-    assert!(rt; has_trace(alloc, &[], PORT, "2", "00", "P 1 0 5a\n")?);
-    assert!(rt; has_trace(alloc, &[], PORT, "1", "00", "")?);
-    Ok(())
-}
-
-#[test]
-fn a_loop_sends_the_envelope_to_a_port(rt: HostRuntime) -> Result<(), Fail> {
-    let alloc = rt.alloc();
-    let straight = straight_table(alloc)?;
-    let spc = file_of(
-        alloc,
-        &SOUND,
-        &[(MEMORY + 0x0400, b"\x8f\x08\xf2\xe4\xf3\xc4\xf4\x2f\xfa")],
-    )?;
-    let words = [
-        "render",
-        "SPC",
-        "TABLE",
-        "OUT",
-        "--samples",
-        "8",
-        "--trace",
-        "T",
-    ];
-    let Ran { status, host } = run_words(alloc, &words, &spc, straight.as_slice(), &[])?;
-    assert_eq!(rt; status, Status::Ok);
-    let trace = host.output(TRACE);
-    assert_eq!(rt; trace.len(), 23 * 9);
-    assert_eq!(rt; trace.iter().filter(|byte| **byte == b'\n').count(), 23);
-    assert!(rt; trace.ends_with(b"P 6 0 00\nP 7 0 7f\nP 7 0 7f\nP 7 0 7f\n"));
-    assert_eq!(rt; trace.iter().filter(|byte| **byte == b'f').count(), 3);
-    Ok(())
-}
 
 #[test]
 fn tags_give_the_length_and_the_fade(rt: HostRuntime) -> Result<(), Fail> {
-    let alloc = rt.alloc();
-    let straight = straight_table(alloc)?;
-    let spc = file_of(
-        alloc,
-        &SOUND,
-        &[(0x23, b"\x1a"), (0xa9, b"001"), (0xac, b"00001")],
-    )?;
-    let words = ["render", "SPC", "TABLE", "OUT"];
-    let Ran { status, host } = run_words(alloc, &words, &spc, straight.as_slice(), &[])?;
-    assert_eq!(rt; status, Status::Ok);
-    assert_eq!(rt; host.output(REPORT), b"samples 32032\n".as_slice());
-    let wave = host.output(WAV);
-    assert_eq!(rt; wave.len(), 128172);
-    for (at, side) in [
-        (5, 0i16),
-        (6, 4000),
-        (31999, 4000),
-        (32000, 3875),
-        (32001, 3750),
-        (32030, 125),
-        (32031, 0),
-    ] {
-        assert!(rt; at < 32032);
-        let [low, high] = side.to_le_bytes();
-        let place: usize = 44 + 4 * at;
-        let frame = wave.get(place..place + 4).expect(&rt, "a frame");
-        assert_eq!(rt; frame, [low, high, low, high].as_slice(), "at {at}");
+    let file = file_of(rt.alloc(), SOUND, TAGS)?;
+    let ran = rendered(rt.alloc(), file.as_slice(), &[])?;
+    let line = "batches 501 register 0 memory 0 echo 0 full 500 events 0 end 1\n";
+    let report = expected_report(rt.alloc(), "32032", line)?;
+    assert!(rt; ran.is_done(ran.output(), report.as_str()) && ran.output().len() == 128172);
+    for (at, side) in FADED {
+        assert!(rt; has_frame(ran.output(), *at, *side), "at {at}");
     }
     Ok(())
 }
 
-/// Whether a render of these inputs ends so, with this line, and leaves nothing.
-fn is_refused(
-    alloc: Global,
-    weights: &str,
-    spc: &[u8],
-    table: &[u8],
-    wanted: Status,
-    line: &str,
-) -> Result<bool, Fail> {
-    let words = ["render", "SPC", weights, "OUT", "--trace", "T"];
-    let Ran { status, host } = run_words(alloc, &words, spc, table, &[])?;
-    Ok(
-        status == wanted
-            && host.output(COMPLAINT) == line.as_bytes()
-            && host.output(REPORT).is_empty()
-            && host.output(WAV).is_empty(),
-    )
+/// Whether a render of this file, over a table of three bytes, is refused with this line.
+fn is_refused(alloc: Global, file: &[u8], wanted: Status, line: &str) -> Result<bool, Fail> {
+    let ran = render_failing(alloc, file, &[0; 3], &["--trace", "T"], &[])?;
+    Ok(ran.is_refused(wanted, line))
 }
 
 #[test]
 fn the_file_is_refused_before_the_table(rt: HostRuntime) -> Result<(), Fail> {
-    let alloc = rt.alloc();
-    let short = "spcwave: length 100 is not that of an SPC file\n";
-    assert!(rt; is_refused(alloc, "TABLE", &[0; 100], &[0; 3], Status::SpcLength, short)?);
-    let unsigned = file_of(alloc, &[], &[(3, b"\0")])?;
+    let line = "spcwave: length 100 is not that of an SPC file\n";
+    assert!(rt; is_refused(rt.alloc(), &[0; 100], Status::SpcLength, line)?);
+    let unsigned = file_of(rt.alloc(), &[], &[(3, b"\0")])?;
     let line = "spcwave: signature differs at 3\n";
-    assert!(rt;
-        is_refused(
-            alloc,
-            "TABLE",
-            &unsigned,
-            &[0; 3],
-            Status::SpcSignature,
-            line
-        )?
-    );
+    assert!(rt; is_refused(rt.alloc(), unsigned.as_slice(), Status::SpcSignature, line)?);
     Ok(())
+}
+
+#[test]
+fn a_table_that_is_not_there_cannot_be_read(rt: HostRuntime) -> Result<(), Fail> {
+    let file = file_of(rt.alloc(), &[], &[])?;
+    let words = ["render", "IN", "NONE", "OUT", "--trace", "T"];
+    let ran = run_words(rt.alloc(), &words, file.as_slice())?;
+    assert!(rt; ran.is_refused(Status::ReadFault, "spcwave: input could not be read\n"));
+    Ok(())
+}
+
+/// Renders over a table of so many zeros.
+fn render_over_zeros(alloc: Global, length: usize) -> Result<Ran, Fail> {
+    let file = file_of(alloc, &[], &[])?;
+    let table = vec![in alloc; 0u8; length]?;
+    let options = ["--trace", "T"];
+    render_failing(alloc, file.as_slice(), table.as_slice(), &options, &[])
 }
 
 #[test]
 fn tables_of_another_length_are_refused(rt: HostRuntime) -> Result<(), Fail> {
-    let alloc = rt.alloc();
-    let good = file_of(alloc, &[], &[])?;
-    let none = "spcwave: input could not be read\n";
-    assert!(rt; is_refused(alloc, "NONE", &good, &[0; 3], Status::ReadFault, none)?);
-    let short = "spcwave: table has 3 bytes, not 1024\n";
-    assert!(rt; is_refused(alloc, "TABLE", &good, &[0; 3], Status::TableLength, short)?);
-    let table = vec![in alloc; 0u8; 1048577]?;
-    let long = "spcwave: input is too long\n";
-    assert!(rt; is_refused(alloc, "TABLE", &good, &table, Status::InputTooLong, long)?);
+    let short = render_over_zeros(rt.alloc(), 3)?;
+    let line = "spcwave: table has 3 bytes, not 1024\n";
+    assert!(rt; short.is_refused(Status::TableLength, line));
+    let long = render_over_zeros(rt.alloc(), 1048577)?;
+    assert!(rt; long.is_refused(Status::InputTooLong, "spcwave: input is too long\n"));
     Ok(())
+}
+
+/// Whether a render whose call of this number fails leaves prefixes of what the whole one leaves.
+fn leaves_prefixes(whole: &Ran, ran: &Ran, call: u32) -> bool {
+    // The file is opened and read 18 times, the table twice; what is left are calls on outputs.
+    let wanted = match call {
+        0..22 => Status::ReadFault,
+        _ if call < whole.calls() => Status::WriteFault,
+        _ => Status::Ok,
+    };
+    ran.status() == wanted
+        && whole.output().starts_with(ran.output())
+        && whole.trace().starts_with(ran.trace())
+        && whole.report().starts_with(ran.report())
+        && (call >= 22 || ran.output().is_empty())
 }
 
 #[test]
 fn each_call_of_a_render_may_fail(rt: HostRuntime) -> Result<(), Fail> {
-    let alloc = rt.alloc();
-    let spc = file_of(alloc, &SOUND, &[])?;
-    let table = straight_table(alloc)?;
-    let words = [
-        "render",
-        "SPC",
-        "TABLE",
-        "OUT",
-        "--samples",
-        "8",
-        "--trace",
-        "T",
-        "--voices",
-        "01",
-    ];
-    let whole = run_words(alloc, &words, &spc, &table, &[])?.host;
-    // The file is opened and read 18 times, the table twice; what is left are calls on outputs.
+    let file = file_of(rt.alloc(), SOUND, &[])?;
+    let table = straight_table(rt.alloc())?;
+    let options = ["--samples", "8", "--trace", "T", "--voices", "01"];
+    let whole = rendered(rt.alloc(), file.as_slice(), &options)?;
     for call in 0..=whole.calls() {
-        let Ran { status, host } = run_words(alloc, &words, &spc, &table, &[call])?;
-        let wanted = match call {
-            0..22 => Status::ReadFault,
-            _ if call < whole.calls() => Status::WriteFault,
-            _ => Status::Ok,
-        };
-        assert_eq!(rt; status, wanted, "at {call}");
-        assert!(rt;
-            whole.output(WAV).starts_with(host.output(WAV)),
-            "at {call}"
-        );
-        assert!(rt;
-            whole.output(TRACE).starts_with(host.output(TRACE)),
-            "at {call}"
-        );
-        assert!(rt;
-            whole.output(REPORT).starts_with(host.output(REPORT)),
-            "at {call}"
-        );
-        assert!(rt; call >= 22 || host.output(WAV).is_empty(), "at {call}");
+        let ran = render_failing(
+            rt.alloc(),
+            file.as_slice(),
+            table.as_slice(),
+            &options,
+            &[call],
+        )?;
+        assert!(rt; leaves_prefixes(&whole, &ran, call), "at {call}");
     }
     Ok(())
 }

@@ -6,7 +6,7 @@ ghost use Rattle.voice_unit.specs.Directory.{entry_address, start_word, loop_wor
 use aram_core::Aram;
 
 /// The address of an entry of the directory.
-fn entry_address(dir: u8, srcn: u8) -> u16
+pub fn entry_address(dir: u8, srcn: u8) -> u16
     ensures { result ≡ entry_address dir srcn }
 {
     (u16::from(dir) << 8).wrapping_add(u16::from(srcn) << 2)

@@ -8,5 +8,6 @@ mod level;
 mod tests;
 mod voice;
 
+pub use directory::{entry_address, loop_word, start_word};
 pub use interface::{VoiceIn, VoiceOut, VoiceRegs};
 pub use voice::Voice;

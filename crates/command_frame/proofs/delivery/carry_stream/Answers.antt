@@ -10,20 +10,17 @@ use Rattle.command_frame.proofs.Obeying.{carried_out}
 use Rattle.command_frame.proofs.delivery.carry_stream.Goals as goal
 
 -- the bytes that were passed are those of the plan
-of_plan : {P : Type 0} (to_come : P → Both) (plan : StreamedPlan P) (head report : List ℕ) (x y : HostState) (r : Result (Unit {0}) Failed) → head ≡ plan.head.items → report ≡ plan.report.items →
-    Delivers (pair plan.first.now (option_map (λ name. name.now) plan.second) (head ++ (to_come plan.source).first) (to_come plan.source).second) report x y r → Delivers (stream_makes to_come plan).outputs (stream_makes to_come plan).report x y r
-of_plan to_come plan head report x y r heads reports d =
-    subst (λ (l : List ℕ). Delivers (pair plan.first.now (option_map (λ name. name.now) plan.second) (l ++ (to_come plan.source).first) (to_come plan.source).second) plan.report.items x y r) heads
-    (subst (λ (l : List ℕ). Delivers (pair plan.first.now (option_map (λ name. name.now) plan.second) (head ++ (to_come plan.source).first) (to_come plan.source).second) l x y r) reports d)
+of_plan : {P : Type 0} (to_come : P → Both) (report : P → List ℕ) (plan : StreamedPlan P) (head : List ℕ) (x y : HostState) (r : Result (Unit {0}) Failed) → head ≡ plan.head.items →
+    Delivers (pair plan.first.now (option_map (λ name. name.now) plan.second) (head ++ (to_come plan.source).first) (to_come plan.source).second) (report plan.source) x y r → Delivers (stream_makes to_come report plan).outputs (stream_makes to_come report plan).report x y r
+of_plan to_come report plan head x y r heads d =
+    subst (λ (l : List ℕ). Delivers (pair plan.first.now (option_map (λ name. name.now) plan.second) (l ++ (to_come plan.source).first) (to_come plan.source).second) (report plan.source) x y r) heads d
 
 pub returns-in-Ok-stream : goal.returns-in-Ok-stream
 returns-in-Ok-stream g c =
     let head : c.as_slice.result.now ≡ c.in-Ok.plan.head.items = search rules in
-    let report : c.as_slice-in-Ok.result.now ≡ c.in-Ok.plan.report.items = search rules in
-    rw c.in-Ok.is (carried_out (stream_makes g.P.Pieces.to_come) c.in-Ok.plan _ _ (Ok (tt {0})) (of_plan g.P.Pieces.to_come c.in-Ok.plan _ _ _ _ (Ok (tt {0})) head report c.in-Ok-stream.ensures))
+    rw c.in-Ok.is (carried_out (stream_makes g.P.Pieces.to_come g.P.Pieces.report) c.in-Ok.plan _ _ (Ok (tt {0})) (of_plan g.P.Pieces.to_come g.P.Pieces.report c.in-Ok.plan _ _ _ (Ok (tt {0})) head c.in-Ok-stream.ensures))
 
 pub returns-in-Ok : goal.returns-in-Ok
 returns-in-Ok g c =
     let head : c.as_slice.result.now ≡ c.in-Ok.plan.head.items = search rules in
-    let report : c.as_slice-in-Ok.result.now ≡ c.in-Ok.plan.report.items = search rules in
-    rw c.in-Ok.is (carried_out (stream_makes g.P.Pieces.to_come) c.in-Ok.plan _ _ (Err c.in-Err-stream.field-0) (of_plan g.P.Pieces.to_come c.in-Ok.plan _ _ _ _ (Err c.in-Err-stream.field-0) head report c.in-Err-stream.ensures))
+    rw c.in-Ok.is (carried_out (stream_makes g.P.Pieces.to_come g.P.Pieces.report) c.in-Ok.plan _ _ (Err c.in-Err-stream.field-0) (of_plan g.P.Pieces.to_come g.P.Pieces.report c.in-Ok.plan _ _ _ (Err c.in-Err-stream.field-0) head c.in-Err-stream.ensures))

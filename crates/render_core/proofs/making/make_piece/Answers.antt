@@ -1,6 +1,6 @@
 use Rattle.std.proofs.Common.{ap}
 use Rattle.render_core.specs.Items.{records_before}
-use Rattle.render_core.proofs.Runs.{items-after_run-none}
+use Rattle.render_core.proofs.Runs.{items-after_run-none, after_run-over}
 use Rattle.render_core.proofs.Counted.{some_to_come}
 use Rattle.render_core.proofs.making.make_piece.Goals as goal
 
@@ -15,3 +15,7 @@ returns-clause-records_done g c = λ is.
 pub returns-clause-more : goal.returns-clause-more
 returns-clause-more g c = λ is.
     some_to_come g.B.Bus.means g.met.B.Bus.lawful g.B.Source.emits.frames g.met.B.Source.frame_each c.args.samples (c.steps.cpu, c.steps.bus) c.made-2.result c.made-2.ensures is
+
+pub returns-clause-over : goal.returns-clause-over
+returns-clause-over g c = λ is.
+    after_run-over g.B.Bus.means g.met.B.Bus.lawful c.args.samples (c.steps.cpu, c.steps.bus) c.made-2.result c.made-2.ensures is

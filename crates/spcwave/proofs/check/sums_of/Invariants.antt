@@ -1,6 +1,6 @@
 use Rattle.std.proofs.Common.{◌≡◌, ◌+◌, ◌*◌, ◌-◌, ◌≤◌, fold, length}
 use Rattle.sound_bus.specs.DspChip.{dsp_chip}
-use Rattle.render_core.specs.RenderState.{frames_to_come}
+use Rattle.render_core.specs.RenderState.{frames_to_come, counts_to_come}
 use Rattle.spcwave.specs.Check.{sums_with, sums_of, AreWithin}
 use Rattle.spcwave.proofs.check.sums_of.Given as goal
 
@@ -8,9 +8,10 @@ use Rattle.spcwave.proofs.check.sums_of.Given as goal
 abbrev pub invariant-pieces : goal.invariant-pieces
 invariant-pieces l = record {
   sums : fold sums_with l.sums (frames_to_come dsp_chip l.render) ≡ sums_of (frames_to_come dsp_chip l.fn.render);
+  counts : counts_to_come dsp_chip l.render ≡ counts_to_come dsp_chip l.fn.render;
   within : AreWithin l.before l.sums;
   few : l.before + length (frames_to_come dsp_chip l.render) ≤ 320000;
 }
 
 abbrev pub decreases-pieces : goal.decreases-pieces
-decreases-pieces l = 32 * l.render.samples - l.render.bus.clock
+decreases-pieces l = 32 * l.render.samples - l.render.bus.machine.clock

@@ -3,4 +3,4 @@ use Rattle.render_core.proofs.Opened.{length-opened}
 use Rattle.render_core.proofs.render.Render.open.Goals as goal
 
 pub returns-clause-count : goal.returns-clause-count
-returns-clause-count g c = length-opened g.C.Chip.meaning c.args.samples c.opened_cpu.result c.in_ok-bus.bus (ap (λ m. m.clock) c.in_ok-bus.ensures) (ap (λ m. m.frames) c.in_ok-bus.ensures)
+returns-clause-count g c = length-opened g.C.Chip.meaning c.args.samples c.opened_cpu.result c.in_ok-bus.bus.machine (ap (λ bus. bus.machine.clock) c.in_ok-bus.ensures) (ap (λ bus. bus.machine.frames) c.in_ok-bus.ensures)

@@ -1,0 +1,28 @@
+-- Runs: laws on n samples from facts on one.
+-- Registers: a sample leaves every register but those of its results.
+-- Keys: a key-on that is taken has waited.
+-- EchoPlace: where the echo stands after samples.
+-- EchoPages: a step of the echo reads and writes one cell, on a page of its window.
+-- ReachOfChip: what the reach says of the pages of the voices and of the window.
+-- OneSample: what holds after some samples, and that one more keeps it.
+-- Within: the laws of up to 64 samples.
+-- PageSets: pages in lists and in sets.
+-- Agree: what a voice's step reads.
+-- Steps: a voice stays on its chains.
+-- ChainPages: what a voice on its chains reads lies on their pages.
+-- Voices: the same of all voices.
+-- Starts: a byte put off the read pages leaves the reach as it is.
+pub mod Runs
+pub mod Registers
+pub mod Keys
+pub mod EchoPlace
+pub mod EchoPages
+pub mod ReachOfChip
+pub mod OneSample
+pub mod Within
+pub mod PageSets
+pub mod Agree
+pub mod Steps
+pub mod ChainPages
+pub mod Voices
+pub mod Starts

@@ -1,0 +1,79 @@
+-- What the set of a list of pages contains, and what two such sets with no page in common mean for their lists.
+use Rattle.std.proofs.Common.{◌≡◌, ℕ, List, ◌++◌, Bool, true, false, ◌||◌, ◌==◌, refl, sym, ap, ◌∙◌, arith, ◌⊎◌, inl, inr}
+use Rattle.std.specs.Cmp.{nat_cmp_total}
+use Rattle.std.specs.FinSet as set
+use Rattle.std.specs.List.{list_any}
+use Rattle.std.specs.Ordering.{nat_cmp}
+use Rattle.std.proofs.lemmas.Bool.{cases_Bool, cases_eq, true≢false}
+use Rattle.std.proofs.lemmas.Bool.Decides.{nat_tests}
+use Rattle.std.proofs.lemmas.List.Folds.{list_any-append}
+use Rattle.aram_core.specs.Pages.{Pages, have_common_page}
+
+-- the list has the page
+abbrev pub has_page : (pages : List ℕ) → (p : ℕ) → Bool
+has_page pages p = list_any (λ q. q == p) pages
+
+-- the set of a list has the pages that the list has
+pub contains-pages : (pages : List ℕ) (p : ℕ) → set.contains (set.from_list {R = nat_cmp} pages) p ≡ has_page pages p
+contains-pages pages p = set.contains-from_list_nat pages p
+
+-- the same page
+pub at_page : (pages : List ℕ) (p q : ℕ) → p ≡ q → has_page pages p ≡ true → has_page pages q ≡ true
+at_page pages p q same h = ap (λ (x : ℕ). has_page pages x) (sym same) ∙ h
+
+-- a page that is in both sets is one that they have in common
+pub common_page : (these those : Pages) (p : ℕ) → set.contains these p ≡ true → set.contains those p ≡ true → have_common_page these those ≡ true
+common_page these those p here there = elim (cases_eq (set.len (set.intersection these those)) 0) [
+  | inl none ↦
+      let gone : set.contains (set.intersection these those) p ≡ false = ap (λ s. set.contains s p) (set.empty_of_len _ none) ∙ set.contains-empty nat_cmp p in
+      let found : set.contains (set.intersection these those) p ≡ true = set.contains-intersection nat_cmp_total these those p ∙ rw (here, there) refl in
+      absurd (true≢false (sym found ∙ gone))
+  | inr some ↦ let no : (set.len (set.intersection these those) == 0) ≡ false = grind (arith, nat_tests, some) in rw no refl
+]
+
+-- where two lists have no page in common, a page of the one is none of the other
+pub apart_left : (xs ys : List ℕ) (p : ℕ) → have_common_page (set.from_list xs) (set.from_list ys) ≡ false → has_page ys p ≡ true → has_page xs p ≡ false
+apart_left xs ys p apart there = elim (cases_Bool (has_page xs p)) [
+  | inl here ↦ absurd (true≢false (sym (common_page _ _ p (contains-pages xs p ∙ here) (contains-pages ys p ∙ there)) ∙ apart))
+  | inr not_here ↦ not_here
+]
+
+pub apart_right : (xs ys : List ℕ) (p : ℕ) → have_common_page (set.from_list xs) (set.from_list ys) ≡ false → has_page xs p ≡ true → has_page ys p ≡ false
+apart_right xs ys p apart here = elim (cases_Bool (has_page ys p)) [
+  | inl there ↦ absurd (true≢false (sym (common_page _ _ p (contains-pages xs p ∙ here) (contains-pages ys p ∙ there)) ∙ apart))
+  | inr not_there ↦ not_there
+]
+
+-- a page that two lists one after the other don't have, neither has
+pub not_in_left : (xs ys : List ℕ) (p : ℕ) → has_page (xs ++ ys) p ≡ false → has_page xs p ≡ false
+not_in_left xs ys p none = left (has_page xs p) (has_page ys p) (sym (list_any-append (λ q. q == p) xs ys) ∙ none)
+  where
+    left : (a b : Bool) → (a || b) ≡ false → a ≡ false
+    left true b h = h
+    left false b h = refl
+
+pub not_in_right : (xs ys : List ℕ) (p : ℕ) → has_page (xs ++ ys) p ≡ false → has_page ys p ≡ false
+not_in_right xs ys p none = right (has_page xs p) (has_page ys p) (sym (list_any-append (λ q. q == p) xs ys) ∙ none)
+  where
+    right : (a b : Bool) → (a || b) ≡ false → b ≡ false
+    right true b h = absurd (true≢false h)
+    right false b h = h
+
+-- a page that one of two lists has, both have one after the other
+pub in_left : (xs ys : List ℕ) (p : ℕ) → has_page xs p ≡ true → has_page (xs ++ ys) p ≡ true
+in_left xs ys p here = list_any-append (λ q. q == p) xs ys ∙ rw here refl
+
+pub in_right : (xs ys : List ℕ) (p : ℕ) → has_page ys p ≡ true → has_page (xs ++ ys) p ≡ true
+in_right xs ys p there = list_any-append (λ q. q == p) xs ys ∙ rw there (or_true (has_page xs p))
+  where
+    or_true : (b : Bool) → (b || true) ≡ true
+    or_true true = refl
+    or_true false = refl
+
+-- a page that both have one after the other, one of them has
+pub in_either : (xs ys : List ℕ) (p : ℕ) → has_page (xs ++ ys) p ≡ true → (has_page xs p ≡ true) ⊎ (has_page ys p ≡ true)
+in_either xs ys p here = one (has_page xs p) (has_page ys p) (sym (list_any-append (λ q. q == p) xs ys) ∙ here)
+  where
+    one : (a b : Bool) → (a || b) ≡ true → (a ≡ true) ⊎ (b ≡ true)
+    one true b h = inl refl
+    one false b h = inr h

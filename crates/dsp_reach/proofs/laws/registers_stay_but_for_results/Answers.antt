@@ -1,0 +1,5 @@
+use Rattle.dsp_reach.proofs.Registers.{registers_stay}
+use Rattle.dsp_reach.proofs.laws.registers_stay_but_for_results.Goals as goal
+
+pub returns : goal.returns
+returns c = registers_stay

@@ -1,0 +1,2 @@
+-- Chain: where a voice can have come after some samples.
+pub mod Chain

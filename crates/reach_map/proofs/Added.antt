@@ -1,0 +1,83 @@
+-- Sets with the pages of lists added, and when two lists add the same.
+use Rattle.std.proofs.Common.{◌≡◌, ℕ, ◌+◌, ◌<◌, List, [], ◌∷◌, ◌++◌, flat_map, take, get_or, length, Bool, true, false, ◌||◌, refl, sym, ap, ◌∙◌}
+use Rattle.std.specs.List.{list_any}
+use Rattle.std.specs.Ordering.{nat_cmp, eq_by_cmp}
+use Rattle.std.specs.Cmp.{nat_cmp_total}
+use Rattle.std.specs.FinSet as set
+use Rattle.std.specs.FinMap.{nat_cmp-IsAntisymmetric}
+use Rattle.std.proofs.lemmas.List.{append-nil, take_more}
+use Rattle.std.proofs.lemmas.Grind.{flat_map-append}
+use Rattle.std.proofs.lemmas.List.Folds.{list_any-append}
+use Rattle.aram_core.specs.Pages.{Pages}
+use Rattle.reach_map.specs.Added.{with_pages}
+
+-- whether a list has a page
+abbrev pub has_page : ℕ → List ℕ → Bool
+has_page page pages = list_any (eq_by_cmp nat_cmp page) pages
+
+pub contains-with_pages : (pages : Pages) (more : List ℕ) (q : ℕ) → set.contains (with_pages pages more) q ≡ (set.contains pages q || has_page q more)
+unfolding with_pages
+contains-with_pages pages more q =
+    set.contains-union nat_cmp_total pages (set.from_list more) q ∙ ap (λ b. set.contains pages q || b) (set.contains-from_list nat_cmp_total more q)
+
+pub same_pages : (these those : Pages) → ((q : ℕ) → set.contains these q ≡ set.contains those q) → these ≡ those
+same_pages these those same = set.same_set nat_cmp_total nat_cmp-IsAntisymmetric these those same
+
+or_assoc : (a b c : Bool) → ((a || b) || c) ≡ (a || (b || c))
+or_assoc true b c = refl
+or_assoc false b c = refl
+
+or_false : (a : Bool) → (a || false) ≡ a
+or_false true = refl
+or_false false = refl
+
+or_swap : (a b : Bool) → (a || b) ≡ (b || a)
+or_swap true true = refl
+or_swap true false = refl
+or_swap false true = refl
+or_swap false false = refl
+
+-- one list after another
+pub with_pages-append : (pages : Pages) (these those : List ℕ) → with_pages (with_pages pages these) those ≡ with_pages pages (these ++ those)
+with_pages-append pages these those = same_pages _ _ (λ q.
+    contains-with_pages (with_pages pages these) those q
+    ∙ ap (λ b. b || has_page q those) (contains-with_pages pages these q)
+    ∙ or_assoc (set.contains pages q) (has_page q these) (has_page q those)
+    ∙ ap (λ b. set.contains pages q || b) (sym (list_any-append (eq_by_cmp nat_cmp q) these those))
+    ∙ sym (contains-with_pages pages (these ++ those) q))
+
+pub with_pages-none : (pages : Pages) → with_pages pages [] ≡ pages
+with_pages-none pages = same_pages _ _ (λ q. contains-with_pages pages [] q ∙ or_false (set.contains pages q))
+
+pub with_pages-empty : (more : List ℕ) → with_pages set.empty more ≡ set.from_list more
+with_pages-empty more = same_pages _ _ (λ q.
+    contains-with_pages set.empty more q ∙ ap (λ b. b || has_page q more) (set.contains-empty nat_cmp q) ∙ sym (set.contains-from_list nat_cmp_total more q))
+
+pub with_pages-from_list : (these those : List ℕ) → with_pages (set.from_list these) those ≡ set.from_list (these ++ those)
+with_pages-from_list these those =
+    ap (λ pages. with_pages pages those) (sym (with_pages-empty these)) ∙ with_pages-append set.empty these those ∙ with_pages-empty (these ++ those)
+
+pub with_pages-one : (pages : Pages) (page : ℕ) → set.insert pages page ≡ with_pages pages (page ∷ [])
+with_pages-one pages page = same_pages _ _ (λ q.
+    set.contains-insert nat_cmp_total pages page q
+    ∙ ap (λ b. b || set.contains pages q) (sym (or_false (eq_by_cmp nat_cmp q page)))
+    ∙ or_swap (has_page q (page ∷ [])) (set.contains pages q)
+    ∙ sym (contains-with_pages pages (page ∷ []) q))
+
+-- one page behind a list
+pub with_pages-push : (pages : Pages) (more : List ℕ) (page : ℕ) → set.insert (with_pages pages more) page ≡ with_pages pages (more ++ page ∷ [])
+with_pages-push pages more page = with_pages-one (with_pages pages more) page ∙ with_pages-append pages more (page ∷ [])
+
+-- lists with the same pages
+pub with_pages-same : (pages : Pages) (these those : List ℕ) → ((q : ℕ) → has_page q these ≡ has_page q those) → with_pages pages these ≡ with_pages pages those
+with_pages-same pages these those same = same_pages _ _ (λ q.
+    contains-with_pages pages these q ∙ ap (λ b. set.contains pages q || b) (same q) ∙ sym (contains-with_pages pages those q))
+
+-- the pages of one element more
+pub with_pages-turn : {X : Type 0} (f : X → List ℕ) (pages : Pages) (xs : List X) (i : ℕ) (d : X) → i < length xs
+    → with_pages (with_pages pages (flat_map f (take i xs))) (f (get_or xs i d)) ≡ with_pages pages (flat_map f (take (i + 1) xs))
+with_pages-turn f pages xs i d below =
+    let last : flat_map f (get_or xs i d ∷ []) ≡ f (get_or xs i d) = append-nil (f (get_or xs i d)) in
+    let joined : flat_map f (take (i + 1) xs) ≡ flat_map f (take i xs) ++ f (get_or xs i d) =
+    ap (flat_map f) (take_more xs i d below) ∙ flat_map-append f (take i xs) (get_or xs i d ∷ []) ∙ ap (λ p. flat_map f (take i xs) ++ p) last in
+    with_pages-append pages (flat_map f (take i xs)) (f (get_or xs i d)) ∙ ap (with_pages pages) (sym joined)

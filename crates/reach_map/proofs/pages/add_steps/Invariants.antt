@@ -1,0 +1,6 @@
+use Rattle.std.proofs.Common.{◌≡◌}
+use Rattle.reach_map.specs.Added.{with_pages, pages_of_steps}
+use Rattle.reach_map.proofs.pages.add_steps.Given as goal
+
+abbrev pub invariant-loop-i : goal.invariant-loop-i
+invariant-loop-i l = l.pages ≡ with_pages l.initial.pages (pages_of_steps l.start l.i)

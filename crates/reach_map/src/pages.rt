@@ -1,0 +1,50 @@
+//! Pages put into sets.
+
+ghost use Rattle.std.specs.Prelude.{◌≡◌, ◌≤◌, ◌+◌, ◌-◌, ◌*◌, ◌<◌};
+ghost use Rattle.aram_core.specs.Pages.{page_of};
+ghost use Rattle.reach_map.specs.Added.{with_pages, pages_of_steps};
+ghost use Rattle.reach_map.specs.Reach.{pages_of_bytes, window_pages};
+
+use crate::Window;
+use aram_core::PageSet;
+
+/// The bytes of a page.
+const PAGE: u16 = 256;
+
+/// The page of an address.
+fn page_of(address: u16) -> u8
+    ensures { result ≡ page_of address }
+{
+    (address / PAGE) as u8
+}
+
+/// Puts the pages of a few bytes into a set: those of the first and of the last one.
+pub fn add_bytes(pages: &mut PageSet, start: u16, count: u16)
+    requires some { 1 ≤ count }
+    requires few { count ≤ 256 }
+    ensures { pages.new ≡ with_pages pages.old (pages_of_bytes start count) }
+{
+    pages.add(page_of(start));
+    pages.add(page_of(start.wrapping_add(count - 1)));
+}
+
+/// Puts the pages of bytes that stand 256 apart into a set.
+fn add_steps(pages: &mut PageSet, start: u16, count: u16)
+    requires { count ≤ 256 }
+    ensures { pages.new ≡ with_pages pages.old (pages_of_steps start count) }
+{
+    for i in 0..count {
+        pages.add(page_of(start.wrapping_add(PAGE * i)));
+    }
+}
+
+/// Puts the pages of a window into a set.
+pub fn add_window(pages: &mut PageSet, window: Window)
+    requires some { 1 ≤ window.len }
+    requires most { window.len ≤ 0x10000 }
+    ensures { pages.new ≡ with_pages pages.old (window_pages window) }
+{
+    let last = (window.len - 1) as u16;
+    add_steps(pages, window.start, last / PAGE + 1);
+    pages.add(page_of(window.start.wrapping_add(last)));
+}

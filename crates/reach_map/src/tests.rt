@@ -1,0 +1,88 @@
+//! Worked examples: the pages of a chain, of entries of the directory and of windows.
+
+use crate::{ChainStart, Window, reach};
+use aram_core::{Aram, PageSet};
+use std::alloc::Global;
+use std::test::Fail;
+
+/// A memory of zeros in which one block, at 0601h, has its end bit.
+fn memory(alloc: Global) -> Result<Aram, Fail> {
+    let zeros = vec![in alloc; 0u8; 0x10000]?;
+    let mut memory = Aram::from_image(alloc, &zeros)?;
+    memory.put(0x0601, 0x01);
+    Ok(memory)
+}
+
+/// The numbers of the pages of a set.
+fn numbers(alloc: Global, pages: &PageSet) -> Result<Vec<u8>, Fail> {
+    let mut numbers = Vec::new(alloc);
+    for page in 0..256u16 {
+        if pages.has(page as u8) {
+            numbers.push(page as u8)?;
+        }
+    }
+    Ok(numbers)
+}
+
+/// A window over the end of a page.
+const WINDOW: Window = Window {
+    start: 0x03fe,
+    len: 4,
+};
+
+#[test]
+fn a_chain_goes_to_its_loop_behind_an_end(rt: HostRuntime) -> Result<(), Fail> {
+    let alloc = rt.alloc();
+    let memory = memory(alloc)?;
+    // the blocks are 05F8h to 0600h, 0601h to 0609h, and 16 from 4071h on: the last one is 40F8h to 4100h
+    let starts = [ChainStart {
+        block: 0x05f8,
+        loop_word: 0x4071,
+    }];
+    let found = reach(&memory, &starts, &[], WINDOW, false);
+    assert_eq!(rt;
+        numbers(alloc, &found.read_pages)?.as_slice(),
+        [0x03, 0x04, 0x05, 0x06, 0x40, 0x41].as_slice()
+    );
+    assert_eq!(rt;
+        numbers(alloc, &found.write_pages)?.as_slice(),
+        [].as_slice()
+    );
+    Ok(())
+}
+
+#[test]
+fn entries_and_windows_go_over_ends_of_pages_and_of_memory(rt: HostRuntime) -> Result<(), Fail> {
+    let alloc = rt.alloc();
+    let memory = memory(alloc)?;
+    let window = Window {
+        start: 0xff00,
+        len: 0x101,
+    };
+    let found = reach(&memory, &[], &[0x02fe, 0x80fc], window, true);
+    assert_eq!(rt;
+        numbers(alloc, &found.read_pages)?.as_slice(),
+        [0x00, 0x02, 0x03, 0x80, 0xff].as_slice()
+    );
+    assert_eq!(rt;
+        numbers(alloc, &found.write_pages)?.as_slice(),
+        [0x00, 0xff].as_slice()
+    );
+    assert_eq!(rt; found.entangled, false);
+    Ok(())
+}
+
+#[test]
+fn an_echo_that_writes_what_a_voice_reads_is_entangled(rt: HostRuntime) -> Result<(), Fail> {
+    let alloc = rt.alloc();
+    let memory = memory(alloc)?;
+    for (entry, writes_on, want) in [
+        (0x0300, true, true),
+        (0x0300, false, false),
+        (0x0200, true, false),
+    ] {
+        let found = reach(&memory, &[], &[entry], WINDOW, writes_on);
+        assert_eq!(rt; found.entangled, want);
+    }
+    Ok(())
+}

@@ -1,0 +1,158 @@
+// Traces of renders by the program over a host in memory.
+use crate::test_support::{
+    DSP, MEMORY, NO_BATCH, ONE_BATCH, Pieces, SOUND, Traced, expected_report, file_of, rendered,
+};
+use std::test::Fail;
+
+const WRITE: Pieces = &[(MEMORY + 0x0400, b"\x8f\x6c\xf2\x8f\x20\xf3\x2f\xfe")];
+
+const IGNORED: Pieces = &[(MEMORY + 0x0400, b"\x8f\xcc\xf2\x8f\x20\xf3\x2f\xfe")];
+
+const OVERWRITTEN: Pieces = &[
+    (DSP + 0x6c, b"\x00\x04"),
+    (DSP + 0x6d, b"\x04"),
+    (MEMORY + 0x0404, b"\x8f\x5a\xf4\x2f\xfe"),
+];
+
+const PORT: Pieces = &[(
+    MEMORY + 0x0400,
+    b"\0\0\0\0\0\0\0\0\0\0\0\0\0\0\x8f\x5a\xf4\x2f\xfe",
+)];
+
+/// The lines of voice 0, which is heard from sample 6 on.
+const LINES: &str =
+    "V 0 0 0 0 0000 k-\nV 1 0 0 0 0500 --\nV 2 0 0 0 0500 --\nV 3 0 0 0 0500 --\nV 4 0 0 0 0500 --\n\
+    V 5 0 0 0 0500 --\nV 6 0 2032 4064 0500 --\nV 7 0 2032 4064 0500 --\n";
+
+/// Traces of the voices.
+const VOICES: &[Traced] = &[
+    Traced {
+        shows: "the voice that plays",
+        sound: SOUND,
+        more: &[],
+        samples: "8",
+        voices: "01",
+        trace: LINES,
+        batches: ONE_BATCH,
+    },
+    Traced {
+        shows: "no voice",
+        sound: SOUND,
+        more: &[],
+        samples: "8",
+        voices: "00",
+        trace: "",
+        batches: ONE_BATCH,
+    },
+    Traced {
+        shows: "all voices, and no samples",
+        sound: &[],
+        more: &[],
+        samples: "0",
+        voices: "fF",
+        trace: "",
+        batches: NO_BATCH,
+    },
+];
+
+#[test]
+fn a_voice_has_a_line_for_each_sample(rt: HostRuntime) -> Result<(), Fail> {
+    for row in VOICES {
+        assert!(rt; row.holds(rt.alloc())?, "{}", row.shows);
+    }
+    Ok(())
+}
+
+/// Traces of what the program writes.
+const WRITES: &[Traced] = &[
+    Traced {
+        shows: "a register is written",
+        sound: &[],
+        more: WRITE,
+        samples: "1",
+        voices: "00",
+        trace: "R 0 6c 20\n",
+        batches: ONE_BATCH,
+    },
+    Traced {
+        shows: "a write to an address from 80h on is ignored",
+        sound: &[],
+        more: IGNORED,
+        samples: "1",
+        voices: "00",
+        trace: "",
+        batches: ONE_BATCH,
+    },
+    Traced {
+        shows: "echo overwrites the branch before the write to a port",
+        sound: &[],
+        more: OVERWRITTEN,
+        samples: "3",
+        voices: "00",
+        trace: "P 1 0 5a\n",
+        batches: "batches 3 register 0 memory 0 echo 2 full 0 events 0 end 1\n",
+    },
+];
+
+#[test]
+fn writes_have_their_lines(rt: HostRuntime) -> Result<(), Fail> {
+    for row in WRITES {
+        assert!(rt; row.holds(rt.alloc())?, "{}", row.shows);
+    }
+    Ok(())
+}
+
+/// A write to a port before the last sample, and behind it.
+const LATE: &[Traced] = &[
+    Traced {
+        shows: "before the last sample",
+        sound: &[],
+        more: PORT,
+        samples: "2",
+        voices: "00",
+        trace: "P 1 0 5a\n",
+        batches: "batches 2 register 0 memory 1 echo 0 full 0 events 0 end 1\n",
+    },
+    Traced {
+        shows: "behind the last sample",
+        sound: &[],
+        more: PORT,
+        samples: "1",
+        voices: "00",
+        trace: "",
+        batches: "batches 1 register 0 memory 1 echo 0 full 0 events 0 end 0\n",
+    },
+];
+
+#[test]
+fn a_write_behind_the_last_sample_has_none(rt: HostRuntime) -> Result<(), Fail> {
+    for row in LATE {
+        assert!(rt; row.holds(rt.alloc())?, "{}", row.shows);
+    }
+    Ok(())
+}
+
+/// The program reads the envelope of voice 0, and writes it to port 0, again and again.
+const ENVELOPE: Pieces = &[(MEMORY + 0x0400, b"\x8f\x08\xf2\xe4\xf3\xc4\xf4\x2f\xfa")];
+
+/// How often this byte stands there.
+fn count_of(bytes: &[u8], wanted: u8) -> usize {
+    bytes.iter().filter(|byte| **byte == wanted).count()
+}
+
+#[test]
+fn a_loop_sends_the_envelope_to_a_port(rt: HostRuntime) -> Result<(), Fail> {
+    let file = file_of(rt.alloc(), SOUND, ENVELOPE)?;
+    let options = ["--samples", "8", "--trace", "T"];
+    let ran = rendered(rt.alloc(), file.as_slice(), &options)?;
+    let line = "batches 8 register 5 memory 2 echo 0 full 0 events 0 end 1\n";
+    let report = expected_report(rt.alloc(), "8", line)?;
+    assert!(rt; ran.is_done(ran.output(), report.as_str()));
+    // 23 lines of 9 bytes: an `f` stands in the last three alone.
+    let trace = ran.trace();
+    assert!(rt; trace.len() == 23 * 9);
+    assert!(rt; count_of(trace, b'\n') == 23);
+    assert!(rt; trace.ends_with(b"P 6 0 00\nP 7 0 7f\nP 7 0 7f\nP 7 0 7f\n"));
+    assert!(rt; count_of(trace, b'f') == 3);
+    Ok(())
+}
