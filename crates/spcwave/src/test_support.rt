@@ -230,9 +230,9 @@ pub fn has_frames(alloc: Global, ran: &Ran, frames: Frames, report: &str) -> Res
     Ok(ran.is_done(wave.as_slice(), report))
 }
 
-/// What a render of so many samples reports. The line of its batches is not reported yet.
-pub fn expected_report(alloc: Global, samples: &str, _batches: &str) -> Result<String, Fail> {
-    Ok(format!(in alloc; "samples {samples}\n")?)
+/// What a render of so many samples reports, with the line of its batches.
+pub fn expected_report(alloc: Global, samples: &str, batches: &str) -> Result<String, Fail> {
+    Ok(format!(in alloc; "samples {samples}\n{batches}")?)
 }
 
 /// Nothing is made.
