@@ -10,9 +10,9 @@ ghost use Rattle.dsp_core.specs.Reach.{chip_reach};
 ghost use Rattle.dsp_core.specs.Chip.{opened_state, register_read, register_write};
 
 use crate::OutOfMemory;
-use crate::mix::side_sums;
+use crate::mix::sums_of;
 use crate::records::push_records;
-use crate::registers::{ENDX, FLG, KON, VOLL, VOLR, echo_regs};
+use crate::registers::{ENDX, FLG, KON, echo_regs};
 use crate::results::put_results;
 use crate::state::{DspState, Hidden};
 use crate::voices::{Common, step_voices};
@@ -89,15 +89,14 @@ impl DspState {
         self.poll(number);
         self.step_noise(clock);
         let answers = self.step_voices(number, clock, memory);
-        let left = side_sums(&self.registers, VOLL, &answers);
-        let right = side_sums(&self.registers, VOLR, &answers);
+        let sums = sums_of(&self.registers, &answers);
         let main = Frame {
-            left: left.main,
-            right: right.main,
+            left: sums.left.main,
+            right: sums.right.main,
         };
         let sent = Frame {
-            left: left.sent,
-            right: right.sent,
+            left: sums.left.sent,
+            right: sums.right.sent,
         };
         let regs = echo_regs(&self.registers);
         let frame = self.hidden.echo.step(memory, &regs, main, sent);

@@ -4,7 +4,7 @@ ghost use Rattle.std.specs.Prelude.{◌≡◌, ◌≤◌, ◌<◌, ◌+ℤ◌, p
 ghost use Rattle.num_fix.specs.Arithmetic.{clamp16, has_bit};
 ghost use Rattle.dsp_core.specs.Mix.{voice_share, shares_from, sent_from, clamped_sum};
 
-use crate::registers::{EON, Registers, has_bit, voice_register};
+use crate::registers::{EON, Registers, VOLL, VOLR, has_bit, voice_register};
 use num_fix::{clamp16, scaled, sign8};
 use voice_unit::VoiceOut;
 
@@ -59,15 +59,26 @@ fn with_voice(
     }
 }
 
-/// The sums of the side whose volumes stand at `volume`.
-pub fn side_sums(registers: &Registers, volume: usize, answers: &[VoiceOut; 8]) -> SideSums
-    requires { volume < 16 }
-    ensures main { result.main ≡ clamped_sum (pos 0) (shares_from registers.now volume 0 answers.now) }
-    ensures sent { result.sent ≡ clamped_sum (pos 0) (sent_from registers.now volume 0 answers.now) }
+/// The sums of both sides.
+#[derive(Clone, Copy, Debug)]
+pub struct Sums {
+    pub left: SideSums,
+    pub right: SideSums,
+}
+
+/// The sums of both sides over all voices.
+pub fn sums_of(registers: &Registers, answers: &[VoiceOut; 8]) -> Sums
+    ensures left_main { result.left.main ≡ clamped_sum (pos 0) (shares_from registers.now VOLL 0 answers.now) }
+    ensures left_sent { result.left.sent ≡ clamped_sum (pos 0) (sent_from registers.now VOLL 0 answers.now) }
+    ensures right_main { result.right.main ≡ clamped_sum (pos 0) (shares_from registers.now VOLR 0 answers.now) }
+    ensures right_sent { result.right.sent ≡ clamped_sum (pos 0) (sent_from registers.now VOLR 0 answers.now) }
 {
-    let mut sums = SideSums { main: 0, sent: 0 };
+    let mut left = SideSums { main: 0, sent: 0 };
+    let mut right = left;
     for v in 0..8u8 {
-        sums = with_voice(sums, registers, volume, v, &answers[usize::from(v)]);
+        let answer = &answers[usize::from(v)];
+        left = with_voice(left, registers, VOLL, v, answer);
+        right = with_voice(right, registers, VOLR, v, answer);
     }
-    sums
+    Sums { left, right }
 }

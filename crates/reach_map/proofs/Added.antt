@@ -81,3 +81,15 @@ with_pages-turn f pages xs i d below =
     let joined : flat_map f (take (i + 1) xs) ≡ flat_map f (take i xs) ++ f (get_or xs i d) =
     ap (flat_map f) (take_more xs i d below) ∙ flat_map-append f (take i xs) (get_or xs i d ∷ []) ∙ ap (λ p. flat_map f (take i xs) ++ p) last in
     with_pages-append pages (flat_map f (take i xs)) (f (get_or xs i d)) ∙ ap (with_pages pages) (sym joined)
+
+or_again : (a b : Bool) → (a || (a || b)) ≡ (a || b)
+or_again true b = refl
+or_again false b = refl
+
+-- a page that is there stays one page
+pub insert_again : (pages : Pages) (page : ℕ) → set.insert (set.insert pages page) page ≡ set.insert pages page
+insert_again pages page = same_pages _ _ (λ q.
+    set.contains-insert nat_cmp_total (set.insert pages page) page q
+    ∙ ap (λ b. eq_by_cmp nat_cmp q page || b) (set.contains-insert nat_cmp_total pages page q)
+    ∙ or_again (eq_by_cmp nat_cmp q page) (set.contains pages q)
+    ∙ sym (set.contains-insert nat_cmp_total pages page q))

@@ -24,8 +24,12 @@ pub fn add_bytes(pages: &mut PageSet, start: u16, count: u16)
     requires few { count ≤ 256 }
     ensures { pages.new ≡ with_pages pages.old (pages_of_bytes start count) }
 {
-    pages.add(page_of(start));
-    pages.add(page_of(start.wrapping_add(count - 1)));
+    let first = page_of(start);
+    let last = page_of(start.wrapping_add(count - 1));
+    pages.add(first);
+    if last != first {
+        pages.add(last);
+    }
 }
 
 /// Puts the pages of bytes that stand 256 apart into a set.

@@ -127,6 +127,7 @@ impl<C: Chip> PlainBus<C> {
     }
 
     /// A read where memory may not be what answers.
+    #[inline(never)]
     fn read_port(&mut self, addr: u16) -> u8
         requires { self.old.calls < 64 }
         ensures answer { result ≡ bus_answer C.meaning self.old addr }
@@ -143,6 +144,7 @@ impl<C: Chip> PlainBus<C> {
     }
 
     /// What a write of F0h to FFh does beside memory.
+    #[inline(never)]
     fn write_port(&mut self, addr: u16, value: u8)
         requires calls { self.old.calls < 64 }
         ensures { self.new ≡ record (after_bus_write C.meaning self.old addr value) { memory = self.old.memory } }
@@ -170,6 +172,7 @@ impl<C: Chip> PlainBus<C> {
     }
 
     /// A pass that comes to a multiple of 16 of the clock, where timers may tick and a sample may be due.
+    #[inline(never)]
     fn pass_ticks(&mut self, cycles: u8)
         requires room { self.old.calls < 64 }
         requires some { 1 ≤ cycles }
