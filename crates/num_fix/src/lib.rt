@@ -45,8 +45,7 @@ pub fn sign4(b: u8) -> i32
     ensures value { result ≡ sign4 b }
     ensures bound { unsigned_abs result ≤ 8 }
 {
-    let digit = i32::from(b % 16);
-    if digit < 8 { digit } else { digit - 16 }
+    i32::from((b << 4).cast_signed() >> 4)
 }
 
 /// A byte, read as a signed number: -128 to 127.
@@ -55,8 +54,7 @@ pub fn sign8(b: u8) -> i32
     ensures value { result ≡ sign8 b }
     ensures bound { unsigned_abs result ≤ 128 }
 {
-    let byte = i32::from(b);
-    if byte < 128 { byte } else { byte - 256 }
+    i32::from(b.cast_signed())
 }
 
 /// Clears bit 0: the next even number at or below.
