@@ -223,13 +223,6 @@ impl Voice {
         }
     }
 
-    /// Whether the voice comes to the end of a block that has its end bit.
-    fn is_looped(&self, header: u8) -> bool
-        ensures { result ≡ is_looped self.now header }
-    {
-        self.position >= 0x4000 && self.offset == LAST_GROUP && header % 2 == 1
-    }
-
     /// Decodes the next group.
     #[tactic(auto, unfolding(crate::specs::Voice::after_decoding))]
     fn decode(&mut self, memory: &Aram, header: u8)
@@ -259,15 +252,19 @@ impl Voice {
         }
     }
 
-    /// Reads a group, where the position has come to it.
+    /// Reads a group, where the position has come to it, and tells whether that ends a block that has its end bit.
     #[tactic(auto, unfolding(crate::specs::Voice::after_reading))]
-    fn read_on(&mut self, header: u8, regs: &VoiceRegs, input: &VoiceIn, memory: &Aram)
-        ensures { self.new ≡ after_reading self.old memory.now header (loop_word input.now.dir regs.now.srcn memory.now) }
+    fn read_on(&mut self, header: u8, regs: &VoiceRegs, input: &VoiceIn, memory: &Aram) -> bool
+        ensures voice { self.new ≡ after_reading self.old memory.now header (loop_word input.now.dir regs.now.srcn memory.now) }
+        ensures looped { result ≡ is_looped self.old header }
     {
-        if self.position >= 0x4000 {
-            self.decode(memory, header);
-            self.go_to_next_group(header, regs, input, memory);
+        if self.position < 0x4000 {
+            return false;
         }
+        let looped = self.offset == LAST_GROUP && header % 2 == 1;
+        self.decode(memory, header);
+        self.go_to_next_group(header, regs, input, memory);
+        looped
     }
 
     /// Moves on by a pitch.
@@ -280,7 +277,7 @@ impl Voice {
     }
 
     /// One step: the next voice, and what it gives.
-    #[tactic(auto, unfolding(crate::specs::Voice::voice_step, crate::specs::Voice::voice_answer))]
+    #[tactic(auto, unfolding(crate::specs::Voice::voice_step, crate::specs::Voice::voice_answer, crate::specs::Voice::after_envelope))]
     pub fn step(
         &mut self,
         regs: &VoiceRegs,
@@ -299,9 +296,8 @@ impl Voice {
         self.wait(regs, input, memory);
         let out = self.output(input, table);
         let level = self.level();
-        let looped = self.is_looped(header);
         self.step_envelope(regs, input, header, clock);
-        self.read_on(header, regs, input, memory);
+        let looped = self.read_on(header, regs, input, memory);
         self.move_on(pitch);
         VoiceOut {
             out,
