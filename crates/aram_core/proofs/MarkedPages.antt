@@ -80,7 +80,7 @@ marked_pages-add_high low high k within = one_page_more low high low _ (128 + k)
     ]
 
 -- two sets with a page in common
-common_page : (these those : Pages) (q : ℕ) → set.contains these q ≡ true → set.contains those q ≡ true → have_common_page these those ≡ true
+pub common_page : (these those : Pages) (q : ℕ) → set.contains these q ≡ true → set.contains those q ≡ true → have_common_page these those ≡ true
 common_page these those q here there = elim (cases_eq (set.len (set.intersection these those)) 0) [
   | inl none ↦
       let gone : set.contains (set.intersection these those) q ≡ false = ap (λ s. set.contains s q) (set.empty_of_len _ none) ∙ set.contains-empty nat_cmp q in

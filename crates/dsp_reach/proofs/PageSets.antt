@@ -1,13 +1,12 @@
 -- What the set of a list of pages contains, and what two such sets with no page in common mean for their lists.
-use Rattle.std.proofs.Common.{◌≡◌, ℕ, List, ◌++◌, Bool, true, false, ◌||◌, ◌==◌, refl, sym, ap, ◌∙◌, arith, ◌⊎◌, inl, inr}
-use Rattle.std.specs.Cmp.{nat_cmp_total}
+use Rattle.std.proofs.Common.{◌≡◌, ℕ, List, ◌++◌, Bool, true, false, ◌||◌, ◌==◌, refl, sym, ap, ◌∙◌, ◌⊎◌, inl, inr}
 use Rattle.std.specs.FinSet as set
 use Rattle.std.specs.List.{list_any}
 use Rattle.std.specs.Ordering.{nat_cmp}
-use Rattle.std.proofs.lemmas.Bool.{cases_Bool, cases_eq, true≢false}
-use Rattle.std.proofs.lemmas.Bool.Decides.{nat_tests}
+use Rattle.std.proofs.lemmas.Bool.{cases_Bool, true≢false}
 use Rattle.std.proofs.lemmas.List.Folds.{list_any-append}
-use Rattle.aram_core.specs.Pages.{Pages, have_common_page}
+use Rattle.aram_core.specs.Pages.{have_common_page}
+use Rattle.aram_core.proofs.MarkedPages.{common_page}
 
 -- the list has the page
 abbrev pub has_page : (pages : List ℕ) → (p : ℕ) → Bool
@@ -20,16 +19,6 @@ contains-pages pages p = set.contains-from_list_nat pages p
 -- the same page
 pub at_page : (pages : List ℕ) (p q : ℕ) → p ≡ q → has_page pages p ≡ true → has_page pages q ≡ true
 at_page pages p q same h = ap (λ (x : ℕ). has_page pages x) (sym same) ∙ h
-
--- a page that is in both sets is one that they have in common
-pub common_page : (these those : Pages) (p : ℕ) → set.contains these p ≡ true → set.contains those p ≡ true → have_common_page these those ≡ true
-common_page these those p here there = elim (cases_eq (set.len (set.intersection these those)) 0) [
-  | inl none ↦
-      let gone : set.contains (set.intersection these those) p ≡ false = ap (λ s. set.contains s p) (set.empty_of_len _ none) ∙ set.contains-empty nat_cmp p in
-      let found : set.contains (set.intersection these those) p ≡ true = set.contains-intersection nat_cmp_total these those p ∙ rw (here, there) refl in
-      absurd (true≢false (sym found ∙ gone))
-  | inr some ↦ let no : (set.len (set.intersection these those) == 0) ≡ false = grind (arith, nat_tests, some) in rw no refl
-]
 
 -- where two lists have no page in common, a page of the one is none of the other
 pub apart_left : (xs ys : List ℕ) (p : ℕ) → have_common_page (set.from_list xs) (set.from_list ys) ≡ false → has_page ys p ≡ true → has_page xs p ≡ false
