@@ -1,4 +1,5 @@
-//! Makes demo files: an SPC file with samples, a program and writes of registers, all drawn by a number.
+//! Makes demo files: SPC files whose samples and writes of registers are drawn by a number, with a fixed program that makes
+//! the writes.
 #![tactic(auto)]
 
 mod draws;

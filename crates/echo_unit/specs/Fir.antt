@@ -9,6 +9,7 @@ taps (sample ∷ samples) (coefficient ∷ coefficients) = scaled sample (sign8 
 taps (sample ∷ samples) [] = []
 taps [] coefficients = []
 
+-- the sum of signed numbers
 abbrev pub signed_sum : List ℤ → ℤ
 signed_sum numbers = fold (λ sum number. sum +ℤ number) (pos 0) numbers
 

@@ -89,6 +89,7 @@ after_target s (Some target) sustain counter = record {
   hidden = target.value;
 }
 
+-- one step of an envelope, by ADSR1, ADSR2 and GAIN at a counter
 unfoldable pub envelope_step : EnvelopeState → ℕ → ℕ → ℕ → ℕ → EnvelopeState
 envelope_step s adsr1 adsr2 gain counter =
     after_target s (step_target s.mode s.level s.hidden adsr1 adsr2 gain) (sustain_level adsr1 adsr2 gain) counter

@@ -82,7 +82,7 @@ impl RateClock {
         self.fifths = fallen(u16::from(self.fifths), 5) as u8;
     }
 
-    /// What the odd part of a period divides, by the offset of its rate: 0 where it divides it.
+    /// The counter with its offset, modulo the odd part of the rate's period: 0 where the odd part divides it.
     fn rest(&self, offset: u16) -> u8
         ensures { result ≡ rest_at self.now offset }
     {

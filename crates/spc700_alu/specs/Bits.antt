@@ -13,6 +13,7 @@ carry_result byte psw on = record { value = byte; psw = with_flag C on psw }
 abbrev bit_result : (byte bit psw : ℕ) → Bool → Out8
 bit_result byte bit psw on = record { value = with_flag (2 ^ bit) on byte; psw = psw }
 
+-- OR1 to CLR1: the first six change C alone, the others the byte alone
 unfoldable pub bitop_of : BitKind → (byte bit psw : ℕ) → Out8
 bitop_of Bit.Or byte bit psw = carry_result byte psw (flag C psw || flag (2 ^ bit) byte)
 bitop_of Bit.OrNot byte bit psw = carry_result byte psw (flag C psw || not (flag (2 ^ bit) byte))

@@ -64,8 +64,8 @@ pub fn mul(y: u8, a: u8, psw: u8) -> Out16
     }
 }
 
-/// DIV: the quotient of `ya` by `x` goes to A, the rest to Y. A quotient above 511, or a divisor of 0, has the processor's
-/// own result.
+/// DIV: the low byte of the quotient of `ya` by `x` goes to A, the rest to Y. A quotient above 511, or a divisor of 0, has
+/// the processor's own result.
 #[tactic(auto, unfolding(crate::specs::Words::div_of))]
 pub fn div(ya: u16, x: u8, psw: u8) -> Out16
     ensures { result ≡ div_of ya x psw }

@@ -28,7 +28,7 @@ fn with_end(alloc: Global, memory: &[u8], place: usize, end: &[u8]) -> Result<Ar
     Aram::from_image(alloc, &image)
 }
 
-/// What a file opens. The processor's registers are those of the file, and it isn't halted.
+/// What a file opens beside the processor's registers. It fails only for want of memory.
 pub fn opening(alloc: Global, file: &SpcFile) -> Result<OpenState, OutOfMemory>
     ensures memory { IfOk result (λ state. state.memory ≡ opening_memory file.now) }
     ensures cells { IfOk result (λ state. state.cells ≡ opening_cells file.now) }

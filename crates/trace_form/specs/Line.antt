@@ -17,6 +17,7 @@ four_digits word = encode_lower (word / 0x100 ∷ word % 0x100 ∷ [])
 abbrev pub letter_or_dash : Bool → (letter : List ℕ) → List ℕ
 letter_or_dash is_so letter = if is_so then letter else codes "-"
 
+-- the line of a record, with its line feed
 unfoldable pub line_of : Record → List ℕ
 line_of (Reg sample address value) =
     codes "R " ++ decimal sample ++ codes " " ++ two_digits address ++ codes " " ++ two_digits value ++ codes "\n"

@@ -1,4 +1,4 @@
--- One step of a voice, as a sequence of changes in the order of the hardware's own.
+-- One step of a voice, as a sequence of changes: each as in Anomie's S-DSP Doc, in an order of this project's own.
 use Rattle.std.specs.Prelude.{ℕ, ◌+◌, ◌-◌, ◌*◌, ◌/◌, ◌%◌, Bool, ◌&&◌, ◌||◌, not, ◌==◌, nat_le, min, List, drop, replicate, ℤ, pos, ◌+ℤ◌, unsigned_abs, if◌then◌else◌}
 use Rattle.num_fix.specs.Arithmetic.{floor_shift, scaled, wrap16, clear_bit0, high_byte}
 use Rattle.num_fix.specs.Words.{number_at}
