@@ -1,9 +1,10 @@
 // Groups of four digits, and blocks of sixteen.
 ghost use Rattle.std.specs.Prelude.{◌≡◌, ◌++◌, List, ℤ};
 ghost use Rattle.num_fix.specs.Arithmetic.{sign4};
+ghost use Rattle.brr_decode.specs.Header.{filter_of};
 ghost use Rattle.brr_decode.specs.Kept.{EndsWith, with_group, with_all_kept, digits_of};
 
-use crate::kept_sample;
+use crate::digit::{filter_of, filtered, shift_of, shifted_digit};
 use num_fix::sign4;
 
 /// The low digit of a byte.
@@ -13,16 +14,36 @@ fn digit(byte: u8) -> i16
     sign4(byte) as i16
 }
 
+/// Decodes a group under the filter of its header. Where the filter is a constant, the code is straight.
+/// All four digits are shifted before the first sample is kept, so that one test of the shift is enough.
+#[inline(always)]
+fn group_under(filter: u8, header: u8, b0: u8, b1: u8, p1: i16, p2: i16) -> [i16; 4]
+    requires { filter ≡ filter_of header }
+    ensures { (samples : List ℤ) → EndsWith samples p2 p1 → with_group samples header b0 b1 ≡ samples ++ result }
+{
+    let shift = shift_of(header);
+    let a = shifted_digit(shift, digit(b0 / 16));
+    let b = shifted_digit(shift, digit(b0));
+    let c = shifted_digit(shift, digit(b1 / 16));
+    let d = shifted_digit(shift, digit(b1));
+    let first = filtered(filter, a, p1, p2);
+    let second = filtered(filter, b, first, p1);
+    let third = filtered(filter, c, second, first);
+    let fourth = filtered(filter, d, third, second);
+    [first, second, third, fourth]
+}
+
 /// Decodes a group, the four digits of two bytes.
 /// `p1` is the last kept sample and `p2` the kept sample before it.
 pub fn decode_group(header: u8, b0: u8, b1: u8, p1: i16, p2: i16) -> [i16; 4]
     ensures { (samples : List ℤ) → EndsWith samples p2 p1 → with_group samples header b0 b1 ≡ samples ++ result }
 {
-    let first = kept_sample(header, digit(b0 / 16), p1, p2);
-    let second = kept_sample(header, digit(b0), first, p1);
-    let third = kept_sample(header, digit(b1 / 16), second, first);
-    let fourth = kept_sample(header, digit(b1), third, second);
-    [first, second, third, fourth]
+    match filter_of(header) {
+        0 => group_under(0, header, b0, b1, p1, p2),
+        1 => group_under(1, header, b0, b1, p1, p2),
+        2 => group_under(2, header, b0, b1, p1, p2),
+        _ => group_under(3, header, b0, b1, p1, p2),
+    }
 }
 
 /// Decodes a block: a header, and the sixteen digits of eight bytes.

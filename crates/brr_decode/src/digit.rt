@@ -1,9 +1,24 @@
 // The sample that is kept of one digit.
-ghost use Rattle.std.specs.Prelude.{◌≡◌, ◌<◌, ◌≤◌, ◌^◌, ◌+ℤ◌, ◌-ℤ◌, neg_ℤ, pos, unsigned_abs};
-ghost use Rattle.num_fix.specs.Arithmetic.{scaled};
+ghost use Rattle.std.specs.Prelude.{◌≡◌, ◌<◌, ◌≤◌, ◌^◌, ◌+ℤ◌, ◌-ℤ◌, ◌*ℤ◌, neg_ℤ, pos, unsigned_abs};
+ghost use Rattle.num_fix.specs.Arithmetic.{clamp16, scaled, wrap16};
+ghost use Rattle.brr_decode.specs.Header.{filter_of, shift_of};
 ghost use Rattle.brr_decode.specs.Kept.{shifted_digit, prediction, kept_sample};
 
 use num_fix::{clamp16, half, scaled, wrap16};
+
+/// The shift that a header names.
+pub fn shift_of(header: u8) -> u8
+    ensures { result ≡ shift_of header }
+{
+    header / 16
+}
+
+/// The filter that a header names.
+pub fn filter_of(header: u8) -> u8
+    ensures { result ≡ filter_of header }
+{
+    header / 4 % 4
+}
 
 /// 2 to the `shift`.
 fn power_of_two(shift: u8) -> i16
@@ -15,7 +30,8 @@ fn power_of_two(shift: u8) -> i16
 
 /// A digit under the shift of its block.
 #[tactic(auto, unfolding(crate::specs::Kept::shifted_digit))]
-fn shifted_digit(shift: u8, digit: i16) -> i32
+#[inline(always)]
+pub fn shifted_digit(shift: u8, digit: i16) -> i32
     ensures value { result ≡ shifted_digit shift digit }
     ensures bound { unsigned_abs result ≤ 2 ^ 29 }
 {
@@ -77,6 +93,7 @@ fn third_prediction(q: i16, p1: i16) -> i32
 
 /// What a filter adds to a shifted digit.
 #[tactic(auto, unfolding(crate::specs::Kept::prediction))]
+#[inline(always)]
 fn prediction(filter: u8, p1: i16, p2: i16) -> i32
     ensures value { result ≡ prediction filter p1 p2 }
     ensures bound { unsigned_abs result ≤ 2 ^ 30 }
@@ -90,12 +107,22 @@ fn prediction(filter: u8, p1: i16, p2: i16) -> i32
     }
 }
 
+/// The sample that is kept of a shifted digit under a filter.
+#[inline(always)]
+pub fn filtered(filter: u8, shifted: i32, p1: i16, p2: i16) -> i16
+    requires { unsigned_abs shifted ≤ 2 ^ 29 }
+    ensures { result ≡ wrap16 (pos 2 *ℤ clamp16 (shifted +ℤ prediction filter p1 p2)) }
+{
+    let value = shifted + prediction(filter, p1, p2);
+    wrap16(2 * i32::from(clamp16(value)))
+}
+
 /// The sample that is kept of a digit, −8 to 7, under the header of its block.
 /// `p1` is the last kept sample and `p2` the kept sample before it.
 #[tactic(auto, unfolding(crate::specs::Kept::kept_sample))]
 pub fn kept_sample(header: u8, digit: i16, p1: i16, p2: i16) -> i16
     ensures { result ≡ kept_sample header digit p1 p2 }
 {
-    let value = shifted_digit(header / 16, digit) + prediction(header / 4 % 4, p1, p2);
-    wrap16(2 * i32::from(clamp16(value)))
+    let shifted = shifted_digit(shift_of(header), digit);
+    filtered(filter_of(header), shifted, p1, p2)
 }
