@@ -7,6 +7,7 @@ use Rattle.std.specs.Cmp.{unsigned_tied}
 use Rattle.std.proofs.lemmas.Bool.{cases_eq, cases_lt}
 use Rattle.std.proofs.lemmas.Bool.Decides.{nat_tests}
 use Rattle.std.proofs.lemmas.List.Folds.{list_any-append}
+use Rattle.std.proofs.lemmas.List.FromFn.{map-range_with_len_more}
 use Rattle.aram_core.specs.Pages.{Pages, page_of}
 use Rattle.reach_map.specs.Added.{with_pages, pages_of_steps}
 use Rattle.reach_map.specs.Reach.{pages_of_bytes}
@@ -21,7 +22,8 @@ tied_other q k other = let no : nat_eq q k ≡ false = grind (arith, nat_tests, 
 other_tied : (q k : ℕ) → eq_by_cmp nat_cmp q k ≡ false → q ≢ k
 other_tied q k apart = let differs : nat_eq q k ≡ false = sym (tied q k) ∙ apart in grind (arith, nat_tests, differs)
 
-either_first : (a b : Bool) → (a || b) ≡ false → a ≡ false
+-- where neither of two tests passes, the first fails, and so does the second
+pub either_first : (a b : Bool) → (a || b) ≡ false → a ≡ false
 either_first true b h = cc
 either_first false b h = refl
 
@@ -30,20 +32,20 @@ either_second true b h = cc
 either_second false b h = h
 
 -- a page that is none of a list's is no entry of it, and the other way round
-none_of : (f : ℕ → ℕ) (q a n : ℕ) → has_page q (map f (range_with_len a n)) ≡ false → (k : ℕ) → a ≤ k → k < a + n → q ≢ f k
+pub none_of : (f : ℕ → ℕ) (q a n : ℕ) → has_page q (map f (range_with_len a n)) ≡ false → (k : ℕ) → a ≤ k → k < a + n → q ≢ f k
 none_of f q a zero none k from below = absurd (omega arith)
 none_of f q a (suc n) none k from below = elim (cases_eq k a) [
   | inl first ↦ λ same. other_tied q (f a) (either_first _ _ none) (same ∙ ap f first)
   | inr later ↦ none_of f q (a + 1) n (either_second _ _ none) k (omega arith) (omega arith)
 ]
 
-has_none : (f : ℕ → ℕ) (q a n : ℕ) → ((k : ℕ) → a ≤ k → k < a + n → q ≢ f k) → has_page q (map f (range_with_len a n)) ≡ false
+pub has_none : (f : ℕ → ℕ) (q a n : ℕ) → ((k : ℕ) → a ≤ k → k < a + n → q ≢ f k) → has_page q (map f (range_with_len a n)) ≡ false
 has_none f q a zero others = refl
 has_none f q a (suc n) others =
     rw (tied_other q (f a) (others a (omega arith) (omega arith))) (has_none f q (a + 1) n (λ k from below. others k (omega arith) (omega arith)))
 
 -- two tests that fail together
-fail_together : (a b : Bool) → (a ≡ false → b ≡ false) → (b ≡ false → a ≡ false) → a ≡ b
+pub fail_together : (a b : Bool) → (a ≡ false → b ≡ false) → (b ≡ false → a ≡ false) → a ≡ b
 fail_together true true there back = refl
 fail_together true false there back = back refl
 fail_together false true there back = sym (there refl)
@@ -107,3 +109,16 @@ two_ends pages start count some few =
     ∙ with_pages-push pages (page_of start ∷ []) (page_of (start + (count - 1)))
     ∙ ap (λ p. with_pages pages (p ∷ page_of (start + (count - 1)) ∷ [])) (sym first)
     ∙ same_steps pages start count 1 some (omega arith) (omega arith)
+
+-- one step more
+pub one_step : (pages : Pages) (start i : ℕ) → set.insert (with_pages pages (pages_of_steps start i)) (page_of (start + 256 * i)) ≡ with_pages pages (pages_of_steps start (i + 1))
+one_step pages start i =
+    with_pages-push pages (pages_of_steps start i) (page_of (start + 256 * i))
+    ∙ ap (with_pages pages) (sym (map-range_with_len_more (λ j. page_of (start + 256 * j)) 0 i i (omega arith)))
+
+-- the steps of bytes that follow one another, and the last byte, have the pages of all
+pub last_step : (pages : Pages) (start count : ℕ) → 0 < count
+    → set.insert (with_pages pages (pages_of_steps start ((count - 1) / 256 + 1))) (page_of (start + (count - 1))) ≡ with_pages pages (pages_of_bytes start count)
+last_step pages start count some =
+    with_pages-push pages (pages_of_steps start ((count - 1) / 256 + 1)) (page_of (start + (count - 1)))
+    ∙ same_steps pages start count ((count - 1) / 256 + 1) some (omega arith) (omega arith)

@@ -54,14 +54,13 @@ pub fn reach(
 {
     let voices = voice_pages(memory, starts, entries);
     let mut read_pages = voices;
-    add_window(&mut read_pages, window);
+    let mut echo = PageSet::empty();
+    add_window(&mut read_pages, &mut echo, window);
     if writes_on {
-        let mut write_pages = PageSet::empty();
-        add_window(&mut write_pages, window);
         ReachPages {
             read_pages,
-            write_pages,
-            entangled: voices.meets(&write_pages),
+            write_pages: echo,
+            entangled: voices.meets(&echo),
         }
     } else {
         ReachPages {

@@ -52,6 +52,23 @@ fn a_chain_goes_to_its_loop_behind_an_end(rt: HostRuntime) -> Result<(), Fail> {
 }
 
 #[test]
+fn a_loop_comes_again_and_again(rt: HostRuntime) -> Result<(), Fail> {
+    let alloc = rt.alloc();
+    let memory = memory(alloc)?;
+    // the blocks are 05F8h to 0600h, and 0601h to 0609h 17 times
+    let starts = [ChainStart {
+        block: 0x05f8,
+        loop_word: 0x0601,
+    }];
+    let found = reach(&memory, &starts, &[], WINDOW, false);
+    assert_eq!(rt;
+        numbers(alloc, &found.read_pages)?.as_slice(),
+        [0x03, 0x04, 0x05, 0x06].as_slice()
+    );
+    Ok(())
+}
+
+#[test]
 fn entries_and_windows_go_over_ends_of_pages_and_of_memory(rt: HostRuntime) -> Result<(), Fail> {
     let alloc = rt.alloc();
     let memory = memory(alloc)?;

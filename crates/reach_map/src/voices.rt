@@ -2,42 +2,52 @@
 
 ghost use Rattle.std.specs.Prelude.{◌≡◌, ◌≤◌, ◌++◌, flat_map, length};
 ghost use Rattle.std.specs.FinSet as set;
-ghost use Rattle.brr_decode.specs.Header.{next_block};
 ghost use Rattle.reach_map.specs.Added.{with_pages};
 ghost use Rattle.reach_map.specs.Reach.{block_pages, chain, chain_pages, entry_pages, voice_pages};
+ghost use Rattle.reach_map.specs.Runs.{run_length};
 
 use crate::ChainStart;
 use crate::pages::add_bytes;
 use aram_core::{Aram, PageSet};
 
 /// The bytes of a block.
-const BLOCK: u16 = 9;
+const BLOCK: u32 = 9;
 
 /// The bytes of an entry of the directory.
-const ENTRY: u16 = 4;
+const ENTRY: u32 = 4;
 
 /// The blocks in which a voice can be in 64 samples.
-const BLOCKS: u8 = 18;
+const BLOCKS: u32 = 18;
 
-/// The block behind a block with a header.
-fn next_block(header: u8, block: u16, loop_word: u16) -> u16
-    ensures { result ≡ next_block header block loop_word }
+/// How many blocks stand behind one another from a block on, up to the first that has its end bit, and at most so many.
+fn run_length(memory: &Aram, start: u16, most: u32) -> u32
+    ensures length { result ≡ run_length memory.now start most }
+    ensures most { result ≤ most }
 {
-    if header % 2 == 1 {
-        loop_word
-    } else {
-        block.wrapping_add(BLOCK)
+    let mut block = start;
+    let mut left = most;
+    while left > 0 {
+        left -= 1;
+        if memory.get(block) % 2 == 1 {
+            break;
+        }
+        block = block.wrapping_add(BLOCK as u16);
     }
+    most - left
 }
 
-/// Puts the pages of so many blocks of a chain into a set.
-fn add_blocks(pages: &mut PageSet, memory: &Aram, start: ChainStart, count: u8)
+/// Puts the pages of so many blocks of a chain into a set: those of the run at its start, and those of the run at its loop
+/// word. Behind the end of that run come the same blocks again. 28 blocks are shorter than a page.
+fn add_blocks(pages: &mut PageSet, memory: &Aram, start: ChainStart, count: u32)
+    requires some { 1 ≤ count }
+    requires few { count ≤ 28 }
     ensures { pages.new ≡ with_pages pages.old (flat_map block_pages (chain memory.now start.loop_word count start.block)) }
 {
-    let mut block = start.block;
-    for _ in 0..count {
-        add_bytes(pages, block, BLOCK);
-        block = next_block(memory.get(block), block, start.loop_word);
+    let first = run_length(memory, start.block, count);
+    add_bytes(pages, start.block, BLOCK * first);
+    if first < count {
+        let again = run_length(memory, start.loop_word, count - first);
+        add_bytes(pages, start.loop_word, BLOCK * again);
     }
 }
 

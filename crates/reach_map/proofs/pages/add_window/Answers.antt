@@ -1,13 +1,14 @@
-use Rattle.std.proofs.Common.{◌≡◌, ◌+◌, ◌-◌, ◌/◌, ◌∙◌, arith}
+use Rattle.std.proofs.Common.{◌≡◌, ◌+◌, ◌-◌, arith}
 use Rattle.aram_core.specs.Pages.{page_of}
-use Rattle.reach_map.specs.Added.{pages_of_steps}
-use Rattle.reach_map.proofs.Added.{with_pages-push}
-use Rattle.reach_map.proofs.Steps.{same_steps}
+use Rattle.reach_map.proofs.Steps.{last_step}
 use Rattle.reach_map.proofs.pages.add_window.Goals as goal
 
-pub returns : goal.returns
-returns c =
-    let last : c.page_of.result ≡ page_of (c.args.window.start + (c.args.window.len - 1)) = omega (arith, c.page_of.ensures) in
-    rw (c.add.ensures, last, c.add_steps.ensures)
-    (with_pages-push c.args.pages.now (pages_of_steps c.args.window.start ((c.args.window.len - 1) / 256 + 1)) (page_of (c.args.window.start + (c.args.window.len - 1)))
-    ∙ same_steps c.args.pages.now c.args.window.start c.args.window.len ((c.args.window.len - 1) / 256 + 1) c.requires.some (omega arith) (omega arith))
+pub returns-clause-these : goal.returns-clause-these
+returns-clause-these c =
+    let last : c.page_of-page.result ≡ page_of (c.args.window.start + (c.args.window.len - 1)) = omega (arith, c.page_of-page.ensures) in
+    rw (c.add.ensures, last, c.add_steps.ensures.these) (last_step c.args.these.now c.args.window.start c.args.window.len c.requires.some)
+
+pub returns-clause-those : goal.returns-clause-those
+returns-clause-those c =
+    let last : c.page_of-page.result ≡ page_of (c.args.window.start + (c.args.window.len - 1)) = omega (arith, c.page_of-page.ensures) in
+    rw (c.add-2.ensures, last, c.add_steps.ensures.those) (last_step c.args.those.now c.args.window.start c.args.window.len c.requires.some)

@@ -1,12 +1,13 @@
-use Rattle.std.proofs.Common.{◌-◌, sym, ◌∙◌, arith}
-use Rattle.reach_map.proofs.Blocks.{more_blocks, no_blocks}
+use Rattle.std.proofs.Common.{arith}
+use Rattle.reach_map.proofs.Runs.{one_run, two_runs}
 use Rattle.reach_map.proofs.voices.add_blocks.Goals as goal
 
-pub loop-preserved : goal.loop-preserved
-loop-preserved c =
-    rw (c.add_bytes.ensures, c.next_block-block.ensures, c.get.ensures)
-    (sym (more_blocks c.loop.pages c.args.memory.now c.args.start.loop_word c.args.count c.loop.counter c.loop.block c.loop-test.true) ∙ c.loop.invariant)
+pub returns-then-first-count : goal.returns-then-first-count
+returns-then-first-count c =
+    rw (c.add_bytes-then-first-count.ensures, c.run_length-again.ensures.length, c.add_bytes.ensures, c.run_length-first.ensures.length)
+    (two_runs c.args.pages.now c.args.memory.now c.args.start.loop_word c.args.count c.args.start.block)
 
-pub returns : goal.returns
-returns c =
-    sym (no_blocks c.loop.pages c.args.memory.now c.args.start.loop_word (c.args.count - c.loop.counter) c.loop.block (omega arith)) ∙ c.loop.invariant
+pub returns-else-first-count : goal.returns-else-first-count
+returns-else-first-count c =
+    rw (c.add_bytes.ensures, c.run_length-first.ensures.length)
+    (one_run c.args.pages.now c.args.memory.now c.args.start.loop_word c.args.count c.args.start.block (omega (arith, c.run_length-first.ensures.length)))
