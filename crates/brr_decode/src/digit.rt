@@ -52,7 +52,7 @@ fn first_prediction(p1: i16) -> i32
     scaled(p1, 1, 1) + scaled(p1, -1, 5)
 }
 
-/// How far filter 2 falls short of the straight line through the last two samples.
+/// What filter 2 adds to the straight line through the last two samples.
 fn second_damping(q: i16, p1: i16) -> i32
     ensures value { result ≡ scaled q (pos 1) 4 +ℤ scaled p1 (neg_ℤ (pos 3)) 6 }
     ensures bound { unsigned_abs result ≤ 2 ^ 27 }
