@@ -1,5 +1,5 @@
 // A render, piece by piece.
-ghost use Rattle.std.specs.Prelude.{◌≡◌, ◌+◌, ◌<◌, ◌≤◌, [], length, false, IfOk};
+ghost use Rattle.std.specs.Prelude.{◌≡◌, ◌+◌, ◌-◌, ◌/◌, ◌<◌, ◌≤◌, [], length, false, IfOk};
 ghost use Rattle.std.specs.Borrow.{sem};
 ghost use Rattle.std.specs.Io.BufRead.{Rests};
 ghost use Rattle.sound_bus.specs.LockStep.{lock_step};
@@ -142,9 +142,12 @@ impl<C: Chip> Render<C> {
         piece_of(self, done)
     }
 
-    /// How often the chip ran so far, and why.
+    /// How often the chip ran so far, and why. The batches are those that the chip itself counts, and it has made all
+    /// samples but those pending.
     pub fn counts(&self) -> Counts
-        ensures { result ≡ self.now.bus.book.counts }
+        ensures counts { result ≡ self.now.bus.book.counts }
+        ensures batches { self.now.bus.chip_batches ≡ result.batches }
+        ensures sample { self.now.bus.chip_sample ≡ self.now.bus.machine.clock / 32 - self.now.bus.book.pending }
     {
         self.bus.counts()
     }
