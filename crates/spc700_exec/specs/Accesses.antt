@@ -1,5 +1,5 @@
--- Which accesses an instruction makes, reads and writes in order: the same whatever the bytes. This is the printed table of
--- accesses, and knows nothing of how the lines are written.
+-- Which accesses an instruction makes, reads and writes in order: the same whatever the bytes. This table is this project's
+-- own, and knows nothing of how the lines are written.
 use Rattle.std.specs.Prelude.{◌≡◌, ◌⊎◌, ℕ, List, [], ◌∷◌, ◌++◌, replicate, Bool, true, false, if◌then◌else◌}
 use Rattle.spc700_table.specs.declared.Form.{Form}
 use Rattle.spc700_table.specs.declared.Form.TheVariants.{None, A, X, Y, Ya, Psw, Sp, Carry, Imm, Direct, DirectX, DirectY, Abs, AbsX, AbsY, PtrX, PtrY, PtrXInc, IndX, IndY, AbsPtrX, Bit, NotBit, DirectBit, Rel, Upper, Table}
