@@ -1,5 +1,6 @@
 -- Registers: the registers by their names, and what the voices and the echo read of them.
 -- Mix: the sums over the voices.
+-- Volumes: the volumes of the voices.
 -- Results: what a sample leaves in the registers.
 -- Sample: one sample, part by part.
 -- Run: several samples of any chip, and the records of a mask.
@@ -9,6 +10,7 @@
 -- Chip: what contracts see of a chip, and the chip at its opening.
 pub mod Registers
 pub mod Mix
+pub mod Volumes
 pub mod Results
 pub mod Sample
 pub mod Run

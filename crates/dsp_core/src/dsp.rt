@@ -16,6 +16,7 @@ use crate::registers::{ENDX, FLG, KON, echo_regs};
 use crate::results::put_results;
 use crate::state::{DspState, Hidden};
 use crate::voices::{Common, step_voices};
+use crate::volumes::all_volumes;
 use aram_core::Aram;
 use echo_unit::Echo;
 use gauss_table::GaussTable;
@@ -89,17 +90,10 @@ impl DspState {
         self.poll(number);
         self.step_noise(clock);
         let answers = self.step_voices(number, clock, memory);
-        let sums = sums_of(&self.registers, &answers);
-        let main = Frame {
-            left: sums.left.main,
-            right: sums.right.main,
-        };
-        let sent = Frame {
-            left: sums.left.sent,
-            right: sums.right.sent,
-        };
+        let volumes = all_volumes(&self.registers);
+        let sums = sums_of(&volumes, &answers);
         let regs = echo_regs(&self.registers);
-        let frame = self.hidden.echo.step(memory, &regs, main, sent);
+        let frame = self.hidden.echo.step(memory, &regs, sums.main, sums.sent);
         put_results(&mut self.registers, &answers);
         Made { frame, answers }
     }

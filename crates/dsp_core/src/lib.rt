@@ -11,6 +11,7 @@ mod state;
 #[cfg(test)]
 mod tests;
 mod voices;
+mod volumes;
 
 pub use dsp::Dsp;
 pub use reach_map::ReachPages;

@@ -1,84 +1,59 @@
 //! The sums over the voices.
 
-ghost use Rattle.std.specs.Prelude.{◌≡◌, ◌≤◌, ◌<◌, ◌+ℤ◌, pos, unsigned_abs, if◌then◌else◌, slice_index};
-ghost use Rattle.num_fix.specs.Arithmetic.{clamp16, has_bit};
-ghost use Rattle.dsp_core.specs.Mix.{voice_share, shares_from, sent_from, clamped_sum};
+ghost use Rattle.std.specs.Prelude.{◌≡◌, ℕ, List, ◌+ℤ◌};
+ghost use Rattle.num_fix.specs.Arithmetic.{clamp16, scaled};
+ghost use Rattle.dsp_core.specs.Mix.{main_frame, sent_frame};
+ghost use Rattle.dsp_core.specs.Volumes.{all_volumes};
 
-use crate::registers::{EON, Registers, VOLL, VOLR, has_bit, voice_register};
-use num_fix::{clamp16, scaled, sign8};
+use crate::volumes::Volumes;
+use num_fix::{Frame, clamp16, scaled};
 use voice_unit::VoiceOut;
 
-/// The sums of one side: of all voices, and of those that are sent to the echo.
+/// The sums of both sides: of all voices, and of those that are sent to the echo.
 #[derive(Clone, Copy, Debug)]
-pub struct SideSums {
-    pub main: i16,
-    pub sent: i16,
+pub struct Sums {
+    pub main: Frame,
+    pub sent: Frame,
 }
 
-/// What voice `v` gives to a side.
-#[tactic(auto, unfolding(crate::specs::Mix::voice_share))]
-fn voice_share(registers: &Registers, volume: usize, v: u8, answer: &VoiceOut) -> i32
-    requires volume { volume < 16 }
-    requires v { v < 8 }
-    ensures value { result ≡ voice_share registers.now volume v answer.now }
-    ensures bound { unsigned_abs result ≤ 0x800000 }
+/// A sum with an output at a volume, limited to 16 bits.
+fn with_share(sum: i16, out: i16, volume: i16) -> i16
+    ensures { result ≡ clamp16 (sum +ℤ scaled out volume 7) }
 {
-    let signed = sign8(voice_register(registers, v, volume)) as i16;
-    scaled(answer.out, signed, 7)
+    clamp16(i32::from(sum) + scaled(out, volume, 7))
 }
 
-/// A sum with a share, limited to 16 bits.
-fn with_share(sum: i16, share: i32) -> i16
-    requires { unsigned_abs share ≤ 0x800000 }
-    ensures { result ≡ clamp16 (sum +ℤ share) }
+/// The sums with those of a voice. The four sums have one form each, so that they are added to as one vector.
+fn with_voice(sums: Sums, out: i16, volumes: &Volumes) -> Sums
+    ensures main_left { result.main.left ≡ clamp16 (sums.main.left +ℤ scaled out volumes.now.left 7) }
+    ensures main_right { result.main.right ≡ clamp16 (sums.main.right +ℤ scaled out volumes.now.right 7) }
+    ensures sent_left { result.sent.left ≡ clamp16 (sums.sent.left +ℤ scaled out volumes.now.sent_left 7) }
+    ensures sent_right { result.sent.right ≡ clamp16 (sums.sent.right +ℤ scaled out volumes.now.sent_right 7) }
 {
-    clamp16(i32::from(sum) + share)
-}
-
-/// The sums with those of voice `v`.
-fn with_voice(
-    sums: SideSums,
-    registers: &Registers,
-    volume: usize,
-    v: u8,
-    answer: &VoiceOut,
-) -> SideSums
-    requires volume { volume < 16 }
-    requires v { v < 8 }
-    ensures main { result.main ≡ clamp16 (sums.main +ℤ voice_share registers.now volume v answer.now) }
-    ensures sent { result.sent ≡ (if has_bit (slice_index registers.now EON) v then clamp16 (sums.sent +ℤ voice_share registers.now volume v answer.now) else sums.sent) }
-{
-    let share = voice_share(registers, volume, v, answer);
-    SideSums {
-        main: with_share(sums.main, share),
-        sent: if has_bit(registers[EON], v) {
-            with_share(sums.sent, share)
-        } else {
-            sums.sent
+    Sums {
+        main: Frame {
+            left: with_share(sums.main.left, out, volumes.left),
+            right: with_share(sums.main.right, out, volumes.right),
+        },
+        sent: Frame {
+            left: with_share(sums.sent.left, out, volumes.sent_left),
+            right: with_share(sums.sent.right, out, volumes.sent_right),
         },
     }
 }
 
-/// The sums of both sides.
-#[derive(Clone, Copy, Debug)]
-pub struct Sums {
-    pub left: SideSums,
-    pub right: SideSums,
-}
-
 /// The sums of both sides over all voices.
-pub fn sums_of(registers: &Registers, answers: &[VoiceOut; 8]) -> Sums
-    ensures left_main { result.left.main ≡ clamped_sum (pos 0) (shares_from registers.now VOLL 0 answers.now) }
-    ensures left_sent { result.left.sent ≡ clamped_sum (pos 0) (sent_from registers.now VOLL 0 answers.now) }
-    ensures right_main { result.right.main ≡ clamped_sum (pos 0) (shares_from registers.now VOLR 0 answers.now) }
-    ensures right_sent { result.right.sent ≡ clamped_sum (pos 0) (sent_from registers.now VOLR 0 answers.now) }
+pub fn sums_of(volumes: &[Volumes; 8], answers: &[VoiceOut; 8]) -> Sums
+    ensures main { (registers : List ℕ) → volumes.now ≡ all_volumes registers → result.main ≡ main_frame registers answers.now }
+    ensures sent { (registers : List ℕ) → volumes.now ≡ all_volumes registers → result.sent ≡ sent_frame registers answers.now }
 {
-    let mut left = SideSums { main: 0, sent: 0 };
-    let mut right = left;
-    for v in 0..8u8 {
-        let answer = &answers[usize::from(v)];
-        left = with_voice(left, registers, VOLL, v, answer);
-        right = with_voice(right, registers, VOLR, v, answer);
+    let silence = Frame { left: 0, right: 0 };
+    let mut sums = Sums {
+        main: silence,
+        sent: silence,
+    };
+    for v in 0..8 {
+        sums = with_voice(sums, answers[v].out, &volumes[v]);
     }
-    Sums { left, right }
+    sums
 }

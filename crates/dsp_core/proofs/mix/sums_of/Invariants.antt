@@ -1,13 +1,14 @@
 use Rattle.std.proofs.Common.{◌≡◌, pos, drop}
-use Rattle.dsp_core.specs.Mix.{shares_from, sent_from, clamped_sum}
-use Rattle.dsp_core.specs.declared.registers.TheConstants.{VOLL, VOLR}
+use Rattle.dsp_core.specs.Mix.{clamped_sum}
+use Rattle.dsp_core.specs.declared.volumes.Volumes.{Volumes}
+use Rattle.dsp_core.proofs.Shares.{shares_at}
 use Rattle.dsp_core.proofs.mix.sums_of.Given as goal
 
 -- the sums of the voices so far, and those still to be added
 abbrev pub invariant-loop-v : goal.invariant-loop-v
 invariant-loop-v l = record {
-  left_main : clamped_sum (pos 0) (shares_from l.registers VOLL 0 l.answers) ≡ clamped_sum l.left.main (shares_from l.registers VOLL l.v (drop l.v l.answers));
-  left_sent : clamped_sum (pos 0) (sent_from l.registers VOLL 0 l.answers) ≡ clamped_sum l.left.sent (sent_from l.registers VOLL l.v (drop l.v l.answers));
-  right_main : clamped_sum (pos 0) (shares_from l.registers VOLR 0 l.answers) ≡ clamped_sum l.right.main (shares_from l.registers VOLR l.v (drop l.v l.answers));
-  right_sent : clamped_sum (pos 0) (sent_from l.registers VOLR 0 l.answers) ≡ clamped_sum l.right.sent (sent_from l.registers VOLR l.v (drop l.v l.answers));
+  main_left : clamped_sum (pos 0) (shares_at (λ (one : Volumes). one.left) l.volumes l.answers) ≡ clamped_sum l.sums.main.left (shares_at (λ (one : Volumes). one.left) (drop l.v l.volumes) (drop l.v l.answers));
+  main_right : clamped_sum (pos 0) (shares_at (λ (one : Volumes). one.right) l.volumes l.answers) ≡ clamped_sum l.sums.main.right (shares_at (λ (one : Volumes). one.right) (drop l.v l.volumes) (drop l.v l.answers));
+  sent_left : clamped_sum (pos 0) (shares_at (λ (one : Volumes). one.sent_left) l.volumes l.answers) ≡ clamped_sum l.sums.sent.left (shares_at (λ (one : Volumes). one.sent_left) (drop l.v l.volumes) (drop l.v l.answers));
+  sent_right : clamped_sum (pos 0) (shares_at (λ (one : Volumes). one.sent_right) l.volumes l.answers) ≡ clamped_sum l.sums.sent.right (shares_at (λ (one : Volumes). one.sent_right) (drop l.v l.volumes) (drop l.v l.answers));
 }
