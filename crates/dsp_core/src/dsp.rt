@@ -15,7 +15,7 @@ use crate::records::push_records;
 use crate::registers::{ENDX, FLG, KON, echo_regs};
 use crate::results::put_results;
 use crate::state::{DspState, Hidden};
-use crate::voices::{Common, step_voices};
+use crate::voices::{Common, UNHEARD, step_voices};
 use crate::volumes::all_volumes;
 use aram_core::Aram;
 use echo_unit::Echo;
@@ -27,13 +27,6 @@ use std::alloc::Global;
 use std::marker::Model;
 use trace_form::{Frames, Records};
 use voice_unit::{Voice, VoiceOut};
-
-/// What one sample gives: its frame, and the answers of the voices.
-#[derive(Drop)]
-struct Made {
-    frame: Frame,
-    answers: [VoiceOut; 8],
-}
 
 impl DspState {
     /// Polls the keys at an even sample.
@@ -56,12 +49,18 @@ impl DspState {
         self.hidden.noise.step(fired);
     }
 
-    /// One step of the voices and the sums of their outputs.
-    fn step_voices(&mut self, number: u32, clock: &RateClock, memory: &Aram) -> [VoiceOut; 8]
+    /// One step of the voices, with their answers.
+    fn step_voices(
+        &mut self,
+        number: u32,
+        clock: &RateClock,
+        memory: &Aram,
+        answers: &mut [VoiceOut; 8],
+    )
         ensures voices { let results = results_from (shared_input self.old memory.now number) 0 (pos 0) self.old.hidden.voices in
             clock.now ≡ counter_at number → self.new ≡ record self.old { hidden = record self.old.hidden { voices = map (λ one. one.voice) results } } }
         ensures answers { let results = results_from (shared_input self.old memory.now number) 0 (pos 0) self.old.hidden.voices in
-            clock.now ≡ counter_at number → result ≡ map (λ one. one.answer) results }
+            clock.now ≡ counter_at number → answers.new ≡ map (λ one. one.answer) results }
     {
         let common = Common {
             noise: self.hidden.noise.value(),
@@ -75,27 +74,34 @@ impl DspState {
             memory,
             &self.table,
             clock,
-        )
+            answers,
+        );
     }
 
-    /// Makes the sample of a number, at which the clock stands.
+    /// Makes the sample of a number, at which the clock stands, with the answers of the voices.
     #[tactic(auto, unfolding(crate::specs::Sample::sample, crate::specs::Mix::main_frame, crate::specs::Mix::sent_frame))]
-    fn make_sample(&mut self, number: u32, clock: &RateClock, memory: &mut Aram) -> Made
+    fn make_sample(
+        &mut self,
+        number: u32,
+        clock: &RateClock,
+        memory: &mut Aram,
+        answers: &mut [VoiceOut; 8],
+    ) -> Frame
         requires { clock.now ≡ counter_at number }
         ensures state { self.new ≡ (sample number self.old memory.old).state }
         ensures memory { memory.new ≡ (sample number self.old memory.old).memory }
-        ensures frame { result.frame ≡ (sample number self.old memory.old).frame }
-        ensures answers { records_from number 0 result.answers ≡ (sample number self.old memory.old).voices }
+        ensures frame { result ≡ (sample number self.old memory.old).frame }
+        ensures answers { records_from number 0 answers.new ≡ (sample number self.old memory.old).voices }
     {
         self.poll(number);
         self.step_noise(clock);
-        let answers = self.step_voices(number, clock, memory);
+        self.step_voices(number, clock, memory, answers);
         let volumes = all_volumes(&self.registers);
-        let sums = sums_of(&volumes, &answers);
+        let sums = sums_of(&volumes, answers);
         let regs = echo_regs(&self.registers);
         let frame = self.hidden.echo.step(memory, &regs, sums.main, sums.sent);
-        put_results(&mut self.registers, &answers);
-        Made { frame, answers }
+        put_results(&mut self.registers, answers);
+        frame
     }
 }
 
@@ -172,8 +178,15 @@ impl Dsp {
         }
     }
 
-    /// Makes the next sample.
-    fn make_one(&mut self, memory: &mut Aram, mask: u8, frames: &mut Frames, records: &mut Records)
+    /// Makes the next sample, with the answers of its voices.
+    fn make_one(
+        &mut self,
+        memory: &mut Aram,
+        mask: u8,
+        frames: &mut Frames,
+        records: &mut Records,
+        answers: &mut [VoiceOut; 8],
+    )
         requires frame_room { length frames.old < 128 }
         requires record_room { length records.old + 8 ≤ 1344 }
         requires number { self.old.sample < 4000000000 }
@@ -184,9 +197,11 @@ impl Dsp {
         ensures record_count { length records.new ≤ length records.old + 8 }
     {
         self.clock.step();
-        let made = self.state.make_sample(self.number, &self.clock, memory);
-        push_records(records, mask, self.number, &made.answers);
-        frames.push(made.frame);
+        let frame = self
+            .state
+            .make_sample(self.number, &self.clock, memory, answers);
+        push_records(records, mask, self.number, answers);
+        frames.push(frame);
         self.number += 1;
     }
 
@@ -211,8 +226,9 @@ impl Dsp {
         ensures frames { frames.new ≡ frames.old ++ (run sample n self.old.sample self.old.state memory.old).frames }
         ensures records { records.new ≡ records.old ++ filter (in_mask mask) (run sample n self.old.sample self.old.state memory.old).voices }
     {
+        let mut answers = [UNHEARD; 8];
         'samples: for _ in 0..n {
-            self.make_one(memory, mask, frames, records);
+            self.make_one(memory, mask, frames, records, &mut answers);
         }
         if n != 0 {
             self.batches = self.batches.saturating_add(1);

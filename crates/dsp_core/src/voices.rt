@@ -21,7 +21,7 @@ pub struct Common {
 }
 
 /// The answer of a voice that has not been heard.
-const UNHEARD: VoiceOut = VoiceOut {
+pub const UNHEARD: VoiceOut = VoiceOut {
     out: 0,
     level: 0,
     envx: 0,
@@ -75,7 +75,7 @@ fn step_voice(
     voice.step(&regs, &input, memory, table, clock)
 }
 
-/// One step of all voices in order; each hears the output of the one before it.
+/// One step of all voices in order, with their answers; each hears the output of the one before it.
 pub fn step_voices(
     voices: &mut [Voice; 8],
     registers: &Registers,
@@ -83,24 +83,28 @@ pub fn step_voices(
     memory: &Aram,
     table: &GaussTable,
     clock: &RateClock,
-) -> [VoiceOut; 8]
+    answers: &mut [VoiceOut; 8],
+)
     requires { common.now.noise < 0x8000 }
     ensures voices { let shared : SharedInput = record { registers = registers.now; common = common.now; memory = memory.now; table = table.now; counter = clock.now } in
         voices.new ≡ map (λ one. one.voice) (results_from shared 0 (pos 0) voices.old) }
     ensures answers { let shared : SharedInput = record { registers = registers.now; common = common.now; memory = memory.now; table = table.now; counter = clock.now } in
-        result ≡ map (λ one. one.answer) (results_from shared 0 (pos 0) voices.old) }
+        answers.new ≡ map (λ one. one.answer) (results_from shared 0 (pos 0) voices.old) }
 {
-    let mut answers = [UNHEARD; 8];
     let mut previous = 0;
     for v in 0..8u8 {
         let place = usize::from(v);
-        let mut voice = voices[place];
         let answer = step_voice(
-            &mut voice, registers, common, v, previous, memory, table, clock,
+            &mut voices[place],
+            registers,
+            common,
+            v,
+            previous,
+            memory,
+            table,
+            clock,
         );
         previous = answer.out;
-        voices[place] = voice;
         answers[place] = answer;
     }
-    answers
 }
