@@ -1,6 +1,7 @@
 -- Registers: the registers by their names, and what the voices and the echo read of them.
 -- Mix: the sums over the voices.
 -- Volumes: the volumes of the voices.
+-- Settings: what samples read of the registers.
 -- Results: what a sample leaves in the registers.
 -- Sample: one sample, part by part.
 -- Run: several samples of any chip, and the records of a mask.
@@ -11,6 +12,7 @@
 pub mod Registers
 pub mod Mix
 pub mod Volumes
+pub mod Settings
 pub mod Results
 pub mod Sample
 pub mod Run

@@ -5,6 +5,7 @@ ghost use Rattle.std.specs.List.{filter};
 ghost use Rattle.rate_clock.specs.Counter.{counter_at};
 ghost use Rattle.dsp_core.specs.Run.{run, in_mask, counted};
 ghost use Rattle.dsp_core.specs.Sample.{sample, after_poll, after_noise, results_from, shared_input, records_from};
+ghost use Rattle.dsp_core.specs.Settings.{settings_of, HasPitches};
 ghost use Rattle.dsp_core.specs.Sound.{is_sound};
 ghost use Rattle.dsp_core.specs.Reach.{chip_reach};
 ghost use Rattle.dsp_core.specs.Chip.{opened_state, register_read, register_write};
@@ -12,11 +13,11 @@ ghost use Rattle.dsp_core.specs.Chip.{opened_state, register_read, register_writ
 use crate::OutOfMemory;
 use crate::mix::sums_of;
 use crate::records::push_records;
-use crate::registers::{ENDX, FLG, KON, echo_regs};
+use crate::registers::{ENDX, KON};
 use crate::results::put_results;
+use crate::settings::{Settings, settings_of};
 use crate::state::{DspState, Hidden};
 use crate::voices::{Common, UNHEARD, step_voices};
-use crate::volumes::all_volumes;
 use aram_core::Aram;
 use echo_unit::Echo;
 use gauss_table::GaussTable;
@@ -32,7 +33,8 @@ impl DspState {
     /// Polls the keys at an even sample.
     #[tactic(auto, unfolding(crate::specs::Sample::after_poll))]
     fn poll(&mut self, number: u32)
-        ensures { self.new ≡ after_poll self.old number }
+        ensures state { self.new ≡ after_poll self.old number }
+        ensures registers { self.new.registers ≡ self.old.registers }
     {
         if number % 2 == 0 {
             self.hidden.waiting &= 0xff - self.hidden.taken;
@@ -41,11 +43,13 @@ impl DspState {
     }
 
     /// Lets the noise go on where its rate fires.
-    #[tactic(auto, unfolding(crate::specs::Sample::after_noise))]
-    fn step_noise(&mut self, clock: &RateClock)
-        ensures { self.new ≡ after_noise self.old clock.now }
+    #[tactic(auto, unfolding(crate::specs::Sample::after_noise, crate::specs::Settings::settings_of))]
+    fn step_noise(&mut self, settings: &Settings, clock: &RateClock)
+        requires { settings.now ≡ settings_of self.old.registers }
+        ensures state { self.new ≡ after_noise self.old clock.now }
+        ensures registers { self.new.registers ≡ self.old.registers }
     {
-        let fired = clock.fires(self.registers[FLG] % 32);
+        let fired = clock.fires(settings.noise_rate);
         self.hidden.noise.step(fired);
     }
 
@@ -54,9 +58,12 @@ impl DspState {
         &mut self,
         number: u32,
         clock: &RateClock,
+        settings: &Settings,
         memory: &Aram,
         answers: &mut [VoiceOut; 8],
     )
+        requires settings { settings.now ≡ settings_of self.old.registers }
+        requires pitches { HasPitches settings.now }
         ensures voices { let results = results_from (shared_input self.old memory.now number) 0 (pos 0) self.old.hidden.voices in
             clock.now ≡ counter_at number → self.new ≡ record self.old { hidden = record self.old.hidden { voices = map (λ one. one.voice) results } } }
         ensures answers { let results = results_from (shared_input self.old memory.now number) 0 (pos 0) self.old.hidden.voices in
@@ -69,7 +76,7 @@ impl DspState {
         };
         step_voices(
             &mut self.hidden.voices,
-            &self.registers,
+            settings,
             &common,
             memory,
             &self.table,
@@ -84,22 +91,26 @@ impl DspState {
         &mut self,
         number: u32,
         clock: &RateClock,
+        settings: &Settings,
         memory: &mut Aram,
         answers: &mut [VoiceOut; 8],
     ) -> Frame
-        requires { clock.now ≡ counter_at number }
+        requires settings { settings.now ≡ settings_of self.old.registers }
+        requires pitches { HasPitches settings.now }
+        requires clock { clock.now ≡ counter_at number }
         ensures state { self.new ≡ (sample number self.old memory.old).state }
         ensures memory { memory.new ≡ (sample number self.old memory.old).memory }
         ensures frame { result ≡ (sample number self.old memory.old).frame }
         ensures answers { records_from number 0 answers.new ≡ (sample number self.old memory.old).voices }
     {
         self.poll(number);
-        self.step_noise(clock);
-        self.step_voices(number, clock, memory, answers);
-        let volumes = all_volumes(&self.registers);
-        let sums = sums_of(&volumes, answers);
-        let regs = echo_regs(&self.registers);
-        let frame = self.hidden.echo.step(memory, &regs, sums.main, sums.sent);
+        self.step_noise(settings, clock);
+        self.step_voices(number, clock, settings, memory, answers);
+        let sums = sums_of(&settings.volumes, answers);
+        let frame = self
+            .hidden
+            .echo
+            .step(memory, &settings.echo, sums.main, sums.sent);
         put_results(&mut self.registers, answers);
         frame
     }
@@ -181,12 +192,15 @@ impl Dsp {
     /// Makes the next sample, with the answers of its voices.
     fn make_one(
         &mut self,
+        settings: &Settings,
         memory: &mut Aram,
         mask: u8,
         frames: &mut Frames,
         records: &mut Records,
         answers: &mut [VoiceOut; 8],
     )
+        requires settings { settings.now ≡ settings_of self.old.state.registers }
+        requires pitches { HasPitches settings.now }
         requires frame_room { length frames.old < 128 }
         requires record_room { length records.old + 8 ≤ 1344 }
         requires number { self.old.sample < 4000000000 }
@@ -199,7 +213,7 @@ impl Dsp {
         self.clock.step();
         let frame = self
             .state
-            .make_sample(self.number, &self.clock, memory, answers);
+            .make_sample(self.number, &self.clock, settings, memory, answers);
         push_records(records, mask, self.number, answers);
         frames.push(frame);
         self.number += 1;
@@ -226,9 +240,10 @@ impl Dsp {
         ensures frames { frames.new ≡ frames.old ++ (run sample n self.old.sample self.old.state memory.old).frames }
         ensures records { records.new ≡ records.old ++ filter (in_mask mask) (run sample n self.old.sample self.old.state memory.old).voices }
     {
+        let settings = settings_of(&self.state.registers);
         let mut answers = [UNHEARD; 8];
         'samples: for _ in 0..n {
-            self.make_one(memory, mask, frames, records, &mut answers);
+            self.make_one(&settings, memory, mask, frames, records, &mut answers);
         }
         if n != 0 {
             self.batches = self.batches.saturating_add(1);

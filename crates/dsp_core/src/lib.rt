@@ -7,6 +7,7 @@ mod reach;
 mod records;
 mod registers;
 mod results;
+mod settings;
 mod state;
 #[cfg(test)]
 mod tests;

@@ -1,9 +1,11 @@
 //! The voices of one sample, one after another.
 
-ghost use Rattle.std.specs.Prelude.{◌≡◌, ◌<◌, pos, map};
+ghost use Rattle.std.specs.Prelude.{◌≡◌, ◌<◌, ℕ, List, pos, map};
+ghost use Rattle.dsp_core.specs.Settings.{settings_of, HasPitches};
 ghost use Rattle.dsp_core.specs.Sample.{SharedInput, voice_in, voice_result, results_from};
 
-use crate::registers::{DIR, FLG, KOFF, NON, PMON, Registers, has_bit, voice_regs};
+use crate::registers::has_bit;
+use crate::settings::Settings;
 use aram_core::Aram;
 use gauss_table::GaussTable;
 use rate_clock::RateClock;
@@ -32,21 +34,21 @@ pub const UNHEARD: VoiceOut = VoiceOut {
 };
 
 /// What voice `v` reads beside its registers.
-#[tactic(auto, unfolding(crate::specs::Sample::voice_in))]
-fn voice_in(registers: &Registers, common: &Common, v: u8, previous: i16) -> VoiceIn
+fn voice_in(settings: &Settings, common: &Common, v: u8, previous: i16) -> VoiceIn
     requires { v < 8 }
-    ensures value { result ≡ voice_in registers.now common.now v previous }
+    ensures value { (registers : List ℕ) → settings.now ≡ settings_of registers → result ≡ voice_in registers common.now v previous }
     ensures noise { result.noise ≡ common.now.noise }
 {
+    let one = &settings.voices[usize::from(v)];
     VoiceIn {
-        dir: registers[DIR],
-        modulated: v > 0 && has_bit(registers[PMON], v),
+        dir: settings.dir,
+        modulated: one.modulated,
         previous,
-        noisy: has_bit(registers[NON], v),
+        noisy: one.noisy,
         noise: common.noise,
-        reset: has_bit(registers[FLG], 7),
+        reset: settings.reset,
         poll: common.is_poll,
-        koff: has_bit(registers[KOFF], v),
+        koff: one.koff,
         kon: has_bit(common.taken, v),
     }
 }
@@ -55,7 +57,7 @@ fn voice_in(registers: &Registers, common: &Common, v: u8, previous: i16) -> Voi
 #[tactic(auto, unfolding(crate::specs::Sample::voice_result))]
 fn step_voice(
     voice: &mut Voice,
-    registers: &Registers,
+    settings: &Settings,
     common: &Common,
     v: u8,
     previous: i16,
@@ -64,31 +66,33 @@ fn step_voice(
     clock: &RateClock,
 ) -> VoiceOut
     requires v { v < 8 }
+    requires pitches { HasPitches settings.now }
     requires noise { common.now.noise < 0x8000 }
-    ensures voice { let shared : SharedInput = record { registers = registers.now; common = common.now; memory = memory.now; table = table.now; counter = clock.now } in
+    ensures voice { (registers : List ℕ) → settings.now ≡ settings_of registers → let shared : SharedInput = record { registers = registers; common = common.now; memory = memory.now; table = table.now; counter = clock.now } in
         voice.new ≡ (voice_result shared v previous voice.old).voice }
-    ensures answer { let shared : SharedInput = record { registers = registers.now; common = common.now; memory = memory.now; table = table.now; counter = clock.now } in
+    ensures answer { (registers : List ℕ) → settings.now ≡ settings_of registers → let shared : SharedInput = record { registers = registers; common = common.now; memory = memory.now; table = table.now; counter = clock.now } in
         result ≡ (voice_result shared v previous voice.old).answer }
 {
-    let regs = voice_regs(registers, v);
-    let input = voice_in(registers, common, v, previous);
-    voice.step(&regs, &input, memory, table, clock)
+    let input = voice_in(settings, common, v, previous);
+    let regs = &settings.voices[usize::from(v)].regs;
+    voice.step(regs, &input, memory, table, clock)
 }
 
 /// One step of all voices in order, with their answers; each hears the output of the one before it.
 pub fn step_voices(
     voices: &mut [Voice; 8],
-    registers: &Registers,
+    settings: &Settings,
     common: &Common,
     memory: &Aram,
     table: &GaussTable,
     clock: &RateClock,
     answers: &mut [VoiceOut; 8],
 )
-    requires { common.now.noise < 0x8000 }
-    ensures voices { let shared : SharedInput = record { registers = registers.now; common = common.now; memory = memory.now; table = table.now; counter = clock.now } in
+    requires pitches { HasPitches settings.now }
+    requires noise { common.now.noise < 0x8000 }
+    ensures voices { (registers : List ℕ) → settings.now ≡ settings_of registers → let shared : SharedInput = record { registers = registers; common = common.now; memory = memory.now; table = table.now; counter = clock.now } in
         voices.new ≡ map (λ one. one.voice) (results_from shared 0 (pos 0) voices.old) }
-    ensures answers { let shared : SharedInput = record { registers = registers.now; common = common.now; memory = memory.now; table = table.now; counter = clock.now } in
+    ensures answers { (registers : List ℕ) → settings.now ≡ settings_of registers → let shared : SharedInput = record { registers = registers; common = common.now; memory = memory.now; table = table.now; counter = clock.now } in
         answers.new ≡ map (λ one. one.answer) (results_from shared 0 (pos 0) voices.old) }
 {
     let mut previous = 0;
@@ -96,7 +100,7 @@ pub fn step_voices(
         let place = usize::from(v);
         let answer = step_voice(
             &mut voices[place],
-            registers,
+            settings,
             common,
             v,
             previous,

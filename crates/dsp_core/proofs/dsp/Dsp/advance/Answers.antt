@@ -1,6 +1,7 @@
-use Rattle.std.proofs.Common.{refl, sym, arith, append_assoc, length-append}
+use Rattle.std.proofs.Common.{rules, refl, sym, arith, append_assoc, length-append}
 use Rattle.std.proofs.lemmas.List.{append-nil}
 use Rattle.std.proofs.lemmas.List.Elements.{filter-append}
+use Rattle.dsp_core.proofs.ReadOnce.{settings_of-sample}
 use Rattle.dsp_core.proofs.Runs.{run_none, run_more}
 use Rattle.dsp_core.proofs.dsp.Dsp.advance.Goals as goal
 
@@ -8,6 +9,7 @@ pub samples-init : goal.samples-init
 samples-init c = record {
   state = rw run_none refl;
   sample = omega arith;
+  settings = search rules;
   batches = refl;
   memory = rw run_none refl;
   frames = rw run_none (sym (append-nil c.args.frames.now));
@@ -20,6 +22,7 @@ pub samples-preserved : goal.samples-preserved
 samples-preserved c = record {
   state = rw (run_more, c.make_one.ensures.chip, c.samples.invariant.state, c.samples.invariant.memory, c.samples.invariant.sample) refl;
   sample = rw (c.make_one.ensures.chip) (omega (arith, c.samples.invariant.sample));
+  settings = rw (c.make_one.ensures.chip, settings_of-sample) c.samples.invariant.settings;
   batches = rw (c.make_one.ensures.chip) c.samples.invariant.batches;
   memory = rw (run_more, c.make_one.ensures.memory, c.samples.invariant.state, c.samples.invariant.memory, c.samples.invariant.sample) refl;
   frames = rw (run_more, c.make_one.ensures.frames, c.samples.invariant.state, c.samples.invariant.memory, c.samples.invariant.sample, c.samples.invariant.frames, append_assoc) refl;

@@ -2,6 +2,7 @@ use Rattle.std.proofs.Common.{◌≡◌, ◌+◌, ◌*◌, ◌≤◌, ◌++◌, 
 use Rattle.std.specs.List.{filter}
 use Rattle.dsp_core.specs.Run.{run, in_mask}
 use Rattle.dsp_core.specs.Sample.{sample}
+use Rattle.dsp_core.specs.Settings.{settings_of}
 use Rattle.dsp_core.proofs.dsp.Dsp.advance.Given as goal
 
 abbrev pub invariant-samples : goal.invariant-samples
@@ -10,6 +11,7 @@ invariant-samples l =
     record {
       state : l.self.state ≡ done.state;
       sample : l.self.sample ≡ l.initial.self.sample + l.counter;
+      settings : l.settings ≡ settings_of l.self.state.registers;
       batches : l.self.batches ≡ l.initial.self.batches;
       memory : l.memory ≡ done.memory;
       frames : l.frames ≡ l.initial.frames ++ done.frames;
