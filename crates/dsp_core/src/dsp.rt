@@ -11,7 +11,7 @@ ghost use Rattle.dsp_core.specs.Reach.{chip_reach};
 ghost use Rattle.dsp_core.specs.Chip.{opened_state, register_read, register_write};
 
 use crate::OutOfMemory;
-use crate::mix::sums_of;
+use crate::mix::{SILENCE, sum_voices};
 use crate::records::push_records;
 use crate::registers::{ENDX, KON};
 use crate::results::put_results;
@@ -106,7 +106,8 @@ impl DspState {
         self.poll(number);
         self.step_noise(settings, clock);
         self.step_voices(number, clock, settings, memory, answers);
-        let sums = sums_of(&settings.volumes, answers);
+        let mut sums = SILENCE;
+        sum_voices(&mut sums, &settings.volumes, answers);
         let frame = self
             .hidden
             .echo

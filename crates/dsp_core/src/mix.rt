@@ -16,6 +16,12 @@ pub struct Sums {
     pub sent: Frame,
 }
 
+/// The sums over no voices.
+pub const SILENCE: Sums = Sums {
+    main: Frame { left: 0, right: 0 },
+    sent: Frame { left: 0, right: 0 },
+};
+
 /// A sum with an output at a volume, limited to 16 bits.
 fn with_share(sum: i16, out: i16, volume: i16) -> i16
     ensures { result ≡ clamp16 (sum +ℤ scaled out volume 7) }
@@ -23,37 +29,32 @@ fn with_share(sum: i16, out: i16, volume: i16) -> i16
     clamp16(i32::from(sum) + scaled(out, volume, 7))
 }
 
-/// The sums with those of a voice. The four sums have one form each, so that they are added to as one vector.
-fn with_voice(sums: Sums, out: i16, volumes: &Volumes) -> Sums
-    ensures main_left { result.main.left ≡ clamp16 (sums.main.left +ℤ scaled out volumes.now.left 7) }
-    ensures main_right { result.main.right ≡ clamp16 (sums.main.right +ℤ scaled out volumes.now.right 7) }
-    ensures sent_left { result.sent.left ≡ clamp16 (sums.sent.left +ℤ scaled out volumes.now.sent_left 7) }
-    ensures sent_right { result.sent.right ≡ clamp16 (sums.sent.right +ℤ scaled out volumes.now.sent_right 7) }
+/// Adds the shares of a voice. The four sums have one form, so that they are added to as one vector.
+fn add_voice(sums: &mut Sums, out: i16, volumes: &Volumes)
+    ensures main_left { sums.new.main.left ≡ clamp16 (sums.old.main.left +ℤ scaled out volumes.now.left 7) }
+    ensures main_right { sums.new.main.right ≡ clamp16 (sums.old.main.right +ℤ scaled out volumes.now.right 7) }
+    ensures sent_left { sums.new.sent.left ≡ clamp16 (sums.old.sent.left +ℤ scaled out volumes.now.sent_left 7) }
+    ensures sent_right { sums.new.sent.right ≡ clamp16 (sums.old.sent.right +ℤ scaled out volumes.now.sent_right 7) }
 {
-    Sums {
-        main: Frame {
-            left: with_share(sums.main.left, out, volumes.left),
-            right: with_share(sums.main.right, out, volumes.right),
-        },
-        sent: Frame {
-            left: with_share(sums.sent.left, out, volumes.sent_left),
-            right: with_share(sums.sent.right, out, volumes.sent_right),
-        },
-    }
+    sums.main.left = with_share(sums.main.left, out, volumes.left);
+    sums.main.right = with_share(sums.main.right, out, volumes.right);
+    sums.sent.left = with_share(sums.sent.left, out, volumes.sent_left);
+    sums.sent.right = with_share(sums.sent.right, out, volumes.sent_right);
 }
 
-/// The sums of both sides over all voices.
-pub fn sums_of(volumes: &[Volumes; 8], answers: &[VoiceOut; 8]) -> Sums
-    ensures main { (registers : List ℕ) → volumes.now ≡ all_volumes registers → result.main ≡ main_frame registers answers.now }
-    ensures sent { (registers : List ℕ) → volumes.now ≡ all_volumes registers → result.sent ≡ sent_frame registers answers.now }
+/// Puts the sums of both sides over all voices. It stands apart and puts them one by one, since only
+/// where they go to memory are the four sums made as one vector.
+#[inline(never)]
+pub fn sum_voices(sums: &mut Sums, volumes: &[Volumes; 8], answers: &[VoiceOut; 8])
+    ensures main { (registers : List ℕ) → volumes.now ≡ all_volumes registers → sums.new.main ≡ main_frame registers answers.now }
+    ensures sent { (registers : List ℕ) → volumes.now ≡ all_volumes registers → sums.new.sent ≡ sent_frame registers answers.now }
 {
-    let silence = Frame { left: 0, right: 0 };
-    let mut sums = Sums {
-        main: silence,
-        sent: silence,
-    };
+    let mut total = SILENCE;
     for v in 0..8 {
-        sums = with_voice(sums, answers[v].out, &volumes[v]);
+        add_voice(&mut total, answers[v].out, &volumes[v]);
     }
-    sums
+    sums.main.left = total.main.left;
+    sums.main.right = total.main.right;
+    sums.sent.left = total.sent.left;
+    sums.sent.right = total.sent.right;
 }

@@ -20,7 +20,7 @@ returns-clause-memory c =
     let now : c.step_noise.new.self ≡ after_noise (after_poll c.args.self.now c.args.number) (counter_at c.args.number) = rw (← c.poll.ensures.state, ← c.requires.clock) c.step_noise.ensures.state in
     let is : c.args.settings.now ≡ settings_of c.step_noise.new.self.registers = search rules in
     let regs : c.args.settings.now.echo ≡ echo_regs c.step_noise.new.self.registers = ap (λ (s : Settings). s.echo) is in
-    let sent = c.sums_of-sums.ensures.sent c.step_noise.new.self.registers (ap (λ (s : Settings). s.volumes) is) in
+    let sent = c.sum_voices.ensures.sent c.step_noise.new.self.registers (ap (λ (s : Settings). s.volumes) is) in
     rw (← now, c.step-frame.ensures.memory, c.step_voices.ensures.voices c.requires.clock, regs, sent, c.step_voices.ensures.answers c.requires.clock) refl
 
 pub returns-clause-frame : goal.returns-clause-frame
@@ -29,5 +29,5 @@ returns-clause-frame c =
     let now : c.step_noise.new.self ≡ after_noise (after_poll c.args.self.now c.args.number) (counter_at c.args.number) = rw (← c.poll.ensures.state, ← c.requires.clock) c.step_noise.ensures.state in
     let is : c.args.settings.now ≡ settings_of c.step_noise.new.self.registers = search rules in
     let regs : c.args.settings.now.echo ≡ echo_regs c.step_noise.new.self.registers = ap (λ (s : Settings). s.echo) is in
-    let main = c.sums_of-sums.ensures.main c.step_noise.new.self.registers (ap (λ (s : Settings). s.volumes) is) in
+    let main = c.sum_voices.ensures.main c.step_noise.new.self.registers (ap (λ (s : Settings). s.volumes) is) in
     rw (← now, c.step-frame.ensures.frame, c.step_voices.ensures.voices c.requires.clock, regs, main, c.step_voices.ensures.answers c.requires.clock) refl
