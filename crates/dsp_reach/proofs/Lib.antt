@@ -1,5 +1,5 @@
 -- Runs: laws on n samples from facts on one.
--- Registers: a sample leaves every register but those of its results.
+-- Registers: samples leave every register but those of their results, seen over a run.
 -- Keys: a key-on that is taken has waited.
 -- EchoPlace: where the echo stands after samples.
 -- EchoPages: a step of the echo reads and writes one cell, on a page of its window.

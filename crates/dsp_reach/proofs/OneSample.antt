@@ -24,7 +24,7 @@ use Rattle.dsp_core.specs.declared.state.DspState.{DspState}
 use Rattle.dsp_core.proofs.EightVoices.{voices-before_step}
 use Rattle.dsp_core.proofs.Sound.{cell_of, sound_of, echo-before_step, is_at_cell-next_echo}
 use Rattle.dsp_reach.specs.Chain.{AllStayOnChains}
-use Rattle.dsp_reach.proofs.Registers.{SameInputs, same_inputs-registers_after, registers-before_step}
+use Rattle.dsp_core.proofs.Inputs.{SameInputs, same_inputs-registers_after, registers-before_step}
 use Rattle.dsp_reach.proofs.Keys.{IsPart, waiting-before_step, taken_waited}
 use Rattle.dsp_reach.proofs.EchoPlace.{length-next_echo}
 use Rattle.dsp_reach.proofs.EchoPages.{IsOffCell, off_window, byte_at-echo_memory, echo_memory_still, after_reading_apart, next_echo_apart, echo_memory_apart}

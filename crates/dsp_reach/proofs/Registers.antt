@@ -1,81 +1,13 @@
--- A sample leaves every register but those of its results.
-use Rattle.std.proofs.Common.{◌≡◌, ◌≢◌, ℕ, zero, suc, ◌+◌, ◌*◌, ◌%◌, ◌==◌, ◌||◌, List, [], ◌∷◌, Bool, true, false, pos, map, slice_index, slice_set, refl, ap, ◌∙◌, arith}
-use Rattle.std.proofs.lemmas.Bool.Decides.{nat_tests}
-use Rattle.std.proofs.lemmas.List.{get_or-set_other}
-use Rattle.rate_clock.specs.Counter.{counter_at}
-use Rattle.voice_unit.specs.declared.interface.VoiceOut.{VoiceOut}
-use Rattle.dsp_core.specs.Results.{is_result, with_levels_from, registers_after, next_endx, without_bits}
+-- Samples leave every register but those of their results, seen over a run.
+use Rattle.std.proofs.Common.{◌≡◌, ℕ, zero, suc, ◌+◌, ◌%◌, List, false, refl, ◌∙◌, arith}
+use Rattle.dsp_core.specs.Results.{is_result}
 use Rattle.dsp_core.specs.Run.{run}
-use Rattle.dsp_core.specs.Sample.{results_from, shared_input, after_poll, after_noise, sample}
+use Rattle.dsp_core.specs.Sample.{sample}
 use Rattle.dsp_core.specs.Chip.{register_read}
-use Rattle.dsp_core.specs.declared.registers.TheConstants.{ENVX, OUTX, ENDX}
 use Rattle.dsp_core.specs.declared.state.DspState.{DspState}
-use Rattle.dsp_core.proofs.EightVoices.{polled_part}
+use Rattle.dsp_core.proofs.Inputs.{SameInputs, same_inputs-sample}
 
--- the registers that samples don't write are the same in both lists
-abbrev pub SameInputs : (these those : List ℕ) → Type 0
-SameInputs these those = (address : ℕ) → is_result address ≡ false → slice_index these address ≡ slice_index those address
-
--- what an address that is no result's is apart from
-record IsInput (register : ℕ) : Type 0 where
-  envx : register % 16 ≢ ENVX
-  outx : register % 16 ≢ OUTX
-  endx : register ≢ ENDX
-
-either_first : (a b : Bool) → (a || b) ≡ false → a ≡ false
-either_first true b h = h
-either_first false b h = refl
-
-either_second : (a b : Bool) → (a || b) ≡ false → b ≡ false
-either_second true b h = cc
-either_second false b h = h
-
-is_input : (address : ℕ) → is_result address ≡ false → IsInput address
-is_input address h =
-    let register : ℕ = address % 0x80 in
-    let envx : Bool = register % 16 == ENVX in
-    let outx : Bool = register % 16 == OUTX in
-    let endx : Bool = register == ENDX in
-    let levels = either_first (envx || outx) endx h in
-    let not_envx : address % 0x80 % 16 ≢ 8 = grind (arith, nat_tests, either_first envx outx levels) in
-    let not_outx : address % 0x80 % 16 ≢ 9 = grind (arith, nat_tests, either_second envx outx levels) in
-    let not_endx : address % 0x80 ≢ 0x7c = grind (arith, nat_tests, either_second (envx || outx) endx h) in
-    record { envx = λ e. not_envx (omega (arith, e)); outx = λ e. not_outx (omega (arith, e)); endx = λ e. not_endx (omega (arith, e)) }
-
-levels_elsewhere : (v : ℕ) (answers : List VoiceOut) (registers : List ℕ) (register : ℕ) → IsInput register
-    → slice_index (with_levels_from v answers registers) register ≡ slice_index registers register
-levels_elsewhere v [] registers register h = refl
-levels_elsewhere v (answer ∷ answers) registers register h =
-    let not_envx : register ≢ 16 * v + ENVX = λ e. h.envx (omega (arith, e)) in
-    let not_outx : register ≢ 16 * v + OUTX = λ e. h.outx (omega (arith, e)) in
-    let first : List ℕ = slice_set registers (16 * v + ENVX) answer.envx in
-    levels_elsewhere (v + 1) answers (slice_set first (16 * v + OUTX) answer.outx) register h
-    ∙ get_or-set_other first (16 * v + OUTX) register answer.outx 0 not_outx
-    ∙ get_or-set_other registers (16 * v + ENVX) register answer.envx 0 not_envx
-
--- the results change no other register
-pub same_inputs-registers_after : (answers : List VoiceOut) (registers : List ℕ) → SameInputs (registers_after answers registers) registers
-unfolding registers_after
-same_inputs-registers_after answers registers address h =
-    let input : IsInput address = is_input address h in
-    get_or-set_other (with_levels_from 0 answers registers) ENDX address (next_endx (slice_index registers ENDX) answers) 0 input.endx
-    ∙ levels_elsewhere 0 answers registers address input
-
--- the poll and the noise leave the registers alone
-pub registers-before_step : (s : DspState) (k : ℕ) → (after_noise (after_poll s k) (counter_at k)).registers ≡ s.registers
-unfolding after_poll after_noise
-registers-before_step s k = polled_part (λ s. s.registers) (k % 2 == 0) s (without_bits s.hidden.waiting s.hidden.taken) refl
-
--- a sample changes no other register
-pub same_inputs-sample : (k : ℕ) (s : DspState) (memory : List ℕ) → SameInputs (sample k s memory).state.registers s.registers
-unfolding sample
-same_inputs-sample k s memory address h =
-    let now : DspState = after_noise (after_poll s k) (counter_at k) in
-    let results = results_from (shared_input now memory k) 0 (pos 0) now.hidden.voices in
-    same_inputs-registers_after (map (λ result. result.answer) results) now.registers address h
-    ∙ ap (λ (registers : List ℕ). slice_index registers address) (registers-before_step s k)
-
--- nor do n samples
+-- n samples change no other register
 pub same_inputs-run : (n k : ℕ) (s : DspState) (memory : List ℕ) → SameInputs (run sample n k s memory).state.registers s.registers
 unfolding run
 same_inputs-run zero k s memory address h = refl
