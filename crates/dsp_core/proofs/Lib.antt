@@ -1,3 +1,4 @@
+-- NoRecords: no record of a voice is in the mask 0.
 -- Runs: runs of samples.
 -- EightVoices: a sample keeps the number of voices.
 -- Sound: what keeps a state sound.
@@ -10,3 +11,4 @@ pub mod Sound
 pub mod Inputs
 pub mod ReadOnce
 pub mod Shares
+pub mod NoRecords

@@ -35,6 +35,9 @@ pub fn push_records(records: &mut Records, mask: u8, sample: u32, answers: &[Voi
     ensures records { records.new ≡ records.old ++ filter (in_mask mask) (records_from sample 0 answers.now) }
     ensures count { length records.new ≤ length records.old + 8 }
 {
+    if mask == 0 {
+        return;
+    }
     for v in 0..8u8 {
         push_record(records, mask, sample, v, &answers[usize::from(v)]);
     }

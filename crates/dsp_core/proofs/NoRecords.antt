@@ -1,0 +1,15 @@
+-- No record of a voice is in the mask 0.
+use Rattle.std.proofs.Common.{◌≡◌, ℕ, ◌+◌, List, [], ◌∷◌, false, refl}
+use Rattle.std.proofs.Math.Nat.{zero-div}
+use Rattle.std.specs.List.{filter}
+use Rattle.num_fix.specs.Arithmetic.{has_bit}
+use Rattle.voice_unit.specs.declared.interface.VoiceOut.{VoiceOut}
+use Rattle.dsp_core.specs.Run.{in_mask}
+use Rattle.dsp_core.specs.Sample.{records_from}
+
+no_bit : (v : ℕ) → has_bit 0 v ≡ false
+no_bit v = rw zero-div refl
+
+pub none_in_mask : (k v : ℕ) (answers : List VoiceOut) → filter (in_mask 0) (records_from k v answers) ≡ []
+none_in_mask k v [] = refl
+none_in_mask k v (answer ∷ answers) = rw (no_bit v) (none_in_mask k (v + 1) answers)
