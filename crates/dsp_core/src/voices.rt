@@ -1,10 +1,10 @@
 //! The voices of one sample, one after another.
 
 ghost use Rattle.std.specs.Prelude.{◌≡◌, ◌<◌, ℕ, List, pos, map};
+ghost use Rattle.num_fix.specs.Arithmetic.{has_bit};
 ghost use Rattle.dsp_core.specs.Settings.{settings_of, HasPitches};
 ghost use Rattle.dsp_core.specs.Sample.{SharedInput, voice_in, voice_result, results_from};
 
-use crate::registers::has_bit;
 use crate::settings::Settings;
 use aram_core::Aram;
 use gauss_table::GaussTable;
@@ -34,8 +34,9 @@ pub const UNHEARD: VoiceOut = VoiceOut {
 };
 
 /// What voice `v` reads beside its registers.
-fn voice_in(settings: &Settings, common: &Common, v: u8, previous: i16) -> VoiceIn
-    requires { v < 8 }
+fn voice_in(settings: &Settings, common: &Common, v: u8, kon: bool, previous: i16) -> VoiceIn
+    requires v { v < 8 }
+    requires kon { kon ≡ has_bit common.now.taken v }
     ensures value { (registers : List ℕ) → settings.now ≡ settings_of registers → result ≡ voice_in registers common.now v previous }
     ensures noise { result.noise ≡ common.now.noise }
 {
@@ -49,7 +50,7 @@ fn voice_in(settings: &Settings, common: &Common, v: u8, previous: i16) -> Voice
         reset: settings.reset,
         poll: common.is_poll,
         koff: one.koff,
-        kon: has_bit(common.taken, v),
+        kon,
     }
 }
 
@@ -60,12 +61,14 @@ fn step_voice(
     settings: &Settings,
     common: &Common,
     v: u8,
+    kon: bool,
     previous: i16,
     memory: &Aram,
     table: &GaussTable,
     clock: &RateClock,
 ) -> VoiceOut
     requires v { v < 8 }
+    requires kon { kon ≡ has_bit common.now.taken v }
     requires pitches { HasPitches settings.now }
     requires noise { common.now.noise < 0x8000 }
     ensures voice { (registers : List ℕ) → settings.now ≡ settings_of registers → let shared : SharedInput = record { registers = registers; common = common.now; memory = memory.now; table = table.now; counter = clock.now } in
@@ -73,7 +76,7 @@ fn step_voice(
     ensures answer { (registers : List ℕ) → settings.now ≡ settings_of registers → let shared : SharedInput = record { registers = registers; common = common.now; memory = memory.now; table = table.now; counter = clock.now } in
         result ≡ (voice_result shared v previous voice.old).answer }
 {
-    let input = voice_in(settings, common, v, previous);
+    let input = voice_in(settings, common, v, kon, previous);
     let regs = &settings.voices[usize::from(v)].regs;
     voice.step(regs, &input, memory, table, clock)
 }
@@ -96,6 +99,8 @@ pub fn step_voices(
         answers.new ≡ map (λ one. one.answer) (results_from shared 0 (pos 0) voices.old) }
 {
     let mut previous = 0;
+    // the key-ons of the voices still to come, lowest first
+    let mut taken = common.taken;
     for v in 0..8u8 {
         let place = usize::from(v);
         let answer = step_voice(
@@ -103,6 +108,7 @@ pub fn step_voices(
             settings,
             common,
             v,
+            taken % 2 == 1,
             previous,
             memory,
             table,
@@ -110,5 +116,6 @@ pub fn step_voices(
         );
         previous = answer.out;
         answers[place] = answer;
+        taken /= 2;
     }
 }
