@@ -1,3 +1,4 @@
+-- Keyed: the voices that a sample keys are those whose key-ons its poll took.
 -- NoRecords: no record of a voice is in the mask 0.
 -- Runs: runs of samples.
 -- EightVoices: a sample keeps the number of voices.
@@ -12,3 +13,4 @@ pub mod Inputs
 pub mod ReadOnce
 pub mod Shares
 pub mod NoRecords
+pub mod Keyed

@@ -1,6 +1,6 @@
 //! The chip.
 
-ghost use Rattle.std.specs.Prelude.{◌≡◌, ◌≤◌, ◌<◌, ◌+◌, ◌*◌, ◌++◌, ◌∷◌, [], ◌==◌, true, length, map, pos, IfOk, if◌then◌else◌};
+ghost use Rattle.std.specs.Prelude.{◌≡◌, ◌≤◌, ◌<◌, ◌+◌, ◌*◌, ◌%◌, ◌++◌, ◌∷◌, [], ◌==◌, true, length, map, pos, IfOk, if◌then◌else◌};
 ghost use Rattle.std.specs.List.{filter};
 ghost use Rattle.rate_clock.specs.Counter.{counter_at};
 ghost use Rattle.dsp_core.specs.Run.{run, in_mask, counted};
@@ -29,6 +29,13 @@ use std::marker::Model;
 use trace_form::{Frames, Records};
 use voice_unit::{Voice, VoiceOut};
 
+/// Whether the sample of a number polls the keys, as each even one does.
+fn is_polled(number: u32) -> bool
+    ensures { result ≡ (number % 2 == 0) }
+{
+    number % 2 == 0
+}
+
 impl DspState {
     /// Polls the keys at an even sample.
     #[tactic(auto, unfolding(crate::specs::Sample::after_poll))]
@@ -36,9 +43,20 @@ impl DspState {
         ensures state { self.new ≡ after_poll self.old number }
         ensures registers { self.new.registers ≡ self.old.registers }
     {
-        if number % 2 == 0 {
+        if is_polled(number) {
             self.hidden.waiting &= 0xff - self.hidden.taken;
             self.hidden.taken = self.hidden.waiting;
+        }
+    }
+
+    /// The voices that the sample of a number keys, once the keys are polled, as bits.
+    fn keyed(&self, number: u32) -> u8
+        ensures { result ≡ (if number % 2 == 0 then self.now.hidden.taken else 0) }
+    {
+        if is_polled(number) {
+            self.hidden.taken
+        } else {
+            0
         }
     }
 
@@ -72,7 +90,7 @@ impl DspState {
         let common = Common {
             noise: self.hidden.noise.value(),
             taken: self.hidden.taken,
-            is_poll: number % 2 == 0,
+            is_poll: is_polled(number),
         };
         step_voices(
             &mut self.hidden.voices,
@@ -106,13 +124,14 @@ impl DspState {
         self.poll(number);
         self.step_noise(settings, clock);
         self.step_voices(number, clock, settings, memory, answers);
+        let keyed = self.keyed(number);
         let mut sums = SILENCE;
         sum_voices(&mut sums, &settings.volumes, answers);
         let frame = self
             .hidden
             .echo
             .step(memory, &settings.echo, sums.main, sums.sent);
-        put_results(&mut self.registers, answers);
+        put_results(&mut self.registers, keyed, answers);
         frame
     }
 }

@@ -25,23 +25,13 @@ fn looped_bits(answers: &[VoiceOut; 8]) -> u8
     bits
 }
 
-/// The bits of the voices that were keyed.
-fn keyed_bits(answers: &[VoiceOut; 8]) -> u8
-    ensures { result ≡ bits_from (λ answer. answer.keyed) 0 answers.now }
-{
-    let mut bits = 0;
-    for v in 0..8u8 {
-        bits += bit(answers[usize::from(v)].keyed, v);
-    }
-    bits
-}
-
-/// ENDX after a sample.
+/// ENDX after a sample in which these voices were keyed.
 #[tactic(auto, unfolding(crate::specs::Results::next_endx))]
-fn next_endx(endx: u8, answers: &[VoiceOut; 8]) -> u8
+fn next_endx(endx: u8, keyed: u8, answers: &[VoiceOut; 8]) -> u8
+    requires { keyed ≡ bits_from (λ answer. answer.keyed) 0 answers.now }
     ensures { result ≡ next_endx endx answers.now }
 {
-    (endx | looped_bits(answers)) & (0xff - keyed_bits(answers))
+    (endx | looped_bits(answers)) & (0xff - keyed)
 }
 
 /// Puts ENVX and OUTX of voice `v`.
@@ -63,12 +53,13 @@ fn put_all_levels(registers: &mut Registers, answers: &[VoiceOut; 8])
     }
 }
 
-/// Puts ENVX, OUTX and ENDX.
+/// Puts ENVX, OUTX and ENDX after a sample in which these voices were keyed.
 #[tactic(auto, unfolding(crate::specs::Results::registers_after))]
-pub fn put_results(registers: &mut Registers, answers: &[VoiceOut; 8])
+pub fn put_results(registers: &mut Registers, keyed: u8, answers: &[VoiceOut; 8])
+    requires { keyed ≡ bits_from (λ answer. answer.keyed) 0 answers.now }
     ensures { registers.new ≡ registers_after answers.now registers.old }
 {
-    let endx = next_endx(registers[ENDX], answers);
+    let endx = next_endx(registers[ENDX], keyed, answers);
     put_all_levels(registers, answers);
     registers[ENDX] = endx;
 }
