@@ -26,14 +26,21 @@ entries_from registers v (voice ∷ voices) = voice_entry registers v ∷ entrie
 abbrev pub can_start : DspState → (v : ℕ) → VoiceState → Bool
 can_start s v voice = has_bit s.hidden.waiting v || not (voice.delay == 0)
 
--- where voice v can be: at its block, or at the start of its sample
-abbrev pub voice_starts : DspState → List ℕ → (v : ℕ) → VoiceState → List ChainStart
-voice_starts s memory v voice =
+-- the chain of the block at which voice v stands
+abbrev pub own_chain : DspState → List ℕ → (v : ℕ) → VoiceState → ChainStart
+own_chain s memory v voice =
+    record { block = voice.block; loop_word = loop_word (slice_index s.registers DIR) (voice_register s.registers v SRCN) memory }
+
+-- the chain of the start of its sample
+abbrev pub start_chain : DspState → List ℕ → (v : ℕ) → ChainStart
+start_chain s memory v =
     let dir = slice_index s.registers DIR in
     let srcn = voice_register s.registers v SRCN in
-    let to = loop_word dir srcn memory in
-    record { block = voice.block; loop_word = to }
-    ∷ (if can_start s v voice then record { block = start_word dir srcn memory; loop_word = to } ∷ [] else [])
+    record { block = start_word dir srcn memory; loop_word = loop_word dir srcn memory }
+
+-- where voice v can be: at its block, or at the start of its sample
+abbrev pub voice_starts : DspState → List ℕ → (v : ℕ) → VoiceState → List ChainStart
+voice_starts s memory v voice = own_chain s memory v voice ∷ (if can_start s v voice then start_chain s memory v ∷ [] else [])
 
 -- where the voices from v on can be
 abbrev pub starts_from : DspState → List ℕ → (v : ℕ) → List VoiceState → List ChainStart

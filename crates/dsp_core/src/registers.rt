@@ -9,57 +9,85 @@ use echo_unit::EchoRegs;
 use voice_unit::VoiceRegs;
 
 // The registers of voice v stand at 16 times v and these.
+
+/// The volume on the left side, signed.
 pub const VOLL: usize = 0;
 
+/// The volume on the right side, signed.
 pub const VOLR: usize = 1;
 
+/// The low 8 bits of the pitch.
 pub const PITCHL: usize = 2;
 
+/// The high 6 bits of the pitch.
 pub const PITCHH: usize = 3;
 
+/// The number of the voice's sample in the directory.
 pub const SRCN: usize = 4;
 
+/// Bit 7: ADSR rules, else GAIN; bits 6 to 4 the decay, bits 3 to 0 the attack.
 pub const ADSR1: usize = 5;
 
+/// Bits 7 to 5 the level at which decay ends, bits 4 to 0 the rate of sustain.
 pub const ADSR2: usize = 6;
 
+/// The level, or its slope, where ADSR does not rule.
 pub const GAIN: usize = 7;
 
+/// The level over 16.
 pub const ENVX: usize = 8;
 
+/// The high byte of the output.
 pub const OUTX: usize = 9;
 
 // The coefficient Ci of the echo's filter stands at 16 times i and this.
+
+/// A coefficient of the filter, signed.
 pub const FIR: usize = 0x0f;
 
+/// The main volume on the left side, signed.
 pub const MVOLL: usize = 0x0c;
 
+/// The echo's feedback, signed.
 pub const EFB: usize = 0x0d;
 
+/// The main volume on the right side, signed.
 pub const MVOLR: usize = 0x1c;
 
+/// The echo's volume on the left side, signed.
 pub const EVOLL: usize = 0x2c;
 
+/// The voices whose pitch is changed by the voice before.
 pub const PMON: usize = 0x2d;
 
+/// The echo's volume on the right side, signed.
 pub const EVOLR: usize = 0x3c;
 
+/// The voices that play noise.
 pub const NON: usize = 0x3d;
 
+/// The voices that are to be keyed on.
 pub const KON: usize = 0x4c;
 
+/// The voices that are sent to the echo.
 pub const EON: usize = 0x4d;
 
+/// The voices that are keyed off.
 pub const KOFF: usize = 0x5c;
 
+/// The page of the directory.
 pub const DIR: usize = 0x5d;
 
+/// Bit 7 the soft reset, bit 6 mute, bit 5 echo writes off, bits 4 to 0 the rate of the noise.
 pub const FLG: usize = 0x6c;
 
+/// The page at which the echo's buffer begins.
 pub const ESA: usize = 0x6d;
 
+/// The voices that came to the end of a block that has its end bit. Any write clears it.
 pub const ENDX: usize = 0x7c;
 
+/// The length of the echo's buffer in units of 2,048 bytes, in the low 4 bits.
 pub const EDL: usize = 0x7d;
 
 /// All registers.

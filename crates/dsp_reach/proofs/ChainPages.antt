@@ -15,9 +15,9 @@ use Rattle.voice_unit.specs.Voice.{VoiceState, playing_voice, step_header}
 use Rattle.reach_map.specs.declared.ChainStart.{ChainStart}
 use Rattle.reach_map.specs.Reach.{pages_of_bytes, chain, block_pages, chain_pages, entry_pages, voice_pages}
 use Rattle.dsp_core.specs.declared.state.DspState.{DspState}
-use Rattle.dsp_core.specs.Reach.{voice_entry, can_start, voice_starts}
+use Rattle.dsp_core.specs.Reach.{voice_entry, can_start, own_chain, start_chain, voice_starts}
 use Rattle.dsp_core.proofs.Sound.{group_of}
-use Rattle.dsp_reach.specs.Chain.{chain_entry, IsOnChain, own_chain, start_chain, StaysOnChains}
+use Rattle.dsp_reach.specs.Chain.{chain_entry, IsOnChain, StaysOnChains}
 use Rattle.dsp_reach.proofs.PageSets.{has_page, at_page, in_left, in_right}
 use Rattle.dsp_reach.proofs.Agree.{AgreeFor}
 use Rattle.dsp_reach.proofs.Steps.{chain_entry-zero, on_first, index_small, after_delay_same, after_delay_five, SeesTheSame}

@@ -8,10 +8,10 @@ use Rattle.voice_unit.specs.Directory.{start_word, loop_word}
 use Rattle.voice_unit.specs.Voice.{VoiceState, after_delay, step_header, after_decoding, at_next_group, after_reading, after_envelope, after_pitch, playing_voice, voice_step, is_keyed, needs_group}
 use Rattle.reach_map.specs.declared.ChainStart.{ChainStart}
 use Rattle.dsp_core.specs.declared.state.DspState.{DspState}
-use Rattle.dsp_core.specs.Reach.{can_start}
+use Rattle.dsp_core.specs.Reach.{can_start, own_chain, start_chain}
 use Rattle.dsp_core.specs.Sound.{is_at_group}
 use Rattle.dsp_core.proofs.Sound.{IsGroup, group_of, is_group}
-use Rattle.dsp_reach.specs.Chain.{chain_entry, IsOnChain, own_chain, start_chain, StaysOnChains}
+use Rattle.dsp_reach.specs.Chain.{chain_entry, IsOnChain, StaysOnChains}
 
 pub chain_entry-zero : (memory : List ℕ) (start : ChainStart) → chain_entry memory start 0 ≡ start.block
 unfolding chain_entry

@@ -15,9 +15,9 @@ use Rattle.dsp_core.specs.declared.state.DspState.{DspState}
 use Rattle.dsp_core.specs.Registers.{voice_regs}
 use Rattle.dsp_core.specs.Results.{is_result}
 use Rattle.dsp_core.specs.Sample.{SharedInput, VoiceResult, voice_in, voice_result, results_from}
-use Rattle.dsp_core.specs.Reach.{voice_entry, entries_from, can_start, voice_starts, starts_from}
+use Rattle.dsp_core.specs.Reach.{voice_entry, entries_from, can_start, own_chain, voice_starts, starts_from}
 use Rattle.dsp_core.specs.Sound.{is_at_group, is_at_cell, is_sound}
-use Rattle.dsp_reach.specs.Chain.{own_chain, StaysOnChains, AllStayOnChains}
+use Rattle.dsp_reach.specs.Chain.{StaysOnChains, AllStayOnChains}
 use Rattle.dsp_reach.proofs.PageSets.{has_page, at_page, in_left, in_right, in_either}
 use Rattle.dsp_reach.proofs.Agree.{voice_result_same}
 use Rattle.dsp_reach.proofs.Steps.{on_first, SeesTheSame, step_on_chains}

@@ -1,14 +1,11 @@
 -- Where a voice can have come after some samples.
-use Rattle.std.specs.Prelude.{◌≡◌, ℕ, zero, suc, ◌+◌, ◌-◌, ◌*◌, ◌/◌, ◌≤◌, ◌≢◌, List, [], ◌∷◌, true, ◌⊎◌, slice_index}
+use Rattle.std.specs.Prelude.{◌≡◌, ℕ, zero, suc, ◌+◌, ◌-◌, ◌*◌, ◌/◌, ◌≤◌, ◌≢◌, List, [], ◌∷◌, true, ◌⊎◌}
 use Rattle.aram_core.specs.Memory.{byte_at}
 use Rattle.brr_decode.specs.Header.{next_block}
-use Rattle.voice_unit.specs.Directory.{start_word, loop_word}
 use Rattle.voice_unit.specs.Voice.{VoiceState}
 use Rattle.reach_map.specs.declared.ChainStart.{ChainStart}
-use Rattle.dsp_core.specs.declared.registers.TheConstants.{SRCN, DIR}
 use Rattle.dsp_core.specs.declared.state.DspState.{DspState}
-use Rattle.dsp_core.specs.Registers.{voice_register}
-use Rattle.dsp_core.specs.Reach.{can_start}
+use Rattle.dsp_core.specs.Reach.{can_start, own_chain, start_chain}
 use Rattle.dsp_core.specs.Sound.{is_at_group}
 
 -- entry i of the chain from a start on
@@ -25,17 +22,6 @@ pub record IsOnChain (memory : List ℕ) (start : ChainStart) (j : ℕ) (voice :
   pub block : voice.block ≡ chain_entry memory start index
   pub group : is_at_group voice ≡ true
   pub pace : 4 * index + (voice.offset - 1) / 2 ≤ j + 3
-
--- the chain of the block at which voice v stood, and that of the start of its sample, as they were when the reach was taken
-abbrev pub own_chain : DspState → List ℕ → (v : ℕ) → VoiceState → ChainStart
-own_chain s memory v voice =
-    record { block = voice.block; loop_word = loop_word (slice_index s.registers DIR) (voice_register s.registers v SRCN) memory }
-
-abbrev pub start_chain : DspState → List ℕ → (v : ℕ) → ChainStart
-start_chain s memory v =
-    let dir = slice_index s.registers DIR in
-    let srcn = voice_register s.registers v SRCN in
-    record { block = start_word dir srcn memory; loop_word = loop_word dir srcn memory }
 
 -- Voice v, which was `old` over the state s and this memory when the reach was taken, is on one of its chains after j samples:
 -- on its own, or on that of the start of its sample, where it could start. Only such a voice has a key-on delay.
