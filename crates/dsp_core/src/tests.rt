@@ -94,13 +94,19 @@ fn a_key_on_behind_a_poll_is_lost_at_the_next(rt: HostRuntime) -> Result<(), Fai
     };
     assert_eq!(rt; records.as_slice(), [keyed].as_slice());
     dsp.reg_write(0x4c, 0x01);
-    play(&mut dsp, &mut memory, 7, &mut frames, &mut records);
-    assert_eq!(rt; frames.as_slice(), SEVEN.as_slice());
-    assert_eq!(rt; records.as_slice().len(), 7);
+    play(&mut dsp, &mut memory, 6, &mut frames, &mut records);
+    assert_eq!(rt;
+        frames.as_slice(),
+        [SILENCE, SILENCE, SILENCE, SILENCE, SILENCE, SOUND].as_slice()
+    );
+    assert_eq!(rt; records.as_slice().len(), 6);
     assert!(rt; is_quiet(&records));
     // ENVX and OUTX, also by an address above 7Fh
     assert_eq!(rt; (dsp.reg_read(0x08), dsp.reg_read(0x89)), (127, 15));
-    assert_eq!(rt; (dsp.sample(), dsp.batches()), (8, 2));
+    play(&mut dsp, &mut memory, 1, &mut frames, &mut records);
+    assert_eq!(rt; frames.as_slice(), [SOUND].as_slice());
+    assert!(rt; is_quiet(&records));
+    assert_eq!(rt; (dsp.sample(), dsp.batches()), (8, 3));
     Ok(())
 }
 
@@ -132,6 +138,16 @@ fn zeros_from(memory: &Aram, from: u16) -> u32 {
     0x10000
 }
 
+/// Whether all bytes of a memory between two addresses, both among them, have one value.
+fn are_all(memory: &Aram, from: u16, to: u16, value: u8) -> bool {
+    for at in from..=to {
+        if memory.get(at) != value {
+            return false;
+        }
+    }
+    true
+}
+
 #[test]
 fn the_echo_goes_round_its_window(rt: HostRuntime) -> Result<(), Fail> {
     let ones = vec![in rt.alloc(); 0x11u8; 0x10000]?;
@@ -145,7 +161,7 @@ fn the_echo_goes_round_its_window(rt: HostRuntime) -> Result<(), Fail> {
     play(&mut dsp, &mut memory, 64, &mut frames, &mut records);
     play(&mut dsp, &mut memory, 1, &mut frames, &mut records);
     assert_eq!(rt; zeros_from(&memory, 0xff00), 0x104);
-    assert_eq!(rt; (memory.get(0xfeff), memory.get(0x0004)), (0x11, 0x11));
+    assert!(rt; are_all(&memory, 0x0004, 0xfeff, 0x11));
     dsp.reg_write(0x7d, 0x02);
     for n in [64, 64, 64, 64, 64, 64, 63] {
         play(&mut dsp, &mut memory, n, &mut frames, &mut records);
