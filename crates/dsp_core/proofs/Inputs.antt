@@ -20,6 +20,7 @@ record IsInput (register : ℕ) : Type 0 where
   outx : register % 16 ≢ OUTX
   endx : register ≢ ENDX
 
+-- neither part of a false `or` holds
 either_first : (a b : Bool) → (a || b) ≡ false → a ≡ false
 either_first true b h = h
 either_first false b h = refl
@@ -28,6 +29,7 @@ either_second : (a b : Bool) → (a || b) ≡ false → b ≡ false
 either_second true b h = cc
 either_second false b h = h
 
+-- what an address that is no result's is apart from follows from the test
 is_input : (address : ℕ) → is_result address ≡ false → IsInput address
 is_input address h =
     let register : ℕ = address % 0x80 in
@@ -40,6 +42,7 @@ is_input address h =
     let not_endx : address % 0x80 ≢ 0x7c = grind (arith, nat_tests, either_second (envx || outx) endx h) in
     record { envx = λ e. not_envx (omega (arith, e)); outx = λ e. not_outx (omega (arith, e)); endx = λ e. not_endx (omega (arith, e)) }
 
+-- ENVX and OUTX change no other register
 levels_elsewhere : (v : ℕ) (answers : List VoiceOut) (registers : List ℕ) (register : ℕ) → IsInput register
     → slice_index (with_levels_from v answers registers) register ≡ slice_index registers register
 levels_elsewhere v [] registers register h = refl

@@ -11,6 +11,7 @@ use Rattle.dsp_core.specs.Sample.{SharedInput, voice_in, voice_result, results_f
 abbrev key_ons : (poll : Bool) → (taken v n : ℕ) → ℕ
 key_ons poll taken v n = if poll then (taken / 2 ^ v % 2 ^ n) * 2 ^ v else 0
 
+-- a bit at its place
 bit_value : (b v : ℕ) → b < 2 → (if b == 1 then 2 ^ v else 0) ≡ b * 2 ^ v
 bit_value b v below = by (b == 1) refl
   where
@@ -18,9 +19,11 @@ bit_value b v below = by (b == 1) refl
     by true e = let one : b ≡ 1 = grind (arith, nat_tests, e) in rw one (omega arith)
     by false e = let none : b ≡ 0 = grind (arith, nat_tests, e, below) in rw none (omega arith)
 
+-- a bit and a number behind it, both times p
 products : (b r p : ℕ) → b * p + r * (p * 2) ≡ (r * 2 + b) * p
 products b r p = omega arith
 
+-- the key-ons of one voice more
 one_more : (poll : Bool) (taken v n : ℕ) → (if poll && has_bit taken v then 2 ^ v else 0) + key_ons poll taken (v + 1) n ≡ key_ons poll taken v (n + 1)
 one_more false taken v n = refl
 one_more true taken v n =
@@ -31,6 +34,7 @@ one_more true taken v n =
     let doubled = pow-add 2 v 1 in
     rw (bit, ← halved, doubled, split) (products (q % 2) (q / 2 % 2 ^ n) (2 ^ v))
 
+-- the voices from v on that are keyed
 pub keyed_from : (shared : SharedInput) (v : ℕ) (previous : ℤ) (voices : List VoiceState)
     → bits_from (λ answer. answer.keyed) v (map (λ one. one.answer) (results_from shared v previous voices)) ≡ key_ons shared.common.is_poll shared.common.taken v (length voices)
 unfolding voice_result voice_in voice_answer

@@ -7,9 +7,11 @@ use Rattle.voice_unit.specs.declared.interface.VoiceOut.{VoiceOut}
 use Rattle.dsp_core.specs.Run.{in_mask}
 use Rattle.dsp_core.specs.Sample.{records_from}
 
+-- 0 has no bit
 no_bit : (v : ℕ) → has_bit 0 v ≡ false
 no_bit v = rw zero-div refl
 
+-- so no record of a voice is kept
 pub none_in_mask : (k v : ℕ) (answers : List VoiceOut) → filter (in_mask 0) (records_from k v answers) ≡ []
 none_in_mask k v [] = refl
 none_in_mask k v (answer ∷ answers) = rw (no_bit v) (none_in_mask k (v + 1) answers)

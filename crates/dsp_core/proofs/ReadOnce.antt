@@ -17,6 +17,7 @@ voice_of_all : (registers : List ℕ) (v : ℕ) (d : VoiceSettings) → v < 8 �
 unfolding all_voices
 voice_of_all registers v d below = get_or-map-range_with_len (λ v. voice_settings registers v) 0 8 v v d below (omega arith)
 
+-- those of settings that are read of registers
 pub voice_at : (registers : List ℕ) (settings : Settings) (v : ℕ) (d : VoiceSettings) → settings ≡ settings_of registers → v < 8 → get_or settings.voices v d ≡ voice_settings registers v
 unfolding settings_of
 voice_at registers settings v d is below = rw is (voice_of_all registers v d below)
@@ -34,15 +35,18 @@ pitches_within registers voices is bytes v d within =
 abbrev pub no_settings : VoiceSettings
 no_settings = record { regs = record { pitch = 0; srcn = 0; adsr1 = 0; adsr2 = 0; gain = 0 }; modulated = false; noisy = false; koff = false }
 
+-- functions that agree map a list alike
 same_map : {X : Type 0} (f g : ℕ → X) → ((v : ℕ) → f v ≡ g v) → (vs : List ℕ) → map f vs ≡ map g vs
 same_map f g same [] = refl
 same_map f g same (v ∷ vs) = rw (same v, same_map f g same vs) refl
 
 -- registers that differ in results alone have the same settings
 module _ (these those : List ℕ) (same : SameInputs these those) where
+  -- the registers of a voice but ENVX and OUTX
   same_register : (v register : ℕ) → register < 8 → voice_register these v register ≡ voice_register those v register
   same_register v register low = same (16 * v + register) (input_at (16 * v + register) (omega (arith, low)) (omega (arith, low)) (omega (arith, low)))
 
+  -- what a voice reads
   same_voice : (v : ℕ) → voice_settings these v ≡ voice_settings those v
   unfolding voice_settings voice_regs
   same_voice v =
@@ -58,13 +62,16 @@ module _ (these those : List ℕ) (same : SameInputs these those) where
         same KOFF refl,
       ) refl
 
+  -- its volumes
   same_volumes : (v : ℕ) → voice_volumes these v ≡ voice_volumes those v
   unfolding voice_volumes
   same_volumes v = rw (same_register v VOLL (omega arith), same_register v VOLR (omega arith), same EON refl) refl
 
+  -- a coefficient of the echo's filter
   same_coefficient : (i : ℕ) → slice_index these (16 * i + FIR) ≡ slice_index those (16 * i + FIR)
   same_coefficient i = same (16 * i + FIR) (input_at (16 * i + FIR) (omega arith) (omega arith) (omega arith))
 
+  -- what the echo reads
   same_echo : echo_regs these ≡ echo_regs those
   unfolding echo_regs
   same_echo =
@@ -80,6 +87,7 @@ module _ (these those : List ℕ) (same : SameInputs these those) where
         same EVOLR refl,
       ) refl
 
+  -- all of them
   pub same_settings : settings_of these ≡ settings_of those
   unfolding settings_of all_voices all_volumes
   same_settings =

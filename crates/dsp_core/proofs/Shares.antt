@@ -24,6 +24,7 @@ clamp16-within : (z : ℤ) → FitsSigned w16 z → clamp16 z ≡ z
 unfolding clamp16
 clamp16-within z h = omega (arith, ints, clamps)
 
+-- a limited sum is one of 16 bits
 clamp16-fits : (z : ℤ) → FitsSigned w16 (clamp16 z)
 unfolding clamp16
 clamp16-fits z = omega (arith, ints, clamps)

@@ -260,14 +260,15 @@ impl Dsp {
         ensures frames { frames.new ≡ frames.old ++ (run sample n self.old.sample self.old.state memory.old).frames }
         ensures records { records.new ≡ records.old ++ filter (in_mask mask) (run sample n self.old.sample self.old.state memory.old).voices }
     {
+        if n == 0 {
+            return;
+        }
         let settings = settings_of(&self.state.registers);
         let mut answers = [UNHEARD; 8];
         'samples: for _ in 0..n {
             self.make_one(&settings, memory, mask, frames, records, &mut answers);
         }
-        if n != 0 {
-            self.batches = self.batches.saturating_add(1);
-        }
+        self.batches = self.batches.saturating_add(1);
     }
 
     /// The number of batches made, each by an `advance` of at least one sample. It stays at its type's end.

@@ -30,3 +30,15 @@ samples-preserved c = record {
   frame_count = rw (c.make_one.ensures.frames, length-append) (omega (arith, c.samples.invariant.frame_count));
   record_count = omega (arith, c.samples.invariant.record_count, c.make_one.ensures.record_count);
 }
+
+pub returns-then-n-eq0-clause-state : goal.returns-then-n-eq0-clause-state
+returns-then-n-eq0-clause-state c = rw (c.if-n-eq0.true, run_none) refl
+
+pub returns-then-n-eq0-clause-memory : goal.returns-then-n-eq0-clause-memory
+returns-then-n-eq0-clause-memory c = rw (c.if-n-eq0.true, run_none) refl
+
+pub returns-then-n-eq0-clause-frames : goal.returns-then-n-eq0-clause-frames
+returns-then-n-eq0-clause-frames c = rw (c.if-n-eq0.true, run_none) (sym (append-nil c.args.frames.now))
+
+pub returns-then-n-eq0-clause-records : goal.returns-then-n-eq0-clause-records
+returns-then-n-eq0-clause-records c = rw (c.if-n-eq0.true, run_none) (sym (append-nil c.args.records.now))
