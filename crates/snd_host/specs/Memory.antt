@@ -1,5 +1,5 @@
 -- What contracts see of a host in memory.
-use Rattle.std.specs.Prelude.{◌≡◌, length, ℕ, zero, suc, slice_get, slice_index, List, [], ◌∷◌, ◌++◌, Bool, Option, Some, None, map, drop, nat_le, if◌then◌else◌, string_bytes}
+use Rattle.std.specs.Prelude.{◌≡◌, ◌==◌, ◌+◌, min, length, ℕ, zero, suc, slice_get, slice_index, List, [], ◌∷◌, ◌++◌, Bool, Option, Some, None, is_some, map, drop, nat_le, if◌then◌else◌, string_bytes}
 use Rattle.std.specs.List.{list_any}
 use Rattle.std.specs.Option.{option_map, option_map_or}
 use Rattle.std.proofs.Common.{sym, ap, ◌∙◌}
@@ -21,6 +21,7 @@ output_of slot = record { name = string_bytes slot.name; bytes = slot.sink.bytes
 abbrev pub fails_later : List ℕ → ℕ → Bool
 fails_later failing calls = list_any (λ number. nat_le calls number) failing
 
+-- how many bytes more each output takes, by its number, and behind the created ones each that can still be created
 abbrev pub rooms_of : MemHost → List ℕ
 rooms_of host = host.report.room ∷ host.complaint.room ∷ (map (λ slot. slot.sink.room) host.created.items ++ map (λ spare. spare.room) host.spare.items)
 
@@ -39,13 +40,38 @@ memory_state host = record {
 abbrev pub calls_of : MemHost → ℕ
 calls_of host = host.calls
 
+-- the numbers of the calls that fail, where the first call has the number 0
+abbrev pub failing_of : MemHost → List ℕ
+failing_of host = host.failing.items
+
+-- The number of the next call, which is that of the calls before it, is listed as one that fails.
+abbrev pub is_listed : MemHost → Bool
+is_listed host = list_any (λ number. number == calls_of host) (failing_of host)
+
+-- One call was counted, and the same numbers are listed.
+pub record CountsCall (old new : MemHost) : Type 0 where
+  pub calls : calls_of new ≡ min (calls_of old + 1) 4294967295
+  pub failing : failing_of new ≡ failing_of old
+
+-- An input has this name.
+abbrev pub has_input : MemHost → List ℕ → Bool
+has_input host name = is_some (content_of host.files.items name)
+
+-- No room is left for one more output: the report, the complaint and the created ones have them all.
+abbrev pub is_full : MemHost → Bool
+is_full host = nat_le (length (rooms_of host)) (length (memory_state host).ended + 2)
+
 -- what the output of this number was given
 abbrev pub bytes_given : MemHost → ℕ → List ℕ
 bytes_given host zero = host.report.bytes.items
 bytes_given host (suc zero) = host.complaint.bytes.items
 bytes_given host (suc (suc place)) = option_map_or (λ slot. slot.sink.bytes.items) (slice_get host.created.items place) []
 
--- a new host: steady where no call is to fail, with room 0 for the report and the complaint where none is given
+-- the rooms of a new host: 0 for the report and the complaint where none is given
+abbrev pub opening_rooms : List ℕ → List ℕ
+opening_rooms rooms = slice_index rooms 0 ∷ slice_index rooms 1 ∷ drop 2 rooms
+
+-- a new host: steady where no call is to fail
 abbrev pub opening_state : List File → List ℕ → List ℕ → HostState
 opening_state files failing rooms = record {
   holds = Some (content_of files);
@@ -54,7 +80,7 @@ opening_state files failing rooms = record {
   current = None;
   ended = [];
   faults = record { inputs = 0; notes = 0; outputs = 0 };
-  steady = if fails_later failing 0 then None else Some (slice_index rooms 0 ∷ slice_index rooms 1 ∷ drop 2 rooms);
+  steady = if fails_later failing 0 then None else Some (opening_rooms rooms);
 }
 
 -- as many outputs are told of as were created

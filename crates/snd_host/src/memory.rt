@@ -133,7 +133,7 @@ impl Spare {
 
 impl MemHost {
     ghost use Rattle.std.specs.Prelude.{List, ℕ, length, slice_get, slice_index, Some, None, false, IfOk};
-    ghost use Rattle.snd_host.specs.Memory.{memory_state, rooms_of, calls_of, bytes_given, opening_state};
+    ghost use Rattle.snd_host.specs.Memory.{memory_state, rooms_of, calls_of, failing_of, bytes_given, opening_state, opening_rooms};
     ghost use Rattle.snd_host.specs.Host.{HostState, IsOpen};
 
     /// A host with these inputs, whose calls of these numbers fail, and which reserves these rooms.
@@ -145,6 +145,8 @@ impl MemHost {
     ) -> Result<MemHost, OutOfMemory>
         ensures state { IfOk result (λ host. memory_state host ≡ opening_state files.items failing.items rooms.items) }
         ensures calls { IfOk result (λ host. calls_of host ≡ 0) }
+        ensures failing { IfOk result (λ host. failing_of host ≡ failing.items) }
+        ensures rooms { IfOk result (λ host. rooms_of host ≡ opening_rooms rooms.items) }
     {
         let report = Sink::reserve(alloc, rooms.get(0).copied().unwrap_or(0))?;
         let complaint = Sink::reserve(alloc, rooms.get(1).copied().unwrap_or(0))?;
@@ -203,14 +205,33 @@ impl MemHost {
     }
 }
 
+// The clauses of each call are the trait's, and then its own: exactly where it fails, that it is counted, and what it does
+// to the rooms.
 impl Host for MemHost {
-    ghost use Rattle.snd_host.specs.Memory.{memory_state, tells_each_lem};
+    ghost use Rattle.std.specs.Prelude.{◌≢◌, ◌-◌, ◌<◌, ◌∷◌, ◌++◌, ◌||◌, not, true, false, nat_lt, length, take, drop, Option, Some, None, IsSome, is_err, IsOk, IfOk, OnOk, OnErr, slice_get, slice_index, slice_set};
+    ghost use Rattle.snd_host.specs.Host.{IfTold, HasCause, CountsWrite, IsOpen, ChangesInputs, ChangesOutputs, KeepsRooms, Writes, rooms_less};
+    ghost use Rattle.snd_host.specs.Memory.{memory_state, tells_each_lem, rooms_of, is_listed, CountsCall, has_input, is_full};
 
     ghost state = { memory_state };
 
     ghost tells_each = { tells_each_lem };
 
-    fn open_in(&mut self, name: &str) -> Result<InFile, Failed> {
+    fn open_in(&mut self, name: &str) -> Result<InFile, Failed>
+        ensures current { IfOk result (λ file. (memory_state self.new).current ≡ Some file.0) }
+        ensures fresh { IfOk result (λ file. (memory_state self.old).current ≢ Some file.0) }
+        ensures none_current { OnErr result ((memory_state self.new).current ≡ None) }
+        ensures there { OnOk result (IfTold (memory_state self.old).holds (λ files. IsSome (files name.now))) }
+        ensures left { OnOk result (
+            IfTold (memory_state self.old).holds (λ files. (memory_state self.new).left ≡ files name.now)) }
+        ensures others { ChangesInputs (memory_state self.old) (memory_state self.new) }
+        ensures cause { HasCause (memory_state self.old).faults.inputs (memory_state self.new).faults.inputs result }
+        ensures steady { IsSome (memory_state self.old).steady →
+            IfTold (memory_state self.old).holds (λ files. IsSome (files name.now) → IsOk result) }
+        // It fails exactly where its number is listed or no input has the name.
+        ensures fails { is_err result ≡ (is_listed self.old || not (has_input self.old name.now)) }
+        ensures counted { CountsCall self.old self.new }
+        ensures rooms_kept { rooms_of self.new ≡ rooms_of self.old }
+    {
         let fails = count_call(&mut self.calls, self.failing.as_slice());
         let found = find_file(self.files.as_slice(), name);
         self.current = None;
@@ -227,7 +248,26 @@ impl Host for MemHost {
         Ok(InFile(self.newest))
     }
 
-    fn read(&mut self, _file: InFile, buf: &mut [u8]) -> Result<usize, Failed> {
+    fn read(&mut self, file: InFile, buf: &mut [u8]) -> Result<usize, Failed>
+        requires { (memory_state self.old).current ≡ Some file.0 }
+        ensures within { IfOk result (λ count. count ≤ length buf.old) }
+        ensures behind { IfOk result (λ count. drop count buf.new ≡ drop count buf.old) }
+        ensures front { IfOk result (λ count.
+            IfTold (memory_state self.old).left (λ rest. take count buf.new ≡ take count rest)) }
+        ensures left { IfOk result (λ count.
+            IfTold (memory_state self.old).left (λ rest. (memory_state self.new).left ≡ Some (drop count rest))) }
+        ensures available { IfOk result (λ count. IfTold (memory_state self.old).left (λ rest. count ≤ length rest)) }
+        ensures end { result ≡ Ok 0 → 0 < length buf.old → IfTold (memory_state self.old).left (λ rest. rest ≡ []) }
+        ensures unread { OnErr result ((memory_state self.new).left ≡ (memory_state self.old).left) }
+        ensures current { (memory_state self.new).current ≡ (memory_state self.old).current }
+        ensures others { ChangesInputs (memory_state self.old) (memory_state self.new) }
+        ensures cause { HasCause (memory_state self.old).faults.inputs (memory_state self.new).faults.inputs result }
+        ensures steady { IsSome (memory_state self.old).steady → IsOk result }
+        // It fails exactly where its number is listed.
+        ensures fails { is_err result ≡ is_listed self.old }
+        ensures counted { CountsCall self.old self.new }
+        ensures rooms_kept { rooms_of self.new ≡ rooms_of self.old }
+    {
         let fails = count_call(&mut self.calls, self.failing.as_slice());
         let Some(reading) = self.current else {
             unreachable!()
@@ -246,7 +286,27 @@ impl Host for MemHost {
         Ok(count)
     }
 
-    fn create(&mut self, name: &str) -> Result<OutFile, Failed> {
+    fn create(&mut self, name: &str) -> Result<OutFile, Failed>
+        requires { length (memory_state self.old).ended < 4294967000 }
+        ensures number { IfOk result (λ file. file.0 ≡ length (memory_state self.old).ended + 2) }
+        ensures ended { OnOk result ((memory_state self.new).ended ≡ (memory_state self.old).ended ++ false ∷ []) }
+        ensures created { OnOk result (IfTold (memory_state self.old).given (λ given.
+            (memory_state self.new).given ≡ Some (record given {
+              created = given.created ++ record { name = name.now; bytes = [] } ∷ [];
+            }))) }
+        ensures not_ended { OnErr result ((memory_state self.new).ended ≡ (memory_state self.old).ended) }
+        ensures not_created { OnErr result ((memory_state self.new).given ≡ (memory_state self.old).given) }
+        ensures others { ChangesOutputs (memory_state self.old) (memory_state self.new) }
+        ensures notes { (memory_state self.new).faults.notes ≡ (memory_state self.old).faults.notes }
+        ensures cause { HasCause (memory_state self.old).faults.outputs (memory_state self.new).faults.outputs result }
+        ensures steady { IfTold (memory_state self.old).steady (λ rooms.
+            length (memory_state self.old).ended + 2 < length rooms → length name.now ≤ 200 → IsOk result) }
+        ensures rooms { KeepsRooms (memory_state self.old) (memory_state self.new) }
+        // It fails exactly where its number is listed, no room is left or the name has more than 200 bytes.
+        ensures fails { is_err result ≡ (is_listed self.old || is_full self.old || nat_lt 200 (length name.now)) }
+        ensures counted { CountsCall self.old self.new }
+        ensures rooms_kept { rooms_of self.new ≡ rooms_of self.old }
+    {
         let fails = count_call(&mut self.calls, self.failing.as_slice());
         if fails || name.len() > 200 || self.spare.is_empty() {
             self.out_faults = self.out_faults.saturating_add(1);
@@ -258,7 +318,23 @@ impl Host for MemHost {
         Ok(OutFile(number))
     }
 
-    fn write(&mut self, file: OutFile, piece: &[u8]) -> Result<usize, Failed> {
+    fn write(&mut self, file: OutFile, piece: &[u8]) -> Result<usize, Failed>
+        requires { IsOpen (memory_state self.old).ended file.0 }
+        ensures within { IfOk result (λ count. count ≤ length piece.now) }
+        ensures progress { IfOk result (λ count. 0 < length piece.now → 0 < count) }
+        ensures wrote { IfOk result (λ count.
+            Writes file.0 (take count piece.now) (memory_state self.old) (memory_state self.new)) }
+        ensures unwritten { OnErr result (Writes file.0 [] (memory_state self.old) (memory_state self.new)) }
+        ensures cause { CountsWrite file.0 (memory_state self.old).faults (memory_state self.new).faults result }
+        ensures steady { IfTold (memory_state self.old).steady (λ rooms.
+            length piece.now ≤ slice_index rooms file.0 → IsOk result) }
+        // It fails exactly where its number is listed or the piece is longer than the room.
+        ensures fails { is_err result ≡
+            (is_listed self.old || nat_lt (slice_index (rooms_of self.old) file.0) (length piece.now)) }
+        ensures counted { CountsCall self.old self.new }
+        ensures rooms_less { IfOk result (λ count. rooms_of self.new ≡ rooms_less (rooms_of self.old) file.0 count) }
+        ensures rooms_kept { OnErr result (rooms_of self.new ≡ rooms_of self.old) }
+    {
         let fails = count_call(&mut self.calls, self.failing.as_slice());
         let room = self.room(file.0);
         if fails || room < piece.len() {
@@ -280,7 +356,22 @@ impl Host for MemHost {
         Ok(piece.len())
     }
 
-    fn finish(&mut self, file: OutFile) -> Result<(), Failed> {
+    fn finish(&mut self, file: OutFile) -> Result<(), Failed>
+        requires created { 2 ≤ file.0 }
+        requires open_yet { slice_get (memory_state self.old).ended (file.0 - 2) ≡ Some false }
+        ensures ended { OnOk result ((memory_state self.new).ended ≡ slice_set (memory_state self.old).ended (file.0 - 2) true) }
+        ensures not_ended { OnErr result ((memory_state self.new).ended ≡ (memory_state self.old).ended) }
+        ensures given { (memory_state self.new).given ≡ (memory_state self.old).given }
+        ensures others { ChangesOutputs (memory_state self.old) (memory_state self.new) }
+        ensures notes { (memory_state self.new).faults.notes ≡ (memory_state self.old).faults.notes }
+        ensures cause { HasCause (memory_state self.old).faults.outputs (memory_state self.new).faults.outputs result }
+        ensures steady { IsSome (memory_state self.old).steady → IsOk result }
+        ensures rooms { KeepsRooms (memory_state self.old) (memory_state self.new) }
+        // It fails exactly where its number is listed.
+        ensures fails { is_err result ≡ is_listed self.old }
+        ensures counted { CountsCall self.old self.new }
+        ensures rooms_kept { rooms_of self.new ≡ rooms_of self.old }
+    {
         let fails = count_call(&mut self.calls, self.failing.as_slice());
         if fails {
             self.out_faults = self.out_faults.saturating_add(1);

@@ -1,6 +1,6 @@
 // What a host in memory does at each of its limits, and the two loops over it.
-ghost use Rattle.std.specs.Prelude.{◌≡◌, ◌<◌, [], length, None, IfOk};
-ghost use Rattle.snd_host.specs.Memory.{memory_state};
+ghost use Rattle.std.specs.Prelude.{◌≡◌, ◌<◌, [], ◌∷◌, length, true, None, is_err, IfOk};
+ghost use Rattle.snd_host.specs.Memory.{memory_state, calls_of, failing_of};
 
 use crate::{Failed, Host, MemHost, OutFile, ReadRefusal, read_whole, write_all};
 use std::alloc::Global;
@@ -14,7 +14,9 @@ const FIRST: OutFile = OutFile(2);
 
 /// A host with the input `IN` of five bytes and a second entry of that name.
 fn five_bytes(alloc: Global, failing: &[u32], rooms: &[usize]) -> Result<MemHost, Fail>
-    ensures { IfOk result (λ host. (memory_state host).ended ≡ []) }
+    ensures ended { IfOk result (λ host. (memory_state host).ended ≡ []) }
+    ensures calls { IfOk result (λ host. calls_of host ≡ 0) }
+    ensures failing { IfOk result (λ host. failing_of host ≡ failing.now) }
 {
     let files = vec![in alloc;
         (
@@ -66,5 +68,24 @@ fn outputs_take_what_they_have_room_for(rt: HostRuntime) -> Result<(), Fail> {
     assert_eq!(rt; host.output(REPORT), b"abc".as_slice());
     assert_eq!(rt; host.output(FIRST), b"xy".as_slice());
     assert_eq!(rt; host.calls(), 7);
+    Ok(())
+}
+
+/// Writes twice to the report, and answers as the second write did.
+fn second_write(host: &mut MemHost) -> Result<usize, Failed>
+    requires none_yet { calls_of host.old ≡ 0 }
+    requires second_fails { failing_of host.old ≡ 1 ∷ [] }
+    ensures { is_err result ≡ true }
+{
+    let _ = host.write(REPORT, b"ab");
+    host.write(REPORT, b"c")
+}
+
+#[test]
+fn a_call_whose_number_is_listed_fails(rt: HostRuntime) -> Result<(), Fail> {
+    let mut host = five_bytes(rt.alloc(), &[1], &[3])?;
+    assert_eq!(rt; second_write(&mut host), Err(Failed));
+    assert_eq!(rt; host.calls(), 2);
+    assert_eq!(rt; host.output(REPORT), b"ab".as_slice());
     Ok(())
 }
