@@ -174,9 +174,16 @@ module _ (command : Command) (r : Option (Refusal Cause)) (x z : HostState) (sta
     calm = λ rooms steady files told have fits. ((o.answered files told).enough rooms steady have fits).1;
   }
 
+  -- on a steady host that has room for the line of the end
+  calm_with : (rooms : List ℕ) → x.steady ≡ Some rooms → (end : Option (Refusal Cause)) → r ≡ end → length (refusal_line end) ≤ slice_index rooms 1 → z.faults.notes ≡ x.faults.notes
+  calm_with rooms steady end same fits =
+      o.complains.steady rooms steady (subst (λ (e : Option (Refusal Cause)). length (refusal_line e) ≤ slice_index rooms 1) (sym same) fits)
+
   pub completes_complaint : clause.CompletesComplaint command x z status
-  completes_complaint rooms steady files told fits =
-      o.complains.steady rooms steady (subst (λ (e : Option (Refusal Cause)). length (refusal_line e) ≤ slice_index rooms 1) (sym (line_is files told)) fits)
+  completes_complaint = record {
+    calm = λ rooms steady files told. calm_with rooms steady _ (line_is files told);
+    calm_plain = λ rooms steady end plain. calm_with rooms steady end (plain_is r end (ap plain_end (sym is) ∙ plain));
+  }
 
   pub untold : clause.Untold command x z status
   untold = record {

@@ -60,9 +60,12 @@ pub record CompletesOutputs (command : Command) (old new : HostState) (status : 
       new.faults.outputs ≡ old.faults.outputs))
 
 -- and no complaint that there is room for.
-abbrev pub CompletesComplaint : Command → HostState → HostState → Status → Type 0
-CompletesComplaint command old new status = IfTold old.steady (λ rooms. IfTold old.holds (λ files.
-    length (status_line status (answer_of command files)) ≤ slice_index rooms 1 → new.faults.notes ≡ old.faults.notes))
+pub record CompletesComplaint (command : Command) (old new : HostState) (status : Status) : Type 0 where
+  pub calm : IfTold old.steady (λ rooms. IfTold old.holds (λ files.
+      length (status_line status (answer_of command files)) ≤ slice_index rooms 1 → new.faults.notes ≡ old.faults.notes))
+  -- A status without numbers has its line, whatever is told of the inputs.
+  pub calm_plain : IfTold old.steady (λ rooms. IfTold (plain_end status) (λ end.
+      length (refusal_line end) ≤ slice_index rooms 1 → new.faults.notes ≡ old.faults.notes))
 
 -- What holds on every host, whether it tells anything or not.
 pub record Untold (command : Command) (old new : HostState) (status : Status) : Type 0 where
