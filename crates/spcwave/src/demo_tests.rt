@@ -1,6 +1,6 @@
 // Demo files, made and checked by the program over a host in memory.
 use crate::statuses::Status;
-use crate::test_support::{rendered, run_words};
+use crate::test_support::{rendered, rendered_in_room, run_words};
 use std::test::Fail;
 
 /// Sums over the frames of a sound file.
@@ -36,6 +36,17 @@ fn the_demo_file_of_seven_is_made(rt: HostRuntime) -> Result<(), Fail> {
     let file = made.output();
     assert!(rt; made.is_done(file, "bytes 66048\n") && file.len() == 66048);
     assert!(rt; file.get(0x1100..0x1102) == Some(b"\x90\xe9".as_slice()));
+    Ok(())
+}
+
+/// The demo file of 7 has no tags, so it lasts three minutes.
+#[test]
+fn the_demo_file_of_seven_is_rendered_whole(rt: HostRuntime) -> Result<(), Fail> {
+    let made = run_words(rt.alloc(), &["demo", "7", "OUT"], &[])?;
+    let played = rendered_in_room(rt.alloc(), made.output(), 23040044)?;
+    assert!(rt; played.status() == Status::Ok && played.complaint().is_empty());
+    assert!(rt; played.report().starts_with(b"samples 5760000\n"));
+    assert!(rt; played.output().len() == 23040044);
     Ok(())
 }
 

@@ -28,6 +28,9 @@ const ECHO: Pieces = &[
     (DSP + 0x7f, b"\x7f"),
 ];
 
+/// Tags: a second, and a fade of a millisecond.
+const TAGS: Pieces = &[(0x23, b"\x1a"), (0xa9, b"001"), (0xac, b"00001")];
+
 /// Silence, and a voice.
 const VOICES: &[Heard] = &[
     Heard {
@@ -52,6 +55,15 @@ const VOICES: &[Heard] = &[
         shows: "a voice",
         sound: SOUND,
         more: &[],
+        word: "8",
+        samples: "8",
+        frames: &[(6, 0), (2, 4000)],
+        batches: ONE_BATCH,
+    },
+    Heard {
+        shows: "a voice whose tags give another length and a fade",
+        sound: SOUND,
+        more: TAGS,
         word: "8",
         samples: "8",
         frames: &[(6, 0), (2, 4000)],
@@ -156,9 +168,6 @@ fn a_table_weighs_the_samples(rt: HostRuntime) -> Result<(), Fail> {
     Ok(())
 }
 
-/// Tags: a second, and a fade of a millisecond.
-const TAGS: Pieces = &[(0x23, b"\x1a"), (0xa9, b"001"), (0xac, b"00001")];
-
 /// Whether the frame of this number in a sound file is this one on both sides. The header is as long as 11 frames.
 fn has_frame(wave: &[u8], at: usize, side: i16) -> bool {
     let [low, high] = side.to_le_bytes();
@@ -225,27 +234,35 @@ fn render_over_zeros(alloc: Global, length: usize) -> Result<Ran, Fail> {
 
 #[test]
 fn tables_of_another_length_are_refused(rt: HostRuntime) -> Result<(), Fail> {
-    let short = render_over_zeros(rt.alloc(), 3)?;
-    let line = "spcwave: table has 3 bytes, not 1024\n";
+    let short = render_over_zeros(rt.alloc(), 1023)?;
+    let line = "spcwave: table has 1023 bytes, not 1024\n";
     assert!(rt; short.is_refused(Status::TableLength, line));
     let long = render_over_zeros(rt.alloc(), 1048577)?;
     assert!(rt; long.is_refused(Status::InputTooLong, "spcwave: input is too long\n"));
     Ok(())
 }
 
-/// Whether a render whose call of this number fails leaves prefixes of what the whole one leaves.
+/// Whether a render whose call of this number, on an input, fails leaves nothing. Only the complaint is written behind
+/// that call, and all calls before it are on inputs too, so no output is created.
+fn leaves_nothing(ran: &Ran, call: u32) -> bool {
+    ran.is_refused(Status::ReadFault, "spcwave: input could not be read\n")
+        && ran.trace().is_empty()
+        && ran.calls() == call.wrapping_add(2)
+}
+
+/// Whether a render whose call of this number, behind those on inputs, fails leaves prefixes of what the whole one
+/// leaves.
 fn leaves_prefixes(whole: &Ran, ran: &Ran, call: u32) -> bool {
-    // The file is opened and read 18 times, the table twice; what is left are calls on outputs.
-    let wanted = match call {
-        0..22 => Status::ReadFault,
-        _ if call < whole.calls() => Status::WriteFault,
-        _ => Status::Ok,
+    let (wanted, line) = if call < whole.calls() {
+        (Status::WriteFault, "spcwave: output could not be written\n")
+    } else {
+        (Status::Ok, "")
     };
     ran.status() == wanted
+        && ran.complaint() == line.as_bytes()
         && whole.output().starts_with(ran.output())
         && whole.trace().starts_with(ran.trace())
         && whole.report().starts_with(ran.report())
-        && (call >= 22 || ran.output().is_empty())
 }
 
 #[test]
@@ -262,7 +279,12 @@ fn each_call_of_a_render_may_fail(rt: HostRuntime) -> Result<(), Fail> {
             &options,
             &[call],
         )?;
-        assert!(rt; leaves_prefixes(&whole, &ran, call), "at {call}");
+        // The file is opened and read 18 times, the table twice.
+        let holds = match call {
+            0..22 => leaves_nothing(&ran, call),
+            _ => leaves_prefixes(&whole, &ran, call),
+        };
+        assert!(rt; holds, "at {call}");
     }
     Ok(())
 }

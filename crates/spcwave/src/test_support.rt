@@ -57,14 +57,19 @@ impl Ran {
     }
 }
 
-/// A run over a new host. Its contract says nothing, so that each test is proved without the promises of a run.
+/// The bytes of the first output that there is room for, but where a test says more.
+const ROOM: usize = 2000000;
+
+/// A run over a new host, whose first output has this room. Its contract says nothing, so that each test is proved
+/// without the promises of a run.
 fn run_over(
     alloc: Global,
     words: &[String],
     files: Vec<(String, Vec<u8>)>,
     failing: Vec<u32>,
+    room: usize,
 ) -> Result<Ran, Fail> {
-    let rooms = vec![in alloc; 400, 100, 2000000, 10000]?;
+    let rooms = vec![in alloc; 400, 100, room, 10000]?;
     let mut host = MemHost::new(alloc, files, failing, rooms)?;
     let status = run(alloc, words, &mut host);
     Ok(Ran { status, host })
@@ -106,16 +111,18 @@ pub fn run_failing(
     add_words(alloc, &mut given, words)?;
     let mut files = Vec::new(alloc);
     add_file(alloc, &mut files, "IN", input)?;
-    run_over(alloc, given.as_slice(), files, failing.to_vec(alloc)?)
+    run_over(alloc, given.as_slice(), files, failing.to_vec(alloc)?, ROOM)
 }
 
-/// Renders the file over the table to `OUT`, with these options, where the calls of these numbers fail.
-pub fn render_failing(
+/// Renders the file over the table to `OUT`, with these options, where the calls of these numbers fail and the sound
+/// file has this room.
+fn render_over(
     alloc: Global,
     file: &[u8],
     table: &[u8],
     options: &[&str],
     failing: &[u32],
+    room: usize,
 ) -> Result<Ran, Fail> {
     let mut given = Vec::new(alloc);
     add_words(alloc, &mut given, &["render", "SPC", "TABLE", "OUT"])?;
@@ -123,7 +130,18 @@ pub fn render_failing(
     let mut files = Vec::new(alloc);
     add_file(alloc, &mut files, "SPC", file)?;
     add_file(alloc, &mut files, "TABLE", table)?;
-    run_over(alloc, given.as_slice(), files, failing.to_vec(alloc)?)
+    run_over(alloc, given.as_slice(), files, failing.to_vec(alloc)?, room)
+}
+
+/// The same with the usual room.
+pub fn render_failing(
+    alloc: Global,
+    file: &[u8],
+    table: &[u8],
+    options: &[&str],
+    failing: &[u32],
+) -> Result<Ran, Fail> {
+    render_over(alloc, file, table, options, failing, ROOM)
 }
 
 /// The place of the memory in a file, and of the registers of the S-DSP.
@@ -224,6 +242,12 @@ pub fn rendered(alloc: Global, file: &[u8], options: &[&str]) -> Result<Ran, Fai
     render_failing(alloc, file, table.as_slice(), options, &[])
 }
 
+/// The same as a user gives it, without options, where the sound file has this room.
+pub fn rendered_in_room(alloc: Global, file: &[u8], room: usize) -> Result<Ran, Fail> {
+    let table = straight_table(alloc)?;
+    render_over(alloc, file, table.as_slice(), &[], &[], room)
+}
+
 /// Whether all was done, with the sound file of these frames and this report.
 pub fn has_frames(alloc: Global, ran: &Ran, frames: Frames, report: &str) -> Result<bool, Fail> {
     let wave = wave_of(alloc, frames)?;
@@ -265,7 +289,7 @@ impl Heard {
     }
 }
 
-/// A render, and the trace that it has.
+/// A render, and the frames and the trace that it has.
 #[derive(Drop)]
 pub struct Traced {
     pub shows: &'static str,
@@ -273,12 +297,13 @@ pub struct Traced {
     pub more: Pieces,
     pub samples: &'static str,
     pub voices: &'static str,
+    pub frames: Frames,
     pub trace: &'static str,
     pub batches: &'static str,
 }
 
 impl Traced {
-    /// Whether the render has its trace and its report, and the same sound without the trace.
+    /// Whether the render has its frames, its trace and its report, and the same without the trace.
     pub fn holds(&self, alloc: Global) -> Result<bool, Fail> {
         let file = file_of(alloc, self.sound, self.more)?;
         let plain = rendered(alloc, file.as_slice(), &["--samples", self.samples])?;
@@ -296,8 +321,8 @@ impl Traced {
         )?;
         let report = expected_report(alloc, self.samples, self.batches)?;
         Ok(
-            plain.is_done(traced.output(), report.as_str())
-                && traced.is_done(plain.output(), report.as_str())
+            has_frames(alloc, &plain, self.frames, report.as_str())?
+                && has_frames(alloc, &traced, self.frames, report.as_str())?
                 && traced.trace() == self.trace.as_bytes(),
         )
     }

@@ -1,6 +1,7 @@
 // Traces of renders by the program over a host in memory.
 use crate::test_support::{
-    DSP, MEMORY, NO_BATCH, ONE_BATCH, Pieces, SOUND, Traced, expected_report, file_of, rendered,
+    DSP, MEMORY, NO_BATCH, ONE_BATCH, Pieces, SOUND, Traced, expected_report, file_of, has_frames,
+    rendered,
 };
 use std::test::Fail;
 
@@ -32,6 +33,7 @@ const VOICES: &[Traced] = &[
         more: &[],
         samples: "8",
         voices: "01",
+        frames: &[(6, 0), (2, 4000)],
         trace: LINES,
         batches: ONE_BATCH,
     },
@@ -41,6 +43,7 @@ const VOICES: &[Traced] = &[
         more: &[],
         samples: "8",
         voices: "00",
+        frames: &[(6, 0), (2, 4000)],
         trace: "",
         batches: ONE_BATCH,
     },
@@ -50,6 +53,7 @@ const VOICES: &[Traced] = &[
         more: &[],
         samples: "0",
         voices: "fF",
+        frames: &[],
         trace: "",
         batches: NO_BATCH,
     },
@@ -71,6 +75,7 @@ const WRITES: &[Traced] = &[
         more: WRITE,
         samples: "1",
         voices: "00",
+        frames: &[(1, 0)],
         trace: "R 0 6c 20\n",
         batches: ONE_BATCH,
     },
@@ -80,6 +85,7 @@ const WRITES: &[Traced] = &[
         more: IGNORED,
         samples: "1",
         voices: "00",
+        frames: &[(1, 0)],
         trace: "",
         batches: ONE_BATCH,
     },
@@ -89,6 +95,7 @@ const WRITES: &[Traced] = &[
         more: OVERWRITTEN,
         samples: "3",
         voices: "00",
+        frames: &[(3, 0)],
         trace: "P 1 0 5a\n",
         batches: "batches 3 register 0 memory 0 echo 2 full 0 events 0 end 1\n",
     },
@@ -110,6 +117,7 @@ const LATE: &[Traced] = &[
         more: PORT,
         samples: "2",
         voices: "00",
+        frames: &[(2, 0)],
         trace: "P 1 0 5a\n",
         batches: "batches 2 register 0 memory 1 echo 0 full 0 events 0 end 1\n",
     },
@@ -119,6 +127,7 @@ const LATE: &[Traced] = &[
         more: PORT,
         samples: "1",
         voices: "00",
+        frames: &[(1, 0)],
         trace: "",
         batches: "batches 1 register 0 memory 1 echo 0 full 0 events 0 end 0\n",
     },
@@ -135,10 +144,11 @@ fn a_write_behind_the_last_sample_has_none(rt: HostRuntime) -> Result<(), Fail> 
 /// The program reads the envelope of voice 0, and writes it to port 0, again and again.
 const ENVELOPE: Pieces = &[(MEMORY + 0x0400, b"\x8f\x08\xf2\xe4\xf3\xc4\xf4\x2f\xfa")];
 
-/// How often this byte stands there.
-fn count_of(bytes: &[u8], wanted: u8) -> usize {
-    bytes.iter().filter(|byte| **byte == wanted).count()
-}
+/// What it writes: first in cycle 11, and then every 11 cycles. From sample 6 on the envelope is heard.
+const ENVELOPE_LINES: &str =
+    "P 0 0 00\nP 0 0 00\nP 1 0 00\nP 1 0 00\nP 1 0 00\nP 2 0 00\nP 2 0 00\nP 2 0 00\n\
+    P 3 0 00\nP 3 0 00\nP 3 0 00\nP 4 0 00\nP 4 0 00\nP 4 0 00\nP 5 0 00\nP 5 0 00\nP 5 0 00\n\
+    P 6 0 00\nP 6 0 00\nP 6 0 00\nP 7 0 7f\nP 7 0 7f\nP 7 0 7f\n";
 
 #[test]
 fn a_loop_sends_the_envelope_to_a_port(rt: HostRuntime) -> Result<(), Fail> {
@@ -147,12 +157,8 @@ fn a_loop_sends_the_envelope_to_a_port(rt: HostRuntime) -> Result<(), Fail> {
     let ran = rendered(rt.alloc(), file.as_slice(), &options)?;
     let line = "batches 8 register 5 memory 2 echo 0 full 0 events 0 end 1\n";
     let report = expected_report(rt.alloc(), "8", line)?;
-    assert!(rt; ran.is_done(ran.output(), report.as_str()));
-    // 23 lines of 9 bytes: an `f` stands in the last three alone.
-    let trace = ran.trace();
-    assert!(rt; trace.len() == 23 * 9);
-    assert!(rt; count_of(trace, b'\n') == 23);
-    assert!(rt; trace.ends_with(b"P 6 0 00\nP 7 0 7f\nP 7 0 7f\nP 7 0 7f\n"));
-    assert!(rt; count_of(trace, b'f') == 3);
+    let frames = &[(6, 0), (2, 4000)];
+    assert!(rt; has_frames(rt.alloc(), &ran, frames, report.as_str())?);
+    assert!(rt; ran.trace() == ENVELOPE_LINES.as_bytes());
     Ok(())
 }
