@@ -100,9 +100,9 @@ fn fields_and_texts(rt: HostRuntime) -> Result<(), Fail> {
 fn lengths_by_the_tags(rt: HostRuntime) -> Result<(), Fail> {
     let alloc = rt.alloc();
     for (mark, seconds, fade, frames, faded) in [
-        (0x1A, b"abc", b"\0\0\0\0\0", 5_760_000, 0),
-        (0x1A, b"000", b"10000", 5_760_000, 0),
-        (0x1B, b"120", b"10000", 5_760_000, 0),
+        (0x1A, b"abc", b"00001", 5_760_000, 0),
+        (0x1A, b"000", b"00001", 5_760_000, 0),
+        (0x1B, b"001", b"00001", 5_760_000, 0),
         (0x1A, b"120", b"10000", 4_160_000, 320_000),
         (0x1A, b"30 ", b"\0\0\0\0\0", 960_000, 0),
         (0x1A, b"001", b"00001", 32_032, 32),
