@@ -4,7 +4,6 @@ ghost use Rattle.num_fix.specs.Arithmetic.{has_bit};
 ghost use Rattle.ports_timers.specs.Io.{is_enabled, first_timer, first_io, answers_read, read_answer, after_read, latches_after_control, timer_after_control, after_control_write, after_write, after_ticks_of};
 
 use crate::Timer;
-use crate::timer::after_cycles;
 
 /// The state of the ports, the ROM and the timers: the control byte F1h, the DSP address, the latches that the processor
 /// reads and those that it writes, the timers 0 to 2, and the 64 bytes that show at FFC0h to FFFFh while control has bit 7.
@@ -144,9 +143,12 @@ impl Io {
             return;
         }
         let control = self.control;
-        self.timer0 = after_cycles(self.timer0, has_bit(control, 0), 128, from_clock, cycles);
-        self.timer1 = after_cycles(self.timer1, has_bit(control, 1), 128, from_clock, cycles);
-        self.timer2 = after_cycles(self.timer2, has_bit(control, 2), 16, from_clock, cycles);
+        self.timer0
+            .pass(has_bit(control, 0), 128, from_clock, cycles);
+        self.timer1
+            .pass(has_bit(control, 1), 128, from_clock, cycles);
+        self.timer2
+            .pass(has_bit(control, 2), 16, from_clock, cycles);
     }
 
     /// The address of the S-DSP's register that F3h reaches.

@@ -38,15 +38,15 @@ fn after_ticks(start: Timer, count: u64) -> Timer
     timer
 }
 
-/// A timer after some cycles from a moment of the clock on.
-pub fn after_cycles(timer: Timer, enabled: bool, period: u64, clock: u64, cycles: u8) -> Timer
-    requires period { 0 < period }
-    requires clock { clock < 2 ^ 40 }
-    ensures { result ≡ after_cycles enabled period clock cycles timer }
-{
-    if enabled {
-        after_ticks(timer, (clock + u64::from(cycles)) / period - clock / period)
-    } else {
-        timer
+impl Timer {
+    /// Lets some cycles pass, from a moment of the clock on.
+    pub(crate) fn pass(&mut self, enabled: bool, period: u64, clock: u64, cycles: u8)
+        requires period { 0 < period }
+        requires clock { clock < 2 ^ 40 }
+        ensures { self.new ≡ after_cycles enabled period clock cycles self.old }
+    {
+        if enabled {
+            *self = after_ticks(*self, (clock + u64::from(cycles)) / period - clock / period);
+        }
     }
 }

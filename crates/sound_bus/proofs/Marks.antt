@@ -14,6 +14,11 @@ unmarked page = elim (cases_lt page 256) [
   | inr beyond ↦ get_or_past (replicate 256 false) page false (let all = length-replicate {A = Bool} 256 false in omega arith)
 ]
 
+-- and none is plain
+pub none_plain : (page : ℕ) → slice_index_or (replicate 256 false) page false ≡ true
+    → (slice_index_or (replicate 256 false) page false ≡ true) × (0 < page) × (page < 255)
+none_plain page is = let none = unmarked page in cc
+
 -- one page more that isn't written
 pub marked : (reach : ReachPages) (marks : List Bool) (at : ℕ) → at < 65536 → AreUnwritten (Some reach) marks → may_be_written reach at ≡ false
     → AreUnwritten (Some reach) (slice_set marks (at / 256) true)

@@ -67,3 +67,7 @@ IsTaken chip taken state memory = IfSome taken (λ reach. reach ≡ chip.reach s
 abbrev pub AreUnwritten : Option ReachPages → (marks : List Bool) → Type 0
 AreUnwritten None marks = (page : ℕ) → slice_index_or marks page false ≡ false
 AreUnwritten (Some reach) marks = (page : ℕ) → slice_index_or marks page false ≡ true → set.contains reach.write_pages page ≡ false
+
+-- pages that are marked as plain are marked as unwritten too, and hold neither the ports nor the ROM
+abbrev pub ArePlain : (unwritten plain : List Bool) → Type 0
+ArePlain unwritten plain = (page : ℕ) → slice_index_or plain page false ≡ true → (slice_index_or unwritten page false ≡ true) × (0 < page) × (page < 255)

@@ -113,25 +113,57 @@ impl<C: Chip> LagBus<C> {
         self.counts
     }
 
-    /// A read where memory may not be what answers.
+    /// A read of F3h.
     #[inline(never)]
+    fn read_register(&mut self) -> u8
+        requires { self.old.machine.calls < 64 }
+        ensures answer { result ≡ ((lagging C.meaning).read self.old 0xF3).0 }
+        ensures next { self.new ≡ ((lagging C.meaning).read self.old 0xF3).1 }
+    {
+        self.calls += 1;
+        let address = self.io.dsp_address();
+        if self.late.pending() > 0 {
+            if let Some(cause) = self.late.cause_of_read(address, 0xF3) {
+                settle_for(&mut self.late, &mut self.counts, cause);
+            }
+        }
+        answer_of(&self.late, &mut self.io, 0xF3)
+    }
+
+    /// A read where memory may not be what answers.
+    #[inline]
     fn read_port(&mut self, addr: u16) -> u8
         requires { self.old.machine.calls < 64 }
         ensures answer { result ≡ ((lagging C.meaning).read self.old addr).0 }
         ensures next { self.new ≡ ((lagging C.meaning).read self.old addr).1 }
     {
+        if addr == 0xF3 {
+            return self.read_register();
+        }
         self.calls += 1;
-        let address = self.io.dsp_address();
-        if addr != 0xF3 {
-            if self.late.is_overtaken(addr) {
-                settle_for(&mut self.late, &mut self.counts, Cause::Echo);
-            }
-        } else if self.late.pending() > 0 {
-            if let Some(cause) = self.late.cause_of_read(address, addr) {
-                settle_for(&mut self.late, &mut self.counts, cause);
-            }
+        if self.late.is_overtaken(addr) {
+            settle_for(&mut self.late, &mut self.counts, Cause::Echo);
         }
         answer_of(&self.late, &mut self.io, addr)
+    }
+
+    /// A read of an address that isn't marked as plain.
+    #[inline(never)]
+    fn read_unmarked(&mut self, addr: u16) -> u8
+        requires { self.old.machine.calls < 64 }
+        ensures answer { result ≡ ((lagging C.meaning).read self.old addr).0 }
+        ensures next { self.new ≡ ((lagging C.meaning).read self.old addr).1 }
+    {
+        match addr {
+            0xF0..=0xFF | 0xFFC0.. => self.read_port(addr),
+            _ => {
+                self.calls += 1;
+                if self.late.is_overtaken(addr) {
+                    settle_for(&mut self.late, &mut self.counts, Cause::Echo);
+                }
+                self.late.get(addr)
+            }
+        }
     }
 
     /// A pass that comes to a multiple of 16 of the clock, where timers may tick and a sample may be due.
@@ -257,18 +289,13 @@ fn write_late<C: Chip>(late: &mut LateSound<C>, at: u16, value: u8, sample: u32)
 impl<C: Chip> Bus for LagBus<C> {
     ghost means = { lagging C.meaning };
 
-    #[inline]
+    #[inline(always)]
     fn read(&mut self, addr: u16) -> u8 {
-        match addr {
-            0xF0..=0xFF | 0xFFC0.. => self.read_port(addr),
-            _ => {
-                self.calls += 1;
-                if self.late.is_overtaken(addr) {
-                    settle_for(&mut self.late, &mut self.counts, Cause::Echo);
-                }
-                self.late.get(addr)
-            }
+        if self.late.is_plain(addr) {
+            self.calls += 1;
+            return self.late.get(addr);
         }
+        self.read_unmarked(addr)
     }
 
     #[inline]
@@ -285,13 +312,14 @@ impl<C: Chip> Bus for LagBus<C> {
         }
     }
 
-    #[inline]
+    #[inline(always)]
     fn pass(&mut self, cycles: u8) {
-        if self.clock % 16 + u64::from(cycles) >= 16 {
+        let clock = self.clock + u64::from(cycles);
+        if clock % 16 < u64::from(cycles) {
             self.pass_ticks(cycles);
         } else {
             self.calls += 1;
-            self.clock += u64::from(cycles);
+            self.clock = clock;
         }
     }
 

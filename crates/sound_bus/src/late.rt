@@ -48,6 +48,28 @@ impl<C: Chip> Model for LateSound<C> {
         × IsTaken C.meaning b.taken (C.state b.chip) b.memory };
 }
 
+/// Clears a list and moves another one into it. Mostly that one is empty.
+fn move_frames(from: &mut Frames, to: &mut Frames)
+    ensures moved { to.new ≡ from.old }
+    ensures none_left { from.new ≡ [] }
+{
+    to.clear();
+    if !from.as_slice().is_empty() {
+        std::mem::swap(from, to);
+    }
+}
+
+/// Clears a list and moves another one into it. Mostly that one is empty.
+fn move_records(from: &mut Records, to: &mut Records)
+    ensures moved { to.new ≡ from.old }
+    ensures none_left { from.new ≡ [] }
+{
+    to.clear();
+    if !from.as_slice().is_empty() {
+        std::mem::swap(from, to);
+    }
+}
+
 impl<C: Chip> LateSound<C> {
     /// The samples that are pending.
     #[inline]
@@ -98,6 +120,16 @@ impl<C: Chip> LateSound<C> {
             }
             None => cause::may_be_written(&self.take_reach(), at),
         }
+    }
+
+    /// Whether a mark tells that memory alone is at an address and that no pending sample writes it.
+    #[inline(always)]
+    pub fn is_plain(&self, at: u16) -> bool
+        ensures unwritten { result ≡ true → may_be_written self.now.reach at ≡ false }
+        ensures above_ports { result ≡ true → 0x100 ≤ at }
+        ensures below_rom { result ≡ true → at < 0xFF00 }
+    {
+        self.taken.is_plain(at)
     }
 
     /// Whether samples are pending that may write the byte at an address. Mostly a mark tells that they don't.
@@ -254,10 +286,8 @@ impl<C: Chip> LateSound<C> {
         ensures all_records { self.old.records ≡ records.new ++ self.new.records }
         ensures none_waits { self.old.pending ≡ 0 → self.new.records ≡ [] }
     {
-        frames.clear();
-        std::mem::swap(&mut self.frames, frames);
-        records.clear();
-        std::mem::swap(&mut self.records, records);
+        move_frames(&mut self.frames, frames);
+        move_records(&mut self.records, records);
     }
 
     /// A chip that has made no sample, over a memory.

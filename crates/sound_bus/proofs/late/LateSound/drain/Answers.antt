@@ -2,15 +2,15 @@ use Rattle.sound_bus.proofs.Holding.{late_drained, late_ready_records, late_read
 use Rattle.sound_bus.proofs.late.LateSound.drain.Goals as goal
 
 pub returns-clause-frames : goal.returns-clause-frames
-returns-clause-frames g c = rw (c.swap.ensures.y_after, ← c.self.view_is) (late_ready_frames g.met.C.Chip.lawful c.self.invariant.0)
+returns-clause-frames g c = rw (c.move_frames.ensures.moved, ← c.self.view_is) (late_ready_frames g.met.C.Chip.lawful c.self.invariant.0)
 
 pub returns-clause-records : goal.returns-clause-records
-returns-clause-records g c = rw (c.swap-2.ensures.y_after, ← c.self.view_is) (late_ready_records g.met.C.Chip.lawful c.self.invariant.0)
+returns-clause-records g c = rw (c.move_records.ensures.moved, ← c.self.view_is) (late_ready_records g.met.C.Chip.lawful c.self.invariant.0)
 
 pub returns-clause-rest : goal.returns-clause-rest
 returns-clause-rest g c =
-    rw (c.swap.ensures.x_after, c.swap-2.ensures.x_after, c.clear.ensures, c.clear-2.ensures, ← c.self.view_is)
+    rw (c.move_frames.ensures.none_left, c.move_records.ensures.none_left, ← c.self.view_is)
     (late_drained g.met.C.Chip.lawful c.self.invariant.0)
 
 pub returns-clause-none_waits : goal.returns-clause-none_waits
-returns-clause-none_waits g c = rw (← c.self.view_is, c.swap-2.ensures.x_after, c.clear-2.ensures) (λ none. late_none_waits g.met.C.Chip.lawful c.self.invariant.0 none)
+returns-clause-none_waits g c = rw (← c.self.view_is, c.move_records.ensures.none_left) (λ none. late_none_waits g.met.C.Chip.lawful c.self.invariant.0 none)
