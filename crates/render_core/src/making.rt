@@ -67,9 +67,9 @@ fn take_steps<B: Source>(cpu: &mut Cpu, bus: &mut B, samples: u32)
     ensures run { after_run B.means samples (cpu.old, bus.old) ≡ after_run B.means samples (cpu.new, bus.new) }
     ensures later { B.means.clock bus.old < B.means.clock bus.new }
 {
-    step_on(cpu, bus, samples);
-    step_on(cpu, bus, samples);
-    step_on(cpu, bus, samples);
+    for _ in 0..3u8 {
+        step_on(cpu, bus, samples);
+    }
 }
 
 /// Some steps, and what was emitted with them.
