@@ -130,9 +130,9 @@ impl<C: Chip> LagBus<C> {
         answer_of(&self.late, &mut self.io, 0xF3)
     }
 
-    /// A read where memory may not be what answers.
-    #[inline]
-    fn read_port(&mut self, addr: u16) -> u8
+    /// A read of an address of which no mark tells anything.
+    #[inline(never)]
+    fn read_unmarked(&mut self, addr: u16) -> u8
         requires { self.old.machine.calls < 64 }
         ensures answer { result ≡ ((lagging C.meaning).read self.old addr).0 }
         ensures next { self.new ≡ ((lagging C.meaning).read self.old addr).1 }
@@ -147,26 +147,26 @@ impl<C: Chip> LagBus<C> {
         answer_of(&self.late, &mut self.io, addr)
     }
 
-    /// A read of an address that isn't marked as plain.
+    /// A read of a page that isn't marked as plain. Mostly it is page 0, which no sample writes.
     #[inline(never)]
-    fn read_unmarked(&mut self, addr: u16) -> u8
+    fn read_aside(&mut self, addr: u16) -> u8
         requires { self.old.machine.calls < 64 }
         ensures answer { result ≡ ((lagging C.meaning).read self.old addr).0 }
         ensures next { self.new ≡ ((lagging C.meaning).read self.old addr).1 }
     {
-        match addr {
-            0xF0..=0xFF | 0xFFC0.. => self.read_port(addr),
-            _ => {
-                self.calls += 1;
-                if self.late.is_overtaken(addr) {
-                    settle_for(&mut self.late, &mut self.counts, Cause::Echo);
-                }
-                self.late.get(addr)
-            }
+        if addr >= 0x100 || addr == 0xF3 || !self.late.is_unwritten(addr) {
+            return self.read_unmarked(addr);
+        }
+        self.calls += 1;
+        if addr < 0xF0 {
+            self.late.get(addr)
+        } else {
+            answer_of(&self.late, &mut self.io, addr)
         }
     }
 
     /// A pass that comes to a multiple of 16 of the clock, where timers may tick and a sample may be due.
+    #[cold]
     #[inline(never)]
     fn pass_ticks(&mut self, cycles: u8)
         requires room { self.old.machine.calls < 64 }
@@ -295,7 +295,7 @@ impl<C: Chip> Bus for LagBus<C> {
             self.calls += 1;
             return self.late.get(addr);
         }
-        self.read_unmarked(addr)
+        self.read_aside(addr)
     }
 
     #[inline]
@@ -344,6 +344,10 @@ impl<C: Chip> Source for LagBus<C> {
 
     fn made(&self) -> u32 {
         (self.clock / 32) as u32
+    }
+
+    fn has_room(&self) -> bool {
+        self.calls <= 32
     }
 
     /// Makes the pending samples, as one batch.

@@ -132,6 +132,14 @@ impl<C: Chip> LateSound<C> {
         self.taken.is_plain(at)
     }
 
+    /// Whether a mark tells that no pending sample writes the byte at an address.
+    #[inline]
+    pub fn is_unwritten(&self, at: u16) -> bool
+        ensures { result ≡ true → may_be_written self.now.reach at ≡ false }
+    {
+        self.taken.is_unwritten(at)
+    }
+
     /// Whether samples are pending that may write the byte at an address. Mostly a mark tells that they don't.
     #[inline]
     pub fn is_overtaken(&mut self, at: u16) -> bool

@@ -252,6 +252,10 @@ impl<C: Chip> Source for PlainBus<C> {
         (self.clock / 32) as u32
     }
 
+    fn has_room(&self) -> bool {
+        self.calls <= 32
+    }
+
     /// Changes nothing, as no sample is pending.
     fn settle(&mut self)
         ensures { self.new ≡ self.old }

@@ -1,5 +1,5 @@
 // A bus that emits frames and records and is drained.
-ghost use Rattle.std.specs.Prelude.{◌≡◌, ◌++◌, []};
+ghost use Rattle.std.specs.Prelude.{◌≡◌, ◌++◌, [], nat_le};
 ghost use Rattle.spc700_exec.specs.Emitting.{IsEmitting};
 ghost use Rattle.sound_bus.specs.Emits.{Emits, IsFrameEach, AreCountedBeside};
 
@@ -14,6 +14,10 @@ pub trait Source: Bus {
     /// The samples of the machine, made or pending.
     fn made(&self) -> u32
         ensures { result ≡ Self.means.made self.now };
+
+    /// Whether there is room for one more step before the next drain.
+    fn has_room(&self) -> bool
+        ensures { result ≡ nat_le (Self.means.calls self.now) 32 };
 
     /// Makes all samples that are pending.
     fn settle(&mut self)
