@@ -22,10 +22,12 @@ pub record Book : Type 0 where
   -- the batches so far, by their causes
   pub counts : Counts
 
--- the samples to come may read, or write, the byte at an address
+-- A write to an address has pending samples made first: they may read it, or the echo can write what a voice reads, and then
+-- every address counts.
 abbrev pub may_be_read : ReachPages → (at : ℕ) → Bool
 may_be_read reach at = reach.entangled || set.contains reach.read_pages (page_of at)
 
+-- the samples to come may write the byte at an address
 abbrev pub may_be_written : ReachPages → (at : ℕ) → Bool
 may_be_written reach at = set.contains reach.write_pages (page_of at)
 

@@ -9,7 +9,7 @@ use reach_map::ReachPages;
 /// Why pending samples are made.
 #[derive(Clone, Copy, Debug, PartialEq, Eq)]
 pub enum Cause {
-    /// An access of a register that they read or write.
+    /// A write of a register, or a read of one that samples write: ENVX, OUTX or ENDX.
     Register,
     /// A write of memory that they may read.
     Memory,

@@ -9,7 +9,7 @@ use crate::cause::Cause;
 pub struct Counts {
     /// All batches.
     pub batches: u64,
-    /// Before an access of a register that the pending samples read or write.
+    /// Before a write of a register, or a read of one that samples write: ENVX, OUTX or ENDX.
     pub register: u64,
     /// Before a write of memory that the pending samples may read.
     pub memory: u64,

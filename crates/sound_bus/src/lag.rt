@@ -26,8 +26,8 @@ use std::alloc::Global;
 use std::marker::Model;
 use trace_form::{EventRing, Frames, Record, Records};
 
-/// A bus over a chip that makes up to 64 samples at once, as late as nothing else needs them. What is emitted waits in it
-/// for the next drain.
+/// A bus over a chip whose samples wait, at most 64 of them, until something needs them, and are then made as one batch.
+/// What is emitted waits in it for the next drain.
 #[derive(Drop)]
 pub struct LagBus<C: Chip> {
     late: LateSound<C>,

@@ -15,9 +15,10 @@ use trace_form::{Frames, Record, Records};
 
 const SILENCE: Frame = Frame { left: 0, right: 0 };
 
-/// The directory and the two blocks of a source, at 0200h, 0500h and 0600h.
-const SOURCE: [(u16, &[u8]); 3] = [
+/// The directory and the two blocks of a source, at 0200h, 0500h and 0600h, and a branch to itself at 0400h.
+const SOURCE: [(u16, &[u8]); 4] = [
     (0x0200, &[0x00, 0x05, 0x00, 0x06]),
+    (0x0400, &[0x2F, 0xFE]),
     (
         0x0500,
         &[0xC3, 0x11, 0x11, 0x11, 0x11, 0x11, 0x11, 0x11, 0x11],
@@ -29,7 +30,7 @@ const SOURCE: [(u16, &[u8]); 3] = [
 ];
 
 /// The registers that play this source on voice 0 from the first sample on.
-const KEYED: [(usize, u8); 9] = [
+const KEYED: [(usize, u8); 10] = [
     (0x00, 0x7F),
     (0x01, 0x7F),
     (0x03, 0x10),
@@ -39,6 +40,7 @@ const KEYED: [(usize, u8); 9] = [
     (0x4C, 0x01),
     (0x5D, 0x02),
     (0x6C, 0x20),
+    (0x6D, 0xE0),
 ];
 
 /// The opening of a bus, without a boot ROM, over memory and registers that are zero but for these.
@@ -140,7 +142,9 @@ fn each_call_acts_at_once(rt: HostRuntime) -> Result<(), Fail> {
     assert_eq!(rt; bus.pending(), 0);
     assert_eq!(rt; read(&mut bus, 0x00F3), 0x7F);
     write(&mut bus, 0x0700, 0x01);
+    assert_eq!(rt; bus.pending(), 0);
     write(&mut bus, 0x0500, 0xC3);
+    assert_eq!(rt; bus.pending(), 0);
     assert_eq!(rt; read(&mut bus, 0x0700), 0x01);
     assert_eq!(rt; read(&mut bus, 0x0500), 0xC3);
     bus.settle();
@@ -346,7 +350,7 @@ fn programs_write_registers_and_ports(rt: HostRuntime) -> Result<(), Fail> {
 #[test]
 fn a_loop_sends_the_envelope_to_a_port(rt: HostRuntime) -> Result<(), Fail> {
     let alloc = rt.alloc();
-    let [directory, first, second] = SOURCE;
+    let [directory, _, first, second] = SOURCE;
     let code: (u16, &[u8]) = (
         0x0400,
         &[0x8F, 0x08, 0xF2, 0xE4, 0xF3, 0xC4, 0xF4, 0x2F, 0xFA],
