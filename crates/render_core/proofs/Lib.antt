@@ -16,3 +16,5 @@ pub mod Seen
 pub mod Lagged
 -- Pieces: the next piece of a render, from a run of the machine with the lag book.
 pub mod Pieces
+-- RunsOn: a run goes on behind rounds that were made at once.
+pub mod RunsOn

@@ -43,6 +43,7 @@ pub(crate) struct Lists {
     pub(crate) frames: Frames,
     pub(crate) records: Records,
     pub(crate) drained: Records,
+    pub(crate) patience: Patience,
 }
 
 /// A step of the run, which isn't at its end.
@@ -56,14 +57,81 @@ fn step_on<B: Source>(cpu: &mut Cpu, bus: &mut B, samples: u32)
     step(cpu, bus);
 }
 
-/// Some steps of the run, one at least: as many as there is room for, unless the run ends.
-fn take_steps<B: Source>(cpu: &mut Cpu, bus: &mut B, samples: u32)
+/// Makes at once whole rounds of the loop at which the processor stands, as far as they only wait.
+fn wait_on<B: Source>(cpu: &Cpu, bus: &mut B, samples: u32)
+    requires more { B.means.made bus.old < samples }
+    requires few { samples ≤ 115200000 }
+    ensures frames { B.emits.frames (after_run B.means samples (cpu.now, bus.old)).1 ≡ B.emits.frames (after_run B.means samples (cpu.now, bus.new)).1 }
+    ensures records { B.emits.records (after_run B.means samples (cpu.now, bus.old)).1 ≡ B.emits.records (after_run B.means samples (cpu.now, bus.new)).1 }
+    ensures counts { B.emits.counts (after_run B.means samples (cpu.now, bus.old)).1 ≡ B.emits.counts (after_run B.means samples (cpu.now, bus.new)).1 }
+    ensures later { B.means.clock bus.old ≤ B.means.clock bus.new }
+    ensures more { B.means.made bus.new < samples }
+    ensures calls { B.means.calls bus.new ≡ B.means.calls bus.old }
+{
+    bus.wait(cpu, samples);
+}
+
+/// When rounds are tried again: after a trial that found none it waits twice as long as before it.
+#[derive(Drop)]
+pub(crate) struct Patience {
+    left: u8,
+    wait: u8,
+}
+
+impl Patience {
+    pub(crate) fn new() -> Patience {
+        Patience { left: 0, wait: 0 }
+    }
+
+    /// Whether it is time for a trial.
+    fn is_due(&mut self) -> bool {
+        if self.left > 0 {
+            self.left -= 1;
+            return false;
+        }
+        true
+    }
+
+    /// What the last trial brought.
+    fn learn(&mut self, was_found: bool) {
+        self.wait = if was_found {
+            0
+        } else {
+            self.wait.saturating_mul(2).saturating_add(1).min(63)
+        };
+        self.left = self.wait;
+    }
+}
+
+/// The same now and then.
+fn wait_if_due<B: Source>(cpu: &Cpu, bus: &mut B, samples: u32, patience: &mut Patience)
+    requires more { B.means.made bus.old < samples }
+    requires few { samples ≤ 115200000 }
+    ensures frames { B.emits.frames (after_run B.means samples (cpu.now, bus.old)).1 ≡ B.emits.frames (after_run B.means samples (cpu.now, bus.new)).1 }
+    ensures records { B.emits.records (after_run B.means samples (cpu.now, bus.old)).1 ≡ B.emits.records (after_run B.means samples (cpu.now, bus.new)).1 }
+    ensures counts { B.emits.counts (after_run B.means samples (cpu.now, bus.old)).1 ≡ B.emits.counts (after_run B.means samples (cpu.now, bus.new)).1 }
+    ensures later { B.means.clock bus.old ≤ B.means.clock bus.new }
+    ensures more { B.means.made bus.new < samples }
+    ensures calls { B.means.calls bus.new ≡ B.means.calls bus.old }
+{
+    if patience.is_due() {
+        let before = bus.made();
+        wait_on(cpu, bus, samples);
+        patience.learn(before < bus.made());
+    }
+}
+
+/// Steps of the run, one at least: rounds that only wait, and as many as there is room for, unless the run ends.
+fn take_steps<B: Source>(cpu: &mut Cpu, bus: &mut B, samples: u32, patience: &mut Patience)
     requires calls { B.means.calls bus.old ≡ 0 }
     requires more { B.means.made bus.old < samples }
     requires few { samples ≤ 115200000 }
-    ensures run { after_run B.means samples (cpu.old, bus.old) ≡ after_run B.means samples (cpu.new, bus.new) }
+    ensures frames { B.emits.frames (after_run B.means samples (cpu.old, bus.old)).1 ≡ B.emits.frames (after_run B.means samples (cpu.new, bus.new)).1 }
+    ensures records { B.emits.records (after_run B.means samples (cpu.old, bus.old)).1 ≡ B.emits.records (after_run B.means samples (cpu.new, bus.new)).1 }
+    ensures counts { B.emits.counts (after_run B.means samples (cpu.old, bus.old)).1 ≡ B.emits.counts (after_run B.means samples (cpu.new, bus.new)).1 }
     ensures later { B.means.clock bus.old < B.means.clock bus.new }
 {
+    wait_if_due(cpu, bus, samples, patience);
     'steps: loop {
         step_on(cpu, bus, samples);
         if !bus.has_room() || bus.made() >= samples {
@@ -83,7 +151,7 @@ fn step_and_drain<B: Source>(cpu: &mut Cpu, bus: &mut B, samples: u32, lists: &m
     ensures idle { IsIdle B.means B.emits samples bus.new }
     ensures later { B.means.clock bus.old < B.means.clock bus.new }
 {
-    take_steps(cpu, bus, samples);
+    take_steps(cpu, bus, samples, &mut lists.patience);
     settle_at_end(bus, samples);
     bus.drain(&mut lists.frames, &mut lists.drained);
     keep_early(&lists.drained, samples, &mut lists.records);

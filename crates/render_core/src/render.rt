@@ -11,7 +11,7 @@ ghost use Rattle.render_core.specs.RenderState.{frames_to_come, records_to_come,
 ghost use Rattle.render_core.specs.contracts.render.Render.{the_row};
 
 use crate::OutOfMemory;
-use crate::making::{Lists, make_piece};
+use crate::making::{Lists, Patience, make_piece};
 use crate::piece::Piece;
 use sound_bus::{Chip, Counts, LagBus};
 use spc_form::{SpcFile, opening};
@@ -118,6 +118,7 @@ impl<C: Chip> Render<C> {
                 frames,
                 records,
                 drained,
+                patience: Patience::new(),
             },
         })
     }

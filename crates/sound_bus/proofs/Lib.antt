@@ -16,3 +16,11 @@ pub mod Counting
 pub mod Books
 -- Marks: marks of pages that samples don't write
 pub mod Marks
+-- Waited: the machine with its lag book waits.
+pub mod Waited
+-- WaitingBus: it is a bus that waits.
+pub mod WaitingBus
+-- Pending: some samples more that are pending.
+pub mod Pending
+-- Held: samples to come write where the reach says.
+pub mod Held

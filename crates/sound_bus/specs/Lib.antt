@@ -41,3 +41,8 @@ pub mod Merge
 pub mod Each
 -- what always holds of a bus over such a chip
 pub mod IsLagging
+-- Words of rounds that only wait, which no promise speaks of:
+-- the bus after cycles in which it is only looked at
+pub mod Waiting
+-- what a call leaves that makes whole rounds at once
+pub mod Rounds

@@ -12,6 +12,8 @@ ghost use Rattle.sound_bus.specs.Book.{counted_for, AddsUp, may_be_read, may_be_
 ghost use Rattle.sound_bus.specs.Lagging.{lagging, opened_lagging, after_settle};
 ghost use Rattle.sound_bus.specs.LagEmits.{lag_emits, after_drain};
 ghost use Rattle.sound_bus.specs.LagLaws.{emits_frames, emits_records, frame_each};
+ghost use Rattle.idle_rounds.specs.Zeros.{zeros_stay, AreTimers};
+ghost use Rattle.sound_bus.specs.Waiting.{seen, samples_in};
 
 use crate::OutOfMemory;
 use crate::cause::Cause;
@@ -19,9 +21,11 @@ use crate::chip::Chip;
 use crate::counts::Counts;
 use crate::late::LateSound;
 use crate::source::Source;
+use crate::waiting::{counter_is_0, pend_all};
+use idle_rounds::{Looks, cycles_of_zeros, tick_through, try_round};
 use ports_timers::Io;
 use spc_form::OpenState;
-use spc700_exec::Bus;
+use spc700_exec::{Bus, Cpu};
 use std::alloc::Global;
 use std::marker::Model;
 use trace_form::{EventRing, Frames, Record, Records};
@@ -187,6 +191,20 @@ impl<C: Chip> LagBus<C> {
         }
     }
 
+    /// Cycles for which it can be waited before the end of a run to so many samples.
+    fn cycles_to_wait(&self, samples: u32) -> u64
+        requires more { self.now.machine.clock / 32 < samples }
+        requires few { samples ≤ 115200000 }
+        ensures zeros { zeros_stay self.now.machine.io self.now.machine.clock result ≡ true }
+        ensures free { self.now.book.pending + samples_in self.now.machine.clock result < 64 }
+        ensures below { (self.now.machine.clock + result) / 32 < samples }
+        ensures timers { AreTimers self.now.machine.io }
+    {
+        let free = 32 * (64 - u64::from(self.late.pending())) - 1 - self.clock % 32;
+        let rest = 32 * u64::from(samples) - 1 - self.clock;
+        cycles_of_zeros(&self.io, self.clock).min(free.min(rest))
+    }
+
     /// A write of F0h to FFh.
     #[inline(never)]
     fn write_port(&mut self, addr: u16, value: u8)
@@ -339,6 +357,18 @@ impl<C: Chip> Bus for LagBus<C> {
     } };
 }
 
+impl<C: Chip> Looks for LagBus<C> {
+    ghost sees = { seen C.meaning };
+
+    fn see(&self, addr: u16) -> Option<u8> {
+        if addr == 0xF3 || self.late.is_written(addr) || !counter_is_0(&self.io, addr) {
+            return None;
+        }
+        let mut io = self.io;
+        Some(answer_of(&self.late, &mut io, addr))
+    }
+}
+
 impl<C: Chip> Source for LagBus<C> {
     ghost emits = { lag_emits C.meaning };
 
@@ -348,6 +378,22 @@ impl<C: Chip> Source for LagBus<C> {
 
     fn has_room(&self) -> bool {
         self.calls <= 32
+    }
+
+    fn wait(&mut self, cpu: &Cpu, samples: u32) {
+        self.late.have_reach();
+        if !self.late.is_drained() {
+            return;
+        }
+        let Some(round) = try_round(&*self, cpu) else {
+            return;
+        };
+        let rounds = self.cycles_to_wait(samples) / u64::from(round);
+        let cycles = rounds * u64::from(round);
+        let due = ((self.clock + cycles) / 32 - self.clock / 32) as u8;
+        tick_through(&mut self.io, self.clock, cycles);
+        pend_all(&mut self.late, due);
+        self.clock += cycles;
     }
 
     /// Makes the pending samples, as one batch.

@@ -1,9 +1,9 @@
 // A chip with its memory and its output, some samples late.
-ghost use Rattle.std.specs.Prelude.{◌≡◌, ◌&&◌, ◌+◌, ◌-◌, ◌*◌, ◌<◌, ◌≤◌, ◌++◌, ◌∷◌, [], ◌==◌, true, false, length, if◌then◌else◌, ◌||◌, not};
+ghost use Rattle.std.specs.Prelude.{ℕ, ◌≡◌, ◌&&◌, ◌+◌, ◌-◌, ◌*◌, ◌<◌, ◌≤◌, ◌++◌, ◌∷◌, [], ◌==◌, true, false, length, if◌then◌else◌, ◌||◌, not};
 ghost use Rattle.std.specs.List.{filter};
 ghost use Rattle.aram_core.specs.Memory.{byte_at, with_byte};
 ghost use Rattle.dsp_core.specs.Results.{is_result};
-ghost use Rattle.dsp_core.specs.Run.{in_mask, counted};
+ghost use Rattle.dsp_core.specs.Run.{run, in_mask, counted};
 ghost use Rattle.sound_bus.specs.Book.{may_be_read, may_be_written, cause_of_read, cause_of_write};
 ghost use Rattle.sound_bus.specs.Merge.{sample_number};
 ghost use Rattle.sound_bus.specs.Ready.{is_before_sample, ready_frames, waiting_frames, ready_records, waiting_records};
@@ -233,6 +233,34 @@ impl<C: Chip> LateSound<C> {
         } else {
             let _ = self.ring.try_push(item);
         }
+    }
+
+    /// Whether the pending samples, or those to come, may write the byte at an address.
+    pub fn is_written(&self, at: u16) -> bool
+        ensures { result ≡ may_be_written self.now.reach at }
+    {
+        match self.taken.reach() {
+            Some(reach) => cause::may_be_written(&reach, at),
+            None => cause::may_be_written(&self.chip.reach(&self.memory), at),
+        }
+    }
+
+    /// Takes the reach, unless it was taken. Samples to come, too, write on its write pages alone.
+    pub fn have_reach(&mut self)
+        ensures rest { self.new ≡ self.old }
+        ensures writes { (due at : ℕ) → self.old.pending + due ≤ 64 → may_be_written self.old.reach at ≡ false → byte_at (run C.meaning.sample due self.old.made self.old.chip self.old.memory).memory at ≡ byte_at self.old.memory at }
+    {
+        if self.taken.reach().is_none() {
+            self.take_reach();
+        }
+    }
+
+    /// Whether nothing waits to be drained but what waits for pending samples.
+    pub fn is_drained(&self) -> bool
+        ensures frames { result ≡ true → self.now.frames_used ≡ self.now.pending }
+        ensures records { result ≡ true → self.now.records_used ≡ self.now.events + 8 * self.now.pending }
+    {
+        self.frames.as_slice().is_empty() && self.records.as_slice().is_empty()
     }
 
     /// Counts one sample more.

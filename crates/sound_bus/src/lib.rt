@@ -13,13 +13,14 @@ mod merging;
 mod plain;
 mod source;
 mod taken;
+mod waiting;
 #[cfg(test)]
 mod tests;
 
 pub use chip::Chip;
 pub use counts::Counts;
 pub use lag::LagBus;
-pub use laws::a_lagging_bus_is_the_machine_in_lock_step;
+pub use laws::{a_lagging_bus_is_the_machine_in_lock_step, rounds_leave_their_cycles};
 pub use merging::sample_number;
 pub use plain::PlainBus;
 pub use source::Source;

@@ -15,7 +15,7 @@ use crate::source::Source;
 use aram_core::Aram;
 use ports_timers::Io;
 use spc_form::OpenState;
-use spc700_exec::Bus;
+use spc700_exec::{Bus, Cpu};
 use std::alloc::Global;
 use std::marker::Model;
 use trace_form::{Frames, Record, Records};
@@ -255,6 +255,9 @@ impl<C: Chip> Source for PlainBus<C> {
     fn has_room(&self) -> bool {
         self.calls <= 32
     }
+
+    /// Makes no round at once.
+    fn wait(&mut self, _cpu: &Cpu, _samples: u32) {}
 
     /// Changes nothing, as no sample is pending.
     fn settle(&mut self)

@@ -1,9 +1,10 @@
 // A bus that emits frames and records and is drained.
-ghost use Rattle.std.specs.Prelude.{◌≡◌, ◌++◌, [], nat_le};
+ghost use Rattle.std.specs.Prelude.{◌≡◌, ◌<◌, ◌≤◌, ◌++◌, [], nat_le};
 ghost use Rattle.spc700_exec.specs.Emitting.{IsEmitting};
 ghost use Rattle.sound_bus.specs.Emits.{Emits, IsFrameEach, AreCountedBeside};
+ghost use Rattle.sound_bus.specs.Rounds.{IsWaitOf};
 
-use spc700_exec::Bus;
+use spc700_exec::{Bus, Cpu};
 use trace_form::{Frames, Records};
 
 /// A bus beneath which frames and records are emitted.
@@ -18,6 +19,13 @@ pub trait Source: Bus {
     /// Whether there is room for one more step before the next drain.
     fn has_room(&self) -> bool
         ensures { result ≡ nat_le (Self.means.calls self.now) 32 };
+
+    /// Makes at once whole rounds of the loop at which the processor stands, as far as they do nothing but wait and none comes
+    /// to the end of a run to so many samples.
+    fn wait(&mut self, cpu: &Cpu, samples: u32)
+        requires more { Self.means.made self.old < samples }
+        requires few { samples ≤ 115200000 }
+        ensures { IsWaitOf Self.means emits samples cpu.now self.old self.new };
 
     /// Makes all samples that are pending.
     fn settle(&mut self)

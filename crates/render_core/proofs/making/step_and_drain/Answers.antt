@@ -7,7 +7,7 @@ use Rattle.render_core.proofs.making.step_and_drain.Goals as goal
 
 pub returns-clause-frames : goal.returns-clause-frames
 returns-clause-frames g c =
-    ap (λ (w : Whole g.row.B.Denot). g.B.Source.emits.frames w.1) c.take_steps.ensures.run
+    c.take_steps.ensures.frames
     ∙ items-after_run-settled g.B.Bus.means g.met.B.Bus.lawful g.B.Source.emits.cleared g.B.Source.emits.frames g.met.B.Source.emits_frames c.args.samples
     c.take_steps.new.cpu c.take_steps.new.bus c.settle_at_end.new.bus c.drain.new.self c.drain.new.frames
     c.settle_at_end.ensures.frames c.settle_at_end.ensures.clock c.settle_at_end.ensures.still c.drain.ensures.frames c.drain.ensures.rest
@@ -16,7 +16,7 @@ pub returns-clause-records : goal.returns-clause-records
 returns-clause-records g c =
     let n = c.args.samples in
     ap (records_before n)
-    (ap (λ (w : Whole g.row.B.Denot). g.B.Source.emits.records w.1) c.take_steps.ensures.run
+    (c.take_steps.ensures.records
     ∙ items-after_run-settled g.B.Bus.means g.met.B.Bus.lawful g.B.Source.emits.cleared g.B.Source.emits.records g.met.B.Source.emits_records n
     c.take_steps.new.cpu c.take_steps.new.bus c.settle_at_end.new.bus c.drain.new.self c.drain.new.records
     c.settle_at_end.ensures.records c.settle_at_end.ensures.clock c.settle_at_end.ensures.still c.drain.ensures.records c.drain.ensures.rest)
@@ -25,7 +25,7 @@ returns-clause-records g c =
 
 pub returns-clause-counts : goal.returns-clause-counts
 returns-clause-counts g c =
-    ap (λ (w : Whole g.row.B.Denot). g.B.Source.emits.counts w.1) c.take_steps.ensures.run
+    c.take_steps.ensures.counts
     ∙ counts-after_run-settled g.B.Bus.means g.met.B.Bus.lawful g.B.Source.emits.cleared g.B.Source.emits.frames g.met.B.Source.emits_frames c.args.samples
     c.take_steps.new.cpu c.take_steps.new.bus c.settle_at_end.new.bus c.drain.new.self c.drain.new.frames
     c.settle_at_end.ensures.frames c.settle_at_end.ensures.clock c.settle_at_end.ensures.still c.drain.ensures.frames c.drain.ensures.rest

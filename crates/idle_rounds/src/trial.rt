@@ -1,0 +1,119 @@
+// Trials of steps: what they would do if they only looked.
+ghost use Rattle.std.specs.Prelude.{◌≡◌, ◌≤◌, ◌*◌, ℕ, Option, Some, IfSome};
+ghost use Rattle.std.proofs.Common.{refl};
+ghost use Rattle.spc700_exec.specs.Instruction.{script};
+ghost use Rattle.idle_rounds.specs.Looking.{looked, looked_steps, looking};
+
+use spc700_exec::{Bus, Cpu, step};
+use std::marker::Model;
+
+/// Something that can be looked at: of some addresses a byte is seen, which a read there would answer.
+pub trait Looks {
+    /// The byte that is seen at an address, if one is.
+    ghost sees: { Self → ℕ → Option ℕ };
+
+    /// The byte that is seen at an address.
+    fn see(&self, addr: u16) -> Option<u8>
+        ensures { result ≡ sees self.now addr };
+}
+
+/// A bus that only looks.
+#[derive(Drop)]
+struct Trial<'a, L: Looks> {
+    looks: &'a L,
+    idle: bool,
+    clock: u64,
+    calls: u8,
+}
+
+impl<'a, L: Looks> Model for Trial<'a, L> {
+    ghost use Rattle.std.specs.Prelude.{◌≤◌, ◌<◌, ◌^◌};
+    ghost use Rattle.std.specs.Coded.{codes};
+    ghost use Rattle.idle_rounds.specs.Looking.{Look};
+
+    ghost Value = { Look L };
+
+    ghost coded = { Prim.hlevel codes };
+
+    ghost view = { λ t. record { from = t.looks.now; idle = t.idle; clock = t.clock; calls = t.calls } };
+
+    ghost invariant = { λ t. (t.calls ≤ 64) × (t.clock < 128000000032) };
+}
+
+impl<'a, L: Looks> Bus for Trial<'a, L> {
+    ghost means = { looking L.sees };
+
+    fn read(&mut self, addr: u16) -> u8 {
+        self.calls += 1;
+        match self.looks.see(addr) {
+            Some(byte) => byte,
+            None => {
+                self.idle = false;
+                0
+            }
+        }
+    }
+
+    fn write(&mut self, _addr: u16, _value: u8) {
+        self.calls += 1;
+        self.idle = false;
+    }
+
+    fn pass(&mut self, cycles: u8) {
+        self.calls += 1;
+        self.clock += u64::from(cycles);
+    }
+
+    fn to_sample(&self) -> u8 {
+        (32 - self.clock % 32) as u8
+    }
+
+    ghost lawful = { record {
+      read_calls = λ _ _. refl;
+      read_clock = λ _ _. refl;
+      write_calls = λ _ _ _. refl;
+      write_clock = λ _ _ _. refl;
+      pass_calls = λ _ _. refl;
+      pass_clock = λ _ _. refl;
+      samples = λ _. refl;
+    } };
+}
+
+/// Tries a step, and gives its cycles if it only looks.
+fn try_step<L: Looks>(looks: &L, cpu: &mut Cpu) -> Option<u8>
+    ensures step { IfSome result (λ cycles. looked (L.sees looks.now) 0 (script cpu.old) ≡ Some (cpu.new, cycles)) }
+    ensures few { IfSome result (λ cycles. (1 ≤ cycles) × (cycles ≤ 32)) }
+{
+    let mut trial = Trial {
+        looks,
+        idle: true,
+        clock: 0,
+        calls: 0,
+    };
+    step(cpu, &mut trial);
+    if trial.idle && !cpu.halted {
+        Some(trial.clock as u8)
+    } else {
+        None
+    }
+}
+
+/// Tries the steps from some registers on, and gives the cycles of a round of them that only looks and brings the registers
+/// back. Rounds have at most eight steps.
+pub fn try_round<L: Looks>(looks: &L, cpu: &Cpu) -> Option<u16>
+    ensures round { IfSome result (λ cycles. (steps : ℕ) × (looked_steps (L.sees looks.now) steps cpu.now ≡ Some (cpu.now, cycles))) }
+    ensures few { IfSome result (λ cycles. (1 ≤ cycles) × (cycles ≤ 256)) }
+{
+    let mut now = *cpu;
+    let mut cycles = 0u16;
+    'steps: for _ in 0u16..8 {
+        match try_step(looks, &mut now) {
+            Some(more) => cycles += u16::from(more),
+            None => return None,
+        }
+        if now == *cpu {
+            return Some(cycles);
+        }
+    }
+    None
+}
