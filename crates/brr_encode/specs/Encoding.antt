@@ -59,7 +59,10 @@ blocks_of (suc count) first looped p1 p2 targets =
 unfoldable pub encoding : (samples : List ℤ) → (looped : Bool) → List ℕ
 encoding samples looped = blocks_of (length (padded samples) / 16) true looped (pos 0) (pos 0) (padded samples)
 
--- the most samples that are encoded: 7,280 blocks
+-- the most blocks of an encoding, and their samples
+abbrev pub most_blocks : ℕ
+most_blocks = 7280
+
 abbrev pub most_samples : ℕ
 most_samples = 116480
 

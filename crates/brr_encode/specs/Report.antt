@@ -1,5 +1,5 @@
 -- What the report of a block says, read off the stream as it is decoded.
-use Rattle.std.specs.Prelude.{ℕ, zero, suc, ◌/◌, List, [], ◌∷◌, length, take, drop, max, slice_index, ℤ}
+use Rattle.std.specs.Prelude.{ℕ, zero, suc, ◌/◌, ◌^◌, ◌≤◌, List, [], ◌∷◌, length, take, drop, max, slice_index, ℤ}
 use Rattle.brr_decode.specs.Kept.{samples_of}
 use Rattle.brr_encode.specs.Greedy.{distance, squares}
 use Rattle.brr_encode.specs.declared.report.BlockReport.{BlockReport}
@@ -9,6 +9,14 @@ abbrev pub worst : (samples targets : List ℤ) → ℕ
 worst (sample ∷ samples) (target ∷ targets) = max (distance sample target) (worst samples targets)
 worst (sample ∷ samples) [] = 0
 worst [] targets = 0
+
+-- the most that the squares of a block can sum to: sixteen times the square of 65,536
+abbrev pub most_squares : ℕ
+most_squares = 2 ^ 36
+
+-- a report's squares are no more than a block can have
+abbrev pub IsWithin : BlockReport → Type 0
+IsWithin report = report.squares ≤ most_squares
 
 -- the reports of so many blocks: of each its header, and the errors of its sixteen decoded samples against their targets
 abbrev pub reports_from : (count : ℕ) → (bytes : List ℕ) → (decoded targets : List ℤ) → List BlockReport

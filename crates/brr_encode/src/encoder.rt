@@ -1,7 +1,7 @@
 // The blocks of a list of samples.
-ghost use Rattle.std.specs.Prelude.{◌≡◌, ◌+◌, ◌%◌, ◌∷◌, ◌++◌, ◌≤◌, ◌⊎◌, [], length, IfOk, IfErr};
-ghost use Rattle.brr_encode.specs.Encoding.{padded, most_samples, encoded_samples, best_header, block_of, end_bits};
-ghost use Rattle.brr_encode.specs.Report.{reports_of};
+ghost use Rattle.std.specs.Prelude.{◌≡◌, ◌+◌, ◌%◌, ◌∷◌, ◌++◌, ◌≤◌, ◌⊎◌, [], All, length, IfOk, IfErr};
+ghost use Rattle.brr_encode.specs.Encoding.{padded, most_samples, most_blocks, encoded_samples, best_header, block_of, end_bits};
+ghost use Rattle.brr_encode.specs.Report.{reports_of, IsWithin};
 ghost use Rattle.brr_encode.specs.Steps.{after_targets, coder_behind, block_report};
 ghost use Rattle.brr_encode.specs.declared.encoder.EncodeRefusal.TheVariants.{OutOfMemory as NoMemory};
 
@@ -66,6 +66,7 @@ fn push_block(
     ensures bytes { IfOk result (λ _. bytes.new.items ≡ bytes.old.items ++ block_of place.first place.last place.looped coder.last coder.before targets.now) }
     ensures reports { IfOk result (λ _. reports.new.items ≡ reports.old.items ++ block_report place.first place.last place.looped coder.last coder.before targets.now ∷ []) }
     ensures coder { IfOk result (λ new. new ≡ after_targets (best_header place.first coder.last coder.before targets.now) (coder_behind coder.last coder.before) targets.now) }
+    ensures within { IfOk result (λ _. All IsWithin reports.old.items → All IsWithin reports.new.items) }
 {
     let header = best_header(place.first, targets, coder.last, coder.before);
     let flagged = header + end_bits(place);
@@ -84,6 +85,7 @@ fn padded(alloc: Global, samples: &[i16]) -> Result<Vec<i16>, OutOfMemory>
     requires { length samples.now ≤ most_samples }
     ensures targets { IfOk result (λ targets. targets.items ≡ padded samples.now) }
     ensures whole { IfOk result (λ targets. length targets.items % 16 ≡ 0) }
+    ensures few { IfOk result (λ targets. length targets.items ≤ most_samples) }
 {
     let count = samples.len().next_multiple_of(16);
     let mut targets = Vec::with_capacity(alloc, count)?;
@@ -98,6 +100,8 @@ fn padded(alloc: Global, samples: &[i16]) -> Result<Vec<i16>, OutOfMemory>
 pub fn encode(alloc: Global, samples: &[i16], looped: bool) -> Result<Encoded, EncodeRefusal>
     ensures bytes { IfOk result (λ encoded. encoded_samples samples.now looped ≡ Ok encoded.bytes.items) }
     ensures reports { IfOk result (λ encoded. encoded.reports.items ≡ reports_of encoded.bytes.items (padded samples.now)) }
+    ensures within { IfOk result (λ encoded. All IsWithin encoded.reports.items) }
+    ensures few { IfOk result (λ encoded. length encoded.reports.items ≤ most_blocks) }
     ensures refused { IfErr (encoded_samples samples.now looped) (λ refusal. result ≡ Err refusal) }
     ensures causes { IfErr result (λ refusal. (encoded_samples samples.now looped ≡ Err refusal) ⊎ (refusal ≡ EncodeRefusal.OutOfMemory)) }
 {

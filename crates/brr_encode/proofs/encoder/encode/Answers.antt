@@ -1,6 +1,8 @@
-use Rattle.std.proofs.Common.{rules, ◌≡◌, ◌/◌, ◌%◌, ◌==◌, ◌++◌, ℕ, length, refl, sym, ap, ◌∙◌, arith}
+use Rattle.std.proofs.Common.{rules, ◌≡◌, ◌/◌, ◌%◌, ◌==◌, ◌++◌, ℕ, length, length-append, refl, sym, ap, ◌∙◌, arith}
 use Rattle.std.proofs.lemmas.List.{append-nil}
 use Rattle.std.proofs.lemmas.Bool.Decides.{nat_tests}
+use Rattle.std.proofs.lemmas.List.Elements.{All-nil}
+use Rattle.brr_encode.specs.Report.{IsWithin}
 use Rattle.brr_encode.specs.Encoding.{padded, encoding, blocks_of}
 use Rattle.brr_encode.specs.Steps.{block_reports, all_reports}
 use Rattle.brr_encode.proofs.Streams.{blocks_next, reports_next, reports_are_true}
@@ -18,6 +20,8 @@ each-init c =
       bytes = rw (targets, c.start-coder.ensures, c.in_ok-bytes.ensures.items) refl;
       reports = rw (targets, c.start-coder.ensures, c.in_ok-reports.ensures.items) refl;
       whole = rw targets (rw c.in_ok-targets.ensures.targets at c.in_ok-targets.ensures.whole);
+      few = let few = rw c.in_ok-targets.ensures.targets at c.in_ok-targets.ensures.few in rw (targets, c.in_ok-reports.ensures.items) (omega (arith, few));
+      within = rw c.in_ok-reports.ensures.items (All-nil IsWithin);
     }
 
 pub each-preserved : goal.each-preserved
@@ -28,6 +32,8 @@ each-preserved c =
       bytes = rw c.in_ok-coder.ensures.bytes (blocks_next _ _ _ _ _ _ c.each.rest.now c.in-Some.block.now c.in-Some.tail.now _ _ cases.0 cases.1 cases.2 last c.in_ok-coder.ensures.coder c.each.invariant.bytes);
       reports = rw c.in_ok-coder.ensures.reports (reports_next _ _ _ _ _ _ c.each.rest.now c.in-Some.block.now c.in-Some.tail.now _ _ cases.0 cases.1 cases.2 last c.in_ok-coder.ensures.coder c.each.invariant.reports);
       whole = omega (arith, cases.2, c.each.invariant.whole);
+      few = rw c.in_ok-coder.ensures.reports (rw (length-append c.each.reports.items _) (omega (arith, cases.2, c.each.invariant.few)));
+      within = c.in_ok-coder.ensures.within c.each.invariant.within;
     }
 
 pub returns-clause-reports : goal.returns-clause-reports

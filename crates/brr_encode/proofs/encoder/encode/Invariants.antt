@@ -1,5 +1,7 @@
-use Rattle.std.proofs.Common.{◌≡◌, ◌/◌, ◌%◌, ◌++◌, length}
-use Rattle.brr_encode.specs.Encoding.{encoding, blocks_of}
+use Rattle.std.proofs.Common.{◌≡◌, ◌/◌, ◌%◌, ◌+◌, ◌*◌, ◌≤◌, ◌++◌, length}
+use Rattle.std.specs.List.{All}
+use Rattle.brr_encode.specs.Report.{IsWithin}
+use Rattle.brr_encode.specs.Encoding.{encoding, blocks_of, most_samples}
 use Rattle.brr_encode.specs.Steps.{block_reports, all_reports}
 use Rattle.brr_encode.proofs.encoder.encode.Given as goal
 
@@ -9,6 +11,8 @@ invariant-each l = record {
   bytes : l.bytes.items ++ blocks_of (length l.rest / 16) l.first l.looped l.coder.last l.coder.before l.rest ≡ encoding l.samples l.looped;
   reports : l.reports.items ++ block_reports (length l.rest / 16) l.first l.looped l.coder.last l.coder.before l.rest ≡ all_reports l.samples l.looped;
   whole : length l.rest % 16 ≡ 0;
+  few : 16 * length l.reports.items + length l.rest ≤ most_samples;
+  within : All IsWithin l.reports.items;
 }
 
 abbrev pub decreases-each : goal.decreases-each

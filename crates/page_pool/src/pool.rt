@@ -1,0 +1,125 @@
+// The pool, and the pages that it hands out.
+ghost use Rattle.std.specs.Prelude.{◌≡◌, ◌+◌, ◌<◌, ◌≤◌, ◌↔◌, length, replicate, IfOk, IfSome, IfNone, IsNone};
+ghost use Rattle.page_pool.specs.Pool.{page_size, most_pages, most_owners, free_slot, slot_at, free_slots, after_take, after_share, after_give};
+
+use crate::OutOfMemory;
+use crate::slot::Slot;
+use std::alloc::Global;
+use std::marker::Model;
+
+/// A page that a pool handed out, seen as the number of its slot, 0 to 65,535.
+#[derive(Clone, Copy, Debug, PartialEq, Eq)]
+pub struct Page {
+    slot: u16,
+}
+
+impl Model for Page {
+    ghost use Rattle.std.specs.Prelude.{ℕ};
+
+    ghost Value = { ℕ };
+
+    ghost view = { λ p. p.slot };
+
+    ghost inverse = { λ n. record { slot = n } };
+}
+
+/// A pool of slots of 256 bytes, each with a number of owners. Only `new` takes memory. A call never changes the bytes of a
+/// slot that keeps an owner.
+#[derive(Drop)]
+pub struct PagePool {
+    slots: Vec<Slot>,
+    first: u16,
+    free: u32,
+}
+
+impl Model for PagePool {
+    ghost use Rattle.std.specs.Prelude.{List};
+    ghost use Rattle.page_pool.specs.declared.slot.Slot.{Slot};
+    ghost use Rattle.page_pool.specs.Free.{all_seen, IsLinked};
+
+    ghost Value = { List Slot };
+
+    ghost view = { λ p. all_seen p.slots.items };
+
+    ghost invariant = { λ p. IsLinked p.slots.items p.first p.free };
+}
+
+impl PagePool {
+    /// A pool of 1 to 65,536 slots, all free.
+    pub fn new(alloc: Global, pages: u32) -> Result<PagePool, OutOfMemory>
+        requires some { 0 < pages }
+        requires few { pages ≤ most_pages }
+        ensures { IfOk result (λ pool. pool ≡ replicate pages free_slot) }
+    {
+        let mut pool = PagePool {
+            slots: vec![in alloc; Slot::owned(); pages as usize]?,
+            first: 0,
+            free: 0,
+        };
+        for slot in 0..pages {
+            pool.give(Page { slot: slot as u16 });
+        }
+        Ok(pool)
+    }
+
+    /// Puts 256 bytes into a free slot, for one owner; None exactly where no slot is free.
+    pub fn take(&mut self, bytes: &[u8]) -> Option<Page>
+        requires { length bytes.now ≡ page_size }
+        ensures none { IsNone result ↔ (free_slots self.old ≡ 0) }
+        ensures unchanged { IfNone result (self.new ≡ self.old) }
+        ensures was_free { IfSome result (λ page. (page < length self.old) × (slot_at self.old page ≡ free_slot)) }
+        ensures holds { IfSome result (λ page. self.new ≡ after_take self.old page bytes.now) }
+    {
+        if self.free == 0 {
+            return None;
+        }
+        let page = Page { slot: self.first };
+        let slot = &mut self.slots[usize::from(self.first)];
+        self.first = slot.next();
+        slot.hold(bytes);
+        self.free -= 1;
+        Some(page)
+    }
+
+    /// Gives a page one owner more.
+    pub fn share(&mut self, page: Page)
+        requires owned { 0 < (slot_at self.old page).owners }
+        requires few { (slot_at self.old page).owners ≤ most_owners }
+        ensures { self.new ≡ after_share self.old page }
+    {
+        let slot = &mut self.slots[usize::from(page.slot)];
+        slot.owners += 1;
+    }
+
+    /// Takes an owner from a page. The slot is free once it has none.
+    pub fn give(&mut self, page: Page)
+        requires { 0 < (slot_at self.old page).owners }
+        ensures { self.new ≡ after_give self.old page }
+    {
+        let slot = &mut self.slots[usize::from(page.slot)];
+        if slot.owners > 1 {
+            slot.owners -= 1;
+        } else {
+            slot.free(self.first);
+            self.first = page.slot;
+            self.free += 1;
+        }
+    }
+
+    /// The bytes of a page that has an owner.
+    pub fn bytes(&self, page: Page) -> &[u8]
+        requires { 0 < (slot_at self.now page).owners }
+        ensures bytes { result.now ≡ (slot_at self.now page).bytes }
+        ensures whole { length result.now ≡ page_size }
+    {
+        let slot = &self.slots[usize::from(page.slot)];
+        &slot.bytes
+    }
+
+    /// How many slots are free.
+    pub fn free(&self) -> u32
+        ensures { result ≡ free_slots self.now }
+    {
+        self.free
+    }
+}

@@ -1,0 +1,107 @@
+// Where a sample starts, how many blocks it has, and how it ends.
+ghost use Rattle.std.specs.Prelude.{◌≡◌, ◌<◌, ◌≤◌, IfSome};
+ghost use Rattle.brr_encode.specs.Encoding.{most_blocks};
+ghost use Rattle.voice_unit.specs.Directory.{start_word, loop_word, entry_address};
+ghost use Rattle.sample_rip.specs.Rip.{last_block, block_at, loop_end, block_count, end_after, found_from, rip_found};
+
+use crate::blocks::{MOST_BLOCKS, block_address, ends_at, loops_at};
+use crate::{RipEnd, RipFound};
+use aram_core::Aram;
+
+/// The first block with its end bit.
+fn last_block(memory: &Aram, start: u16) -> Option<u32>
+    ensures block { result ≡ last_block memory.now start }
+    ensures within { IfSome result (λ block. block < most_blocks) }
+{
+    for block in 0..MOST_BLOCKS {
+        if ends_at(memory, start, block) {
+            return Some(block);
+        }
+    }
+    None
+}
+
+/// The first block at an address, up to a last one.
+fn block_at(start: u16, address: u16, last: u32) -> Option<u32>
+    requires { last < most_blocks }
+    ensures block { result ≡ block_at start address last }
+    ensures within { IfSome result (λ block. block ≤ last) }
+{
+    for block in 0..last + 1 {
+        if block_address(start, block) == address {
+            return Some(block);
+        }
+    }
+    None
+}
+
+/// The end of a sample that loops to an address.
+fn loop_end(start: u16, address: u16, last: u32) -> RipEnd
+    requires { last < most_blocks }
+    ensures { result ≡ loop_end (block_at start address last) }
+{
+    match block_at(start, address, last) {
+        Some(block) => RipEnd::Loop(16 * block),
+        None => RipEnd::Outside,
+    }
+}
+
+/// How a sample ends whose last block is this one.
+fn end_after(memory: &Aram, start: u16, address: u16, last: Option<u32>) -> RipEnd
+    requires { IfSome last (λ block. block < most_blocks) }
+    ensures { result ≡ end_after memory.now start address last }
+{
+    match last {
+        Some(last) if loops_at(memory, start, last) => loop_end(start, address, last),
+        Some(_) => RipEnd::NoLoop,
+        None => RipEnd::Open,
+    }
+}
+
+/// How many blocks a sample has whose last block is this one.
+fn block_count(last: Option<u32>) -> u32
+    requires { IfSome last (λ block. block < most_blocks) }
+    ensures count { result ≡ block_count last }
+    ensures some { 0 < result }
+    ensures few { result ≤ most_blocks }
+{
+    match last {
+        Some(last) => last + 1,
+        None => MOST_BLOCKS,
+    }
+}
+
+/// The sample that starts at an address and loops to another.
+fn found_from(memory: &Aram, start: u16, address: u16) -> RipFound
+    ensures found { result ≡ found_from memory.now start address }
+    ensures some { 0 < result.blocks }
+    ensures few { result.blocks ≤ most_blocks }
+{
+    let last = last_block(memory, start);
+    RipFound {
+        start,
+        blocks: block_count(last),
+        end: end_after(memory, start, address, last),
+    }
+}
+
+/// The address of an entry of the directory at page `dir`.
+fn entry_address(dir: u8, entry: u8) -> u16
+    ensures { result ≡ entry_address dir entry }
+{
+    (u16::from(dir) * 256).wrapping_add(u16::from(entry) * 4)
+}
+
+/// The sample of an entry of the directory at page `dir`: blocks from its start word on, each nine bytes further, up to
+/// the first with its end bit, and 7,280 at most.
+#[tactic(auto, unfolding(crate::specs::Rip::rip_found, voice_unit::specs::Directory::start_word, voice_unit::specs::Directory::loop_word))]
+pub fn rip(memory: &Aram, dir: u8, entry: u8) -> RipFound
+    ensures found { result ≡ rip_found memory.now dir entry }
+    ensures some { 0 < result.blocks }
+    ensures few { result.blocks ≤ most_blocks }
+{
+    let at = entry_address(dir, entry);
+    let start = memory.word(at);
+    let address = memory.word(at.wrapping_add(2));
+    found_from(memory, start, address)
+}

@@ -1,0 +1,19 @@
+//! The samples of a tune: which entries of the directory are wanted, where each sample starts and how it ends, its
+//! decoded samples block by block, and what it comes to when it is encoded again.
+#![tactic(auto)]
+
+mod blocks;
+mod entries;
+mod finding;
+mod found;
+mod reencoding;
+#[cfg(test)]
+mod tests;
+mod walk;
+
+pub use entries::wanted;
+pub use finding::rip;
+pub use found::{RipEnd, RipFound};
+pub use reencoding::{RipReport, reencode};
+pub use std::alloc::AllocError as OutOfMemory;
+pub use walk::RipWalk;
