@@ -2,10 +2,10 @@
 
 ghost use Rattle.std.specs.Prelude.{◌≡◌, ◌≤◌, ◌<◌, ◌+◌, ◌++◌, ◌∷◌, [], length};
 ghost use Rattle.std.specs.List.{filter};
-ghost use Rattle.dsp_core.specs.Run.{in_mask};
-ghost use Rattle.dsp_core.specs.Sample.{records_from};
+ghost use Rattle.dsp_form.specs.Samples.{in_mask};
+ghost use Rattle.dsp_form.specs.Sample.{records_from};
 
-use crate::registers::has_bit;
+use num_fix::has_bit;
 use trace_form::{Record, Records};
 use voice_unit::VoiceOut;
 
