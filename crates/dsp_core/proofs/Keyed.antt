@@ -19,7 +19,7 @@ bit_value b v below = by (b == 1) refl
     by true e = let one : b ≡ 1 = grind (arith, nat_tests, e) in rw one (omega arith)
     by false e = let none : b ≡ 0 = grind (arith, nat_tests, e, below) in rw none (omega arith)
 
--- a bit and a number behind it, both times p
+-- a bit and a number after it, both times p
 products : (b r p : ℕ) → b * p + r * (p * 2) ≡ (r * 2 + b) * p
 products b r p = omega arith
 

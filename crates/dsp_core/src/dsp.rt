@@ -4,7 +4,7 @@ ghost use Rattle.std.specs.Prelude.{◌≡◌, ◌≤◌, ◌<◌, ◌+◌, ◌*
 ghost use Rattle.std.specs.List.{filter};
 ghost use Rattle.dsp_form.specs.Samples.{samples, in_mask, next_count};
 ghost use Rattle.dsp_form.specs.Sample.{sample};
-ghost use Rattle.dsp_form.specs.Settings.{settings_of, HasPitches};
+ghost use Rattle.dsp_form.specs.Settings.{settings_of};
 ghost use Rattle.dsp_form.specs.Outside.{opened_state, register_read, register_write};
 ghost use Rattle.dsp_form.specs.Valid.{is_valid};
 ghost use Rattle.dsp_form.specs.Reach.{chip_reach};
@@ -109,7 +109,6 @@ impl Dsp {
         answers: &mut [VoiceOut; 8],
     )
         requires settings { settings.now ≡ settings_of self.old.state.registers }
-        requires pitches { HasPitches settings.now }
         requires frame_room { length frames.old < 128 }
         requires record_room { length records.old + 8 ≤ 1344 }
         requires number { self.old.sample < 4000000000 }

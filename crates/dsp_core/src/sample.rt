@@ -3,7 +3,7 @@
 ghost use Rattle.std.specs.Prelude.{◌≡◌, ◌%◌, ◌==◌, length, map, pos, if◌then◌else◌};
 ghost use Rattle.rate_clock.specs.Counter.{counter_at};
 ghost use Rattle.dsp_form.specs.Sample.{sample, after_poll, after_noise, results_from, shared_input, records_from};
-ghost use Rattle.dsp_form.specs.Settings.{settings_of, HasPitches};
+ghost use Rattle.dsp_form.specs.Settings.{settings_of};
 
 use crate::voices::step_voices;
 use aram_core::Aram;
@@ -62,8 +62,7 @@ fn step_chip_voices(
     memory: &Aram,
     answers: &mut [VoiceOut; 8],
 )
-    requires settings { settings.now ≡ settings_of state.old.registers }
-    requires pitches { HasPitches settings.now }
+    requires { settings.now ≡ settings_of state.old.registers }
     ensures voices { let results = results_from (shared_input state.old memory.now number) 0 (pos 0) state.old.hidden.voices in
         clock.now ≡ counter_at number → state.new ≡ record state.old { hidden = record state.old.hidden { voices = map (λ one. one.voice) results } } }
     ensures answers { let results = results_from (shared_input state.old memory.now number) 0 (pos 0) state.old.hidden.voices in
@@ -97,7 +96,6 @@ pub fn make_sample(
     answers: &mut [VoiceOut; 8],
 ) -> Frame
     requires settings { settings.now ≡ settings_of state.old.registers }
-    requires pitches { HasPitches settings.now }
     requires clock { clock.now ≡ counter_at number }
     ensures state { state.new ≡ (sample number state.old memory.old).state }
     ensures memory { memory.new ≡ (sample number state.old memory.old).memory }

@@ -76,7 +76,7 @@ const SOUND: Frame = Frame {
 const SEVEN: [Frame; 7] = [SILENCE, SILENCE, SILENCE, SILENCE, SILENCE, SOUND, SOUND];
 
 #[test]
-fn a_key_on_behind_a_poll_is_lost_at_the_next(rt: HostRuntime) -> Result<(), Fail> {
+fn a_key_on_after_a_poll_is_lost_at_the_next(rt: HostRuntime) -> Result<(), Fail> {
     let (mut dsp, mut memory) = one_voice(rt.alloc())?;
     let mut frames = Frames::new(rt.alloc())?;
     let mut records = Records::new(rt.alloc())?;

@@ -2,7 +2,7 @@
 
 ghost use Rattle.std.specs.Prelude.{◌≡◌, ◌<◌, ℕ, List};
 ghost use Rattle.num_fix.specs.Arithmetic.{has_bit};
-ghost use Rattle.dsp_form.specs.Settings.{settings_of, HasPitches};
+ghost use Rattle.dsp_form.specs.Settings.{settings_of};
 ghost use Rattle.dsp_form.specs.Sample.{voice_in, voice_result};
 ghost use Rattle.dsp_core.specs.VoicesOfSample.{ForInput, voices_after, answers_of};
 
@@ -65,7 +65,6 @@ fn step_voice(
 ) -> VoiceOut
     requires v { v < 8 }
     requires kon { kon ≡ has_bit common.now.taken v }
-    requires pitches { HasPitches settings.now }
     requires noise { common.now.noise < 0x8000 }
     ensures voice { ForInput settings.now common.now memory.now table.now clock.now (λ shared. voice.new ≡ (voice_result shared v previous voice.old).voice) }
     ensures answer { ForInput settings.now common.now memory.now table.now clock.now (λ shared. result ≡ (voice_result shared v previous voice.old).answer) }
@@ -85,8 +84,7 @@ pub fn step_voices(
     clock: &RateClock,
     answers: &mut [VoiceOut; 8],
 )
-    requires pitches { HasPitches settings.now }
-    requires noise { common.now.noise < 0x8000 }
+    requires { common.now.noise < 0x8000 }
     ensures voices { ForInput settings.now common.now memory.now table.now clock.now (λ shared. voices.new ≡ voices_after shared voices.old) }
     ensures answers { ForInput settings.now common.now memory.now table.now clock.now (λ shared. answers.new ≡ answers_of shared voices.old) }
 {

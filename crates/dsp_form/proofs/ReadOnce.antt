@@ -1,13 +1,13 @@
 -- The settings that are read of registers, and that samples leave as they are.
-use Rattle.std.proofs.Common.{◌≡◌, ℕ, ◌+◌, ◌*◌, ◌<◌, List, [], ◌∷◌, map, length, false, slice_index, get_or, refl, arith}
-use Rattle.std.specs.List.{All, range_with_len}
+use Rattle.std.proofs.Common.{◌≡◌, ℕ, ◌+◌, ◌*◌, ◌<◌, List, [], ◌∷◌, map, slice_index, get_or, refl, arith}
+use Rattle.std.specs.List.{range_with_len}
 use Rattle.std.proofs.lemmas.List.FromFn.{get_or-map-range_with_len}
 use Rattle.dsp_form.specs.Registers.{voice_register, voice_regs, echo_regs}
 use Rattle.dsp_form.specs.Volumes.{voice_volumes, all_volumes}
 use Rattle.dsp_form.specs.Sample.{sample}
 use Rattle.dsp_form.specs.Settings.{voice_settings, all_voice_settings, settings_of}
 use Rattle.dsp_form.specs.declared.registers.TheConstants.{VOLL, VOLR, PITCHL, PITCHH, SRCN, ADSR1, ADSR2, GAIN, FIR, MVOLL, MVOLR, EVOLL, EVOLR, EFB, EON, PMON, NON, KOFF, DIR, FLG, ESA, EDL}
-use Rattle.dsp_form.specs.declared.settings.VoiceSettings.{VoiceSettings}
+use Rattle.dsp_form.specs.declared.voice_settings.VoiceSettings.{VoiceSettings}
 use Rattle.dsp_form.specs.declared.settings.Settings.{Settings}
 use Rattle.dsp_form.specs.declared.state.DspState.{DspState}
 use Rattle.dsp_form.proofs.Inputs.{SameInputs, input_at, same_inputs-sample}
@@ -21,19 +21,6 @@ voice_of_all registers v d below = get_or-map-range_with_len (λ v. voice_settin
 pub voice_at : (registers : List ℕ) (settings : Settings) (v : ℕ) (d : VoiceSettings) → settings ≡ settings_of registers → v < 8 → get_or settings.voices v d ≡ voice_settings registers v
 unfolding settings_of
 voice_at registers settings v d is below = rw is (voice_of_all registers v d below)
-
--- the pitches of registers that are bytes have 14 bits
-pub pitches_within : (registers : List ℕ) (voices : List VoiceSettings) → voices ≡ all_voice_settings registers → ((k : ℕ) → slice_index registers k < 0x100) → All (λ one. one.regs.pitch < 0x4000) voices
-unfolding all_voice_settings voice_settings voice_regs
-pitches_within registers voices is bytes v d within =
-    let eight : length voices ≡ 8 = rw is refl in
-    let below : v < 8 = omega (arith, eight, within) in
-    let low : voice_register registers v PITCHL < 0x100 = bytes (16 * v + PITCHL) in
-    rw (is, voice_of_all registers v d below) (omega (arith, low))
-
--- settings of no voice, which stand past the last
-abbrev pub no_settings : VoiceSettings
-no_settings = record { regs = record { pitch = 0; srcn = 0; adsr1 = 0; adsr2 = 0; gain = 0 }; modulated = false; noisy = false; koff = false }
 
 -- functions that agree map a list alike
 same_map : {X : Type 0} (f g : ℕ → X) → ((v : ℕ) → f v ≡ g v) → (vs : List ℕ) → map f vs ≡ map g vs

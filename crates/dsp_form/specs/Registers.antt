@@ -13,7 +13,7 @@ voice_register registers v register = slice_index registers (16 * v + register)
 -- what voice v reads of its registers; the pitch has 14 bits
 unfoldable pub voice_regs : (registers : List ℕ) → (v : ℕ) → VoiceRegs
 voice_regs registers v = record {
-  pitch = voice_register registers v PITCHL + 0x100 * (voice_register registers v PITCHH % 0x40);
+  pitch = (voice_register registers v PITCHL + 0x100 * voice_register registers v PITCHH) % 0x4000;
   srcn = voice_register registers v SRCN;
   adsr1 = voice_register registers v ADSR1;
   adsr2 = voice_register registers v ADSR2;

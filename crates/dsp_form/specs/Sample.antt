@@ -17,7 +17,7 @@ use Rattle.dsp_form.specs.Results.{without_bits, registers_after}
 use Rattle.dsp_form.specs.Samples.{SampleResult}
 use Rattle.dsp_form.specs.declared.registers.TheConstants.{DIR, FLG}
 use Rattle.dsp_form.specs.declared.state.DspState.{DspState}
-use Rattle.dsp_form.specs.declared.settings.SharedByVoices.{SharedByVoices}
+use Rattle.dsp_form.specs.declared.voice_settings.SharedByVoices.{SharedByVoices}
 
 -- An even sample polls the keys: the waiting key-ons lose those taken at the last poll, and what remains is taken.
 unfoldable pub after_poll : DspState → (k : ℕ) → DspState

@@ -8,10 +8,12 @@ pub mod registers;
 mod results;
 mod settings;
 mod state;
+mod voice_settings;
 mod volumes;
 
 pub use mix::{SILENCE, Sums, sum_voices};
 pub use results::{is_result, put_results};
-pub use settings::{Settings, SharedByVoices, VoiceSettings, settings_of};
+pub use settings::{Settings, settings_of};
 pub use state::{DspState, Hidden};
+pub use voice_settings::{SharedByVoices, VoiceSettings};
 pub use volumes::Volumes;

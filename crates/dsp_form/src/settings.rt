@@ -1,25 +1,13 @@
 //! What samples read of the registers. They change none of it, so a batch takes it once.
 
 ghost use Rattle.std.specs.Prelude.{◌≡◌, ◌<◌};
-ghost use Rattle.dsp_form.specs.Settings.{voice_settings, all_voice_settings, settings_of, HasPitches};
+ghost use Rattle.dsp_form.specs.Settings.{voice_settings, all_voice_settings, settings_of};
 
 use crate::registers::{DIR, FLG, KOFF, NON, PMON, Registers, echo_regs, voice_regs};
+use crate::voice_settings::VoiceSettings;
 use crate::volumes::{Volumes, all_volumes};
 use echo_unit::EchoRegs;
 use num_fix::has_bit;
-use voice_unit::VoiceRegs;
-
-/// What one voice reads beside its volumes.
-#[derive(Clone, Copy, Debug)]
-pub struct VoiceSettings {
-    pub regs: VoiceRegs,
-    /// The pitch is changed by the voice before: its bit of PMON, never of voice 0.
-    pub modulated: bool,
-    /// Noise takes the place of the samples: its bit of NON.
-    pub noisy: bool,
-    /// Its bit of KOFF.
-    pub koff: bool,
-}
 
 /// What a sample reads.
 #[derive(Clone, Copy, Debug)]
@@ -35,19 +23,8 @@ pub struct Settings {
     pub echo: EchoRegs,
 }
 
-/// What all voices share in a sample beside the registers.
-#[derive(Clone, Copy, Debug)]
-pub struct SharedByVoices {
-    /// The noise, at most 7FFFh.
-    pub noise: u16,
-    /// The key-ons that the last poll took.
-    pub taken: u8,
-    /// The keys are polled in this sample.
-    pub is_poll: bool,
-}
-
 /// What voice `v` reads beside its volumes.
-#[tactic(auto, unfolding(crate::specs::Settings::voice_settings))]
+#[tactic(auto, unfolding(crate::specs::Settings::voice_settings, crate::specs::Registers::voice_regs))]
 fn voice_settings(registers: &Registers, v: u8) -> VoiceSettings
     requires { v < 8 }
     ensures { result ≡ voice_settings registers.now v }
@@ -82,8 +59,7 @@ fn all_voice_settings(r: &Registers) -> [VoiceSettings; 8]
 #[inline(never)]
 #[tactic(auto, unfolding(crate::specs::Settings::settings_of))]
 pub fn settings_of(registers: &Registers) -> Settings
-    ensures value { result ≡ settings_of registers.now }
-    ensures pitches { HasPitches result }
+    ensures { result ≡ settings_of registers.now }
 {
     let flg = registers[FLG];
     Settings {

@@ -7,7 +7,6 @@ use Rattle.std.proofs.lemmas.List.FromFn.{get_or-range_with_len, length-map-rang
 use Rattle.std.proofs.Math.ListN.{get_or-map}
 use Rattle.aram_core.specs.Memory.{byte_at, word_at, with_byte}
 use Rattle.aram_core.specs.Pages.{page_of}
-use Rattle.brr_decode.specs.Header.{next_block}
 use Rattle.voice_unit.specs.declared.interface.VoiceRegs.{VoiceRegs}
 use Rattle.voice_unit.specs.declared.interface.VoiceIn.{VoiceIn}
 use Rattle.voice_unit.specs.Directory.{entry_address, start_word, loop_word}
