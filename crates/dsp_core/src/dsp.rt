@@ -2,6 +2,7 @@
 
 ghost use Rattle.std.specs.Prelude.{◌≡◌, ◌≤◌, ◌<◌, ◌+◌, ◌*◌, ◌++◌, ◌∷◌, [], ◌==◌, true, length, IfOk, if◌then◌else◌};
 ghost use Rattle.std.specs.List.{filter};
+ghost use Rattle.dsp_form.specs.Limits.{most_samples_of_chip, most_samples_of_batch, frame_room, record_room};
 ghost use Rattle.dsp_form.specs.Samples.{samples, in_mask, next_count};
 ghost use Rattle.dsp_form.specs.Sample.{sample};
 ghost use Rattle.dsp_form.specs.Settings.{settings_of};
@@ -109,9 +110,9 @@ impl Dsp {
         answers: &mut [VoiceOut; 8],
     )
         requires settings { settings.now ≡ settings_of self.old.state.registers }
-        requires frame_room { length frames.old < 128 }
-        requires record_room { length records.old + 8 ≤ 1344 }
-        requires number { self.old.sample < 4000000000 }
+        requires frame_room { length frames.old < frame_room }
+        requires record_room { length records.old + 8 ≤ record_room }
+        requires number { self.old.sample < most_samples_of_chip }
         ensures chip { self.new ≡ record self.old { state = (sample self.old.sample self.old.state memory.old).state; sample = self.old.sample + 1 } }
         ensures memory { memory.new ≡ (sample self.old.sample self.old.state memory.old).memory }
         ensures frames { frames.new ≡ frames.old ++ (sample self.old.sample self.old.state memory.old).frame ∷ [] }
@@ -142,10 +143,10 @@ impl Dsp {
         frames: &mut Frames,
         records: &mut Records,
     )
-        requires few { n ≤ 64 }
-        requires frame_room { length frames.old + n ≤ 128 }
-        requires record_room { length records.old + 8 * n ≤ 1344 }
-        requires number { self.old.sample + n ≤ 4000000000 }
+        requires few { n ≤ most_samples_of_batch }
+        requires frame_room { length frames.old + n ≤ frame_room }
+        requires record_room { length records.old + 8 * n ≤ record_room }
+        requires number { self.old.sample + n ≤ most_samples_of_chip }
         ensures state { self.new.state ≡ (samples sample n self.old.sample self.old.state memory.old).state }
         ensures sample { self.new.sample ≡ self.old.sample + n }
         ensures batches { self.new.batches ≡ (if n == 0 then self.old.batches else next_count self.old.batches) }

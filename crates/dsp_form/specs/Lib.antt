@@ -7,6 +7,7 @@
 -- Sample: one sample of the S-DSP, part by part.
 -- Outside: the state at the opening, and the registers seen from outside.
 -- Valid: the states that a chip can be in.
+-- Limits: the limits that several clauses need.
 -- Reach: the pages that the samples to come can read and write.
 -- ReachLaws: what a chip keeps to, by the reach taken before its samples.
 pub mod Registers
@@ -18,5 +19,6 @@ pub mod Samples
 pub mod Sample
 pub mod Outside
 pub mod Valid
+pub mod Limits
 pub mod Reach
 pub mod ReachLaws

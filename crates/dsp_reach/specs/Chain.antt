@@ -4,6 +4,7 @@ use Rattle.voice_unit.specs.Voice.{VoiceState, is_at_group}
 use Rattle.reach_map.specs.Reach.{chain_entry}
 use Rattle.reach_map.specs.declared.ChainStart.{ChainStart}
 use Rattle.dsp_form.specs.declared.state.DspState.{DspState}
+use Rattle.dsp_form.specs.Limits.{most_samples_of_batch}
 use Rattle.dsp_form.specs.Reach.{can_start, own_chain, start_chain, chip_reach}
 use Rattle.dsp_form.specs.Sample.{sample}
 use Rattle.dsp_form.specs.Samples.{samples}
@@ -30,8 +31,8 @@ AllStayOnChains s memory j v (old ∷ olds) (new ∷ news) = StaysOnChains s mem
 AllStayOnChains s memory j v [] (new ∷ news) = ⊥
 AllStayOnChains s memory j v (old ∷ olds) [] = ⊥
 
--- from a valid state whose echo can't write what its voices read, each voice stays on its chains for 64 samples
+-- from a valid state whose echo can't write what its voices read, each voice stays on its chains over the samples of a batch
 abbrev pub VoicesStayOnChains : Type 0
 VoicesStayOnChains =
-    (j k : ℕ) (s : DspState) (memory : List ℕ) → j ≤ 64 → is_valid s ≡ true → (chip_reach s memory).entangled ≡ false
+    (j k : ℕ) (s : DspState) (memory : List ℕ) → j ≤ most_samples_of_batch → is_valid s ≡ true → (chip_reach s memory).entangled ≡ false
     → AllStayOnChains s memory j 0 s.hidden.voices (samples sample j k s memory).state.hidden.voices
