@@ -128,6 +128,19 @@ fn a_key_off_at_the_next_poll_releases(rt: HostRuntime) -> Result<(), Fail> {
     Ok(())
 }
 
+#[test]
+fn the_soft_reset_silences_from_the_next_sample_on(rt: HostRuntime) -> Result<(), Fail> {
+    let (mut dsp, mut memory) = one_voice(rt.alloc())?;
+    let mut frames = Frames::new(rt.alloc())?;
+    let mut records = Records::new(rt.alloc())?;
+    dsp.reg_write(0x4c, 0x01);
+    play(&mut dsp, &mut memory, 8, &mut frames, &mut records);
+    dsp.reg_write(0x6c, 0xa0);
+    play(&mut dsp, &mut memory, 3, &mut frames, &mut records);
+    assert_eq!(rt; frames.as_slice(), [SOUND, SILENCE, SILENCE].as_slice());
+    Ok(())
+}
+
 /// How many bytes from an address on are 0.
 fn zeros_from(memory: &Aram, from: u16) -> u32 {
     for k in 0..0x10000u32 {
