@@ -1,5 +1,6 @@
 -- Samples leave every register but those of their results.
-use Rattle.std.proofs.Common.{◌≡◌, ◌≢◌, ℕ, ◌+◌, ◌*◌, ◌%◌, ◌==◌, ◌||◌, List, [], ◌∷◌, Bool, true, false, pos, map, slice_index, slice_set, refl, ap, ◌∙◌, arith}
+use Rattle.std.proofs.Common.{◌≡◌, ◌≢◌, ℕ, ◌+◌, ◌*◌, ◌%◌, ◌==◌, ◌||◌, List, [], ◌∷◌, Bool, false, pos, map, slice_index, slice_set, refl, ap, ◌∙◌, arith}
+use Rattle.std.proofs.lemmas.Bool.{or_parts}
 use Rattle.std.proofs.lemmas.Bool.Decides.{nat_tests}
 use Rattle.std.proofs.lemmas.List.{get_or-set_other}
 use Rattle.rate_clock.specs.Counter.{counter_at}
@@ -20,15 +21,6 @@ record IsInput (register : ℕ) : Type 0 where
   outx : register % 16 ≢ OUTX
   endx : register ≢ ENDX
 
--- neither part of a false `or` holds
-either_first : (a b : Bool) → (a || b) ≡ false → a ≡ false
-either_first true b h = h
-either_first false b h = refl
-
-either_second : (a b : Bool) → (a || b) ≡ false → b ≡ false
-either_second true b h = cc
-either_second false b h = h
-
 -- what an address that is no result's is apart from follows from the test
 is_input : (address : ℕ) → is_result address ≡ false → IsInput address
 is_input address h =
@@ -36,10 +28,10 @@ is_input address h =
     let envx : Bool = register % 16 == ENVX in
     let outx : Bool = register % 16 == OUTX in
     let endx : Bool = register == ENDX in
-    let levels = either_first (envx || outx) endx h in
-    let not_envx : address % 0x80 % 16 ≢ 8 = grind (arith, nat_tests, either_first envx outx levels) in
-    let not_outx : address % 0x80 % 16 ≢ 9 = grind (arith, nat_tests, either_second envx outx levels) in
-    let not_endx : address % 0x80 ≢ 0x7c = grind (arith, nat_tests, either_second (envx || outx) endx h) in
+    let levels = (or_parts (envx || outx) endx h).0 in
+    let not_envx : address % 0x80 % 16 ≢ 8 = grind (arith, nat_tests, (or_parts envx outx levels).0) in
+    let not_outx : address % 0x80 % 16 ≢ 9 = grind (arith, nat_tests, (or_parts envx outx levels).1) in
+    let not_endx : address % 0x80 ≢ 0x7c = grind (arith, nat_tests, (or_parts (envx || outx) endx h).1) in
     record { envx = λ e. not_envx (omega (arith, e)); outx = λ e. not_outx (omega (arith, e)); endx = λ e. not_endx (omega (arith, e)) }
 
 -- ENVX and OUTX change no other register

@@ -92,10 +92,10 @@ shared_input s memory k = record {
   counter = counter_at k;
 }
 
--- one sample, of number k: the poll, the noise, the voices in order, the echo with the output, and the registers' results
-unfoldable pub sample : (k : ℕ) → DspState → List ℕ → SampleResult DspState
-sample k s memory =
-    let now = after_noise (after_poll s k) (counter_at k) in
+-- the rest of a sample, once the keys are polled and the noise has gone on: the voices in order, the echo with the output, and
+-- the registers' results
+abbrev pub rest_of_sample : (k : ℕ) → DspState → List ℕ → SampleResult DspState
+rest_of_sample k now memory =
     let results = results_from (shared_input now memory k) 0 (pos 0) now.hidden.voices in
     let answers = map (λ result. result.answer) results in
     let volumes = all_volumes now.registers in
@@ -109,3 +109,7 @@ sample k s memory =
       frame = output_frame regs (main_frame volumes answers) (echo_heard now.hidden.echo regs memory);
       records = records_from k 0 answers;
     }
+
+-- one sample, of number k
+unfoldable pub sample : (k : ℕ) → DspState → List ℕ → SampleResult DspState
+sample k s memory = rest_of_sample k (after_noise (after_poll s k) (counter_at k)) memory

@@ -9,16 +9,14 @@ use Rattle.aram_core.specs.Memory.{byte_at, with_byte}
 use Rattle.aram_core.specs.Pages.{page_of}
 use Rattle.voice_unit.specs.declared.interface.VoiceOut.{VoiceOut}
 use Rattle.reach_map.specs.Window.{echo_length}
-use Rattle.echo_unit.specs.Echo.{EchoState, is_at_cell, cell_address, next_echo, echo_memory, echo_heard, output_frame}
+use Rattle.echo_unit.specs.Echo.{EchoState, is_at_cell, cell_address, echo_memory}
 use Rattle.echo_unit.specs.Flg.{has_echo_writes}
 use Rattle.echo_unit.specs.declared.regs.EchoRegs.{EchoRegs}
-use Rattle.dsp_form.specs.Mix.{main_frame, sent_frame}
+use Rattle.dsp_form.specs.Mix.{sent_frame}
 use Rattle.dsp_form.specs.Volumes.{all_volumes}
 use Rattle.dsp_form.specs.Reach.{chip_reach}
 use Rattle.dsp_form.specs.Registers.{echo_regs}
-use Rattle.dsp_form.specs.Results.{registers_after}
-use Rattle.dsp_form.specs.Samples.{SampleResult}
-use Rattle.dsp_form.specs.Sample.{VoiceResult, results_from, records_from, shared_input, after_poll, after_noise, sample}
+use Rattle.dsp_form.specs.Sample.{VoiceResult, rest_of_sample, results_from, shared_input, after_poll, after_noise, sample}
 use Rattle.dsp_form.specs.Valid.{is_valid}
 use Rattle.dsp_form.specs.declared.registers.TheConstants.{FLG, ESA, EDL}
 use Rattle.dsp_form.specs.declared.state.DspState.{DspState}
@@ -56,27 +54,11 @@ stays_at_start s memory valid = record {
   voices = λ clear. voices_at_start s memory valid;
 }
 
--- a sample once the keys are polled and the noise has gone on
-abbrev sample_after_poll : (k : ℕ) → DspState → List ℕ → SampleResult DspState
-sample_after_poll k now memory =
-    let results = results_from (shared_input now memory k) 0 (pos 0) now.hidden.voices in
-    let answers = map (λ result. result.answer) results in
-    let volumes = all_volumes now.registers in
-    let regs = echo_regs now.registers in
-    record {
-      state = record now {
-        registers = registers_after answers now.registers;
-        hidden = record now.hidden { voices = map (λ result. result.voice) results; echo = next_echo now.hidden.echo regs memory };
-      };
-      memory = echo_memory now.hidden.echo regs memory (sent_frame volumes answers);
-      frame = output_frame regs (main_frame volumes answers) (echo_heard now.hidden.echo regs memory);
-      records = records_from k 0 answers;
-    }
-
+-- the state once the keys are polled and the noise has gone on
 abbrev before_voices : DspState → (k : ℕ) → DspState
 before_voices s k = after_noise (after_poll s k) (counter_at k)
 
-sample_is : (k : ℕ) (s : DspState) (memory : List ℕ) → sample k s memory ≡ sample_after_poll k (before_voices s k) memory
+sample_is : (k : ℕ) (s : DspState) (memory : List ℕ) → sample k s memory ≡ rest_of_sample k (before_voices s k) memory
 unfolding sample
 sample_is k s memory = refl
 
@@ -159,7 +141,7 @@ stays_in_reach start before j k s memory few stays = rw (sample_is k s memory) n
     edl : (echo_regs now.registers).edl ≡ slice_index start.registers EDL
     edl = regs_edl now.registers ∙ held.inputs EDL refl
 
-    next : StaysInReach start before (j + 1) (sample_after_poll k now memory).state (sample_after_poll k now memory).memory
+    next : StaysInReach start before (j + 1) (rest_of_sample k now memory).state (rest_of_sample k now memory).memory
     next = record {
       inputs = λ address h. same_inputs-registers_after answers now.registers address h ∙ held.inputs address h;
       waiting = held.waiting;
@@ -193,7 +175,7 @@ reads_in_reach start before j k s memory at value few stays clear none =
         voices_apart start before j 0 (pos 0) (shared_input now memory k) start.hidden.voices now.hidden.voices at value (finds start before j k s memory stays clear) (omega arith) (held.voices clear)
         (unread_by_voices start before (page_of at) none)
 
-    same : sample_after_poll k now (with_byte memory at value) ≡ record (sample_after_poll k now memory) { memory = with_byte (sample_after_poll k now memory).memory at value }
+    same : rest_of_sample k now (with_byte memory at value) ≡ record (rest_of_sample k now memory) { memory = with_byte (rest_of_sample k now memory).memory at value }
     same =
         let answers : List VoiceOut = map (λ (result : VoiceResult). result.answer) (results_from (shared_input now memory k) 0 (pos 0) now.hidden.voices) in
         rw (

@@ -4,7 +4,7 @@ use Rattle.std.specs.List.{range_with_len}
 use Rattle.std.specs.Ordering.{nat_cmp, eq_by_cmp}
 use Rattle.std.specs.FinSet as set
 use Rattle.std.specs.Cmp.{unsigned_tied}
-use Rattle.std.proofs.lemmas.Bool.{cases_eq, cases_lt}
+use Rattle.std.proofs.lemmas.Bool.{cases_eq, cases_lt, or_parts}
 use Rattle.std.proofs.lemmas.Bool.Decides.{nat_tests}
 use Rattle.std.proofs.lemmas.List.Folds.{list_any-append}
 use Rattle.std.proofs.lemmas.List.FromFn.{map-range_with_len_more}
@@ -22,21 +22,12 @@ tied_other q k other = let no : nat_eq q k ≡ false = grind (arith, nat_tests, 
 other_tied : (q k : ℕ) → eq_by_cmp nat_cmp q k ≡ false → q ≢ k
 other_tied q k apart = let differs : nat_eq q k ≡ false = sym (tied q k) ∙ apart in grind (arith, nat_tests, differs)
 
--- where neither of two tests passes, the first fails, and so does the second
-pub either_first : (a b : Bool) → (a || b) ≡ false → a ≡ false
-either_first true b h = cc
-either_first false b h = refl
-
-either_second : (a b : Bool) → (a || b) ≡ false → b ≡ false
-either_second true b h = cc
-either_second false b h = h
-
 -- a page that is none of a list's is no entry of it, and the other way round
 pub none_of : (f : ℕ → ℕ) (q a n : ℕ) → has_page q (map f (range_with_len a n)) ≡ false → (k : ℕ) → a ≤ k → k < a + n → q ≢ f k
 none_of f q a zero none k from below = absurd (omega arith)
 none_of f q a (suc n) none k from below = elim (cases_eq k a) [
-  | inl first ↦ λ same. other_tied q (f a) (either_first _ _ none) (same ∙ ap f first)
-  | inr later ↦ none_of f q (a + 1) n (either_second _ _ none) k (omega arith) (omega arith)
+  | inl first ↦ λ same. other_tied q (f a) (or_parts _ _ none).0 (same ∙ ap f first)
+  | inr later ↦ none_of f q (a + 1) n (or_parts _ _ none).1 k (omega arith) (omega arith)
 ]
 
 pub has_none : (f : ℕ → ℕ) (q a n : ℕ) → ((k : ℕ) → a ≤ k → k < a + n → q ≢ f k) → has_page q (map f (range_with_len a n)) ≡ false
@@ -87,9 +78,9 @@ same_steps pages start count steps some all few = with_pages-same pages _ _ (λ 
     there q none =
         let last : ℕ = page_of (start + (count - 1)) in
         let halves : (has_page q (pages_of_steps start steps) || (eq_by_cmp nat_cmp q last || false)) ≡ false = sym (parts q) ∙ none in
-        let no_step : has_page q (pages_of_steps start steps) ≡ false = either_first (has_page q (pages_of_steps start steps)) (eq_by_cmp nat_cmp q last || false) halves in
-        let at_end : (eq_by_cmp nat_cmp q last || false) ≡ false = either_second (has_page q (pages_of_steps start steps)) (eq_by_cmp nat_cmp q last || false) halves in
-        let not_last : q ≢ last = other_tied q last (either_first (eq_by_cmp nat_cmp q last) false at_end) in
+        let no_step : has_page q (pages_of_steps start steps) ≡ false = (or_parts (has_page q (pages_of_steps start steps)) (eq_by_cmp nat_cmp q last || false) halves).0 in
+        let at_end : (eq_by_cmp nat_cmp q last || false) ≡ false = (or_parts (has_page q (pages_of_steps start steps)) (eq_by_cmp nat_cmp q last || false) halves).1 in
+        let not_last : q ≢ last = other_tied q last (or_parts (eq_by_cmp nat_cmp q last) false at_end).0 in
         let apart = λ (i : ℕ) (within : i < steps). none_of (λ j. page_of (start + 256 * j)) q 0 steps no_step i (omega arith) (omega arith) in
         has_none (λ i. page_of (start + i)) q 0 count (λ k from below. between start count steps q k (omega arith) all apart not_last)
 

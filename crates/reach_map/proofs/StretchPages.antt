@@ -3,6 +3,7 @@ use Rattle.std.proofs.Common.{◌≡◌, ℕ, zero, suc, ◌+◌, ◌-◌, ◌*�
 use Rattle.std.specs.Prelude.{if◌then◌else◌}
 use Rattle.std.specs.List.{range_with_len}
 use Rattle.std.specs.Ordering.{nat_cmp, eq_by_cmp}
+use Rattle.std.proofs.lemmas.Bool.{or_parts}
 use Rattle.std.proofs.lemmas.List.{append-nil}
 use Rattle.std.proofs.lemmas.List.Folds.{list_any-append}
 use Rattle.aram_core.specs.Memory.{byte_at}
@@ -12,7 +13,7 @@ use Rattle.reach_map.specs.Added.{with_pages}
 use Rattle.reach_map.specs.Reach.{block_pages, chain, pages_of_bytes}
 use Rattle.reach_map.specs.Stretch.{stretch_length}
 use Rattle.reach_map.proofs.Added.{has_page, with_pages-same, with_pages-append}
-use Rattle.reach_map.proofs.EveryPage.{either_first, fail_together, has_none, none_of}
+use Rattle.reach_map.proofs.EveryPage.{fail_together, has_none, none_of}
 
 -- a list by a function of the index, in two parts
 two_parts : (f : ℕ → ℕ) (a n m all next : ℕ) → n + m ≡ all → a + n ≡ next
@@ -124,7 +125,7 @@ loop_stretch pages memory to n = with_pages-same pages _ _ (λ q. fail_together 
     there : (q : ℕ) → has_page q (flat_map block_pages (chain memory to n to)) ≡ false → has_page q (pages_of_bytes to (9 * stretch_length memory to n)) ≡ false
     there q none =
         let parts : (has_page q stretch || has_page q left) ≡ false = sym (list_any-append (eq_by_cmp nat_cmp q) stretch left) ∙ ap (has_page q) (sym (first_stretch memory to n to)) ∙ none in
-        either_first (has_page q stretch) (has_page q left) parts
+        (or_parts (has_page q stretch) (has_page q left) parts).0
 
 -- a chain has the pages of the stretch at its start and of the stretch at its loop word
 pub two_stretches : (pages : Pages) (memory : List ℕ) (to n block : ℕ)
