@@ -4,8 +4,8 @@ use Rattle.std.proofs.lemmas.Bool.Decides.{nat_tests}
 use Rattle.std.proofs.lemmas.Nat.{mod-pow-add, shr-shr, pow-add}
 use Rattle.num_fix.specs.Arithmetic.{has_bit}
 use Rattle.voice_unit.specs.Voice.{VoiceState, voice_answer}
-use Rattle.dsp_core.specs.Results.{bits_from}
-use Rattle.dsp_core.specs.Sample.{SharedInput, voice_in, voice_result, results_from}
+use Rattle.dsp_form.specs.Results.{bits_from}
+use Rattle.dsp_form.specs.Sample.{SharedInput, voice_in, voice_result, results_from}
 
 -- the key-ons of n voices from v on, where the keys are polled
 abbrev key_ons : (poll : Bool) → (taken v n : ℕ) → ℕ
@@ -19,7 +19,7 @@ bit_value b v below = by (b == 1) refl
     by true e = let one : b ≡ 1 = grind (arith, nat_tests, e) in rw one (omega arith)
     by false e = let none : b ≡ 0 = grind (arith, nat_tests, e, below) in rw none (omega arith)
 
--- a bit and a number behind it, both times p
+-- a bit and a number after it, both times p
 products : (b r p : ℕ) → b * p + r * (p * 2) ≡ (r * 2 + b) * p
 products b r p = omega arith
 

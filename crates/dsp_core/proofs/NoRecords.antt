@@ -4,8 +4,8 @@ use Rattle.std.proofs.Math.Nat.{zero-div}
 use Rattle.std.specs.List.{filter}
 use Rattle.num_fix.specs.Arithmetic.{has_bit}
 use Rattle.voice_unit.specs.declared.interface.VoiceOut.{VoiceOut}
-use Rattle.dsp_core.specs.Run.{in_mask}
-use Rattle.dsp_core.specs.Sample.{records_from}
+use Rattle.dsp_form.specs.Samples.{in_mask}
+use Rattle.dsp_form.specs.Sample.{records_from}
 
 -- 0 has no bit
 no_bit : (v : ℕ) → has_bit 0 v ≡ false

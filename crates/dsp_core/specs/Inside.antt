@@ -1,9 +1,9 @@
 -- What holds of the fields of each chip.
 use Rattle.std.specs.Prelude.{◌≡◌, true}
 use Rattle.rate_clock.specs.Counter.{counter_after}
-use Rattle.dsp_core.specs.Sound.{is_sound}
+use Rattle.dsp_form.specs.Valid.{is_valid}
 use Rattle.dsp_core.specs.declared.dsp.Dsp.TheInside.{Inside}
 
 pub record IsDsp (d : Inside) : Type 0 where
   pub clock : d.clock ≡ counter_after d.number
-  pub sound : is_sound d.state ≡ true
+  pub valid : is_valid d.state ≡ true

@@ -2,19 +2,13 @@
 #![tactic(auto)]
 
 mod dsp;
-mod mix;
-mod reach;
 mod records;
-mod registers;
-mod results;
-mod settings;
-mod state;
+mod sample;
 #[cfg(test)]
 mod tests;
 mod voices;
-mod volumes;
 
 pub use dsp::Dsp;
+pub use dsp_form::DspState;
 pub use reach_map::ReachPages;
-pub use state::DspState;
 pub use std::alloc::AllocError as OutOfMemory;

@@ -2,16 +2,17 @@
 
 ghost use Rattle.std.specs.Prelude.{◌≡◌, ◌≤◌, ◌<◌, ◌+◌, ◌++◌, ◌∷◌, [], length};
 ghost use Rattle.std.specs.List.{filter};
-ghost use Rattle.dsp_core.specs.Run.{in_mask};
-ghost use Rattle.dsp_core.specs.Sample.{records_from};
+ghost use Rattle.dsp_form.specs.Limits.{record_room};
+ghost use Rattle.dsp_form.specs.Samples.{in_mask};
+ghost use Rattle.dsp_form.specs.Sample.{records_from};
 
-use crate::registers::has_bit;
+use num_fix::has_bit;
 use trace_form::{Record, Records};
 use voice_unit::VoiceOut;
 
 /// Adds the record of voice `v`, where its bit is in the mask.
 fn push_record(records: &mut Records, mask: u8, sample: u32, v: u8, answer: &VoiceOut)
-    requires room { length records.old < 1344 }
+    requires room { length records.old < record_room }
     requires v { v < 8 }
     ensures records { records.new ≡ records.old ++ filter (in_mask mask) (records_from sample v (answer.now ∷ [])) }
     ensures count { length records.new ≤ length records.old + 1 }
@@ -31,7 +32,7 @@ fn push_record(records: &mut Records, mask: u8, sample: u32, v: u8, answer: &Voi
 
 /// Adds the records of the voices in the mask, in the order of the voices.
 pub fn push_records(records: &mut Records, mask: u8, sample: u32, answers: &[VoiceOut; 8])
-    requires { length records.old + 8 ≤ 1344 }
+    requires { length records.old + 8 ≤ record_room }
     ensures records { records.new ≡ records.old ++ filter (in_mask mask) (records_from sample 0 answers.now) }
     ensures count { length records.new ≤ length records.old + 8 }
 {

@@ -76,7 +76,7 @@ const SOUND: Frame = Frame {
 const SEVEN: [Frame; 7] = [SILENCE, SILENCE, SILENCE, SILENCE, SILENCE, SOUND, SOUND];
 
 #[test]
-fn a_key_on_behind_a_poll_is_lost_at_the_next(rt: HostRuntime) -> Result<(), Fail> {
+fn a_key_on_after_a_poll_is_lost_at_the_next(rt: HostRuntime) -> Result<(), Fail> {
     let (mut dsp, mut memory) = one_voice(rt.alloc())?;
     let mut frames = Frames::new(rt.alloc())?;
     let mut records = Records::new(rt.alloc())?;
@@ -125,6 +125,19 @@ fn a_key_off_at_the_next_poll_releases(rt: HostRuntime) -> Result<(), Fail> {
         play(&mut dsp, &mut memory, 7, &mut frames, &mut records);
         assert_eq!(rt; frames.as_slice(), want.as_slice());
     }
+    Ok(())
+}
+
+#[test]
+fn the_soft_reset_silences_from_the_next_sample_on(rt: HostRuntime) -> Result<(), Fail> {
+    let (mut dsp, mut memory) = one_voice(rt.alloc())?;
+    let mut frames = Frames::new(rt.alloc())?;
+    let mut records = Records::new(rt.alloc())?;
+    dsp.reg_write(0x4c, 0x01);
+    play(&mut dsp, &mut memory, 8, &mut frames, &mut records);
+    dsp.reg_write(0x6c, 0xa0);
+    play(&mut dsp, &mut memory, 3, &mut frames, &mut records);
+    assert_eq!(rt; frames.as_slice(), [SOUND, SILENCE, SILENCE].as_slice());
     Ok(())
 }
 

@@ -1,26 +1,16 @@
 //! The voices of one sample, one after another.
 
-ghost use Rattle.std.specs.Prelude.{◌≡◌, ◌<◌, ℕ, List, pos, map};
+ghost use Rattle.std.specs.Prelude.{◌≡◌, ◌<◌, ℕ, List};
 ghost use Rattle.num_fix.specs.Arithmetic.{has_bit};
-ghost use Rattle.dsp_core.specs.Settings.{settings_of, HasPitches};
-ghost use Rattle.dsp_core.specs.Sample.{SharedInput, voice_in, voice_result, results_from};
+ghost use Rattle.dsp_form.specs.Settings.{settings_of};
+ghost use Rattle.dsp_form.specs.Sample.{voice_in, voice_result};
+ghost use Rattle.dsp_core.specs.VoicesOfSample.{ForInput, voices_after, answers_of};
 
-use crate::settings::Settings;
 use aram_core::Aram;
+use dsp_form::{Settings, SharedByVoices};
 use gauss_table::GaussTable;
 use rate_clock::RateClock;
 use voice_unit::{Voice, VoiceIn, VoiceOut};
-
-/// What all voices share in a sample beside the registers.
-#[derive(Clone, Copy, Debug)]
-pub struct Common {
-    /// The noise, at most 7FFFh.
-    pub noise: u16,
-    /// The key-ons that the last poll took.
-    pub taken: u8,
-    /// The keys are polled in this sample.
-    pub is_poll: bool,
-}
 
 /// The answer of a voice that has not been heard.
 pub const UNHEARD: VoiceOut = VoiceOut {
@@ -34,7 +24,13 @@ pub const UNHEARD: VoiceOut = VoiceOut {
 };
 
 /// What voice `v` reads beside its registers.
-fn voice_in(settings: &Settings, common: &Common, v: u8, kon: bool, previous: i16) -> VoiceIn
+fn voice_in(
+    settings: &Settings,
+    common: &SharedByVoices,
+    v: u8,
+    kon: bool,
+    previous: i16,
+) -> VoiceIn
     requires v { v < 8 }
     requires kon { kon ≡ has_bit common.now.taken v }
     ensures value { (registers : List ℕ) → settings.now ≡ settings_of registers → result ≡ voice_in registers common.now v previous }
@@ -55,11 +51,11 @@ fn voice_in(settings: &Settings, common: &Common, v: u8, kon: bool, previous: i1
 }
 
 /// One step of voice `v`.
-#[tactic(auto, unfolding(crate::specs::Sample::voice_result))]
+#[tactic(auto, unfolding(dsp_form::specs::Sample::voice_result))]
 fn step_voice(
     voice: &mut Voice,
     settings: &Settings,
-    common: &Common,
+    common: &SharedByVoices,
     v: u8,
     kon: bool,
     previous: i16,
@@ -69,12 +65,9 @@ fn step_voice(
 ) -> VoiceOut
     requires v { v < 8 }
     requires kon { kon ≡ has_bit common.now.taken v }
-    requires pitches { HasPitches settings.now }
     requires noise { common.now.noise < 0x8000 }
-    ensures voice { (registers : List ℕ) → settings.now ≡ settings_of registers → let shared : SharedInput = record { registers = registers; common = common.now; memory = memory.now; table = table.now; counter = clock.now } in
-        voice.new ≡ (voice_result shared v previous voice.old).voice }
-    ensures answer { (registers : List ℕ) → settings.now ≡ settings_of registers → let shared : SharedInput = record { registers = registers; common = common.now; memory = memory.now; table = table.now; counter = clock.now } in
-        result ≡ (voice_result shared v previous voice.old).answer }
+    ensures voice { ForInput settings.now common.now memory.now table.now clock.now (λ shared. voice.new ≡ (voice_result shared v previous voice.old).voice) }
+    ensures answer { ForInput settings.now common.now memory.now table.now clock.now (λ shared. result ≡ (voice_result shared v previous voice.old).answer) }
 {
     let input = voice_in(settings, common, v, kon, previous);
     let regs = &settings.voices[usize::from(v)].regs;
@@ -85,18 +78,15 @@ fn step_voice(
 pub fn step_voices(
     voices: &mut [Voice; 8],
     settings: &Settings,
-    common: &Common,
+    common: &SharedByVoices,
     memory: &Aram,
     table: &GaussTable,
     clock: &RateClock,
     answers: &mut [VoiceOut; 8],
 )
-    requires pitches { HasPitches settings.now }
-    requires noise { common.now.noise < 0x8000 }
-    ensures voices { (registers : List ℕ) → settings.now ≡ settings_of registers → let shared : SharedInput = record { registers = registers; common = common.now; memory = memory.now; table = table.now; counter = clock.now } in
-        voices.new ≡ map (λ one. one.voice) (results_from shared 0 (pos 0) voices.old) }
-    ensures answers { (registers : List ℕ) → settings.now ≡ settings_of registers → let shared : SharedInput = record { registers = registers; common = common.now; memory = memory.now; table = table.now; counter = clock.now } in
-        answers.new ≡ map (λ one. one.answer) (results_from shared 0 (pos 0) voices.old) }
+    requires { common.now.noise < 0x8000 }
+    ensures voices { ForInput settings.now common.now memory.now table.now clock.now (λ shared. voices.new ≡ voices_after shared voices.old) }
+    ensures answers { ForInput settings.now common.now memory.now table.now clock.now (λ shared. answers.new ≡ answers_of shared voices.old) }
 {
     let mut previous = 0;
     // the key-ons of the voices still to come, lowest first

@@ -5,8 +5,8 @@ use Rattle.voice_unit.specs.declared.interface.VoiceRegs.{VoiceRegs}
 use Rattle.voice_unit.specs.declared.interface.VoiceIn.{VoiceIn}
 use Rattle.voice_unit.specs.Directory.{start_word, loop_word}
 use Rattle.voice_unit.specs.Voice.{VoiceState, step_header, playing_voice, after_decoding, after_reading, after_envelope, after_pitch, step_pitch, voice_step, voice_answer}
-use Rattle.dsp_core.specs.Registers.{voice_regs}
-use Rattle.dsp_core.specs.Sample.{SharedInput, voice_in, voice_result}
+use Rattle.dsp_form.specs.Registers.{voice_regs}
+use Rattle.dsp_form.specs.Sample.{SharedInput, voice_in, voice_result}
 
 -- two memories that agree where a voice looks in a step
 pub record AgreeFor (v : VoiceState) (r : VoiceRegs) (i : VoiceIn) (m n : List ℕ) : Type 0 where

@@ -7,20 +7,20 @@ use Rattle.std.proofs.lemmas.List.FromFn.{get_or-range_with_len, length-map-rang
 use Rattle.std.proofs.Math.ListN.{get_or-map}
 use Rattle.aram_core.specs.Memory.{byte_at, word_at, with_byte}
 use Rattle.aram_core.specs.Pages.{page_of}
-use Rattle.brr_decode.specs.Header.{next_block}
 use Rattle.voice_unit.specs.declared.interface.VoiceRegs.{VoiceRegs}
 use Rattle.voice_unit.specs.declared.interface.VoiceIn.{VoiceIn}
 use Rattle.voice_unit.specs.Directory.{entry_address, start_word, loop_word}
 use Rattle.voice_unit.specs.Voice.{VoiceState, playing_voice, step_header}
 use Rattle.reach_map.specs.declared.ChainStart.{ChainStart}
-use Rattle.reach_map.specs.Reach.{pages_of_bytes, chain, block_pages, chain_pages, entry_pages, voice_pages}
-use Rattle.dsp_core.specs.declared.state.DspState.{DspState}
-use Rattle.dsp_core.specs.Reach.{voice_entry, can_start, own_chain, start_chain, voice_starts}
-use Rattle.dsp_core.proofs.Sound.{group_of}
-use Rattle.dsp_reach.specs.Chain.{chain_entry, IsOnChain, StaysOnChains}
+use Rattle.reach_map.specs.Reach.{pages_of_bytes, chain, chain_entry, block_pages, chain_pages, entry_pages, voice_pages}
+use Rattle.dsp_form.specs.declared.state.DspState.{DspState}
+use Rattle.dsp_form.specs.Reach.{voice_entry, can_start, own_chain, start_chain, voice_starts}
+use Rattle.voice_unit.proofs.Groups.{group_of}
+use Rattle.reach_map.proofs.ChainEntries.{rest_of, chain_entry-zero, chain_entry-rest}
+use Rattle.dsp_reach.specs.Chain.{IsOnChain, StaysOnChains}
 use Rattle.dsp_reach.proofs.PageSets.{has_page, at_page, in_left, in_right}
 use Rattle.dsp_reach.proofs.Agree.{AgreeFor}
-use Rattle.dsp_reach.proofs.Steps.{chain_entry-zero, on_first, index_small, after_delay_same, after_delay_five, SeesTheSame}
+use Rattle.dsp_reach.proofs.OnChains.{on_first, index_small, after_delay_same, after_delay_five, SeesTheSame}
 
 -- the pages of bytes have the page of each of them
 pub bytes_have : (start count k : ℕ) → k < count → has_page (pages_of_bytes start count) (page_of (start + k)) ≡ true
@@ -31,15 +31,6 @@ bytes_have start count k few =
     let read : get_or pages k (page_of (start + 0)) ≡ page_of (start + k) =
     get_or-map (λ (i : ℕ). page_of (start + i)) (range_with_len 0 count) k 0 ∙ ap (λ (i : ℕ). page_of (start + i)) place in
     list_any_at (λ q. q == page_of (start + k)) pages k (page_of (start + 0)) within (eq-eqb _ _ read)
-
--- the chain from the next block on is the rest of the chain
-abbrev rest_of : List ℕ → ChainStart → ChainStart
-rest_of memory start = record { block = next_block (byte_at memory start.block) start.block start.loop_word; loop_word = start.loop_word }
-
-chain_entry-rest : (memory : List ℕ) (start : ChainStart) (i : ℕ) → chain_entry memory start (suc i) ≡ chain_entry memory (rest_of memory start) i
-unfolding chain_entry
-chain_entry-rest memory start zero = refl
-chain_entry-rest memory start (suc i) = ap (λ (b : ℕ). next_block (byte_at memory b) b start.loop_word) (chain_entry-rest memory start i)
 
 -- the pages of the first n blocks have those of the 9 bytes of each
 blocks_have : (memory : List ℕ) (start : ChainStart) (n i k : ℕ) → i < n → k < 9

@@ -11,7 +11,7 @@ use Rattle.reach_map.specs.Window.{echo_window, echo_length}
 use Rattle.echo_unit.specs.Echo.{EchoState, cell_address, halved_word, cell_pair, after_reading, next_echo, with_word, with_cell, echo_memory}
 use Rattle.echo_unit.specs.Flg.{has_echo_writes}
 use Rattle.echo_unit.specs.declared.regs.EchoRegs.{EchoRegs}
-use Rattle.dsp_core.proofs.Sound.{IsCell}
+use Rattle.echo_unit.proofs.Cells.{IsCell}
 use Rattle.dsp_reach.proofs.PageSets.{has_page}
 use Rattle.dsp_reach.proofs.ChainPages.{bytes_have}
 

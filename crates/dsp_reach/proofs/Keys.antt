@@ -5,9 +5,9 @@ use Rattle.std.proofs.lemmas.Nat.Bits.{bit_at_and, bit_at-lt}
 use Rattle.std.specs.Int.{bit_at}
 use Rattle.num_fix.specs.Arithmetic.{has_bit}
 use Rattle.rate_clock.specs.Counter.{counter_at}
-use Rattle.dsp_core.specs.Results.{without_bits}
-use Rattle.dsp_core.specs.Sample.{after_poll, after_noise}
-use Rattle.dsp_core.specs.declared.state.DspState.{DspState}
+use Rattle.dsp_form.specs.Results.{without_bits}
+use Rattle.dsp_form.specs.Sample.{after_poll, after_noise}
+use Rattle.dsp_form.specs.declared.state.DspState.{DspState}
 
 -- every bit of a byte is set in another
 abbrev pub IsPart : (byte whole : ℕ) → Type 0

@@ -1,5 +1,5 @@
--- Runs: laws on n samples from facts on one.
--- Registers: samples leave every register but those of their results, seen over a run.
+-- AfterSamples: laws on n samples from facts on one.
+-- Registers: samples leave every register but those of their results.
 -- Keys: a key-on that is taken has waited.
 -- EchoPlace: where the echo stands after samples.
 -- EchoPages: a step of the echo reads and writes one cell, on a page of its window.
@@ -8,11 +8,11 @@
 -- Within: the laws of up to 64 samples.
 -- PageSets: pages in lists and in sets.
 -- Agree: what a voice's step reads.
--- Steps: a voice stays on its chains.
+-- OnChains: a voice stays on its chains.
 -- ChainPages: what a voice on its chains reads lies on their pages.
 -- Voices: the same of all voices.
 -- Starts: a byte put off the read pages leaves the reach as it is.
-pub mod Runs
+pub mod AfterSamples
 pub mod Registers
 pub mod Keys
 pub mod EchoPlace
@@ -22,7 +22,7 @@ pub mod OneSample
 pub mod Within
 pub mod PageSets
 pub mod Agree
-pub mod Steps
+pub mod OnChains
 pub mod ChainPages
 pub mod Voices
 pub mod Starts

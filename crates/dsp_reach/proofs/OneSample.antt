@@ -9,22 +9,22 @@ use Rattle.aram_core.specs.Memory.{byte_at, with_byte}
 use Rattle.aram_core.specs.Pages.{page_of}
 use Rattle.voice_unit.specs.declared.interface.VoiceOut.{VoiceOut}
 use Rattle.reach_map.specs.Window.{echo_length}
-use Rattle.echo_unit.specs.Echo.{EchoState, cell_address, next_echo, echo_memory, echo_heard, output_frame}
+use Rattle.echo_unit.specs.Echo.{EchoState, is_at_cell, cell_address, echo_memory}
 use Rattle.echo_unit.specs.Flg.{has_echo_writes}
 use Rattle.echo_unit.specs.declared.regs.EchoRegs.{EchoRegs}
-use Rattle.dsp_core.specs.Mix.{main_frame, sent_frame}
-use Rattle.dsp_core.specs.Reach.{chip_reach}
-use Rattle.dsp_core.specs.Registers.{echo_regs}
-use Rattle.dsp_core.specs.Results.{registers_after}
-use Rattle.dsp_core.specs.Run.{Sampled}
-use Rattle.dsp_core.specs.Sample.{VoiceResult, results_from, records_from, shared_input, after_poll, after_noise, sample}
-use Rattle.dsp_core.specs.Sound.{is_at_cell, is_sound}
-use Rattle.dsp_core.specs.declared.registers.TheConstants.{FLG, ESA, EDL}
-use Rattle.dsp_core.specs.declared.state.DspState.{DspState}
-use Rattle.dsp_core.proofs.EightVoices.{voices-before_step}
-use Rattle.dsp_core.proofs.Sound.{cell_of, sound_of, echo-before_step, is_at_cell-next_echo}
+use Rattle.dsp_form.specs.Mix.{sent_frame}
+use Rattle.dsp_form.specs.Volumes.{all_volumes}
+use Rattle.dsp_form.specs.Reach.{chip_reach}
+use Rattle.dsp_form.specs.Registers.{echo_regs}
+use Rattle.dsp_form.specs.Sample.{VoiceResult, rest_of_sample, results_from, shared_input, after_poll, after_noise, sample}
+use Rattle.dsp_form.specs.Valid.{is_valid}
+use Rattle.dsp_form.specs.declared.registers.TheConstants.{FLG, ESA, EDL}
+use Rattle.dsp_form.specs.declared.state.DspState.{DspState}
+use Rattle.dsp_form.proofs.EightVoices.{voices-before_step}
+use Rattle.echo_unit.proofs.Cells.{cell_of, is_at_cell-next_echo}
+use Rattle.dsp_form.proofs.Valid.{valid_of, echo-before_step}
 use Rattle.dsp_reach.specs.Chain.{AllStayOnChains}
-use Rattle.dsp_core.proofs.Inputs.{SameInputs, same_inputs-registers_after, registers-before_step}
+use Rattle.dsp_form.proofs.Inputs.{SameInputs, same_inputs-registers_after, registers-before_step}
 use Rattle.dsp_reach.proofs.Keys.{IsPart, waiting-before_step, taken_waited}
 use Rattle.dsp_reach.proofs.EchoPlace.{length-next_echo}
 use Rattle.dsp_reach.proofs.EchoPages.{IsOffCell, off_window, byte_at-echo_memory, echo_memory_still, after_reading_apart, next_echo_apart, echo_memory_apart}
@@ -43,42 +43,27 @@ pub record StaysInReach (start : DspState) (before : List ℕ) (j : ℕ) (s : Ds
   pub bytes : (at : ℕ) → set.contains (chip_reach start before).write_pages (page_of at) ≡ false → byte_at memory at ≡ byte_at before at
   pub voices : (chip_reach start before).entangled ≡ false → AllStayOnChains start before j 0 start.hidden.voices s.hidden.voices
 
--- it holds at a sound start
-pub stays_at_start : (s : DspState) (memory : List ℕ) → is_sound s ≡ true → StaysInReach s memory 0 s memory
-stays_at_start s memory sound = record {
+-- it holds at a valid start
+pub stays_at_start : (s : DspState) (memory : List ℕ) → is_valid s ≡ true → StaysInReach s memory 0 s memory
+stays_at_start s memory valid = record {
   inputs = λ address h. refl;
   waiting = λ v h. h;
-  cell = (sound_of s sound).cell;
+  cell = (valid_of s valid).cell;
   length = omega arith;
   bytes = λ at none. refl;
-  voices = λ clear. voices_at_start s memory sound;
+  voices = λ clear. voices_at_start s memory valid;
 }
 
--- a sample once the keys are polled and the noise has gone on
-abbrev stepped : (k : ℕ) → DspState → List ℕ → Sampled DspState
-stepped k now memory =
-    let results = results_from (shared_input now memory k) 0 (pos 0) now.hidden.voices in
-    let answers = map (λ result. result.answer) results in
-    let regs = echo_regs now.registers in
-    record {
-      state = record now {
-        registers = registers_after answers now.registers;
-        hidden = record now.hidden { voices = map (λ result. result.voice) results; echo = next_echo now.hidden.echo regs memory };
-      };
-      memory = echo_memory now.hidden.echo regs memory (sent_frame now.registers answers);
-      frame = output_frame regs (main_frame now.registers answers) (echo_heard now.hidden.echo regs memory);
-      voices = records_from k 0 answers;
-    }
+-- the state once the keys are polled and the noise has gone on
+abbrev before_voices : DspState → (k : ℕ) → DspState
+before_voices s k = after_noise (after_poll s k) (counter_at k)
 
-abbrev polled : DspState → (k : ℕ) → DspState
-polled s k = after_noise (after_poll s k) (counter_at k)
-
-sample_is : (k : ℕ) (s : DspState) (memory : List ℕ) → sample k s memory ≡ stepped k (polled s k) memory
+sample_is : (k : ℕ) (s : DspState) (memory : List ℕ) → sample k s memory ≡ rest_of_sample k (before_voices s k) memory
 unfolding sample
 sample_is k s memory = refl
 
 -- the poll and the noise keep it
-stays_polled : (start : DspState) (before : List ℕ) (j k : ℕ) (s : DspState) (memory : List ℕ) → StaysInReach start before j s memory → StaysInReach start before j (polled s k) memory
+stays_polled : (start : DspState) (before : List ℕ) (j k : ℕ) (s : DspState) (memory : List ℕ) → StaysInReach start before j s memory → StaysInReach start before j (before_voices s k) memory
 stays_polled start before j k s memory stays = record {
   inputs = λ address h. ap (λ (registers : List ℕ). slice_index registers address) (registers-before_step s k) ∙ stays.inputs address h;
   waiting = λ v h. stays.waiting v (waiting-before_step s k v h);
@@ -90,13 +75,13 @@ stays_polled start before j k s memory stays = record {
 
 -- what the voices find in the sample that follows
 finds : (start : DspState) (before : List ℕ) (j k : ℕ) (s : DspState) (memory : List ℕ) → StaysInReach start before j s memory → (chip_reach start before).entangled ≡ false
-    → FindTheSame start before 0 start.hidden.voices (shared_input (polled s k) memory k)
+    → FindTheSame start before 0 start.hidden.voices (shared_input (before_voices s k) memory k)
 finds start before j k s memory stays clear =
-    let now : StaysInReach start before j (polled s k) memory = stays_polled start before j k s memory stays in
+    let now : StaysInReach start before j (before_voices s k) memory = stays_polled start before j k s memory stays in
     record {
       registers = now.inputs;
       bytes = λ at there. stays.bytes at (voices_unwritten start before (page_of at) clear there);
-      keyed = λ v keyed. let parts = and_parts (k % 2 == 0) (has_bit (polled s k).hidden.taken v) keyed in stays.waiting v (taken_waited s k v parts.0 parts.1);
+      keyed = λ v keyed. let parts = and_parts (k % 2 == 0) (has_bit (before_voices s k).hidden.taken v) keyed in stays.waiting v (taken_waited s k v parts.0 parts.1);
     }
 
 -- the registers that the echo reads
@@ -139,7 +124,7 @@ pub stays_in_reach : (start : DspState) (before : List ℕ) (j k : ℕ) (s : Dsp
 stays_in_reach start before j k s memory few stays = rw (sample_is k s memory) next
   where
     now : DspState
-    now = polled s k
+    now = before_voices s k
 
     held : StaysInReach start before j now memory
     held = stays_polled start before j k s memory stays
@@ -156,13 +141,13 @@ stays_in_reach start before j k s memory few stays = rw (sample_is k s memory) n
     edl : (echo_regs now.registers).edl ≡ slice_index start.registers EDL
     edl = regs_edl now.registers ∙ held.inputs EDL refl
 
-    next : StaysInReach start before (j + 1) (stepped k now memory).state (stepped k now memory).memory
+    next : StaysInReach start before (j + 1) (rest_of_sample k now memory).state (rest_of_sample k now memory).memory
     next = record {
       inputs = λ address h. same_inputs-registers_after answers now.registers address h ∙ held.inputs address h;
       waiting = held.waiting;
       cell = is_at_cell-next_echo now.hidden.echo regs memory held.cell;
       length = length-next_echo now.hidden.echo regs memory start.hidden.echo.length (slice_index start.registers EDL) edl held.length;
-      bytes = λ at none. writes_off start before j now memory (sent_frame now.registers answers) at held none ∙ held.bytes at none;
+      bytes = λ at none. writes_off start before j now memory (sent_frame (all_volumes now.registers) answers) at held none ∙ held.bytes at none;
       voices = λ clear. voices_stay start before j 0 (pos 0) (shared_input now memory k) start.hidden.voices now.hidden.voices (finds start before j k s memory stays clear) few (held.voices clear);
     }
 
@@ -174,7 +159,7 @@ reads_in_reach start before j k s memory at value few stays clear none =
     rw (sample_is k s (with_byte memory at value), sample_is k s memory) same
   where
     now : DspState
-    now = polled s k
+    now = before_voices s k
 
     held : StaysInReach start before j now memory
     held = stays_polled start before j k s memory stays
@@ -190,12 +175,12 @@ reads_in_reach start before j k s memory at value few stays clear none =
         voices_apart start before j 0 (pos 0) (shared_input now memory k) start.hidden.voices now.hidden.voices at value (finds start before j k s memory stays clear) (omega arith) (held.voices clear)
         (unread_by_voices start before (page_of at) none)
 
-    same : stepped k now (with_byte memory at value) ≡ record (stepped k now memory) { memory = with_byte (stepped k now memory).memory at value }
+    same : rest_of_sample k now (with_byte memory at value) ≡ record (rest_of_sample k now memory) { memory = with_byte (rest_of_sample k now memory).memory at value }
     same =
         let answers : List VoiceOut = map (λ (result : VoiceResult). result.answer) (results_from (shared_input now memory k) 0 (pos 0) now.hidden.voices) in
         rw (
           results,
           next_echo_apart now.hidden.echo regs memory at value off,
           after_reading_apart now.hidden.echo regs memory at value off,
-          echo_memory_apart now.hidden.echo regs memory (sent_frame now.registers answers) at value off,
+          echo_memory_apart now.hidden.echo regs memory (sent_frame (all_volumes now.registers) answers) at value off,
         ) refl

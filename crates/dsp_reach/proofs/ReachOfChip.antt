@@ -5,9 +5,9 @@ use Rattle.std.specs.Ordering.{nat_cmp}
 use Rattle.aram_core.specs.Pages.{have_common_page}
 use Rattle.reach_map.specs.Reach.{reach, window_pages}
 use Rattle.echo_unit.specs.Flg.{has_echo_writes}
-use Rattle.dsp_core.specs.Reach.{chip_reach, chip_window}
-use Rattle.dsp_core.specs.declared.registers.TheConstants.{FLG}
-use Rattle.dsp_core.specs.declared.state.DspState.{DspState}
+use Rattle.dsp_form.specs.Reach.{chip_reach, chip_window}
+use Rattle.dsp_form.specs.declared.registers.TheConstants.{FLG}
+use Rattle.dsp_form.specs.declared.state.DspState.{DspState}
 use Rattle.dsp_reach.proofs.PageSets.{has_page, contains-pages, apart_right, not_in_left, not_in_right}
 use Rattle.dsp_reach.proofs.Voices.{pages_from}
 

@@ -1,24 +1,24 @@
--- Samples leave every register but those of their results, seen over a run.
+-- Samples leave every register but those of their results.
 use Rattle.std.proofs.Common.{◌≡◌, ℕ, zero, suc, ◌+◌, ◌%◌, List, false, refl, ◌∙◌, arith}
-use Rattle.dsp_core.specs.Results.{is_result}
-use Rattle.dsp_core.specs.Run.{run}
-use Rattle.dsp_core.specs.Sample.{sample}
-use Rattle.dsp_core.specs.Chip.{register_read}
-use Rattle.dsp_core.specs.declared.state.DspState.{DspState}
-use Rattle.dsp_core.proofs.Inputs.{SameInputs, same_inputs-sample}
+use Rattle.dsp_form.specs.Results.{is_result}
+use Rattle.dsp_form.specs.Samples.{samples}
+use Rattle.dsp_form.specs.Sample.{sample}
+use Rattle.dsp_form.specs.Outside.{register_read}
+use Rattle.dsp_form.specs.declared.state.DspState.{DspState}
+use Rattle.dsp_form.proofs.Inputs.{SameInputs, same_inputs-sample}
 
 -- n samples change no other register
-pub same_inputs-run : (n k : ℕ) (s : DspState) (memory : List ℕ) → SameInputs (run sample n k s memory).state.registers s.registers
-unfolding run
-same_inputs-run zero k s memory address h = refl
-same_inputs-run (suc n) k s memory address h =
-    let now = run sample n k s memory in
-    same_inputs-sample (k + n) now.state now.memory address h ∙ same_inputs-run n k s memory address h
+pub same_inputs-samples : (n k : ℕ) (s : DspState) (memory : List ℕ) → SameInputs (samples sample n k s memory).state.registers s.registers
+unfolding samples
+same_inputs-samples zero k s memory address h = refl
+same_inputs-samples (suc n) k s memory address h =
+    let now = samples sample n k s memory in
+    same_inputs-sample (k + n) now.state now.memory address h ∙ same_inputs-samples n k s memory address h
 
 -- seen from outside
 pub registers_stay : (n k : ℕ) (s : DspState) (memory : List ℕ) (address : ℕ) → is_result address ≡ false
-    → register_read (run sample n k s memory).state address ≡ register_read s address
+    → register_read (samples sample n k s memory).state address ≡ register_read s address
 unfolding register_read
 registers_stay n k s memory address h =
     let same : address % 0x80 % 0x80 ≡ address % 0x80 = omega arith in
-    same_inputs-run n k s memory (address % 0x80) (rw same h)
+    same_inputs-samples n k s memory (address % 0x80) (rw same h)

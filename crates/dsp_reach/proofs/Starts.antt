@@ -10,9 +10,9 @@ use Rattle.echo_unit.specs.Flg.{has_echo_writes}
 use Rattle.reach_map.specs.declared.Window.{Window}
 use Rattle.reach_map.specs.declared.ChainStart.{ChainStart}
 use Rattle.reach_map.specs.Reach.{chain, block_pages, chain_pages, entry_pages, voice_pages, window_pages, reach}
-use Rattle.dsp_core.specs.declared.registers.TheConstants.{FLG}
-use Rattle.dsp_core.specs.declared.state.DspState.{DspState}
-use Rattle.dsp_core.specs.Reach.{entries_from, voice_starts, starts_from, chip_window, chip_reach}
+use Rattle.dsp_form.specs.declared.registers.TheConstants.{FLG}
+use Rattle.dsp_form.specs.declared.state.DspState.{DspState}
+use Rattle.dsp_form.specs.Reach.{entries_from, voice_starts, starts_from, chip_window, chip_reach}
 use Rattle.dsp_reach.proofs.PageSets.{has_page, at_page, in_left, in_right}
 use Rattle.dsp_reach.proofs.ChainPages.{bytes_have, own_pages, AgreeOn, agree_put, start_same, loop_same}
 use Rattle.dsp_reach.proofs.ReachOfChip.{unread_by_voices}

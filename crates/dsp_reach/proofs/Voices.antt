@@ -10,17 +10,19 @@ use Rattle.voice_unit.specs.Directory.{entry_address, start_word, loop_word}
 use Rattle.voice_unit.specs.Voice.{VoiceState}
 use Rattle.reach_map.specs.declared.ChainStart.{ChainStart}
 use Rattle.reach_map.specs.Reach.{entry_pages, chain_pages, voice_pages}
-use Rattle.dsp_core.specs.declared.registers.TheConstants.{SRCN, DIR}
-use Rattle.dsp_core.specs.declared.state.DspState.{DspState}
-use Rattle.dsp_core.specs.Registers.{voice_regs}
-use Rattle.dsp_core.specs.Results.{is_result}
-use Rattle.dsp_core.specs.Sample.{SharedInput, VoiceResult, voice_in, voice_result, results_from}
-use Rattle.dsp_core.specs.Reach.{voice_entry, entries_from, can_start, own_chain, voice_starts, starts_from}
-use Rattle.dsp_core.specs.Sound.{is_at_group, is_at_cell, is_sound}
+use Rattle.dsp_form.specs.declared.registers.TheConstants.{SRCN, DIR}
+use Rattle.dsp_form.specs.declared.state.DspState.{DspState}
+use Rattle.dsp_form.specs.Registers.{voice_regs}
+use Rattle.dsp_form.specs.Results.{is_result}
+use Rattle.dsp_form.specs.Sample.{SharedInput, VoiceResult, voice_in, voice_result, results_from}
+use Rattle.dsp_form.specs.Reach.{voice_entry, entries_from, can_start, own_chain, voice_starts, starts_from}
+use Rattle.voice_unit.specs.Voice.{is_at_group}
+use Rattle.echo_unit.specs.Echo.{is_at_cell}
+use Rattle.dsp_form.specs.Valid.{is_valid}
 use Rattle.dsp_reach.specs.Chain.{StaysOnChains, AllStayOnChains}
 use Rattle.dsp_reach.proofs.PageSets.{has_page, at_page, in_left, in_right, in_either}
 use Rattle.dsp_reach.proofs.Agree.{voice_result_same}
-use Rattle.dsp_reach.proofs.Steps.{on_first, SeesTheSame, step_on_chains}
+use Rattle.dsp_reach.proofs.OnChains.{on_first, SeesTheSame, step_on_chains}
 use Rattle.dsp_reach.proofs.ChainPages.{own_pages, block_in, AgreeOn, agree_put, start_same, loop_same, agrees}
 
 -- the pages of the voices from v on
@@ -169,9 +171,9 @@ all_at_start s memory v (voice ∷ voices) groups =
         either true = refl
         either false = refl
 
-pub voices_at_start : (s : DspState) (memory : List ℕ) → is_sound s ≡ true → AllStayOnChains s memory 0 0 s.hidden.voices s.hidden.voices
-unfolding is_sound
-voices_at_start s memory sound = all_at_start s memory 0 s.hidden.voices (middle (length s.hidden.voices == 8) (list_all is_at_group s.hidden.voices) (is_at_cell s.hidden.echo) sound)
+pub voices_at_start : (s : DspState) (memory : List ℕ) → is_valid s ≡ true → AllStayOnChains s memory 0 0 s.hidden.voices s.hidden.voices
+unfolding is_valid
+voices_at_start s memory valid = all_at_start s memory 0 s.hidden.voices (middle (length s.hidden.voices == 8) (list_all is_at_group s.hidden.voices) (is_at_cell s.hidden.echo) valid)
   where
     middle : (a b c : Bool) → (a && b && c) ≡ true → b ≡ true
     middle true true c h = refl

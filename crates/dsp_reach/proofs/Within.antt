@@ -1,34 +1,34 @@
--- The laws of the chip over up to 64 samples from a sound state, by the reach taken before the first of them.
+-- The laws of the chip over up to 64 samples from a valid state, by the reach taken before the first of them.
 use Rattle.std.proofs.Common.{◌≡◌, ℕ, ◌≤◌, List, true, false}
 use Rattle.std.specs.FinSet as set
 use Rattle.aram_core.specs.Memory.{byte_at, with_byte}
 use Rattle.aram_core.specs.Pages.{page_of}
-use Rattle.dsp_core.specs.Reach.{chip_reach}
-use Rattle.dsp_core.specs.Run.{run}
-use Rattle.dsp_core.specs.Sample.{sample}
-use Rattle.dsp_core.specs.Sound.{is_sound}
-use Rattle.dsp_core.specs.declared.state.DspState.{DspState}
-use Rattle.dsp_reach.proofs.Runs.{run_keeps, run_apart}
+use Rattle.dsp_form.specs.Reach.{chip_reach}
+use Rattle.dsp_form.specs.Samples.{samples}
+use Rattle.dsp_form.specs.Sample.{sample}
+use Rattle.dsp_form.specs.Valid.{is_valid}
+use Rattle.dsp_form.specs.declared.state.DspState.{DspState}
+use Rattle.dsp_reach.proofs.AfterSamples.{samples_keep, samples_apart}
 use Rattle.dsp_reach.proofs.OneSample.{StaysInReach, stays_at_start, stays_in_reach, reads_in_reach}
 
 -- what holds after n samples
-pub stays_in_run : (n k : ℕ) (s : DspState) (memory : List ℕ) → n ≤ 64 → is_sound s ≡ true → StaysInReach s memory n (run sample n k s memory).state (run sample n k s memory).memory
-stays_in_run n k s memory few sound =
-    run_keeps sample (StaysInReach s memory) (λ j number now later below stays. stays_in_reach s memory j number now later below stays) n k s memory few (stays_at_start s memory sound)
+pub stays_in_samples : (n k : ℕ) (s : DspState) (memory : List ℕ) → n ≤ 64 → is_valid s ≡ true → StaysInReach s memory n (samples sample n k s memory).state (samples sample n k s memory).memory
+stays_in_samples n k s memory few valid =
+    samples_keep sample (StaysInReach s memory) (λ j number now later below stays. stays_in_reach s memory j number now later below stays) n k s memory few (stays_at_start s memory valid)
 
 -- the samples change memory on write pages alone
-pub writes_inside : (n k : ℕ) (s : DspState) (memory : List ℕ) (at : ℕ) → n ≤ 64 → is_sound s ≡ true
+pub writes_inside : (n k : ℕ) (s : DspState) (memory : List ℕ) (at : ℕ) → n ≤ 64 → is_valid s ≡ true
     → set.contains (chip_reach s memory).write_pages (page_of at) ≡ false
-    → byte_at (run sample n k s memory).memory at ≡ byte_at memory at
-writes_inside n k s memory at few sound none = (stays_in_run n k s memory few sound).bytes at none
+    → byte_at (samples sample n k s memory).memory at ≡ byte_at memory at
+writes_inside n k s memory at few valid none = (stays_in_samples n k s memory few valid).bytes at none
 
 -- where the reach isn't entangled, a byte put outside its read pages changes nothing of what the samples do
-pub reads_inside : (n k : ℕ) (s : DspState) (memory : List ℕ) (at value : ℕ) → n ≤ 64 → is_sound s ≡ true
+pub reads_inside : (n k : ℕ) (s : DspState) (memory : List ℕ) (at value : ℕ) → n ≤ 64 → is_valid s ≡ true
     → (chip_reach s memory).entangled ≡ false
     → set.contains (chip_reach s memory).read_pages (page_of at) ≡ false
-    → run sample n k s (with_byte memory at value) ≡ record (run sample n k s memory) { memory = with_byte (run sample n k s memory).memory at value }
-reads_inside n k s memory at value few sound clear none =
-    run_apart sample (StaysInReach s memory) at value
+    → samples sample n k s (with_byte memory at value) ≡ record (samples sample n k s memory) { memory = with_byte (samples sample n k s memory).memory at value }
+reads_inside n k s memory at value few valid clear none =
+    samples_apart sample (StaysInReach s memory) at value
     (λ j number now later below stays. stays_in_reach s memory j number now later below stays)
     (λ j number now later below stays. reads_in_reach s memory j number now later at value below stays clear none)
-    n k s memory few (stays_at_start s memory sound)
+    n k s memory few (stays_at_start s memory valid)

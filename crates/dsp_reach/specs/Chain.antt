@@ -1,19 +1,14 @@
 -- Where a voice can have come after some samples.
-use Rattle.std.specs.Prelude.{◌≡◌, ℕ, zero, suc, ◌+◌, ◌-◌, ◌*◌, ◌/◌, ◌≤◌, ◌≢◌, List, [], ◌∷◌, true, ◌⊎◌}
-use Rattle.aram_core.specs.Memory.{byte_at}
-use Rattle.brr_decode.specs.Header.{next_block}
-use Rattle.voice_unit.specs.Voice.{VoiceState}
+use Rattle.std.specs.Prelude.{◌≡◌, ℕ, ◌+◌, ◌-◌, ◌*◌, ◌/◌, ◌≤◌, ◌≢◌, List, [], ◌∷◌, true, false, ◌⊎◌}
+use Rattle.voice_unit.specs.Voice.{VoiceState, is_at_group}
+use Rattle.reach_map.specs.Reach.{chain_entry}
 use Rattle.reach_map.specs.declared.ChainStart.{ChainStart}
-use Rattle.dsp_core.specs.declared.state.DspState.{DspState}
-use Rattle.dsp_core.specs.Reach.{can_start, own_chain, start_chain}
-use Rattle.dsp_core.specs.Sound.{is_at_group}
-
--- entry i of the chain from a start on
-unfoldable pub chain_entry : List ℕ → ChainStart → (i : ℕ) → ℕ
-chain_entry memory start zero = start.block
-chain_entry memory start (suc i) =
-    let block = chain_entry memory start i in
-    next_block (byte_at memory block) block start.loop_word
+use Rattle.dsp_form.specs.declared.state.DspState.{DspState}
+use Rattle.dsp_form.specs.Limits.{most_samples_of_batch}
+use Rattle.dsp_form.specs.Reach.{can_start, own_chain, start_chain, chip_reach}
+use Rattle.dsp_form.specs.Sample.{sample}
+use Rattle.dsp_form.specs.Samples.{samples}
+use Rattle.dsp_form.specs.Valid.{is_valid}
 
 -- After j samples a voice is at a group of one of the blocks of a chain, and has read no more groups than samples were made
 -- since it stood in the first of them.
@@ -35,3 +30,9 @@ AllStayOnChains s memory j v [] [] = Unit {0}
 AllStayOnChains s memory j v (old ∷ olds) (new ∷ news) = StaysOnChains s memory j v old new × AllStayOnChains s memory j (v + 1) olds news
 AllStayOnChains s memory j v [] (new ∷ news) = ⊥
 AllStayOnChains s memory j v (old ∷ olds) [] = ⊥
+
+-- from a valid state whose echo can't write what its voices read, each voice stays on its chains over the samples of a batch
+abbrev pub VoicesStayOnChains : Type 0
+VoicesStayOnChains =
+    (j k : ℕ) (s : DspState) (memory : List ℕ) → j ≤ most_samples_of_batch → is_valid s ≡ true → (chip_reach s memory).entangled ≡ false
+    → AllStayOnChains s memory j 0 s.hidden.voices (samples sample j k s memory).state.hidden.voices

@@ -1,2 +1,2 @@
--- Chain: where a voice can have come after some samples.
+-- Chain: where a voice can have come after some samples, and that it does not come elsewhere.
 pub mod Chain

@@ -1,5 +1,5 @@
 -- One step of the echo.
-use Rattle.std.specs.Prelude.{◌≡◌, ◌<◌, ◌≤◌, max, ℕ, ◌+◌, ◌*◌, ◌/◌, ◌%◌, ◌==◌, nat_le, List, [], ◌∷◌, ◌++◌, drop, map, replicate, ℤ, pos, ◌+ℤ◌, if◌then◌else◌}
+use Rattle.std.specs.Prelude.{max, ℕ, ◌+◌, ◌*◌, ◌/◌, ◌%◌, Bool, ◌&&◌, ◌==◌, nat_le, nat_lt, List, [], ◌∷◌, ◌++◌, drop, map, replicate, ℤ, pos, ◌+ℤ◌, if◌then◌else◌}
 use Rattle.std.specs.Int.{w16, cast_signed, cast_unsigned}
 use Rattle.num_fix.specs.Arithmetic.{floor_shift, scaled, wrap16, clamp16, clear_bit0, sign8}
 use Rattle.num_fix.specs.declared.Frame.{Frame}
@@ -20,12 +20,9 @@ pub record EchoState : Type 0 where
 abbrev pub first_echo : EchoState
 first_echo = record { offset = 0; length = 0; history = replicate 8 record { left = pos 0; right = pos 0 } }
 
--- where the next cell can be, and how long the buffer
-pub record IsEchoPlace (offset length : ℕ) : Type 0 where
-  pub cell : offset % 4 ≡ 0
-  pub whole : length % 0x800 ≡ 0
-  pub most : length ≤ 15 * 0x800
-  pub within : offset < max length 4
+-- The echo stands at a cell of its buffer, or at its only cell; the buffer is a multiple of 2,048 bytes long, up to 15 of them.
+abbrev pub is_at_cell : EchoState → Bool
+is_at_cell s = s.offset % 4 == 0 && nat_lt s.offset (max s.length 4) && s.length % 0x800 == 0 && nat_le s.length (15 * 0x800)
 
 -- the address of the cell, four bytes: the left word and the right one
 abbrev pub cell_address : (esa offset : ℕ) → ℕ

@@ -8,7 +8,7 @@ use crate::filter::filtered_pair;
 use crate::volume::{feedback_word, output_frame};
 use crate::{EchoRegs, Window};
 use aram_core::Aram;
-use num_fix::Frame;
+use num_fix::{Frame, has_bit};
 use std::marker::Model;
 
 /// The echo between two steps.
@@ -20,13 +20,15 @@ pub struct Echo {
 }
 
 impl Model for Echo {
-    ghost use Rattle.echo_unit.specs.Echo.{EchoState, IsEchoPlace};
+    ghost use Rattle.echo_unit.specs.Echo.{EchoState, is_at_cell};
 
     ghost Value = { EchoState };
 
+    ghost use Rattle.std.specs.Prelude.{◌≡◌, true};
+
     ghost view = { λ e. record { offset = e.offset; length = e.length; history = e.history } };
 
-    ghost invariant = { λ e. IsEchoPlace e.offset e.length };
+    ghost invariant = { λ e. is_at_cell (record { offset = e.offset; length = e.length; history = e.history }) ≡ true };
 
     ghost inverse = { λ s. record { offset = s.offset; length = s.length; history = s.history } };
 }
@@ -40,7 +42,7 @@ fn push(history: &mut [Frame; 8], pair: Frame)
 }
 
 impl Echo {
-    /// The echo before its first step: at its first cell, with silence behind it.
+    /// The echo before its first step: at its first cell, with silence before it.
     pub fn new() -> Self
         ensures { result ≡ first_echo }
     {
@@ -86,7 +88,7 @@ impl Echo {
         let address = cell_address(regs.esa, self.offset);
         self.read_cell(regs, memory);
         let heard = filtered_pair(&self.history, &regs.fir);
-        if regs.flg / 32 % 2 != 1 {
+        if !has_bit(regs.flg, 5) {
             let left = feedback_word(echo.left, heard.left, regs.efb);
             let right = feedback_word(echo.right, heard.right, regs.efb);
             put_cell(memory, address, left, right);

@@ -92,3 +92,48 @@ fn the_window_goes_round_and_the_length_waits(rt: HostRuntime) -> Result<(), Fai
     assert_eq!(rt; echo.window(0xFF, 0), window(4096));
     Ok(())
 }
+
+// The words 128, 256, .. 1024 are read as 64, 128, .. 512 from the oldest on, so tap i gives i + 1 times its coefficient:
+// 1785 in all, and 1784 with bit 0 cleared. On the right all are negative.
+#[test]
+fn each_of_eight_taps_meets_its_coefficient(rt: HostRuntime) -> Result<(), Fail> {
+    let zeros = vec![in rt.alloc(); 0u8; 65536]?;
+    let mut memory = Aram::from_image(rt.alloc(), &zeros)?;
+    let mut echo = Echo::new();
+    let regs = EchoRegs {
+        esa: 0x20,
+        edl: 0,
+        flg: 0x20,
+        efb: 0,
+        mvol_l: 0,
+        mvol_r: 0,
+        evol_l: 0x7F,
+        evol_r: 0x7F,
+        fir: [0x01, 0x02, 0x04, 0x08, 0x10, 0x20, 0x40, 0x7F],
+    };
+    let mut frame = both(0);
+    for (left_low, left_high, right_low, right_high) in [
+        (0x80, 0x00, 0x80, 0xFF),
+        (0x00, 0x01, 0x00, 0xFF),
+        (0x80, 0x01, 0x80, 0xFE),
+        (0x00, 0x02, 0x00, 0xFE),
+        (0x80, 0x02, 0x80, 0xFD),
+        (0x00, 0x03, 0x00, 0xFD),
+        (0x80, 0x03, 0x80, 0xFC),
+        (0x00, 0x04, 0x00, 0xFC),
+    ] {
+        memory.put(0x2000, left_low);
+        memory.put(0x2001, left_high);
+        memory.put(0x2002, right_low);
+        memory.put(0x2003, right_high);
+        frame = echo.step(&mut memory, &regs, both(0), both(0));
+    }
+    assert_eq!(rt;
+        frame,
+        Frame {
+            left: 1770,
+            right: -1773
+        }
+    );
+    Ok(())
+}

@@ -39,3 +39,31 @@ fn keys_change_what_they_name(rt: HostRuntime) {
     envelope.silence();
     assert_eq!(rt; envelope.mode, Mode::Release);
 }
+
+#[test]
+fn each_gain_sets_or_slopes_the_level(rt: HostRuntime) {
+    let mut clock = RateClock::new();
+    for (start, gain, want) in [
+        (0x40, 0x0c, [0x0c0, 0x0c0]),
+        (0x40, 0x9f, [0x3e0, 0x3c0]),
+        (0x01, 0x9f, [0x000, 0x000]),
+        (0x40, 0xbf, [0x3fc, 0x3f8]),
+        (0x40, 0xdf, [0x420, 0x440]),
+        (0x7f, 0xdf, [0x7ff, 0x7ff]),
+        (0x40, 0xff, [0x420, 0x440]),
+        (0x5e, 0xff, [0x600, 0x608]),
+    ] {
+        let mut envelope = Envelope::released();
+        envelope.key();
+        envelope.step(0, 0, start, &clock);
+        for level in want {
+            clock.step();
+            envelope.step(0, 0, gain, &clock);
+            assert_eq!(rt;
+                envelope.level(),
+                level,
+                "at gain {gain:02x} from {start:02x}"
+            );
+        }
+    }
+}

@@ -64,7 +64,7 @@ with_pages-one pages page = same_pages _ _ (λ q.
     ∙ or_swap (has_page q (page ∷ [])) (set.contains pages q)
     ∙ sym (contains-with_pages pages (page ∷ []) q))
 
--- one page behind a list
+-- one page after a list
 pub with_pages-push : (pages : Pages) (more : List ℕ) (page : ℕ) → set.insert (with_pages pages more) page ≡ with_pages pages (more ++ page ∷ [])
 with_pages-push pages more page = with_pages-one (with_pages pages more) page ∙ with_pages-append pages more (page ∷ [])
 

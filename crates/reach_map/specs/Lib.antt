@@ -4,5 +4,5 @@ pub mod Window
 pub mod Reach
 -- Added: a set of pages with the pages of a list added.
 pub mod Added
--- Runs: blocks that stand behind one another.
-pub mod Runs
+-- Stretch: blocks that stand one after another.
+pub mod Stretch

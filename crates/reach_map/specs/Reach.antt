@@ -1,5 +1,5 @@
 -- What the next 64 samples of a chip can read and write, by pages (own).
-use Rattle.std.specs.Prelude.{ℕ, zero, suc, ◌+◌, List, [], ◌∷◌, ◌++◌, map, flat_map, Bool, ◌&&◌, if◌then◌else◌}
+use Rattle.std.specs.Prelude.{ℕ, zero, suc, ◌+◌, List, [], ◌∷◌, ◌++◌, map, flat_map, slice_index, Bool, ◌&&◌, if◌then◌else◌}
 use Rattle.std.specs.List.{range_with_len}
 use Rattle.std.specs.FinSet as set
 use Rattle.aram_core.specs.Memory.{byte_at}
@@ -17,6 +17,10 @@ pages_of_bytes start count = map (λ i. page_of (start + i)) (range_with_len 0 c
 abbrev pub chain : List ℕ → (loop_word count block : ℕ) → List ℕ
 chain memory loop_word zero block = []
 chain memory loop_word (suc count) block = block ∷ chain memory loop_word count (next_block (byte_at memory block) block loop_word)
+
+-- entry i of a chain
+unfoldable pub chain_entry : List ℕ → ChainStart → (i : ℕ) → ℕ
+chain_entry memory start i = slice_index (chain memory start.loop_word (suc i) start.block) i
 
 -- the pages of the 9 bytes of a block
 abbrev pub block_pages : (block : ℕ) → List ℕ

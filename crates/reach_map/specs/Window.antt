@@ -1,10 +1,6 @@
 -- Windows of memory. A window that passes FFFFh goes on at 0000h.
-use Rattle.std.specs.Prelude.{ℕ, ◌+◌, ◌-◌, ◌*◌, ◌%◌, max, nat_lt, Bool}
+use Rattle.std.specs.Prelude.{ℕ, ◌*◌, ◌%◌, max}
 use Rattle.reach_map.specs.declared.Window.{Window}
-
--- an address is less than the window's length past its start
-abbrev pub is_in_window : Window → (address : ℕ) → Bool
-is_in_window window address = nat_lt ((address + 0x10000 - window.start) % 0x10000) window.len
 
 -- the bytes of echo that the register EDL asks for: its low four bits count units of 2,048 bytes
 abbrev pub echo_length : (edl : ℕ) → ℕ

@@ -13,14 +13,14 @@ use crate::pages::add_window;
 use crate::voices::voice_pages;
 use aram_core::{Aram, PageSet};
 
-/// A part of memory: `len` bytes from `start` on, which go on at 0000h behind FFFFh.
+/// A part of memory: `len` bytes from `start` on, which go on at 0000h after FFFFh.
 #[derive(Clone, Copy, Debug, PartialEq, Eq)]
 pub struct Window {
     pub start: u16,
     pub len: u32,
 }
 
-/// Where a voice can be in its sample: a block, and the block to which it goes behind one that ends.
+/// Where a voice can be in its sample: a block, and the block to which it goes after one that ends.
 #[derive(Clone, Copy, Debug, Default, PartialEq, Eq)]
 pub struct ChainStart {
     pub block: u16,

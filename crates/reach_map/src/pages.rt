@@ -1,22 +1,14 @@
 //! Pages put into sets.
 
 ghost use Rattle.std.specs.Prelude.{◌≡◌, ◌≤◌, ◌+◌, ◌-◌, ◌*◌, ◌<◌};
-ghost use Rattle.aram_core.specs.Pages.{page_of};
 ghost use Rattle.reach_map.specs.Added.{with_pages, pages_of_steps};
 ghost use Rattle.reach_map.specs.Reach.{pages_of_bytes, window_pages};
 
 use crate::Window;
-use aram_core::PageSet;
+use aram_core::{PageSet, page_of};
 
 /// The bytes of a page.
 const PAGE: u16 = 256;
-
-/// The page of an address.
-fn page_of(address: u16) -> u8
-    ensures { result ≡ page_of address }
-{
-    (address / PAGE) as u8
-}
 
 /// Puts the pages of a few bytes into a set: those of the first and of the last one.
 pub fn add_bytes(pages: &mut PageSet, start: u16, count: u32)

@@ -31,7 +31,7 @@ const WINDOW: Window = Window {
 };
 
 #[test]
-fn a_chain_goes_to_its_loop_behind_an_end(rt: HostRuntime) -> Result<(), Fail> {
+fn a_chain_goes_to_its_loop_after_an_end(rt: HostRuntime) -> Result<(), Fail> {
     let alloc = rt.alloc();
     let memory = memory(alloc)?;
     // the blocks are 05F8h to 0600h, 0601h to 0609h, and 16 from 4071h on: the last one is 40F8h to 4100h

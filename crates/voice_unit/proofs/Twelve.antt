@@ -25,6 +25,6 @@ pub ends_with_last_two : (s : List ℤ) → length s ≡ 12 → EndsWith s (numb
 ends_with_last_two s twelve =
     record { last = rw twelve at (get_or-reverse s 0 (pos 0) (omega arith)); before = rw twelve at (get_or-reverse s 1 (pos 0) (omega arith)) }
 
--- four more behind twelve leave the last eight of them when the four oldest are dropped
+-- four more after twelve leave the last eight of them when the four oldest are dropped
 pub drop-more : (s group : List ℤ) → length s ≡ 12 → drop 4 (s ++ group) ≡ drop 4 s ++ group
 drop-more s group twelve = drop-append-le 4 s group (omega arith)

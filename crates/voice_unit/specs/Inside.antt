@@ -1,6 +1,6 @@
 -- What the fields of a voice stand for.
-use Rattle.std.specs.Prelude.{◌≡◌, ◌<◌, ◌≤◌, ◌%◌, length}
-use Rattle.voice_unit.specs.Voice.{VoiceState}
+use Rattle.std.specs.Prelude.{◌≡◌, ◌≤◌, true, length}
+use Rattle.voice_unit.specs.Voice.{VoiceState, is_at_group}
 use Rattle.voice_unit.specs.declared.voice.Voice.TheInside.{Inside}
 
 -- the voice that the fields stand for
@@ -15,6 +15,5 @@ inside_of v = record { samples = v.samples; position = v.position; block = v.blo
 pub record IsVoice (v : Inside) : Type 0 where
   pub twelve : length v.samples ≡ 12
   pub position_bound : v.position ≤ 0x7fff
-  pub offset_bound : v.offset < 8
-  pub offset_odd : v.offset % 2 ≡ 1
+  pub group : is_at_group (state_of v) ≡ true
   pub delay_bound : v.delay ≤ 5

@@ -1,5 +1,5 @@
 -- One step of a voice, as a sequence of changes: each as in Anomie's S-DSP Doc, in an order of this project's own.
-use Rattle.std.specs.Prelude.{ℕ, ◌+◌, ◌-◌, ◌*◌, ◌/◌, ◌%◌, Bool, ◌&&◌, ◌||◌, not, ◌==◌, nat_le, min, List, drop, replicate, ℤ, pos, ◌+ℤ◌, unsigned_abs, if◌then◌else◌}
+use Rattle.std.specs.Prelude.{ℕ, ◌+◌, ◌-◌, ◌*◌, ◌/◌, ◌%◌, Bool, ◌&&◌, ◌||◌, not, ◌==◌, nat_le, nat_lt, min, List, drop, replicate, ℤ, pos, ◌+ℤ◌, unsigned_abs, if◌then◌else◌}
 use Rattle.num_fix.specs.Arithmetic.{floor_shift, scaled, wrap16, clear_bit0, high_byte}
 use Rattle.num_fix.specs.Words.{number_at}
 use Rattle.aram_core.specs.Memory.{byte_at}
@@ -22,6 +22,10 @@ pub record VoiceState : Type 0 where
   pub offset : ℕ
   pub delay : ℕ
   pub envelope : EnvelopeState
+
+-- a voice stands at one of the four groups of its block
+abbrev pub is_at_group : VoiceState → Bool
+is_at_group v = v.offset % 2 == 1 && nat_lt v.offset 8
 
 -- a voice that was never keyed
 abbrev pub silent_voice : VoiceState
@@ -108,7 +112,7 @@ needs_group v = nat_le 0x4000 v.position
 abbrev pub is_at_last_group : VoiceState → Bool
 is_at_last_group v = v.offset == 7
 
--- the voice with the four samples of the next group behind its samples, of which the four oldest are dropped
+-- the voice with the four samples of the next group after its samples, of which the four oldest are dropped
 unfoldable pub after_decoding : VoiceState → List ℕ → (header : ℕ) → VoiceState
 after_decoding v memory header =
     record v { samples = drop 4 (with_group v.samples header (byte_at memory (v.block + v.offset)) (byte_at memory (v.block + v.offset + 1))) }

@@ -2,6 +2,7 @@
 
 ghost use Rattle.std.specs.Prelude.{◌<◌};
 
+use crate::level::bent_pitch;
 use crate::{Voice, VoiceIn, VoiceRegs};
 use aram_core::Aram;
 use gauss_table::GaussTable;
@@ -61,4 +62,22 @@ fn a_key_on_is_silent_for_six_steps(rt: HostRuntime) -> Result<(), Fail> {
     assert_eq!(rt; voice.delay(), 0);
     assert_eq!(rt; voice.block(), 0x0500);
     Ok(())
+}
+
+#[test]
+fn an_output_bends_the_pitch_of_the_next_voice(rt: HostRuntime) {
+    for (pitch, previous, want) in [
+        (0x1000, 0, 0x1000),
+        (0x1000, 0x1f, 0x1000),
+        (0x1000, -1, 0x0ffc),
+        (0x1000, 0x4000, 0x1800),
+        (0x1000, -0x4000, 0x0800),
+        (0x3fff, -0x8000, 0x0000),
+    ] {
+        assert_eq!(rt;
+            bent_pitch(pitch, previous),
+            want,
+            "at {pitch} and {previous}"
+        );
+    }
 }

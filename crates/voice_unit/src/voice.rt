@@ -49,7 +49,7 @@ const KEY_ON_DELAY: u8 = 5;
 /// The offset of the last group of a block.
 const LAST_GROUP: u8 = 7;
 
-/// The samples without the four oldest, and four new ones behind them.
+/// The samples without the four oldest, and four new ones after them.
 fn shifted_in(samples: &[i16; 12], group: [i16; 4]) -> [i16; 12]
     ensures { result ≡ drop 4 samples.now ++ group }
 {

@@ -1,7 +1,7 @@
 use Rattle.std.proofs.Common.{◌≡◌, ◌+◌, ◌≤◌, ◌++◌, length, drop}
 use Rattle.std.specs.List.{filter}
-use Rattle.dsp_core.specs.Run.{in_mask}
-use Rattle.dsp_core.specs.Sample.{records_from}
+use Rattle.dsp_form.specs.Samples.{in_mask}
+use Rattle.dsp_form.specs.Sample.{records_from}
 use Rattle.dsp_core.proofs.records.push_records.Given as goal
 
 abbrev pub invariant-loop-v : goal.invariant-loop-v

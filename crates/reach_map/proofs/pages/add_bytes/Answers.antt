@@ -2,7 +2,7 @@ use Rattle.std.proofs.Common.{◌≡◌, ◌+◌, ◌-◌, sym, ap, ◌∙◌, a
 use Rattle.std.specs.FinSet as set
 use Rattle.aram_core.specs.Pages.{page_of}
 use Rattle.reach_map.proofs.Added.{insert_again}
-use Rattle.reach_map.proofs.Steps.{two_ends}
+use Rattle.reach_map.proofs.EveryPage.{two_ends}
 use Rattle.reach_map.proofs.pages.add_bytes.Goals as goal
 
 pub returns-then-last-first : goal.returns-then-last-first

@@ -1,7 +1,7 @@
 use Rattle.std.proofs.Common.{◌≡◌, ◌+◌, ◌*◌, sym, arith}
 use Rattle.aram_core.specs.Pages.{page_of}
 use Rattle.reach_map.proofs.Added.{with_pages-none}
-use Rattle.reach_map.proofs.Steps.{one_step}
+use Rattle.reach_map.proofs.EveryPage.{one_step}
 use Rattle.reach_map.proofs.pages.add_steps.Goals as goal
 
 pub loop-i-init : goal.loop-i-init

@@ -1,6 +1,6 @@
 use Rattle.std.proofs.Common.{◌≡◌, ◌+◌, ◌-◌, arith}
 use Rattle.aram_core.specs.Pages.{page_of}
-use Rattle.reach_map.proofs.Steps.{last_step}
+use Rattle.reach_map.proofs.EveryPage.{last_step}
 use Rattle.reach_map.proofs.pages.add_window.Goals as goal
 
 pub returns-clause-these : goal.returns-clause-these

@@ -1,13 +1,13 @@
 use Rattle.std.proofs.Common.{◌≡◌, ◌+◌, ◌*◌, ◌≤◌, ◌++◌, length}
 use Rattle.std.specs.List.{filter}
-use Rattle.dsp_core.specs.Run.{run, in_mask}
-use Rattle.dsp_core.specs.Sample.{sample}
-use Rattle.dsp_core.specs.Settings.{settings_of}
+use Rattle.dsp_form.specs.Samples.{samples, in_mask}
+use Rattle.dsp_form.specs.Sample.{sample}
+use Rattle.dsp_form.specs.Settings.{settings_of}
 use Rattle.dsp_core.proofs.dsp.Dsp.advance.Given as goal
 
 abbrev pub invariant-samples : goal.invariant-samples
 invariant-samples l =
-    let done = run sample l.counter l.initial.self.sample l.initial.self.state l.initial.memory in
+    let done = samples sample l.counter l.initial.self.sample l.initial.self.state l.initial.memory in
     record {
       state : l.self.state ≡ done.state;
       sample : l.self.sample ≡ l.initial.self.sample + l.counter;
@@ -15,7 +15,7 @@ invariant-samples l =
       batches : l.self.batches ≡ l.initial.self.batches;
       memory : l.memory ≡ done.memory;
       frames : l.frames ≡ l.initial.frames ++ done.frames;
-      records : l.records ≡ l.initial.records ++ filter (in_mask l.mask) done.voices;
+      records : l.records ≡ l.initial.records ++ filter (in_mask l.mask) done.records;
       frame_count : length l.frames ≡ length l.initial.frames + l.counter;
       record_count : length l.records ≤ length l.initial.records + 8 * l.counter;
     }

@@ -1,7 +1,7 @@
 use Rattle.std.proofs.Common.{rules, refl}
-use Rattle.dsp_core.specs.Sound.{is_sound}
+use Rattle.dsp_form.specs.Valid.{is_valid}
 use Rattle.dsp_core.proofs.dsp.Dsp.open.Goals as goal
 
 pub invariant_of-result : goal.invariant_of-result
-unfolding is_sound
-invariant_of-result c = record { clock = search rules; sound = rw (c.new-2.ensures, c.new-3.ensures) refl }
+unfolding is_valid
+invariant_of-result c = record { clock = search rules; valid = rw (c.new-2.ensures, c.new-3.ensures) refl }

@@ -1,0 +1,50 @@
+use Rattle.std.proofs.Common.{◌≡◌, ap, refl, rules, ◌<◌, ◌%◌, ◌==◌, if◌then◌else◌, length, map, pos, List, sym, ◌∙◌}
+use Rattle.std.proofs.lemmas.List.{length-map}
+use Rattle.voice_unit.specs.Voice.{VoiceState}
+use Rattle.rate_clock.specs.Counter.{counter_at}
+use Rattle.dsp_form.specs.Sample.{SharedInput, VoiceResult, results_from, sample, after_poll, after_noise, shared_input}
+use Rattle.dsp_form.specs.Registers.{echo_regs}
+use Rattle.dsp_form.specs.Settings.{settings_of}
+use Rattle.dsp_form.specs.Volumes.{all_volumes}
+use Rattle.dsp_form.specs.declared.settings.Settings.{Settings}
+use Rattle.dsp_form.proofs.EightVoices.{length-results_from}
+use Rattle.dsp_core.proofs.Keyed.{keyed_bits}
+use Rattle.dsp_core.proofs.sample.make_sample.Goals as goal
+
+pub put_results-requires : goal.put_results-requires
+put_results-requires c =
+    let shared : SharedInput = shared_input c.step_noise.new.state c.args.memory.now c.args.number in
+    let voices : List VoiceState = c.step_noise.new.state.hidden.voices in
+    let results : length (map (λ (one : VoiceResult). one.voice) (results_from shared 0 (pos 0) voices)) ≡ 8 = rw (c.step_chip_voices.ensures.voices c.requires.clock) at c.step_chip_voices.ensures.eight in
+    let eight : length voices ≡ 8 =
+    sym (length-map (results_from shared 0 (pos 0) voices) (λ (one : VoiceResult). one.voice) ∙ length-results_from shared 0 (pos 0) voices) ∙ results in
+    let below : c.keyed_voices-keyed.result < 0x100 = search rules in
+    let is : c.keyed_voices-keyed.result ≡ (if c.args.number % 2 == 0 then c.step_noise.new.state.hidden.taken else 0) = rw (c.step_chip_voices.ensures.voices c.requires.clock) at c.keyed_voices-keyed.ensures in
+    rw (c.step_chip_voices.ensures.answers c.requires.clock)
+    (keyed_bits shared voices c.keyed_voices-keyed.result eight below is)
+
+pub returns-clause-state : goal.returns-clause-state
+unfolding sample settings_of
+returns-clause-state c =
+    let now : c.step_noise.new.state ≡ after_noise (after_poll c.args.state.now c.args.number) (counter_at c.args.number) = rw (← c.poll.ensures.state, ← c.requires.clock) c.step_noise.ensures.state in
+    let is : c.args.settings.now ≡ settings_of c.step_noise.new.state.registers = search rules in
+    let regs : c.args.settings.now.echo ≡ echo_regs c.step_noise.new.state.registers = ap (λ (s : Settings). s.echo) is in
+    rw (← now, c.put_results.ensures, c.step-frame.ensures.state, c.step_chip_voices.ensures.voices c.requires.clock, c.step_chip_voices.ensures.answers c.requires.clock, regs) refl
+
+pub returns-clause-memory : goal.returns-clause-memory
+unfolding sample settings_of
+returns-clause-memory c =
+    let now : c.step_noise.new.state ≡ after_noise (after_poll c.args.state.now c.args.number) (counter_at c.args.number) = rw (← c.poll.ensures.state, ← c.requires.clock) c.step_noise.ensures.state in
+    let is : c.args.settings.now ≡ settings_of c.step_noise.new.state.registers = search rules in
+    let regs : c.args.settings.now.echo ≡ echo_regs c.step_noise.new.state.registers = ap (λ (s : Settings). s.echo) is in
+    let volumes : c.args.settings.now.volumes ≡ all_volumes c.step_noise.new.state.registers = ap (λ (s : Settings). s.volumes) is in
+    rw (← now, c.step-frame.ensures.memory, c.step_chip_voices.ensures.voices c.requires.clock, regs, c.sum_voices.ensures.sent, volumes, c.step_chip_voices.ensures.answers c.requires.clock) refl
+
+pub returns-clause-frame : goal.returns-clause-frame
+unfolding sample settings_of
+returns-clause-frame c =
+    let now : c.step_noise.new.state ≡ after_noise (after_poll c.args.state.now c.args.number) (counter_at c.args.number) = rw (← c.poll.ensures.state, ← c.requires.clock) c.step_noise.ensures.state in
+    let is : c.args.settings.now ≡ settings_of c.step_noise.new.state.registers = search rules in
+    let regs : c.args.settings.now.echo ≡ echo_regs c.step_noise.new.state.registers = ap (λ (s : Settings). s.echo) is in
+    let volumes : c.args.settings.now.volumes ≡ all_volumes c.step_noise.new.state.registers = ap (λ (s : Settings). s.volumes) is in
+    rw (← now, c.step-frame.ensures.frame, c.step_chip_voices.ensures.voices c.requires.clock, regs, c.sum_voices.ensures.main, volumes, c.step_chip_voices.ensures.answers c.requires.clock) refl

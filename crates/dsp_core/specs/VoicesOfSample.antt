@@ -1,0 +1,21 @@
+-- The voices of a sample, by the settings that the chip has read.
+use Rattle.std.specs.Prelude.{◌≡◌, ℕ, List, ℤ, pos, map}
+use Rattle.voice_unit.specs.Voice.{VoiceState}
+use Rattle.voice_unit.specs.declared.interface.VoiceOut.{VoiceOut}
+use Rattle.dsp_form.specs.Settings.{settings_of}
+use Rattle.dsp_form.specs.Sample.{SharedInput, results_from}
+use Rattle.dsp_form.specs.declared.settings.Settings.{Settings}
+use Rattle.dsp_form.specs.declared.voice_settings.SharedByVoices.{SharedByVoices}
+
+-- a fact of what the voices read, whichever registers the settings were read of
+abbrev pub ForInput : Settings → SharedByVoices → (memory : List ℕ) → (table : List ℤ) → (counter : ℕ) → (SharedInput → Type 0) → Type 0
+ForInput settings common memory table counter P =
+    (registers : List ℕ) → settings ≡ settings_of registers
+    → P record { registers = registers; common = common; memory = memory; table = table; counter = counter }
+
+-- all voices after their step, and their answers
+abbrev pub voices_after : SharedInput → List VoiceState → List VoiceState
+voices_after shared voices = map (λ one. one.voice) (results_from shared 0 (pos 0) voices)
+
+abbrev pub answers_of : SharedInput → List VoiceState → List VoiceOut
+answers_of shared voices = map (λ one. one.answer) (results_from shared 0 (pos 0) voices)

@@ -1,0 +1,28 @@
+use Rattle.std.proofs.Common.{◌≡◌, ◌<◌, ◌&&◌, Bool, nat_lt, slice_index, subst, rules}
+use Rattle.std.proofs.Math.Bridge.{le_prop}
+use Rattle.num_fix.specs.Arithmetic.{has_bit}
+use Rattle.voice_unit.specs.declared.interface.VoiceRegs.{VoiceRegs}
+use Rattle.dsp_form.specs.Registers.{voice_regs}
+use Rattle.dsp_form.specs.Settings.{voice_settings}
+use Rattle.dsp_form.specs.declared.registers.TheConstants.{PMON}
+use Rattle.dsp_form.specs.declared.voice_settings.VoiceSettings.{VoiceSettings}
+use Rattle.dsp_form.proofs.settings.voice_settings.Goals as goal
+
+-- settings are known by what they say, whatever shows the bound of their pitch
+same_settings : (r s : VoiceRegs) (a b c d e f : Bool) (p : r.pitch < 0x4000) (q : s.pitch < 0x4000) → r ≡ s → a ≡ b → c ≡ d → e ≡ f
+    → let these : VoiceSettings = record { regs = r; modulated = a; noisy = c; koff = e; pitch_of_14_bits = p } in
+    let those : VoiceSettings = record { regs = s; modulated = b; noisy = d; koff = f; pitch_of_14_bits = q } in
+    these ≡ those
+same_settings r s a b c d e f p q regs modulated noisy koff =
+    subst
+    (λ (t : VoiceRegs). (q : t.pitch < 0x4000)
+    → let these : VoiceSettings = record { regs = r; modulated = a; noisy = c; koff = e; pitch_of_14_bits = p } in
+    let those : VoiceSettings = record { regs = t; modulated = b; noisy = d; koff = f; pitch_of_14_bits = q } in
+    these ≡ those)
+    regs (λ q. (λ i. record { regs = r; modulated = modulated i; noisy = noisy i; koff = koff i; pitch_of_14_bits = le_prop p q i })) q
+
+pub returns : goal.returns
+unfolding voice_settings voice_regs
+returns c =
+    let modulated : c.if-v-gt0.result ≡ (nat_lt 0 c.args.v && has_bit (slice_index c.args.registers.now PMON) c.args.v) = search rules in
+    same_settings _ _ _ _ _ _ _ _ _ _ c.voice_regs.ensures.value modulated c.has_bit-2.ensures c.has_bit-3.ensures

@@ -1,0 +1,19 @@
+//! What the S-DSP is between two samples: its state, its registers by their names, what a sample reads of them and leaves
+//! in them, the sums over the voices, and the reach.
+#![tactic(auto)]
+
+mod mix;
+mod reach;
+pub mod registers;
+mod results;
+mod settings;
+mod state;
+mod voice_settings;
+mod volumes;
+
+pub use mix::{SILENCE, Sums, sum_voices};
+pub use results::{is_result, put_results};
+pub use settings::{Settings, settings_of};
+pub use state::{DspState, Hidden};
+pub use voice_settings::{SharedByVoices, VoiceSettings};
+pub use volumes::Volumes;

@@ -1,0 +1,27 @@
+//! What the chip is between two samples.
+
+use crate::registers::Registers;
+use echo_unit::Echo;
+use gauss_table::GaussTable;
+use rate_clock::Noise;
+use voice_unit::Voice;
+
+/// What the chip keeps beside its registers.
+#[derive(Debug, Drop)]
+pub struct Hidden {
+    /// The key-ons that wait for a poll.
+    pub waiting: u8,
+    /// The key-ons that the last poll took.
+    pub taken: u8,
+    pub noise: Noise,
+    pub voices: [Voice; 8],
+    pub echo: Echo,
+}
+
+/// The state of the chip: its registers, what it keeps beside them, and its table.
+#[derive(Drop)]
+pub struct DspState {
+    pub registers: Registers,
+    pub hidden: Hidden,
+    pub table: GaussTable,
+}

@@ -1,9 +1,0 @@
--- Runs of blocks that stand behind one another.
-use Rattle.std.specs.Prelude.{ℕ, zero, suc, ◌+◌, ◌%◌, List, if◌then◌else◌}
-use Rattle.aram_core.specs.Memory.{byte_at}
-use Rattle.brr_decode.specs.Header.{has_end}
-
--- how many blocks stand behind one another from a block on, up to the first that has its end bit, and at most so many
-abbrev pub run_length : List ℕ → (block most : ℕ) → ℕ
-run_length memory block zero = 0
-run_length memory block (suc most) = if has_end (byte_at memory block) then 1 else suc (run_length memory ((block + 9) % 0x10000) most)
