@@ -74,7 +74,7 @@ in_memory Rel = false
 abbrev pub byte_access : Access → Form → List Access
 byte_access access form = if in_memory form then access ∷ [] else []
 
--- the accesses of an operation behind the opcode, by its two forms
+-- the accesses of an operation after the opcode, by its two forms
 abbrev pub accesses_of : Operation → (first second : Form) → List Access
 accesses_of (OnStatus change) a b = []
 accesses_of (OnA change) a b = []
@@ -104,6 +104,6 @@ accesses_of Return a b = R ∷ R ∷ []
 accesses_of InterruptReturn a b = R ∷ R ∷ R ∷ []
 accesses_of Halt a b = []
 
--- the accesses of a row's instruction behind its opcode
+-- the accesses of a row's instruction after its opcode
 abbrev pub row_accesses : OpRow → List Access
 row_accesses row = accesses_of (operation_of row.kind row.first row.second) row.first row.second

@@ -1,4 +1,6 @@
 //! The instructions on bytes. Each gives its cycles.
+//!
+//! Everything here is inlined into the arm of its opcode, where the row is a constant: no form is told apart there at run time.
 
 ghost use Rattle.std.specs.Prelude.{◌≡◌, ℕ};
 ghost use Rattle.spc700_exec.specs.Operations.{xcn_of};

@@ -1,14 +1,17 @@
 //! The instructions on words. Each gives its cycles.
+//!
+//! Everything here is inlined into the arm of its opcode, where the row is a constant: no form is told apart there at run time.
 
 ghost use Rattle.std.specs.Prelude.{◌≡◌, ℕ, ◌+◌, ◌-◌, ◌%◌};
 ghost use Rattle.spc700_exec.specs.Operations.{ya};
-ghost use Rattle.spc700_exec.specs.Lines.{with_ya, word_on_ya_line, word_store_line, word_modify_line};
+ghost use Rattle.spc700_exec.specs.Lines.{word_on_ya_line, word_store_line, word_modify_line};
 ghost use Rattle.spc700_exec.specs.Combinations.{word_combination};
 ghost use Rattle.spc700_exec.specs.Pieces.{HasRoom, IsWithin, Does, IsRow, IsTime};
 
 use crate::bus::Bus;
 use crate::cpu::Cpu;
 use crate::operand::{address, load_word, store_word};
+use crate::registers::set_ya;
 use spc700_alu::flags::put_nz16;
 use spc700_alu::{Out16, addw, cmpw, subw};
 use spc700_table::OpRow;
@@ -53,16 +56,6 @@ pub fn word(cpu: &Cpu) -> u16
     0x100 * cpu.y as u16 + cpu.a as u16
 }
 
-/// Puts a word into Y and A, and its status.
-#[inline(always)]
-pub fn put_word(cpu: &mut Cpu, out: Out16)
-    ensures { cpu.new ≡ with_ya out cpu.old }
-{
-    cpu.y = (out.value / 0x100) as u8;
-    cpu.a = (out.value % 0x100) as u8;
-    cpu.psw = out.psw;
-}
-
 /// MOVW YA,d, ADDW, SUBW and CMPW.
 #[inline(always)]
 pub fn word_on_ya<B: Bus>(cpu: &mut Cpu, bus: &mut B, row: OpRow, kind: WordCombination) -> u8
@@ -75,7 +68,7 @@ pub fn word_on_ya<B: Bus>(cpu: &mut Cpu, bus: &mut B, row: OpRow, kind: WordComb
     let operand = address(cpu, bus, row.second);
     let w = load_word(bus, operand);
     let out = combined(kind, word(cpu), w, cpu.psw);
-    put_word(cpu, out);
+    set_ya(cpu, out);
     row.cycles
 }
 
