@@ -1,4 +1,4 @@
--- For spc700_exec: only a processor that halts takes its time from the next sample.
+-- Only a processor that halts takes its time from the next sample.
 use Rattle.std.proofs.Common.{◌≡◌, ℕ, Bool, true, false, refl}
 use Rattle.spc700_table.specs.declared.Form.{Form}
 use Rattle.spc700_table.specs.declared.Form.TheVariants as F

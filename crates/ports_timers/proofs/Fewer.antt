@@ -1,11 +1,11 @@
--- For ports_timers: counters that stay 0 over some cycles do so over fewer.
+-- Counters that stay 0 over some cycles do so over fewer.
 use Rattle.std.proofs.Common.{◌≡◌, ℕ, ◌≤◌, Bool, true, false, ◌||◌, ◌&&◌, nat_lt, refl, arith}
 use Rattle.std.proofs.lemmas.Bool.Decides.{nat_tests}
 use Rattle.ports_timers.specs.declared.io.Io.{Io}
 use Rattle.ports_timers.specs.Timer.{tick_count}
 use Rattle.ports_timers.specs.Io.{is_enabled}
-use Rattle.idle_rounds.specs.Zeros.{stays_if_0, zeros_stay}
-use Rattle.idle_rounds.proofs.Stays.{and_first, and_second}
+use Rattle.ports_timers.specs.Zeros.{stays_if_0, zeros_stay}
+use Rattle.ports_timers.proofs.Stays.{and_first, and_second}
 
 or_less : (a e : Bool) (x y k : ℕ) → x ≤ y → (a || (e || nat_lt y k)) ≡ true → (a || (e || nat_lt x k)) ≡ true
 or_less true e x y k less h = refl

@@ -1,15 +1,14 @@
--- For ports_timers: over cycles in which each counter that is 0 stays 0, a read of an input port, of a constant cell or of such a
+-- Over cycles in which each counter that is 0 stays 0, a read of an input port, of a constant cell or of such a
 -- counter has one answer, and changes nothing.
-use Rattle.std.proofs.Common.{◌≡◌, ℕ, ◌+◌, ◌<◌, Bool, true, false, not, ◌||◌, ◌&&◌, ◌==◌, refl, sym, ap, ◌∙◌, arith, rules, Option, Some, None}
+use Rattle.std.proofs.Common.{◌≡◌, ℕ, Bool, true, false, not, ◌||◌, ◌&&◌, ◌==◌, refl, ap, ◌∙◌, arith, Some}
 use Rattle.std.specs.Prelude.{if◌then◌else◌}
-use Rattle.std.proofs.lemmas.Bool.{and_left, and_right}
 use Rattle.std.proofs.lemmas.Bool.Decides.{nat_tests}
 use Rattle.ports_timers.specs.declared.timer.Timer.{Timer}
 use Rattle.ports_timers.specs.declared.io.Io.{Io}
 use Rattle.ports_timers.specs.Timer.{after_cycles}
 use Rattle.ports_timers.specs.Io.{is_enabled, is_within, read_answer, after_read, after_ticks_of}
-use Rattle.idle_rounds.specs.Zeros.{stays, stays_if_0, zeros_stay, counter_is_0, IsTimer, AreTimers}
-use Rattle.idle_rounds.proofs.Ticks.{output-stays}
+use Rattle.ports_timers.specs.Zeros.{stays, stays_if_0, zeros_stay, counter_is_0, IsTimer, AreTimers}
+use Rattle.ports_timers.proofs.Ticks.{output-stays}
 
 if_same : {A : Type 0} (b : Bool) (x y x' y' : A) → (b ≡ true → x ≡ x') → y ≡ y' → (if b then x else y) ≡ (if b then x' else y')
 if_same true x y x' y' first second = first refl
@@ -63,14 +62,14 @@ are_alike at io clock cycles small stay zero =
     let front : (s0 && s1) ≡ true = and_first (s0 && s1) s2 stay in
     record {
       timer0 = λ is. output-zero (is_enabled 0 io.control) 128 clock cycles io.timer0 small.timer0 (and_first s0 s1 front)
-      (zero0 (at == 0xFD) (at == 0xFE) (at == 0xFF) _ _ _ zero is);
+          (zero0 (at == 0xFD) (at == 0xFE) (at == 0xFF) _ _ _ zero is);
       timer1 = λ is. let other : (at == 0xFD) ≡ false = grind (arith, nat_tests) in
-      output-zero (is_enabled 1 io.control) 128 clock cycles io.timer1 small.timer1 (and_second s0 s1 front)
-      (zero1 (at == 0xFD) (at == 0xFE) (at == 0xFF) _ _ _ zero other is);
+          output-zero (is_enabled 1 io.control) 128 clock cycles io.timer1 small.timer1 (and_second s0 s1 front)
+          (zero1 (at == 0xFD) (at == 0xFE) (at == 0xFF) _ _ _ zero other is);
       timer2 = λ is. let other : (at == 0xFD) ≡ false = grind (arith, nat_tests) in
-      let another : (at == 0xFE) ≡ false = grind (arith, nat_tests) in
-      output-zero (is_enabled 2 io.control) 16 clock cycles io.timer2 small.timer2 (and_second (s0 && s1) s2 stay)
-      (zero2 (at == 0xFD) (at == 0xFE) (at == 0xFF) _ _ _ zero other another is);
+          let another : (at == 0xFE) ≡ false = grind (arith, nat_tests) in
+          output-zero (is_enabled 2 io.control) 16 clock cycles io.timer2 small.timer2 (and_second (s0 && s1) s2 stay)
+          (zero2 (at == 0xFD) (at == 0xFE) (at == 0xFF) _ _ _ zero other another is);
     }
 
 pub read_answer-stays : (at : ℕ) (io : Io) (clock cycles : ℕ) → AreTimers io → zeros_stay io clock cycles ≡ true → counter_is_0 io at ≡ true

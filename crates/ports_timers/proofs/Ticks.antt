@@ -1,11 +1,11 @@
--- For ports_timers: ticks compose, and a counter stays what it is until its inner counter comes to the target.
-use Rattle.std.proofs.Common.{◌≡◌, ℕ, zero, suc, ◌+◌, ◌-◌, ◌/◌, ◌%◌, ◌<◌, ◌≤◌, Bool, true, false, not, ◌||◌, nat_lt, ◌==◌, if◌then◌else◌, refl, sym, ap, ◌∙◌, arith}
+-- Ticks compose, and a counter stays what it is until its inner counter comes to the target.
+use Rattle.std.proofs.Common.{◌≡◌, ℕ, zero, suc, ◌+◌, ◌%◌, ◌<◌, Bool, true, false, ◌==◌, refl, ap, ◌∙◌, arith}
 use Rattle.std.proofs.lemmas.Bool.Decides.{nat_tests}
 use Rattle.ports_timers.specs.declared.timer.Timer.{Timer}
 use Rattle.ports_timers.specs.declared.io.Io.{Io}
 use Rattle.ports_timers.specs.Timer.{after_tick, after_ticks, after_cycles, tick_count}
 use Rattle.ports_timers.specs.Io.{is_enabled, after_ticks_of}
-use Rattle.idle_rounds.specs.Zeros.{ticks_to_count, stays}
+use Rattle.ports_timers.specs.Zeros.{ticks_to_count, stays}
 
 pub after_ticks-add : (m n : ℕ) (timer : Timer) → after_ticks (n + m) timer ≡ after_ticks n (after_ticks m timer)
 unfolding after_ticks

@@ -1,8 +1,8 @@
--- For ports_timers: how long counters that are 0 stay 0.
+-- How long output counters that are 0 stay 0.
 use Rattle.std.specs.Prelude.{◌≡◌, ◌<◌, ℕ, ◌+◌, ◌-◌, ◌%◌, Bool, not, ◌&&◌, ◌||◌, nat_lt, ◌==◌, if◌then◌else◌, true}
 use Rattle.ports_timers.specs.declared.timer.Timer.{Timer}
 use Rattle.ports_timers.specs.declared.io.Io.{Io}
-use Rattle.ports_timers.specs.Timer.{tick_count}
+use Rattle.ports_timers.specs.Timer.{tick_count, after_cycles}
 use Rattle.ports_timers.specs.Io.{is_enabled}
 
 -- the ticks up to the one at which the inner counter comes to the target: 1 to 256
@@ -36,6 +36,11 @@ counter_is_0 io at =
 pub record IsTimer (timer : Timer) : Type 0 where
   pub target : timer.target < 256
   pub inner : timer.inner < 256
+
+-- a timer whose count doesn't come in some cycles keeps its output counter
+abbrev pub KeepsOutput : (enabled : Bool) → (period clock cycles : ℕ) → Timer → Type 0
+KeepsOutput enabled period clock cycles timer =
+    stays enabled period clock cycles timer ≡ true → (after_cycles enabled period clock cycles timer).output ≡ timer.output
 
 pub record AreTimers (io : Io) : Type 0 where
   pub timer0 : IsTimer io.timer0

@@ -1,24 +1,16 @@
 // How long counters that are 0 stay 0.
 ghost use Rattle.std.specs.Prelude.{◌≡◌, ◌+◌, ◌-◌, ◌*◌, ◌/◌, ◌<◌, ◌≤◌, ◌^◌, true, false, if◌then◌else◌};
-ghost use Rattle.num_fix.specs.Arithmetic.{has_bit};
 ghost use Rattle.ports_timers.specs.Timer.{tick_count};
 ghost use Rattle.ports_timers.specs.Io.{is_enabled, after_ticks_of};
-ghost use Rattle.idle_rounds.specs.Zeros.{ticks_to_count, stays_if_0, zeros_stay, IsTimer, AreTimers};
+ghost use Rattle.ports_timers.specs.Zeros.{ticks_to_count, stays_if_0, zeros_stay, IsTimer, AreTimers};
 
-use ports_timers::{Io, Timer};
+use crate::{Io, Timer};
+use num_fix::has_bit;
 
 /// More cycles than any wait has.
 const LONG: u64 = 0x1_0000_0000;
 
-/// Whether a bit of a byte is set.
-fn has_bit(byte: u8, bit: u8) -> bool
-    requires { bit < 8 }
-    ensures { result ≡ has_bit byte bit }
-{
-    byte >> bit & 1 == 1
-}
-
-/// The ticks up to the next count.
+/// The ticks up to the next count: 1 to 256.
 fn ticks_to_count(timer: Timer) -> u64
     ensures exact { result ≡ ticks_to_count timer }
     ensures few { result ≤ 256 }
@@ -53,7 +45,8 @@ fn cycles_at_0(timer: Timer, is_enabled: bool, slow: bool, clock: u64) -> u64
     cycles_below(ticks_to_count(timer), slow, clock)
 }
 
-/// Cycles for which each counter that is 0 stays 0.
+/// Cycles from a moment of the clock on, below 2 to the 40, over which each output counter that is 0 stays 0. They may be
+/// fewer than the most.
 pub fn cycles_of_zeros(io: &Io, clock: u64) -> u64
     requires clock { clock < 2 ^ 40 }
     ensures stay { zeros_stay io.now clock result ≡ true }
@@ -65,7 +58,7 @@ pub fn cycles_of_zeros(io: &Io, clock: u64) -> u64
     first.min(second).min(third)
 }
 
-/// Does the ticks of cycles of any number.
+/// Does the ticks of any number of cycles from a moment of the clock on; the moment after them is below 2 to the 40.
 pub fn tick_through(io: &mut Io, clock: u64, cycles: u64)
     requires { clock + cycles < 2 ^ 40 }
     ensures { io.new ≡ after_ticks_of io.old clock cycles }

@@ -1,7 +1,6 @@
-use Rattle.std.proofs.Common.{◌≡◌, true, subst, sym, Bool, arith}
-use Rattle.idle_rounds.specs.Zeros.{stays_if_0}
-use Rattle.idle_rounds.proofs.Fewer.{zeros_stay-each}
-use Rattle.idle_rounds.proofs.zeros.cycles_of_zeros.Goals as goal
+use Rattle.std.proofs.Common.{arith}
+use Rattle.ports_timers.proofs.Fewer.{zeros_stay-each}
+use Rattle.ports_timers.proofs.zeros.cycles_of_zeros.Goals as goal
 
 pub returns-clause-stay : goal.returns-clause-stay
 returns-clause-stay c =

@@ -1,8 +1,7 @@
 use Rattle.std.proofs.Common.{◌≡◌, ◌+◌, ◌*◌, ◌/◌, ◌%◌, ℕ, sym, ap, ◌∙◌, arith}
-use Rattle.ports_timers.specs.declared.io.Io.{Io}
 use Rattle.ports_timers.specs.Io.{after_ticks_of}
-use Rattle.idle_rounds.proofs.Ticks.{after_ticks_of-then, after_ticks_of-none}
-use Rattle.idle_rounds.proofs.zeros.tick_through.Goals as goal
+use Rattle.ports_timers.proofs.Ticks.{after_ticks_of-then, after_ticks_of-none}
+use Rattle.ports_timers.proofs.zeros.tick_through.Goals as goal
 
 pub parts-init : goal.parts-init
 parts-init c = sym (after_ticks_of-none c.args.io.now c.args.clock)
