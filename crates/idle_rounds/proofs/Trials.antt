@@ -1,5 +1,5 @@
 -- What a step tells over a bus that only looks.
-use Rattle.std.proofs.Common.{◌≡◌, ℕ, zero, suc, ◌+◌, ◌-◌, ◌≤◌, Bool, true, false, ◌&&◌, nat_lt, refl, sym, ap, ◌∙◌, arith, Option, Some, None}
+use Rattle.std.proofs.Common.{◌≡◌, ℕ, suc, ◌+◌, ◌-◌, Bool, true, false, ◌&&◌, nat_lt, refl, sym, ap, ◌∙◌, arith, Option, Some, None}
 use Rattle.std.specs.Prelude.{if◌then◌else◌, unwrap_or, is_some}
 use Rattle.std.proofs.lemmas.Bool.Decides.{nat_tests}
 use Rattle.spc700_exec.specs.declared.cpu.Cpu.{Cpu}
@@ -7,7 +7,7 @@ use Rattle.spc700_exec.specs.Bus.{byte_read, after_read, after_write}
 use Rattle.spc700_exec.specs.Script.{Script, Read, Write, End, Cycles, ToSample, cycles_at, outcome}
 use Rattle.spc700_exec.specs.Instruction.{script, step_outcome}
 use Rattle.idle_rounds.specs.Looking.{then_if, look_of_script, look_of_steps, Look, look_meaning, HaltsToSample}
-use Rattle.spc700_exec.proofs.Lists.{and_left, and_right}
+use Rattle.spc700_alu.proofs.Apart.{and_left, and_right}
 use Rattle.idle_rounds.proofs.Halting.{HaltsToSample-script}
 
 -- what is seen is what a read answers

@@ -11,7 +11,8 @@ use Rattle.spc700_table.proofs.Below.{list_all_below}
 use Rattle.spc700_exec.specs.Accesses.{row_accesses}
 use Rattle.spc700_exec.specs.Forms.{row_suits}
 use Rattle.spc700_exec.specs.Pieces.{FormFits, IsRow, IsTime, halts}
-use Rattle.spc700_exec.proofs.Lists.{and_left, and_right, or_right, le_from_test}
+use Rattle.spc700_alu.proofs.Apart.{and_left, and_right}
+use Rattle.spc700_exec.proofs.Lists.{or_right, le_from_test}
 
 abbrev form_fits : Form → Bool
 form_fits (F.Table n) = nat_lt n 16

@@ -1,6 +1,4 @@
-use Rattle.std.proofs.Common.{◌≡◌, ◌+◌, ℕ, refl, sym, ap, ◌∙◌, rules, arith, Some}
-use Rattle.spc700_exec.specs.declared.cpu.Cpu.{Cpu}
-use Rattle.idle_rounds.specs.Looking.{look_of_steps}
+use Rattle.std.proofs.Common.{◌≡◌, ◌+◌, ◌∙◌, rules, arith, Some}
 use Rattle.idle_rounds.proofs.Trials.{look_of_steps-none, look_of_steps-more}
 use Rattle.idle_rounds.proofs.trial.try_round.Goals as goal
 
