@@ -9,10 +9,10 @@ use Rattle.spc700_asm.specs.declared.refusal.LineError.TheVariants as error
 use Rattle.spc700_asm.specs.declared.refusal.AsmRefusal.{AsmRefusal}
 use Rattle.spc700_asm.specs.declared.refusal.AsmRefusal.TheVariants as refusal
 use Rattle.spc700_asm.specs.Operands.{written_of}
-use Rattle.spc700_asm.specs.Statements.{Statement, all_of, items_of}
+use Rattle.spc700_asm.specs.Statements.{Statement, all_of, items_of, statement_of}
 use Rattle.spc700_asm.specs.Labels.{Labels, size_of, size_of_line, label_at, value_of}
 use Rattle.spc700_asm.specs.Faults.{LineRefusal, has_great_number, first_fault}
-use Rattle.spc700_asm.specs.Assembly.{with_front, number_written, number_bytes, bytes_of_lines, lines_of}
+use Rattle.spc700_asm.specs.Assembly.{with_front, number_written, number_bytes, line_bytes, bytes_of_lines, lines_of}
 
 -- the value that a table has for a name
 abbrev pub value_in_table : Names → (name : List ℕ) → Option ℕ
@@ -39,9 +39,9 @@ word_bytes labels items = number_bytes 2 (all_of (number_written labels) (unwrap
 abbrev pub bytes_of_source : Labels → (origin : ℕ) → (source : List ℕ) → Result (List ℕ) LineRefusal
 bytes_of_source labels origin source = bytes_of_lines labels origin 1 (lines_of source)
 
--- all of these bytes were added
-abbrev pub AddsAll : (old new : List ℕ) → (bytes : Result (List ℕ) LineFault) → Type 0
-AddsAll old new bytes = with_front old bytes ≡ Ok new
+-- the bytes of a line at an address were added
+abbrev pub AddsLine : Labels → (at : ℕ) → (line old new : List ℕ) → Type 0
+AddsLine labels at line old new = with_front old (line_bytes labels at (statement_of line)) ≡ Ok new
 
 -- bytes were added, or a line isn't assembled for its fault, unless there is no memory
 abbrev pub Adds : (old new : List ℕ) → (bytes : Result (List ℕ) LineFault) → Result (Unit {0}) LineError → Type 0

@@ -8,8 +8,10 @@ use crate::refusal::AsmRefusal;
 use crate::survey::survey;
 use std::alloc::Global;
 
-/// The bytes of a source from an origin on. It is refused for the least line with one of the first four faults, with the
-/// first of them, or where there is none for the least line with one of the last two.
+/// The bytes of a source of at most 1,048,576 bytes, from an origin on, which is the address of its first line.
+///
+/// It is refused for the least line with one of the faults `Form`, `Number`, `Twice` and `Long`, with the first of them in
+/// this order; where no line has one of these, for the least line with `Name` or `Far`. It may want memory.
 pub fn assemble(alloc: Global, source: &[u8], origin: u16) -> Result<Vec<u8>, AsmRefusal>
     requires { length source.now ≤ 1048576 }
     ensures bytes { IfOk result (λ bytes. assembly source.now origin ≡ Ok bytes.items) }

@@ -10,7 +10,7 @@ ghost use Rattle.spc700_asm.specs.Labels.{Labels, size_of_line};
 ghost use Rattle.spc700_asm.specs.Faults.{has_great_operand, has_great_number};
 ghost use Rattle.spc700_asm.specs.Assembly.{number_written, plain_number, operand_number, instruction_written, is_far_operand, is_far, instruction_bytes, number_bytes, line_bytes, with_front, bytes_of_lines, lines_of};
 ghost use Rattle.spc700_asm.specs.Seen.{written_seen, operand_seen, statement_seen, as_seen};
-ghost use Rattle.spc700_asm.specs.Names.{Holds, Adds, AddsAll, word_bytes, bytes_of_source, IsBytesFault, IsFine, AreFine, Refuses};
+ghost use Rattle.spc700_asm.specs.Names.{Holds, Adds, AddsLine, word_bytes, bytes_of_source, IsBytesFault, IsFine, AreFine, Refuses};
 
 use crate::OutOfMemory;
 use crate::characters::{number, trim};
@@ -252,7 +252,7 @@ fn push_statement(
 fn push_line(out: &mut Vec<u8>, names: &Names, at: u32, line: &[u8]) -> Result<u32, LineError>
     requires at { at ≤ 0x1_0000 }
     requires fine { IsFine at (statement_of line.now) }
-    ensures bytes { (labels : Labels) → Holds names.now labels → OnOk result (AddsAll out.old.items out.new.items (line_bytes labels at (statement_of line.now))) }
+    ensures bytes { (labels : Labels) → Holds names.now labels → OnOk result (AddsLine labels at line.now out.old.items out.new.items) }
     ensures fault { (labels : Labels) → Holds names.now labels → IfErr result (λ error. IsBytesFault error (line_bytes labels at (statement_of line.now))) }
     ensures next { IfOk result (λ next. next ≡ at + size_of_line (statement_of line.now)) }
     ensures within { IfOk result (λ next. next ≤ 0x1_0000) }

@@ -124,7 +124,8 @@ fn first_instruction(at: u32, bytes: &[u8]) -> Option<(Instruction, &[u8])>
     Some((instruction, bytes.split_at(count).1))
 }
 
-/// The listing of bytes that stand at an origin: a line for each instruction, and one more for bytes that are no whole one.
+/// The listing of bytes that stand at an origin and end at 65,536 at most: a line for each instruction, and one more, of
+/// `.byte`, for bytes at the end that are no whole instruction. It may want memory.
 pub fn disassemble(alloc: Global, bytes: &[u8], origin: u16) -> Result<Vec<u8>, OutOfMemory>
     requires { origin + length bytes.now ≤ 0x1_0000 }
     ensures { IfOk result (λ text. text.items ≡ listing origin bytes.now) }
