@@ -1,4 +1,4 @@
--- For spc700_exec: only a processor that halts takes its time from the next sample.
+-- Only a processor that halts takes its time from the next sample.
 use Rattle.std.proofs.Common.{◌≡◌, ℕ, Bool, true, false, refl}
 use Rattle.spc700_table.specs.declared.Form.{Form}
 use Rattle.spc700_table.specs.declared.Form.TheVariants as F
@@ -9,7 +9,7 @@ use Rattle.spc700_exec.specs.declared.operand.Operand.{Operand}
 use Rattle.spc700_exec.specs.declared.operand.Operand.TheVariants as P
 use Rattle.spc700_exec.specs.Script.{Script}
 use Rattle.spc700_exec.specs.Operands.{addressed, loaded, stored}
-use Rattle.spc700_exec.specs.Operations.{Operation, operation_of, OnStatus, OnA, OnYa, Branch, BitBranch, CompareBranch, CountBranch, Move, Combine, Compare, Modify, BitToCarry, BitInPlace, BitTest, WordOnYa, WordStore, WordModify, Push, Pop, Jump, Call, TableCall, Break, Return, InterruptReturn, Halt}
+use Rattle.spc700_exec.specs.Operations.{Operation, operation_of, OnStatus, OnA, OnYa, Branch, BitBranch, CompareBranch, CountBranch, Move, Calculate, Compare, Modify, BitToCarry, BitInPlace, BitTest, WordOnYa, WordStore, WordModify, Push, Pop, Jump, Call, TableCall, Break, Return, InterruptReturn, Halt}
 use Rattle.spc700_exec.specs.Lines.{branched}
 use Rattle.spc700_exec.specs.Instruction.{line_of, step_unless, script}
 use Rattle.idle_rounds.specs.Looking.{HaltsToSample}
@@ -79,13 +79,13 @@ module _ (row : OpRow) where
   on_line CompareBranch cpu = on_addressed row.first cpu _ (λ o cpu. λ r. on_loaded o _ _ (λ v. on_branched _ r _))
   on_line CountBranch cpu = on_addressed row.first cpu _ (λ o cpu. λ r. on_loaded o _ _ (λ v. on_stored o _ _ _ (λ cpu. on_branched _ r cpu)))
   on_line Move cpu = on_addressed row.second cpu _ (λ source cpu. on_addressed row.first cpu _ (λ target cpu. on_loaded source cpu _ (λ v. on_stored target v cpu _ (λ cpu. tt))))
-  on_line (Combine combine) cpu = on_addressed row.second cpu _ (λ source cpu. on_addressed row.first cpu _ (λ target cpu. on_loaded source cpu _ (λ b. on_loaded target cpu _ (λ a. on_stored target _ _ _ (λ cpu. tt)))))
+  on_line (Calculate calculate) cpu = on_addressed row.second cpu _ (λ source cpu. on_addressed row.first cpu _ (λ target cpu. on_loaded source cpu _ (λ b. on_loaded target cpu _ (λ a. on_stored target _ _ _ (λ cpu. tt)))))
   on_line Compare cpu = on_addressed row.second cpu _ (λ source cpu. on_addressed row.first cpu _ (λ target cpu. on_loaded source cpu _ (λ b. on_loaded target cpu _ (λ a. tt))))
   on_line (Modify change) cpu = on_addressed row.first cpu _ (λ o cpu. on_loaded o cpu _ (λ v. on_stored o _ _ _ (λ cpu. tt)))
   on_line (BitToCarry kind) cpu = on_addressed row.second cpu _ (λ o cpu. on_loaded o cpu _ (λ v. tt))
   on_line (BitInPlace kind) cpu = on_addressed row.first cpu _ (λ o cpu. on_loaded o cpu _ (λ v. on_stored o _ cpu _ (λ cpu. tt)))
   on_line (BitTest change) cpu = on_addressed row.first cpu _ (λ o cpu. on_loaded o cpu _ (λ v. on_stored o _ _ _ (λ cpu. tt)))
-  on_line (WordOnYa combine) cpu = on_addressed row.second cpu _ (λ o cpu. λ low high. tt)
+  on_line (WordOnYa calculate) cpu = on_addressed row.second cpu _ (λ o cpu. λ low high. tt)
   on_line WordStore cpu = on_addressed row.first cpu _ (λ o cpu. tt)
   on_line (WordModify change) cpu = on_addressed row.first cpu _ (λ o cpu. λ low high. tt)
   on_line Push cpu = on_addressed row.first cpu _ (λ o cpu. on_loaded o cpu _ (λ v. tt))

@@ -1,5 +1,5 @@
--- For spc700_exec: steps that only look leave nothing but the cycles that they take, and so do rounds of them.
-use Rattle.std.proofs.Common.{◌≡◌, ℕ, zero, suc, ◌+◌, ◌-◌, ◌*◌, ◌<◌, ◌≤◌, Bool, true, false, nat_lt, refl, sym, ap, ◌∙◌, subst, arith, Option, Some, None}
+-- Steps that only look leave nothing but the cycles that they take, and so do rounds of them.
+use Rattle.std.proofs.Common.{◌≡◌, ℕ, zero, suc, ◌+◌, ◌-◌, ◌*◌, ◌≤◌, Bool, true, false, nat_lt, refl, sym, ap, ◌∙◌, subst, arith, Option, Some, None}
 use Rattle.std.specs.Prelude.{if◌then◌else◌}
 use Rattle.std.proofs.lemmas.Bool.Decides.{nat_tests}
 use Rattle.spc700_exec.specs.declared.cpu.Cpu.{Cpu}
@@ -8,7 +8,7 @@ use Rattle.spc700_exec.specs.Script.{Script, Read, Write, End, Cycles, ToSample,
 use Rattle.spc700_exec.specs.Instruction.{script, step_outcome}
 use Rattle.spc700_exec.specs.Length.{IsShort}
 use Rattle.spc700_exec.proofs.Short.{IsShort-script}
-use Rattle.idle_rounds.specs.Looking.{then_if, looked, looked_steps, after_n_steps, IsWaiting}
+use Rattle.idle_rounds.specs.Looking.{then_if, look_of_script, look_of_steps, after_n_steps, IsWaiting}
 
 -- what was there where something follows it
 then_some : {A X : Type 0} (o : Option A) (next : A → Option X) (x : X) → then_if o next ≡ Some x → (a : A) × (o ≡ Some a) × (next a ≡ Some x)
@@ -21,16 +21,16 @@ same_some x y h = cc
 same_pair : (v w : Cpu × ℕ) → Some v ≡ Some w → (v.0 ≡ w.0) × (v.1 ≡ w.1)
 same_pair v w h = let e = same_some v w h in (ap (λ (x : Cpu × ℕ). x.0) e, ap (λ (x : Cpu × ℕ). x.1) e)
 
-looked-least : (sees : ℕ → Option ℕ) (t : Script) (made : ℕ) (cpu : Cpu) (cycles : ℕ) → looked sees made t ≡ Some (cpu, cycles) → made ≤ cycles
-looked-least sees (Read at next) made cpu cycles h =
-    let seen = then_some (sees at) (λ byte. looked sees (made + 1) (next byte)) (cpu, cycles) h in
-    let more = looked-least sees (next seen.0) (made + 1) cpu cycles seen.2 in
+look_of_script-least : (sees : ℕ → Option ℕ) (t : Script) (made : ℕ) (cpu : Cpu) (cycles : ℕ) → look_of_script sees made t ≡ Some (cpu, cycles) → made ≤ cycles
+look_of_script-least sees (Read at next) made cpu cycles h =
+    let seen = then_some (sees at) (λ byte. look_of_script sees (made + 1) (next byte)) (cpu, cycles) h in
+    let more = look_of_script-least sees (next seen.0) (made + 1) cpu cycles seen.2 in
     omega arith
-looked-least sees (Write at value next) made cpu cycles h = absurd (cc)
-looked-least sees (End end (Cycles n)) made cpu cycles h =
+look_of_script-least sees (Write at value next) made cpu cycles h = absurd (cc)
+look_of_script-least sees (End end (Cycles n)) made cpu cycles h =
     let e = same_pair _ _ h in
     omega arith
-looked-least sees (End end ToSample) made cpu cycles h = absurd (cc)
+look_of_script-least sees (End end ToSample) made cpu cycles h = absurd (cc)
 
 module _ {S : Type 0} (bus : BusMeaning S) (bare : S → S) (sees : ℕ → Option ℕ) (most : ℕ) (waited : ℕ → S) (law : IsWaiting bus bare sees most waited) where
   -- these registers, and a bus that waited so long
@@ -53,18 +53,18 @@ module _ {S : Type 0} (bus : BusMeaning S) (bare : S → S) (sees : ℕ → Opti
       waited-rest s (base + made) (cycles - made) (nat_lt made cycles) test (omega arith) (omega arith) same ∙ ap (λ (k : ℕ). bare (waited k)) sum
 
   waited-outcome : (t : Script) (k start base made : ℕ) (s : S) (cpu : Cpu) (cycles : ℕ) → IsShort k t → bare s ≡ bare (waited (base + made))
-      → looked sees made t ≡ Some (cpu, cycles) → base + cycles ≤ most → Waited cpu (base + cycles) (outcome bus start made t s)
+      → look_of_script sees made t ≡ Some (cpu, cycles) → base + cycles ≤ most → Waited cpu (base + cycles) (outcome bus start made t s)
   waited-outcome (Read at next) zero start base made s cpu cycles short same h fits = absurd short
   waited-outcome (Read at next) (suc k) start base made s cpu cycles short same h fits =
-      let seen = then_some (sees at) (λ byte. looked sees (made + 1) (next byte)) (cpu, cycles) h in
-      let least = looked-least sees (next seen.0) (made + 1) cpu cycles seen.2 in
+      let seen = then_some (sees at) (λ byte. look_of_script sees (made + 1) (next byte)) (cpu, cycles) h in
+      let least = look_of_script-least sees (next seen.0) (made + 1) cpu cycles seen.2 in
       let sum : base + made + 1 ≡ base + (made + 1) = omega arith in
       let passed : bare (bus.pass s 1) ≡ bare (waited (base + (made + 1))) =
       law.pass s (base + made) 1 same (omega arith) (omega arith) (omega arith) ∙ ap (λ (n : ℕ). bare (waited n)) sum in
       let byte : byte_read bus at s ≡ seen.0 = law.byte (bus.pass s 1) (base + (made + 1)) at seen.0 passed (omega arith) seen.1 in
       let after : bare (after_read bus at s) ≡ bare (waited (base + (made + 1))) = law.read (bus.pass s 1) (base + (made + 1)) at seen.0 passed (omega arith) seen.1 in
       waited-outcome (next (byte_read bus at s)) k start base (made + 1) (after_read bus at s) cpu cycles (short (byte_read bus at s)) after
-      (ap (λ (b : ℕ). looked sees (made + 1) (next b)) byte ∙ seen.2) fits
+      (ap (λ (b : ℕ). look_of_script sees (made + 1) (next b)) byte ∙ seen.2) fits
   waited-outcome (Write at value next) k start base made s cpu cycles short same h fits = absurd (cc)
   waited-outcome (End end (Cycles n)) zero start base made s cpu cycles short same h fits =
       let e = same_pair _ _ h in
@@ -75,23 +75,23 @@ module _ {S : Type 0} (bus : BusMeaning S) (bare : S → S) (sees : ℕ → Opti
   waited-outcome (End end ToSample) k start base made s cpu cycles short same h fits = absurd (cc)
 
   waited-step : (base : ℕ) (w : Cpu × S) (before cpu : Cpu) (cycles : ℕ) → Waited before base w
-      → looked sees 0 (script before) ≡ Some (cpu, cycles) → base + cycles ≤ most → Waited cpu (base + cycles) (step_outcome bus w.0 w.1)
+      → look_of_script sees 0 (script before) ≡ Some (cpu, cycles) → base + cycles ≤ most → Waited cpu (base + cycles) (step_outcome bus w.0 w.1)
   waited-step base w before cpu cycles so h fits =
       let start : base ≡ base + 0 = omega arith in
       waited-outcome (script w.0) 6 (bus.clock w.1) base 0 w.1 cpu cycles (IsShort-script w.0) (so.1 ∙ ap (λ (n : ℕ). bare (waited n)) start)
-      (ap (λ (c : Cpu). looked sees 0 (script c)) so.0 ∙ h) fits
+      (ap (λ (c : Cpu). look_of_script sees 0 (script c)) so.0 ∙ h) fits
 
   -- n steps that only look
   pub waited-steps : (n base : ℕ) (w : Cpu × S) (before cpu : Cpu) (cycles : ℕ) → Waited before base w
-      → looked_steps sees n before ≡ Some (cpu, cycles) → base + cycles ≤ most → Waited cpu (base + cycles) (after_n_steps bus n w)
-  unfolding looked_steps after_n_steps
+      → look_of_steps sees n before ≡ Some (cpu, cycles) → base + cycles ≤ most → Waited cpu (base + cycles) (after_n_steps bus n w)
+  unfolding look_of_steps after_n_steps
   waited-steps zero base w before cpu cycles so h fits =
       let e = same_pair _ _ h in
       let sum : base ≡ base + cycles = omega arith in
       (so.0 ∙ e.0, so.1 ∙ ap (λ (n : ℕ). bare (waited n)) sum)
   waited-steps (suc n) base w before cpu cycles so h fits =
-      let first = then_some (looked_steps sees n before) (λ b. then_if (looked sees 0 (script b.0)) (λ next. Some (next.0, b.1 + next.1))) (cpu, cycles) h in
-      let last = then_some (looked sees 0 (script first.0.0)) (λ next. Some (next.0, first.0.1 + next.1)) (cpu, cycles) first.2 in
+      let first = then_some (look_of_steps sees n before) (λ b. then_if (look_of_script sees 0 (script b.0)) (λ next. Some (next.0, b.1 + next.1))) (cpu, cycles) h in
+      let last = then_some (look_of_script sees 0 (script first.0.0)) (λ next. Some (next.0, first.0.1 + next.1)) (cpu, cycles) first.2 in
       let e = same_pair _ _ last.2 in
       let total : base + first.0.1 + last.0.1 ≡ base + cycles = omega arith in
       let half = waited-steps n base w before first.0.0 first.0.1 so first.1 (omega arith) in
@@ -106,7 +106,7 @@ module _ {S : Type 0} (bus : BusMeaning S) (bare : S → S) (sees : ℕ → Opti
       ap (λ (k : ℕ). after_n_steps bus k w) e ∙ ap (λ (v : Cpu × S). step_outcome bus v.0 v.1) (after_n_steps-add m n w)
 
   -- k rounds of n steps and d cycles that bring the registers back
-  pub waited-rounds : (k n d : ℕ) (w : Cpu × S) (cpu : Cpu) → Waited cpu 0 w → looked_steps sees n cpu ≡ Some (cpu, d) → k * d ≤ most → Waited cpu (k * d) (after_n_steps bus (k * n) w)
+  pub waited-rounds : (k n d : ℕ) (w : Cpu × S) (cpu : Cpu) → Waited cpu 0 w → look_of_steps sees n cpu ≡ Some (cpu, d) → k * d ≤ most → Waited cpu (k * d) (after_n_steps bus (k * n) w)
   unfolding after_n_steps
   waited-rounds zero n d w cpu so h fits =
       let none : 0 * n ≡ 0 = omega arith in

@@ -1,13 +1,13 @@
--- For spc700_exec: what a step tells over a bus that only looks.
-use Rattle.std.proofs.Common.{◌≡◌, ℕ, zero, suc, ◌+◌, ◌-◌, ◌≤◌, Bool, true, false, ◌&&◌, nat_lt, refl, sym, ap, ◌∙◌, arith, Option, Some, None}
+-- What a step tells over a bus that only looks.
+use Rattle.std.proofs.Common.{◌≡◌, ℕ, suc, ◌+◌, ◌-◌, Bool, true, false, ◌&&◌, nat_lt, refl, sym, ap, ◌∙◌, arith, Option, Some, None}
 use Rattle.std.specs.Prelude.{if◌then◌else◌, unwrap_or, is_some}
 use Rattle.std.proofs.lemmas.Bool.Decides.{nat_tests}
 use Rattle.spc700_exec.specs.declared.cpu.Cpu.{Cpu}
 use Rattle.spc700_exec.specs.Bus.{byte_read, after_read, after_write}
 use Rattle.spc700_exec.specs.Script.{Script, Read, Write, End, Cycles, ToSample, cycles_at, outcome}
 use Rattle.spc700_exec.specs.Instruction.{script, step_outcome}
-use Rattle.idle_rounds.specs.Looking.{then_if, looked, looked_steps, Look, looking, HaltsToSample}
-use Rattle.idle_rounds.proofs.Stays.{and_first, and_second}
+use Rattle.idle_rounds.specs.Looking.{then_if, look_of_script, look_of_steps, Look, look_meaning, HaltsToSample}
+use Rattle.spc700_alu.proofs.Apart.{and_left, and_right}
 use Rattle.idle_rounds.proofs.Halting.{HaltsToSample-script}
 
 -- what is seen is what a read answers
@@ -19,63 +19,63 @@ differ : (b : Bool) → b ≡ false → b ≡ true → ⊥
 differ b first second = cc
 
 module _ {L : Type 0} (sees : L → ℕ → Option ℕ) where
-  idle-rest : (b : Bool) (cycles : ℕ) (s : Look L) → (if b then (looking sees).pass s cycles else s).idle ≡ s.idle
+  idle-rest : (b : Bool) (cycles : ℕ) (s : Look L) → (if b then (look_meaning sees).pass s cycles else s).idle ≡ s.idle
   idle-rest true cycles s = refl
   idle-rest false cycles s = refl
 
-  idle-outcome : (t : Script) (start made : ℕ) (s : Look L) → (outcome (looking sees) start made t s).1.idle ≡ true → s.idle ≡ true
+  idle-outcome : (t : Script) (start made : ℕ) (s : Look L) → (outcome (look_meaning sees) start made t s).1.idle ≡ true → s.idle ≡ true
   idle-outcome (Read at next) start made s h =
-      and_first s.idle (is_some (sees s.from at)) (idle-outcome (next (byte_read (looking sees) at s)) start (made + 1) (after_read (looking sees) at s) h)
+      and_left s.idle (is_some (sees s.from at)) (idle-outcome (next (byte_read (look_meaning sees) at s)) start (made + 1) (after_read (look_meaning sees) at s) h)
   idle-outcome (Write at value next) start made s h =
-      let off : false ≡ true = idle-outcome next start (made + 1) (after_write (looking sees) at value s) h in
+      let off : false ≡ true = idle-outcome next start (made + 1) (after_write (look_meaning sees) at value s) h in
       absurd (cc)
   idle-outcome (End cpu time) start made s h = sym (idle-rest (nat_lt made (cycles_at start time)) (cycles_at start time - made) s) ∙ h
 
   clock-rest : (b : Bool) (base made cycles : ℕ) (s : Look L) → nat_lt made cycles ≡ b → s.clock ≡ base + made
-      → (if b then (looking sees).pass s (cycles - made) else s).clock ≡ base + (made + (cycles - made))
+      → (if b then (look_meaning sees).pass s (cycles - made) else s).clock ≡ base + (made + (cycles - made))
   clock-rest true base made cycles s is e = omega arith
   clock-rest false base made cycles s is e = grind (arith, nat_tests)
 
-  looked-outcome : (t : Script) (start base made : ℕ) (s : Look L) → HaltsToSample t → s.clock ≡ base + made
-      → (outcome (looking sees) start made t s).1.idle ≡ true → (outcome (looking sees) start made t s).0.halted ≡ false
-      → looked (sees s.from) made t ≡ Some ((outcome (looking sees) start made t s).0, (outcome (looking sees) start made t s).1.clock - base)
-  looked-outcome (Read at next) start base made s halts e idle runs =
-      let byte = byte_read (looking sees) at s in
-      let after : Look L = after_read (looking sees) at s in
+  look_of_script-outcome : (t : Script) (start base made : ℕ) (s : Look L) → HaltsToSample t → s.clock ≡ base + made
+      → (outcome (look_meaning sees) start made t s).1.idle ≡ true → (outcome (look_meaning sees) start made t s).0.halted ≡ false
+      → look_of_script (sees s.from) made t ≡ Some ((outcome (look_meaning sees) start made t s).0, (outcome (look_meaning sees) start made t s).1.clock - base)
+  look_of_script-outcome (Read at next) start base made s halts e idle runs =
+      let byte = byte_read (look_meaning sees) at s in
+      let after : Look L = after_read (look_meaning sees) at s in
       let still : (s.idle && is_some (sees s.from at)) ≡ true = idle-outcome (next byte) start (made + 1) after idle in
       let clock : s.clock + 1 ≡ base + (made + 1) = omega arith in
-      seen_then (sees s.from at) (λ byte. looked (sees s.from) (made + 1) (next byte)) _ (and_second s.idle (is_some (sees s.from at)) still)
-      (looked-outcome (next byte) start base (made + 1) after (halts byte) clock idle runs)
-  looked-outcome (Write at value next) start base made s halts e idle runs =
-      let off : false ≡ true = idle-outcome next start (made + 1) (after_write (looking sees) at value s) idle in
+      seen_then (sees s.from at) (λ byte. look_of_script (sees s.from) (made + 1) (next byte)) _ (and_right s.idle (is_some (sees s.from at)) still)
+      (look_of_script-outcome (next byte) start base (made + 1) after (halts byte) clock idle runs)
+  look_of_script-outcome (Write at value next) start base made s halts e idle runs =
+      let off : false ≡ true = idle-outcome next start (made + 1) (after_write (look_meaning sees) at value s) idle in
       absurd (cc)
-  looked-outcome (End cpu (Cycles n)) start base made s halts e idle runs =
+  look_of_script-outcome (End cpu (Cycles n)) start base made s halts e idle runs =
       let clock = clock-rest (nat_lt made n) base made n s refl e in
-      let cycles : made + (n - made) ≡ (if nat_lt made n then (looking sees).pass s (n - made) else s).clock - base = omega arith in
+      let cycles : made + (n - made) ≡ (if nat_lt made n then (look_meaning sees).pass s (n - made) else s).clock - base = omega arith in
       λ i. Some (cpu, cycles i)
-  looked-outcome (End cpu ToSample) start base made s halts e idle runs = absurd (differ cpu.halted runs halts)
+  look_of_script-outcome (End cpu ToSample) start base made s halts e idle runs = absurd (differ cpu.halted runs halts)
 
   -- a step from clock 0 that only looked, and didn't halt
-  pub looked-step : (cpu next : Cpu) (s t : Look L) → (next, t) ≡ step_outcome (looking sees) cpu s → s.clock ≡ 0 → t.idle ≡ true → next.halted ≡ false
-      → looked (sees s.from) 0 (script cpu) ≡ Some (next, t.clock)
-  looked-step cpu next s t does start idle runs =
-      let last = step_outcome (looking sees) cpu s in
+  pub look_of_script-step : (cpu next : Cpu) (s t : Look L) → (next, t) ≡ step_outcome (look_meaning sees) cpu s → s.clock ≡ 0 → t.idle ≡ true → next.halted ≡ false
+      → look_of_script (sees s.from) 0 (script cpu) ≡ Some (next, t.clock)
+  look_of_script-step cpu next s t does start idle runs =
+      let last = step_outcome (look_meaning sees) cpu s in
       let registers : next ≡ last.0 = ap (λ (w : Cpu × Look L). w.0) does in
       let bus : t ≡ last.1 = ap (λ (w : Cpu × Look L). w.1) does in
       let idle2 : last.1.idle ≡ true = ap (λ (l : Look L). l.idle) (sym bus) ∙ idle in
       let runs2 : last.0.halted ≡ false = ap (λ (c : Cpu). c.halted) (sym registers) ∙ runs in
       let less : last.1.clock - 0 ≡ t.clock = let same : t.clock ≡ last.1.clock = ap (λ (l : Look L). l.clock) bus in omega arith in
-      looked-outcome (script cpu) s.clock 0 0 s (HaltsToSample-script cpu) start idle2 runs2
+      look_of_script-outcome (script cpu) s.clock 0 0 s (HaltsToSample-script cpu) start idle2 runs2
       ∙ (λ i. Some (sym registers i, less i))
 
 -- one more step of a trial
-pub looked_steps-more : (sees : ℕ → Option ℕ) (n : ℕ) (start cpu next : Cpu) (cycles more : ℕ) → looked_steps sees n start ≡ Some (cpu, cycles) → looked sees 0 (script cpu) ≡ Some (next, more)
-    → looked_steps sees (n + 1) start ≡ Some (next, cycles + more)
-unfolding looked_steps
-looked_steps-more sees n start cpu next cycles more first second =
+pub look_of_steps-more : (sees : ℕ → Option ℕ) (n : ℕ) (start cpu next : Cpu) (cycles more : ℕ) → look_of_steps sees n start ≡ Some (cpu, cycles) → look_of_script sees 0 (script cpu) ≡ Some (next, more)
+    → look_of_steps sees (n + 1) start ≡ Some (next, cycles + more)
+unfolding look_of_steps
+look_of_steps-more sees n start cpu next cycles more first second =
     let e : n + 1 ≡ suc n = omega arith in
-    ap (λ (k : ℕ). looked_steps sees k start) e ∙ rw first (rw second refl)
+    ap (λ (k : ℕ). look_of_steps sees k start) e ∙ rw first (rw second refl)
 
-pub looked_steps-none : (sees : ℕ → Option ℕ) (start : Cpu) → looked_steps sees 0 start ≡ Some (start, 0)
-unfolding looked_steps
-looked_steps-none sees start = refl
+pub look_of_steps-none : (sees : ℕ → Option ℕ) (start : Cpu) → look_of_steps sees 0 start ≡ Some (start, 0)
+unfolding look_of_steps
+look_of_steps-none sees start = refl

@@ -1,5 +1,5 @@
--- For spc700_exec: what a step does whose reads only look.
-use Rattle.std.specs.Prelude.{◌≡◌, ◌≤◌, ℕ, zero, suc, ◌+◌, ◌-◌, ◌/◌, Bool, false, true, ◌&&◌, Option, Some, None, unwrap_or, is_some}
+-- What steps do whose reads only look, over any bus.
+use Rattle.std.specs.Prelude.{◌≡◌, ◌≤◌, ℕ, zero, suc, ◌+◌, ◌*◌, ◌-◌, ◌/◌, Bool, false, true, ◌&&◌, Option, Some, None, unwrap_or, is_some}
 use Rattle.spc700_exec.specs.declared.cpu.Cpu.{Cpu}
 use Rattle.spc700_exec.specs.Bus.{BusMeaning}
 use Rattle.spc700_exec.specs.Script.{Script, Read, Write, End, Cycles, ToSample}
@@ -10,19 +10,19 @@ abbrev pub then_if : {A X : Type 0} → Option A → (A → Option X) → Option
 then_if None next = None
 then_if (Some a) next = next a
 
--- The registers behind a script and its cycles, where each read is of an address of which a byte is seen, nothing is
+-- The registers after a script and its cycles, where each read is of an address of which a byte is seen, nothing is
 -- written, and its cycles are a number. It made some accesses already.
-abbrev pub looked : (sees : ℕ → Option ℕ) → (made : ℕ) → Script → Option (Cpu × ℕ)
-looked sees made (Read at next) = then_if (sees at) (λ byte. looked sees (made + 1) (next byte))
-looked sees made (Write at value next) = None
-looked sees made (End cpu (Cycles n)) = Some (cpu, made + (n - made))
-looked sees made (End cpu ToSample) = None
+abbrev pub look_of_script : (sees : ℕ → Option ℕ) → (made : ℕ) → Script → Option (Cpu × ℕ)
+look_of_script sees made (Read at next) = then_if (sees at) (λ byte. look_of_script sees (made + 1) (next byte))
+look_of_script sees made (Write at value next) = None
+look_of_script sees made (End cpu (Cycles n)) = Some (cpu, made + (n - made))
+look_of_script sees made (End cpu ToSample) = None
 
 -- the same of n steps
-unfoldable pub looked_steps : (sees : ℕ → Option ℕ) → (n : ℕ) → Cpu → Option (Cpu × ℕ)
-looked_steps sees zero cpu = Some (cpu, 0)
-looked_steps sees (suc n) cpu =
-    then_if (looked_steps sees n cpu) (λ before. then_if (looked sees 0 (script before.0)) (λ next. Some (next.0, before.1 + next.1)))
+unfoldable pub look_of_steps : (sees : ℕ → Option ℕ) → (n : ℕ) → Cpu → Option (Cpu × ℕ)
+look_of_steps sees zero cpu = Some (cpu, 0)
+look_of_steps sees (suc n) cpu =
+    then_if (look_of_steps sees n cpu) (λ before. then_if (look_of_script sees 0 (script before.0)) (λ next. Some (next.0, before.1 + next.1)))
 
 -- the processor and the bus after n steps
 unfoldable pub after_n_steps : {S : Type 0} → BusMeaning S → (n : ℕ) → Cpu × S → Cpu × S
@@ -31,9 +31,17 @@ after_n_steps bus (suc n) w = let before = after_n_steps bus n w in step_outcome
 
 -- A bus for some cycles in which it is only looked at: `waited n` is the bus after n cycles, `bare` what counts of a bus.
 pub record IsWaiting {S : Type 0} (bus : BusMeaning S) (bare : S → S) (sees : ℕ → Option ℕ) (most : ℕ) (waited : ℕ → S) : Type 0 where
-  pub pass : (s : S) (n cycles : ℕ) → bare s ≡ bare (waited n) → 1 ≤ cycles → cycles ≤ 32 → n + cycles ≤ most → bare (bus.pass s cycles) ≡ bare (waited (n + cycles))
+  pub pass : (s : S) (n cycles : ℕ) → bare s ≡ bare (waited n) → 1 ≤ cycles → cycles ≤ 32 → n + cycles ≤ most →
+      bare (bus.pass s cycles) ≡ bare (waited (n + cycles))
   pub byte : (s : S) (n at byte : ℕ) → bare s ≡ bare (waited n) → n ≤ most → sees at ≡ Some byte → (bus.read s at).0 ≡ byte
   pub read : (s : S) (n at byte : ℕ) → bare s ≡ bare (waited n) → n ≤ most → sees at ≡ Some byte → bare (bus.read s at).1 ≡ bare (waited n)
+
+-- Of some registers, n steps only look, bring the registers back and take d cycles. Then k such rounds leave the registers, and of
+-- the bus what k * d cycles of waiting leave, if it may be waited on so long.
+abbrev pub RoundsOnlyWait : {S : Type 0} → BusMeaning S → Type 0
+RoundsOnlyWait {S} bus = (bare : S → S) (sees : ℕ → Option ℕ) (most : ℕ) (waited : ℕ → S) (k n d : ℕ) (cpu : Cpu) (s : S) →
+    IsWaiting bus bare sees most waited → bare s ≡ bare (waited 0) → look_of_steps sees n cpu ≡ Some (cpu, d) → k * d ≤ most →
+    ((after_n_steps bus (k * n) (cpu, s)).0 ≡ cpu) × (bare (after_n_steps bus (k * n) (cpu, s)).1 ≡ bare (waited (k * d)))
 
 -- A bus that only looks at something: so far each read was of an address of which a byte is seen, and nothing was written.
 pub record Look (L : Type 0) : Type 0 where
@@ -42,8 +50,8 @@ pub record Look (L : Type 0) : Type 0 where
   pub clock : ℕ
   pub calls : ℕ
 
-abbrev pub looking : {L : Type 0} → (sees : L → ℕ → Option ℕ) → BusMeaning (Look L)
-looking sees = record {
+abbrev pub look_meaning : {L : Type 0} → (sees : L → ℕ → Option ℕ) → BusMeaning (Look L)
+look_meaning sees = record {
   read = λ s at. (unwrap_or (sees s.from at) 0, record s { idle = s.idle && is_some (sees s.from at); calls = s.calls + 1 });
   write = λ s at value. record s { idle = false; calls = s.calls + 1 };
   pass = λ s cycles. record s { clock = s.clock + cycles; calls = s.calls + 1 };

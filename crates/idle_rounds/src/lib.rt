@@ -1,10 +1,10 @@
-//! Rounds of a loop that only wait.
+//! Rounds of a loop that only wait: steps of the processor that only look, over any bus.
 #![tactic(auto)]
 
 mod laws;
+#[cfg(test)]
+mod tests;
 mod trial;
-mod zeros;
 
-pub use laws::{rounds_only_wait, ticks_compose};
+pub use laws::rounds_only_wait;
 pub use trial::{Looks, try_round};
-pub use zeros::{cycles_of_zeros, tick_through};

@@ -2,7 +2,7 @@
 ghost use Rattle.std.specs.Prelude.{◌≡◌, ◌≤◌, ◌*◌, ℕ, Option, Some, IfSome};
 ghost use Rattle.std.proofs.Common.{refl};
 ghost use Rattle.spc700_exec.specs.Instruction.{script};
-ghost use Rattle.idle_rounds.specs.Looking.{looked, looked_steps, looking};
+ghost use Rattle.idle_rounds.specs.Looking.{look_of_script, look_of_steps, look_meaning};
 
 use spc700_exec::{Bus, Cpu, step};
 use std::marker::Model;
@@ -17,7 +17,7 @@ pub trait Looks {
         ensures { result ≡ sees self.now addr };
 }
 
-/// A bus that only looks.
+/// A bus that only looks: `idle` says whether each access so far was a read of an address at which a byte is seen.
 #[derive(Drop)]
 struct Trial<'a, L: Looks> {
     looks: &'a L,
@@ -41,17 +41,13 @@ impl<'a, L: Looks> Model for Trial<'a, L> {
 }
 
 impl<'a, L: Looks> Bus for Trial<'a, L> {
-    ghost means = { looking L.sees };
+    ghost means = { look_meaning L.sees };
 
     fn read(&mut self, addr: u16) -> u8 {
         self.calls += 1;
-        match self.looks.see(addr) {
-            Some(byte) => byte,
-            None => {
-                self.idle = false;
-                0
-            }
-        }
+        let seen = self.looks.see(addr);
+        self.idle = self.idle && seen.is_some();
+        seen.unwrap_or(0)
     }
 
     fn write(&mut self, _addr: u16, _value: u8) {
@@ -81,7 +77,7 @@ impl<'a, L: Looks> Bus for Trial<'a, L> {
 
 /// Tries a step, and gives its cycles if it only looks.
 fn try_step<L: Looks>(looks: &L, cpu: &mut Cpu) -> Option<u8>
-    ensures step { IfSome result (λ cycles. looked (L.sees looks.now) 0 (script cpu.old) ≡ Some (cpu.new, cycles)) }
+    ensures step { IfSome result (λ cycles. look_of_script (L.sees looks.now) 0 (script cpu.old) ≡ Some (cpu.new, cycles)) }
     ensures few { IfSome result (λ cycles. (1 ≤ cycles) × (cycles ≤ 32)) }
 {
     let mut trial = Trial {
@@ -99,9 +95,9 @@ fn try_step<L: Looks>(looks: &L, cpu: &mut Cpu) -> Option<u8>
 }
 
 /// Tries the steps from some registers on, and gives the cycles of a round of them that only looks and brings the registers
-/// back. Rounds have at most eight steps.
+/// back: 1 to 256. Rounds have at most eight steps; None where there is no such round.
 pub fn try_round<L: Looks>(looks: &L, cpu: &Cpu) -> Option<u16>
-    ensures round { IfSome result (λ cycles. (steps : ℕ) × (looked_steps (L.sees looks.now) steps cpu.now ≡ Some (cpu.now, cycles))) }
+    ensures round { IfSome result (λ cycles. (steps : ℕ) × (look_of_steps (L.sees looks.now) steps cpu.now ≡ Some (cpu.now, cycles))) }
     ensures few { IfSome result (λ cycles. (1 ≤ cycles) × (cycles ≤ 256)) }
 {
     let mut now = *cpu;

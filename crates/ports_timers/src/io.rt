@@ -1,9 +1,9 @@
 // The ports, the ROM and the timers together.
 ghost use Rattle.std.specs.Prelude.{◌≡◌, ◌<◌, ◌^◌, is_some};
-ghost use Rattle.num_fix.specs.Arithmetic.{has_bit};
 ghost use Rattle.ports_timers.specs.Io.{is_enabled, first_timer, first_io, answers_read, read_answer, after_read, latches_after_control, timer_after_control, after_control_write, after_write, after_ticks_of};
 
 use crate::Timer;
+use num_fix::has_bit;
 
 /// The state of the ports, the ROM and the timers: the control byte F1h, the DSP address, the latches that the processor
 /// reads and those that it writes, the timers 0 to 2, and the 64 bytes that show at FFC0h to FFFFh while control has bit 7.
@@ -17,14 +17,6 @@ pub struct Io {
     pub timer1: Timer,
     pub timer2: Timer,
     pub rom: [u8; 64],
-}
-
-/// Whether a bit of a byte is set.
-fn has_bit(byte: u8, bit: u8) -> bool
-    requires { bit < 8 }
-    ensures { result ≡ has_bit byte bit }
-{
-    byte >> bit & 1 == 1
 }
 
 /// A timer as opening leaves it.

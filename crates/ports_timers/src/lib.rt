@@ -2,9 +2,13 @@
 #![tactic(auto)]
 
 mod io;
+mod laws;
 #[cfg(test)]
 mod tests;
 mod timer;
+mod zeros;
 
 pub use io::Io;
+pub use laws::ticks_compose;
 pub use timer::Timer;
+pub use zeros::{cycles_of_zeros, tick_through};

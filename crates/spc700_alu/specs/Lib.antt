@@ -8,3 +8,5 @@ pub mod Words
 pub mod Decimal
 -- the operations on one bit
 pub mod Bits
+-- whether sums and differences stay within their ranges, and numbers of two decimal digits
+pub mod Ranges

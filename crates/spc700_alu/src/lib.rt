@@ -13,7 +13,10 @@ pub mod words;
 pub use bits::{BitKind, bitop};
 pub use bytes::{LogicKind, ShiftKind, adc, bump, cmp, logic, sbc, shift};
 pub use decimal::{daa, das};
-pub use laws::{flags_change_alone, other_flags_stay};
+pub use laws::{
+    carry_is_out_of_range, decimal_sums_are_decimal, division_is_exact, flags_change_alone,
+    other_flags_stay, overflow_is_out_of_range,
+};
 pub use words::{addw, cmpw, div, mul, subw};
 
 /// A byte and the status after it was made.

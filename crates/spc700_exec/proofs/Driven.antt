@@ -11,27 +11,27 @@ same_by_action read read' write write' end (ReadAt at) r w = r at
 same_by_action read read' write write' end (WriteAt at value) r w = w at value
 same_by_action read read' write write' end (Ends cpu time) r w = refl
 
--- behind a read, the questions are those of what follows the byte
-behind_read : {S : Type 0} (n : ℕ) (bus : BusMeaning S) (start made : ℕ) (at : ℕ) (follow : ℕ → Script) (byte : ℕ) (got : List ℕ) (puts : ℕ) (s : S) → driven_outcome n bus start made (action (Read at follow)) (byte ∷ got) puts s ≡ driven_outcome n bus start made (action (follow byte)) got puts s
-behind_read zero bus start made at follow byte got puts s = refl
-behind_read (suc n) bus start made at follow byte got puts s =
+-- after a read, the questions are those of what follows the byte
+questions_after_read : {S : Type 0} (n : ℕ) (bus : BusMeaning S) (start made : ℕ) (at : ℕ) (follow : ℕ → Script) (byte : ℕ) (got : List ℕ) (puts : ℕ) (s : S) → driven_outcome n bus start made (action (Read at follow)) (byte ∷ got) puts s ≡ driven_outcome n bus start made (action (follow byte)) got puts s
+questions_after_read zero bus start made at follow byte got puts s = refl
+questions_after_read (suc n) bus start made at follow byte got puts s =
     same_by_action _ _ _ _ _ (action (follow byte) got puts)
-    (λ a. behind_read n bus start (made + 1) at follow byte (got ++ byte_read bus a s ∷ []) puts (after_read bus a s))
-    (λ a v. behind_read n bus start (made + 1) at follow byte got (suc puts) (after_write bus a v s))
+    (λ a. questions_after_read n bus start (made + 1) at follow byte (got ++ byte_read bus a s ∷ []) puts (after_read bus a s))
+    (λ a v. questions_after_read n bus start (made + 1) at follow byte got (suc puts) (after_write bus a v s))
 
--- and behind a write those of what follows it
-behind_write : {S : Type 0} (n : ℕ) (bus : BusMeaning S) (start made : ℕ) (at value : ℕ) (follow : Script) (got : List ℕ) (puts : ℕ) (s : S) → driven_outcome n bus start made (action (Write at value follow)) got (suc puts) s ≡ driven_outcome n bus start made (action follow) got puts s
-behind_write zero bus start made at value follow got puts s = refl
-behind_write (suc n) bus start made at value follow got puts s =
+-- and after a write those of what follows it
+questions_after_write : {S : Type 0} (n : ℕ) (bus : BusMeaning S) (start made : ℕ) (at value : ℕ) (follow : Script) (got : List ℕ) (puts : ℕ) (s : S) → driven_outcome n bus start made (action (Write at value follow)) got (suc puts) s ≡ driven_outcome n bus start made (action follow) got puts s
+questions_after_write zero bus start made at value follow got puts s = refl
+questions_after_write (suc n) bus start made at value follow got puts s =
     same_by_action _ _ _ _ _ (action follow got puts)
-    (λ a. behind_write n bus start (made + 1) at value follow (got ++ byte_read bus a s ∷ []) puts (after_read bus a s))
-    (λ a v. behind_write n bus start (made + 1) at value follow got (suc puts) (after_write bus a v s))
+    (λ a. questions_after_write n bus start (made + 1) at value follow (got ++ byte_read bus a s ∷ []) puts (after_read bus a s))
+    (λ a v. questions_after_write n bus start (made + 1) at value follow got (suc puts) (after_write bus a v s))
 
 pub driven_outcome_of_action : {S : Type 0} (bus : BusMeaning S) (start made : ℕ) (t : Script) (s : S) → (n : ℕ) × (driven_outcome n bus start made (action t) [] 0 s ≡ Some (outcome bus start made t s))
 driven_outcome_of_action bus start made (End cpu time) s = (1, refl)
 driven_outcome_of_action bus start made (Read at follow) s =
     let rest = driven_outcome_of_action bus start (made + 1) (follow (byte_read bus at s)) (after_read bus at s) in
-    (suc rest.0, behind_read rest.0 bus start (made + 1) at follow (byte_read bus at s) [] 0 (after_read bus at s) ∙ rest.1)
+    (suc rest.0, questions_after_read rest.0 bus start (made + 1) at follow (byte_read bus at s) [] 0 (after_read bus at s) ∙ rest.1)
 driven_outcome_of_action bus start made (Write at value follow) s =
     let rest = driven_outcome_of_action bus start (made + 1) follow (after_write bus at value s) in
-    (suc rest.0, behind_write rest.0 bus start (made + 1) at value follow [] 0 (after_write bus at value s) ∙ rest.1)
+    (suc rest.0, questions_after_write rest.0 bus start (made + 1) at value follow [] 0 (after_write bus at value s) ∙ rest.1)

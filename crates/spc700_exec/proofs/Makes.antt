@@ -10,7 +10,7 @@ use Rattle.spc700_exec.specs.declared.operand.Operand.{Operand}
 use Rattle.spc700_exec.specs.declared.operand.Operand.TheVariants as P
 use Rattle.spc700_exec.specs.Script.{Script}
 use Rattle.spc700_exec.specs.Operands.{addressed, loaded, stored}
-use Rattle.spc700_exec.specs.Operations.{Operation, OnStatus, OnA, OnYa, Branch, BitBranch, CompareBranch, CountBranch, Move, Combine, Compare, Modify, BitToCarry, BitInPlace, BitTest, WordOnYa, WordStore, WordModify, Push, Pop, Jump, Call, TableCall, Break, Return, InterruptReturn, Halt}
+use Rattle.spc700_exec.specs.Operations.{Operation, OnStatus, OnA, OnYa, Branch, BitBranch, CompareBranch, CountBranch, Move, Calculate, Compare, Modify, BitToCarry, BitInPlace, BitTest, WordOnYa, WordStore, WordModify, Push, Pop, Jump, Call, TableCall, Break, Return, InterruptReturn, Halt}
 use Rattle.spc700_exec.specs.Lines.{branched}
 use Rattle.spc700_exec.specs.Instruction.{line_of}
 use Rattle.spc700_exec.specs.Accesses.{Access, R, W, Makes, form_accesses, in_memory, byte_access, accesses_of}
@@ -106,13 +106,13 @@ module _ (row : OpRow) where
   Makes-line_of CompareBranch cpu = after_addressed row.first _ cpu _ (λ o cpu s. λ r. last_loaded row.first o _ _ s (λ v. after_branched _ r _))
   Makes-line_of CountBranch cpu = after_addressed row.first _ cpu _ (λ o cpu s. λ r. after_loaded row.first o _ _ _ s (λ v. last_stored row.first o _ _ _ s (λ cpu. after_branched _ r cpu)))
   Makes-line_of Move cpu = after_addressed row.second _ cpu _ (λ source cpu s. after_addressed row.first _ cpu _ (λ target cpu t. after_loaded row.second source _ cpu _ s (λ v. last_stored row.first target v cpu _ t (λ cpu. inl refl))))
-  Makes-line_of (Combine combine) cpu = after_addressed row.second _ cpu _ (λ source cpu s. after_addressed row.first _ cpu _ (λ target cpu t. after_loaded row.second source _ cpu _ s (λ b. after_loaded row.first target _ cpu _ t (λ a. last_stored row.first target _ _ _ t (λ cpu. inl refl)))))
+  Makes-line_of (Calculate calculate) cpu = after_addressed row.second _ cpu _ (λ source cpu s. after_addressed row.first _ cpu _ (λ target cpu t. after_loaded row.second source _ cpu _ s (λ b. after_loaded row.first target _ cpu _ t (λ a. last_stored row.first target _ _ _ t (λ cpu. inl refl)))))
   Makes-line_of Compare cpu = after_addressed row.second _ cpu _ (λ source cpu s. after_addressed row.first _ cpu _ (λ target cpu t. after_loaded row.second source _ cpu _ s (λ b. last_loaded row.first target cpu _ t (λ a. inl refl))))
   Makes-line_of (Modify change) cpu = after_addressed row.first _ cpu _ (λ o cpu s. after_loaded row.first o _ cpu _ s (λ v. last_stored row.first o _ _ _ s (λ cpu. inl refl)))
   Makes-line_of (BitToCarry kind) cpu = after_addressed row.second _ cpu _ (λ o cpu s. last_loaded row.second o cpu _ s (λ v. inl refl))
   Makes-line_of (BitInPlace kind) cpu = after_addressed row.first _ cpu _ (λ o cpu s. after_loaded row.first o _ cpu _ s (λ v. last_stored row.first o _ cpu _ s (λ cpu. inl refl)))
   Makes-line_of (BitTest change) cpu = after_addressed row.first _ cpu _ (λ o cpu s. after_loaded row.first o _ cpu _ s (λ v. last_stored row.first o _ _ _ s (λ cpu. inl refl)))
-  Makes-line_of (WordOnYa combine) cpu = after_addressed row.second _ cpu _ (λ o cpu s. λ low high. inl refl)
+  Makes-line_of (WordOnYa calculate) cpu = after_addressed row.second _ cpu _ (λ o cpu s. λ low high. inl refl)
   Makes-line_of WordStore cpu = after_addressed row.first _ cpu _ (λ o cpu s. inl refl)
   Makes-line_of (WordModify change) cpu = after_addressed row.first _ cpu _ (λ o cpu s. λ low high. inl refl)
   Makes-line_of Push cpu = after_addressed row.first _ cpu _ (λ o cpu s. after_loaded row.first o _ cpu _ s (λ v. inl refl))

@@ -44,7 +44,7 @@ IsShort-from_Makes row n (W ∷ accesses) (Read at next) b h m = absurd m
 IsShort-from_Makes row zero (W ∷ accesses) (Write at value next) b h m = absurd (omega arith)
 IsShort-from_Makes row (suc n) (W ∷ accesses) (Write at value next) b h m = IsShort-from_Makes row n accesses next b (omega arith) m
 
--- behind the 256 opcodes the list has NOP without cycles
+-- after the 256 opcodes the list has NOP without cycles
 abbrev beyond : OpRow
 beyond = record { kind = K.Nop; first = F.None; second = F.None; cycles = 0; taken = 0 }
 

@@ -10,8 +10,9 @@ use Rattle.spc700_table.specs.Opcodes.{row_of, columns}
 use Rattle.spc700_table.proofs.Below.{list_all_below}
 use Rattle.spc700_exec.specs.Accesses.{row_accesses}
 use Rattle.spc700_exec.specs.Forms.{row_suits}
-use Rattle.spc700_exec.specs.Pieces.{FormFits, IsRow, halts}
-use Rattle.spc700_exec.proofs.Lists.{and_left, and_right, or_right, le_from_test}
+use Rattle.spc700_exec.specs.Pieces.{FormFits, IsRow, IsTime, halts}
+use Rattle.spc700_alu.proofs.Apart.{and_left, and_right}
+use Rattle.spc700_exec.proofs.Lists.{or_right, le_from_test}
 
 abbrev form_fits : Form → Bool
 form_fits (F.Table n) = nat_lt n 16
@@ -133,3 +134,7 @@ sleep_halts op below h = first_holds _ _ _ (halts-row_of op below) (is_equal op 
 
 pub stop_halts : (op : ℕ) → op < 256 → (op ≡ 0xef → ⊥) → nat_eq op 0xff ≡ halts (row_of op).kind
 stop_halts op below h = first_fails _ _ _ (halts-row_of op below) (is_different op 0xef h)
+
+-- the time of a row's instruction is 1 to 12 cycles
+pub IsTime-bounds : (row : OpRow) (cycles : ℕ) → IsRow row → IsTime row cycles → (1 ≤ cycles) × (cycles ≤ 12)
+IsTime-bounds row cycles fits time = (omega (arith, fits.some, time.least), omega (arith, fits.few, time.most))

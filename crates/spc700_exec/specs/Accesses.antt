@@ -6,7 +6,7 @@ use Rattle.spc700_table.specs.declared.Form.TheVariants.{None, A, X, Y, Ya, Psw,
 use Rattle.spc700_table.specs.declared.OpRow.{OpRow}
 use Rattle.spc700_table.specs.Opcodes.{operand_bytes}
 use Rattle.spc700_exec.specs.Script.{Script, Read, Write, End, Time, Cycles, ToSample}
-use Rattle.spc700_exec.specs.Operations.{Operation, operation_of, OnStatus, OnA, OnYa, Branch, BitBranch, CompareBranch, CountBranch, Move, Combine, Compare, Modify, BitToCarry, BitInPlace, BitTest, WordOnYa, WordStore, WordModify, Push, Pop, Jump, Call, TableCall, Break, Return, InterruptReturn, Halt}
+use Rattle.spc700_exec.specs.Operations.{Operation, operation_of, OnStatus, OnA, OnYa, Branch, BitBranch, CompareBranch, CountBranch, Move, Calculate, Compare, Modify, BitToCarry, BitInPlace, BitTest, WordOnYa, WordStore, WordModify, Push, Pop, Jump, Call, TableCall, Break, Return, InterruptReturn, Halt}
 
 -- a read or a write
 pub data Access : Type 0 where
@@ -74,7 +74,7 @@ in_memory Rel = false
 abbrev pub byte_access : Access → Form → List Access
 byte_access access form = if in_memory form then access ∷ [] else []
 
--- the accesses of an operation behind the opcode, by its two forms
+-- the accesses of an operation after the opcode, by its two forms
 abbrev pub accesses_of : Operation → (first second : Form) → List Access
 accesses_of (OnStatus change) a b = []
 accesses_of (OnA change) a b = []
@@ -84,14 +84,14 @@ accesses_of (BitBranch on) a b = form_accesses a ++ R ∷ byte_access R a
 accesses_of CompareBranch a b = form_accesses a ++ R ∷ byte_access R a
 accesses_of CountBranch a b = form_accesses a ++ R ∷ (byte_access R a ++ byte_access W a)
 accesses_of Move a b = form_accesses b ++ (form_accesses a ++ (byte_access R b ++ byte_access W a))
-accesses_of (Combine combine) a b =
+accesses_of (Calculate calculate) a b =
     form_accesses b ++ (form_accesses a ++ (byte_access R b ++ (byte_access R a ++ byte_access W a)))
 accesses_of Compare a b = form_accesses b ++ (form_accesses a ++ (byte_access R b ++ byte_access R a))
 accesses_of (Modify change) a b = form_accesses a ++ (byte_access R a ++ byte_access W a)
 accesses_of (BitToCarry kind) a b = form_accesses b ++ byte_access R b
 accesses_of (BitInPlace kind) a b = form_accesses a ++ (byte_access R a ++ byte_access W a)
 accesses_of (BitTest change) a b = form_accesses a ++ (byte_access R a ++ byte_access W a)
-accesses_of (WordOnYa combine) a b = form_accesses b ++ R ∷ R ∷ []
+accesses_of (WordOnYa calculate) a b = form_accesses b ++ R ∷ R ∷ []
 accesses_of WordStore a b = form_accesses a ++ W ∷ W ∷ []
 accesses_of (WordModify change) a b = form_accesses a ++ R ∷ R ∷ W ∷ W ∷ []
 accesses_of Push a b = form_accesses a ++ (byte_access R a ++ W ∷ [])
@@ -104,6 +104,6 @@ accesses_of Return a b = R ∷ R ∷ []
 accesses_of InterruptReturn a b = R ∷ R ∷ R ∷ []
 accesses_of Halt a b = []
 
--- the accesses of a row's instruction behind its opcode
+-- the accesses of a row's instruction after its opcode
 abbrev pub row_accesses : OpRow → List Access
 row_accesses row = accesses_of (operation_of row.kind row.first row.second) row.first row.second

@@ -1,4 +1,4 @@
--- What a bus emits stands behind what it emitted before, and nothing depends on that: neither an answer nor what is emitted.
+-- What a bus emits comes after what it emitted before, and nothing depends on that: neither an answer nor what is emitted.
 use Rattle.std.specs.Prelude.{◌≡◌, ℕ, List, [], ◌++◌}
 use Rattle.spc700_exec.specs.Bus.{BusMeaning}
 

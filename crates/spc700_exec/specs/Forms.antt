@@ -3,7 +3,7 @@ use Rattle.std.specs.Prelude.{Bool, true, false, ◌&&◌, ◌||◌, not}
 use Rattle.spc700_table.specs.declared.Form.{Form}
 use Rattle.spc700_table.specs.declared.Form.TheVariants as F
 use Rattle.spc700_table.specs.declared.OpRow.{OpRow}
-use Rattle.spc700_exec.specs.Operations.{Operation, operation_of, OnStatus, OnA, OnYa, Branch, BitBranch, CompareBranch, CountBranch, Move, Combine, Compare, Modify, BitToCarry, BitInPlace, BitTest, WordOnYa, WordStore, WordModify, Push, Pop, Jump, Call, TableCall, Break, Return, InterruptReturn, Halt}
+use Rattle.spc700_exec.specs.Operations.{Operation, operation_of, OnStatus, OnA, OnYa, Branch, BitBranch, CompareBranch, CountBranch, Move, Calculate, Compare, Modify, BitToCarry, BitInPlace, BitTest, WordOnYa, WordStore, WordModify, Push, Pop, Jump, Call, TableCall, Break, Return, InterruptReturn, Halt}
 use Rattle.spc700_exec.specs.Accesses.{in_memory}
 
 abbrev pub is_register : Form → Bool
@@ -53,13 +53,13 @@ suits (BitBranch on) a b = is_bit a && is_distance b
 suits CompareBranch a b = is_address a && is_distance b
 suits CountBranch a b = is_target a && is_distance b
 suits Move a b = is_target a && is_source b
-suits (Combine combine) a b = is_target a && is_source b
+suits (Calculate calculate) a b = is_target a && is_source b
 suits Compare a b = is_target a && is_source b
 suits (Modify change) a b = is_target a
 suits (BitToCarry kind) a b = is_bit b
 suits (BitInPlace kind) a b = is_bit a
 suits (BitTest change) a b = is_address a
-suits (WordOnYa combine) a b = is_address b
+suits (WordOnYa calculate) a b = is_address b
 suits WordStore a b = is_address a
 suits (WordModify change) a b = is_address a
 suits Push a b = is_register a

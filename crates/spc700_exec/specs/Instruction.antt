@@ -6,8 +6,8 @@ use Rattle.spc700_exec.specs.declared.cpu.Cpu.{Cpu}
 use Rattle.spc700_exec.specs.Bus.{BusMeaning}
 use Rattle.spc700_exec.specs.Script.{Script, End, ToSample, outcome}
 use Rattle.spc700_exec.specs.Operands.{fetched}
-use Rattle.spc700_exec.specs.Operations.{Operation, operation_of, OnStatus, OnA, OnYa, Branch, BitBranch, CompareBranch, CountBranch, Move, Combine, Compare, Modify, BitToCarry, BitInPlace, BitTest, WordOnYa, WordStore, WordModify, Push, Pop, Jump, Call, TableCall, Break, Return, InterruptReturn, Halt}
-use Rattle.spc700_exec.specs.Lines.{status_line, a_line, ya_line, branch_line, bit_branch_line, compare_branch_line, count_branch_line, move_line, combine_line, compare_line, modify_line, bit_to_carry_line, bit_in_place_line, bit_test_line, word_on_ya_line, word_store_line, word_modify_line, push_line, pop_line, jump_line, call_line, table_call_line, break_line, return_line, interrupt_return_line, halt_line}
+use Rattle.spc700_exec.specs.Operations.{Operation, operation_of, OnStatus, OnA, OnYa, Branch, BitBranch, CompareBranch, CountBranch, Move, Calculate, Compare, Modify, BitToCarry, BitInPlace, BitTest, WordOnYa, WordStore, WordModify, Push, Pop, Jump, Call, TableCall, Break, Return, InterruptReturn, Halt}
+use Rattle.spc700_exec.specs.Lines.{status_line, a_line, ya_line, branch_line, bit_branch_line, compare_branch_line, count_branch_line, move_line, calculate_line, compare_line, modify_line, bit_to_carry_line, bit_in_place_line, bit_test_line, word_on_ya_line, word_store_line, word_modify_line, push_line, pop_line, jump_line, call_line, table_call_line, break_line, return_line, interrupt_return_line, halt_line}
 
 -- the line of an operation
 abbrev pub line_of : Operation → OpRow → Cpu → Script
@@ -19,13 +19,13 @@ line_of (BitBranch on) row cpu = bit_branch_line on row cpu
 line_of CompareBranch row cpu = compare_branch_line row cpu
 line_of CountBranch row cpu = count_branch_line row cpu
 line_of Move row cpu = move_line row cpu
-line_of (Combine combine) row cpu = combine_line combine row cpu
+line_of (Calculate calculate) row cpu = calculate_line calculate row cpu
 line_of Compare row cpu = compare_line row cpu
 line_of (Modify change) row cpu = modify_line change row cpu
 line_of (BitToCarry kind) row cpu = bit_to_carry_line kind row cpu
 line_of (BitInPlace kind) row cpu = bit_in_place_line kind row cpu
 line_of (BitTest change) row cpu = bit_test_line change row cpu
-line_of (WordOnYa combine) row cpu = word_on_ya_line combine row cpu
+line_of (WordOnYa calculate) row cpu = word_on_ya_line calculate row cpu
 line_of WordStore row cpu = word_store_line row cpu
 line_of (WordModify change) row cpu = word_modify_line change row cpu
 line_of Push row cpu = push_line row cpu

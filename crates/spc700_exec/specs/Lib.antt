@@ -25,5 +25,5 @@ pub mod Length
 -- For the layers above: buses that emit items, of which nothing else depends
 pub mod Emitting
 -- Words of the contracts of the parts of a step; the promise on a step doesn't speak of them:
-pub mod Combinations
+pub mod Calculations
 pub mod Pieces

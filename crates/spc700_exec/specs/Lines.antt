@@ -87,10 +87,10 @@ move_line row cpu =
     done row (with_nz_of_move target value cpu)))))
 
 -- OR, AND, EOR, ADC, SBC
-abbrev pub combine_line : (ℕ → ℕ → ℕ → Out8) → OpRow → Cpu → Script
-combine_line combine row cpu =
+abbrev pub calculate_line : (ℕ → ℕ → ℕ → Out8) → OpRow → Cpu → Script
+calculate_line calculate row cpu =
     addressed row.second cpu (λ source cpu. addressed row.first cpu (λ target cpu.
-    loaded source cpu (λ b. loaded target cpu (λ a. let out = combine a b cpu.psw in
+    loaded source cpu (λ b. loaded target cpu (λ a. let out = calculate a b cpu.psw in
     stored target out.value (record cpu { psw = out.psw }) (λ cpu.
     done row cpu)))))
 
@@ -134,10 +134,10 @@ bit_test_line change row cpu =
 
 -- MOVW to YA, ADDW, SUBW, CMPW
 abbrev pub word_on_ya_line : (ℕ → ℕ → ℕ → Out16) → OpRow → Cpu → Script
-word_on_ya_line combine row cpu =
+word_on_ya_line calculate row cpu =
     addressed row.second cpu (λ operand cpu.
     loaded_word operand (λ w.
-    done row (with_ya (combine (ya cpu) w cpu.psw) cpu)))
+    done row (with_ya (calculate (ya cpu) w cpu.psw) cpu)))
 
 -- MOVW from YA
 abbrev pub word_store_line : OpRow → Cpu → Script

@@ -115,14 +115,21 @@ abbrev pub stored_word : Operand → (value : ℕ) → Script → Script
 stored_word operand value next =
     Write (address_of operand) (value % 0x100) (Write (next_in_page (address_of operand)) (value / 0x100) next)
 
+-- the stack pointer after a byte was pushed, and after one was popped
+abbrev pub sp_after_push : ℕ → ℕ
+sp_after_push sp = (sp + 0x100 - 1) % 0x100
+
+abbrev pub sp_after_pop : ℕ → ℕ
+sp_after_pop sp = (sp + 1) % 0x100
+
 -- a byte pushed on the stack, which is page 1
 abbrev pub pushed : (value : ℕ) → Cpu → (Cpu → Script) → Script
-pushed value cpu next = Write (0x100 + cpu.sp) value (next (record cpu { sp = (cpu.sp + 0x100 - 1) % 0x100 }))
+pushed value cpu next = Write (0x100 + cpu.sp) value (next (record cpu { sp = sp_after_push cpu.sp }))
 
 -- a byte popped
 abbrev pub popped : Cpu → (ℕ → Cpu → Script) → Script
 popped cpu next =
-    let sp = (cpu.sp + 1) % 0x100 in
+    let sp = sp_after_pop cpu.sp in
     Read (0x100 + sp) (λ value. next value (record cpu { sp = sp }))
 
 -- a word pushed, high then low

@@ -35,7 +35,7 @@ pub data Operation : Type 0 where
   -- a byte moved
   Move : Operation
   -- a byte combined with another and put in its place, with the status
-  Combine : (ℕ → ℕ → ℕ → Out8) → Operation
+  Calculate : (ℕ → ℕ → ℕ → Out8) → Operation
   -- the status of a comparison
   Compare : Operation
   -- a byte read, changed and written, with the status
@@ -128,11 +128,11 @@ operation_of K.Bbc first second = BitBranch false
 operation_of K.Cbne first second = CompareBranch
 operation_of K.Dbnz first second = CountBranch
 operation_of K.Mov first second = Move
-operation_of K.Or first second = Combine (logic_of Logic.Or)
-operation_of K.And first second = Combine (logic_of Logic.And)
-operation_of K.Eor first second = Combine (logic_of Logic.Eor)
-operation_of K.Adc first second = Combine adc_of
-operation_of K.Sbc first second = Combine sbc_of
+operation_of K.Or first second = Calculate (logic_of Logic.Or)
+operation_of K.And first second = Calculate (logic_of Logic.And)
+operation_of K.Eor first second = Calculate (logic_of Logic.Eor)
+operation_of K.Adc first second = Calculate adc_of
+operation_of K.Sbc first second = Calculate sbc_of
 operation_of K.Cmp first second = Compare
 operation_of K.Asl first second = Modify (shift_of Shift.Asl)
 operation_of K.Rol first second = Modify (shift_of Shift.Rol)

@@ -9,6 +9,8 @@ use Rattle.spc700_exec.specs.declared.cpu.Cpu.{Cpu}
 use Rattle.spc700_exec.specs.declared.operand.Operand.{Operand}
 use Rattle.spc700_exec.specs.declared.operand.Operand.TheVariants.{BitAt}
 use Rattle.spc700_exec.specs.Bus.{BusMeaning, byte_read, after_read, after_write}
+use Rattle.spc700_exec.specs.Operands.{sp_after_push}
+use Rattle.spc700_exec.specs.Instruction.{instruction}
 use Rattle.spc700_exec.specs.Script.{Script, Read, Write, End, cycles_at, after_rest}
 
 -- the outcome of a script, where the accesses made so far are told by the clock: for a lawful bus the same as `outcome`
@@ -36,6 +38,12 @@ abbrev pub Does : {S : Type 0} → BusMeaning S → Script → S → Cpu → (cy
 Does bus script old cpu cycles new =
     (start : ℕ) → outcome_by_clock bus start script old ≡ (cpu, after_rest bus cycles (bus.clock new - start) new)
 
+-- the same of a script that begins here
+abbrev pub DoesFromHere : {S : Type 0} → BusMeaning S → Script → S → Cpu → (cycles : ℕ) → S → Type 0
+DoesFromHere bus script old cpu cycles new =
+    let start = bus.clock old in
+    outcome_by_clock bus start script old ≡ (cpu, after_rest bus cycles (bus.clock new - start) new)
+
 -- the word that two reads give, low then high, and the bus after them
 abbrev pub word_read : {S : Type 0} → BusMeaning S → (low high : ℕ) → S → ℕ
 word_read bus low high s = byte_read bus low s + 0x100 * byte_read bus high (after_read bus low s)
@@ -46,6 +54,11 @@ after_word bus low high s = after_read bus high (after_read bus low s)
 -- the bus after a word was written, low then high
 abbrev pub after_word_write : {S : Type 0} → BusMeaning S → (low high value : ℕ) → S → S
 after_word_write bus low high value s = after_write bus high (value / 0x100) (after_write bus low (value % 0x100) s)
+
+-- the bus after a word was pushed at a stack pointer, high then low
+abbrev pub after_word_push : {S : Type 0} → BusMeaning S → (sp value : ℕ) → S → S
+after_word_push bus sp value s =
+    after_write bus (0x100 + sp_after_push sp) (value % 0x100) (after_write bus (0x100 + sp) (value / 0x100) s)
 
 -- n more accesses and a pass may be made
 pub record HasRoom {S : Type 0} (n : ℕ) (bus : BusMeaning S) (s : S) : Type 0 where
@@ -87,3 +100,10 @@ pub record IsRow (row : OpRow) : Type 0 where
 pub record IsTime (row : OpRow) (cycles : ℕ) : Type 0 where
   pub least : row.cycles ≤ cycles
   pub most : cycles ≤ row.taken
+
+-- an instruction did what its row says, and these are its cycles, 1 to 12, of which its accesses passed 11 at most
+pub record IsInstruction {S : Type 0} (bus : BusMeaning S) (row : OpRow) (old_cpu : Cpu) (old : S) (cpu : Cpu) (cycles : ℕ) (new : S) : Type 0 where
+  pub does : Does bus (instruction row old_cpu) old cpu cycles new
+  pub some : 1 ≤ cycles
+  pub few : cycles ≤ 12
+  pub within : IsWithin 11 bus old new

@@ -1,4 +1,6 @@
 //! The accesses of an instruction: each passes one cycle and then acts.
+//!
+//! Both are inlined, as a bus is told apart by its type alone.
 
 ghost use Rattle.std.specs.Prelude.{◌≡◌};
 ghost use Rattle.spc700_exec.specs.Bus.{byte_read, after_read, after_write};

@@ -1,4 +1,6 @@
 //! The instructions on bits. Each gives its cycles.
+//!
+//! Everything here is inlined into the arm of its opcode, where the row is a constant: no form is told apart there at run time.
 
 ghost use Rattle.std.specs.Prelude.{◌≡◌, ℕ, ◌-◌, bit_and, bit_or};
 ghost use Rattle.spc700_exec.specs.Lines.{bit_to_carry_line, bit_in_place_line, bit_test_line};

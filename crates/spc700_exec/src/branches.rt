@@ -1,4 +1,6 @@
 //! The branches. Each gives its cycles.
+//!
+//! Everything here is inlined into the arm of its opcode, where the row is a constant: no form is told apart there at run time.
 
 ghost use Rattle.std.specs.Prelude.{◌≡◌, ℕ, true};
 ghost use Rattle.spc700_exec.specs.Script.{End, Cycles};

@@ -1,9 +1,11 @@
 //! The instructions on bytes. Each gives its cycles.
+//!
+//! Everything here is inlined into the arm of its opcode, where the row is a constant: no form is told apart there at run time.
 
 ghost use Rattle.std.specs.Prelude.{◌≡◌, ℕ};
 ghost use Rattle.spc700_exec.specs.Operations.{xcn_of};
-ghost use Rattle.spc700_exec.specs.Lines.{a_line, with_nz_of_move, move_line, combine_line, compare_line, modify_line};
-ghost use Rattle.spc700_exec.specs.Combinations.{combination, modification};
+ghost use Rattle.spc700_exec.specs.Lines.{a_line, with_nz_of_move, move_line, calculate_line, compare_line, modify_line};
+ghost use Rattle.spc700_exec.specs.Calculations.{calculation, modification};
 ghost use Rattle.spc700_exec.specs.Pieces.{HasRoom, IsWithin, Does, IsRow, IsTime};
 
 use crate::bus::Bus;
@@ -15,7 +17,7 @@ use spc700_table::OpRow;
 
 /// What two bytes are combined by.
 #[derive(Clone, Copy, Debug, PartialEq, Eq)]
-pub enum Combination {
+pub enum Calculation {
     /// OR, AND or EOR.
     Logic(LogicKind),
     /// ADC.
@@ -37,19 +39,19 @@ pub enum Modification {
 
 /// The two bytes combined, and the status.
 #[inline(always)]
-fn combined(kind: Combination, a: u8, b: u8, psw: u8) -> Out8
-    ensures { result ≡ combination kind a b psw }
+fn byte_result(kind: Calculation, a: u8, b: u8, psw: u8) -> Out8
+    ensures { result ≡ calculation kind a b psw }
 {
     match kind {
-        Combination::Logic(kind) => logic(kind, a, b, psw),
-        Combination::Adc => adc(a, b, psw),
-        Combination::Sbc => sbc(a, b, psw),
+        Calculation::Logic(kind) => logic(kind, a, b, psw),
+        Calculation::Adc => adc(a, b, psw),
+        Calculation::Sbc => sbc(a, b, psw),
     }
 }
 
 /// The changed byte, and the status.
 #[inline(always)]
-fn modified(kind: Modification, byte: u8, psw: u8) -> Out8
+fn modification_result(kind: Modification, byte: u8, psw: u8) -> Out8
     ensures { result ≡ modification kind byte psw }
 {
     match kind {
@@ -101,10 +103,10 @@ pub fn mov<B: Bus>(cpu: &mut Cpu, bus: &mut B, row: OpRow) -> u8
 
 /// OR, AND, EOR, ADC and SBC.
 #[inline(always)]
-pub fn combine<B: Bus>(cpu: &mut Cpu, bus: &mut B, row: OpRow, kind: Combination) -> u8
+pub fn calculate<B: Bus>(cpu: &mut Cpu, bus: &mut B, row: OpRow, kind: Calculation) -> u8
     requires room { HasRoom 12 B.means bus.old }
     requires row { IsRow row }
-    ensures does { Does B.means (combine_line (combination kind) row cpu.old) bus.old cpu.new result bus.new }
+    ensures does { Does B.means (calculate_line (calculation kind) row cpu.old) bus.old cpu.new result bus.new }
     ensures time { IsTime row result }
     ensures within { IsWithin 11 B.means bus.old bus.new }
 {
@@ -112,7 +114,7 @@ pub fn combine<B: Bus>(cpu: &mut Cpu, bus: &mut B, row: OpRow, kind: Combination
     let target = address(cpu, bus, row.first);
     let b = load(cpu, bus, source);
     let a = load(cpu, bus, target);
-    let out = combined(kind, a, b, cpu.psw);
+    let out = byte_result(kind, a, b, cpu.psw);
     cpu.psw = out.psw;
     store(cpu, bus, target, out.value);
     row.cycles
@@ -146,7 +148,7 @@ pub fn modify<B: Bus>(cpu: &mut Cpu, bus: &mut B, row: OpRow, kind: Modification
 {
     let operand = address(cpu, bus, row.first);
     let byte = load(cpu, bus, operand);
-    let out = modified(kind, byte, cpu.psw);
+    let out = modification_result(kind, byte, cpu.psw);
     cpu.psw = out.psw;
     store(cpu, bus, operand, out.value);
     row.cycles

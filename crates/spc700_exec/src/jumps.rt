@@ -1,4 +1,6 @@
 //! The stack's instructions, jumps, calls and returns. Each gives its cycles.
+//!
+//! Everything here is inlined into the arm of its opcode, where the row is a constant: no form is told apart there at run time.
 
 ghost use Rattle.std.specs.Prelude.{◌≡◌, ℕ};
 ghost use Rattle.spc700_exec.specs.Lines.{push_line, pop_line, jump_line, call_line, table_call_line, break_line, return_line, interrupt_return_line};

@@ -17,7 +17,7 @@ pub fn asking_makes_the_step<B: Bus>(_bus: &B)
     ensures { (cpu : Cpu) (s : B) → (n : ℕ) × (driven_outcome n B.means (B.means.clock s) 0 (next_action cpu) [] 0 s ≡ Some (step_outcome B.means cpu s)) }
 {}
 
-/// Behind its opcode an instruction makes the reads and writes of the table of accesses, in order, whatever the bytes: with
+/// After its opcode an instruction makes the reads and writes of the table of accesses, in order, whatever the bytes: with
 /// the opcode at most 6, and at most as many as the least count of its cycles. Its cycles are one of the two counts.
 pub fn accesses_are_those_of_the_table()
     ensures order { (op : ℕ) (cpu : Cpu) → Makes (row_of op) (row_accesses (row_of op)) (instruction (row_of op) cpu) }

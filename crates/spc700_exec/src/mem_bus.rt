@@ -61,25 +61,21 @@ impl MemBus {
 impl Bus for MemBus {
     ghost means = { plain_memory };
 
-    #[inline]
     fn read(&mut self, addr: u16) -> u8 {
         self.calls += 1;
         self.memory.get(addr)
     }
 
-    #[inline]
     fn write(&mut self, addr: u16, value: u8) {
         self.calls += 1;
         self.memory.put(addr, value);
     }
 
-    #[inline]
     fn pass(&mut self, cycles: u8) {
         self.calls += 1;
         self.clock += cycles as u64;
     }
 
-    #[inline]
     fn to_sample(&self) -> u8 {
         (32 - self.clock % 32) as u8
     }

@@ -1,24 +1,24 @@
 //! The instruction of each opcode. Each has an arm of its own with everything in it inlined: its row is a constant there, so
-//! that no form is told apart and no cycles are looked up while a program runs.
+//! that no form is told apart and no cycles are looked up while a program runs. The functions of sixteen opcodes are inlined
+//! into `instruct`, and that into the step, so that a step goes to its arm at once.
 #![tactic(auto, unfolding(spc700_table::specs::Opcodes::row_of, spc700_table::specs::Opcodes::columns, spc700_table::specs::Cycles::printed_cycles, spc700_table::specs::Cycles::cycle_map))]
 
-ghost use Rattle.std.specs.Prelude.{◌≡◌, ◌/◌, ◌≤◌, false};
+ghost use Rattle.std.specs.Prelude.{◌≡◌, ◌/◌, false};
 ghost use Rattle.spc700_table.specs.Opcodes.{row_of};
-ghost use Rattle.spc700_exec.specs.Instruction.{instruction};
-ghost use Rattle.spc700_exec.specs.Pieces.{HasRoom, IsWithin, Does, IsRow, halts};
+ghost use Rattle.spc700_exec.specs.Pieces.{HasRoom, IsRow, IsInstruction, halts};
 
 use crate::bits::{bit_in_place, bit_to_carry, test_and_clear, test_and_set};
 use crate::branches::{
     branch_always, branch_if_different, branch_on_bit, branch_on_flag, count_down,
 };
 use crate::bus::Bus;
-use crate::bytes::Combination::{Adc, Logic, Sbc};
+use crate::bytes::Calculation::{Adc, Logic, Sbc};
 use crate::bytes::Modification::{Down, Shift, Up};
-use crate::bytes::{combine, compare, exchange, modify, mov};
+use crate::bytes::{calculate, compare, exchange, modify, mov};
 use crate::cpu::Cpu;
 use crate::jumps::{brk, call, jump, pop_register, push_register, ret, reti, table_call};
 use crate::registers::{clear_overflow, nop, put_a, put_flag, put_ya, turn_carry};
-use crate::words::{WordCombination, move_word, word, word_down, word_on_ya, word_up};
+use crate::words::{WordCalculation, move_word, word, word_down, word_on_ya, word_up};
 use spc700_alu::flags::{CARRY, INTERRUPT, NEGATIVE, OVERFLOW, PAGE, ZERO};
 use spc700_alu::{BitKind, LogicKind, ShiftKind, daa, das, div, mul};
 use spc700_table::{OpRow, row};
@@ -32,530 +32,481 @@ fn fitting_row(op: u8) -> OpRow
     row(op)
 }
 
+/// Makes the instruction of an opcode: each arm is given the row of its opcode. No other opcode comes.
+macro_rules! instruction_of {
+    ($op:expr, $row:ident, $($code:literal => $instruction:expr,)* others $others:pat) => {
+        match $op {
+            $($code => {
+                let $row = fitting_row($code);
+                $instruction
+            })*
+            $others => unreachable!(),
+        }
+    };
+}
+
 /// The opcodes 0x00 to 0x0F.
 #[inline]
 fn from_00<B: Bus>(cpu: &mut Cpu, bus: &mut B, op: u8) -> u8
     requires room { HasRoom 12 B.means bus.old }
-    requires row { op / 16 ≡ 0 }
+    requires digit { op / 16 ≡ 0 }
     requires runs { halts (row_of op).kind ≡ false }
-    ensures does { Does B.means (instruction (row_of op) cpu.old) bus.old cpu.new result bus.new }
-    ensures some { 1 ≤ result }
-    ensures few { result ≤ 12 }
-    ensures within { IsWithin 11 B.means bus.old bus.new }
+    ensures { IsInstruction B.means (row_of op) cpu.old bus.old cpu.new result bus.new }
 {
-    match op {
-        0x00 => nop(fitting_row(0x00)),
-        0x01 => table_call(cpu, bus, fitting_row(0x01)),
-        0x02 => bit_in_place(cpu, bus, fitting_row(0x02), BitKind::Set),
-        0x03 => branch_on_bit(cpu, bus, fitting_row(0x03), true),
-        0x04 => combine(cpu, bus, fitting_row(0x04), Logic(LogicKind::Or)),
-        0x05 => combine(cpu, bus, fitting_row(0x05), Logic(LogicKind::Or)),
-        0x06 => combine(cpu, bus, fitting_row(0x06), Logic(LogicKind::Or)),
-        0x07 => combine(cpu, bus, fitting_row(0x07), Logic(LogicKind::Or)),
-        0x08 => combine(cpu, bus, fitting_row(0x08), Logic(LogicKind::Or)),
-        0x09 => combine(cpu, bus, fitting_row(0x09), Logic(LogicKind::Or)),
-        0x0A => bit_to_carry(cpu, bus, fitting_row(0x0A), BitKind::Or),
-        0x0B => modify(cpu, bus, fitting_row(0x0B), Shift(ShiftKind::Asl)),
-        0x0C => modify(cpu, bus, fitting_row(0x0C), Shift(ShiftKind::Asl)),
-        0x0D => push_register(cpu, bus, fitting_row(0x0D)),
-        0x0E => test_and_set(cpu, bus, fitting_row(0x0E)),
-        0x0F => brk(cpu, bus, fitting_row(0x0F)),
-        0x10.. => unreachable!(),
-    }
+    instruction_of!(op, row,
+        0x00 => nop(row),
+        0x01 => table_call(cpu, bus, row),
+        0x02 => bit_in_place(cpu, bus, row, BitKind::Set),
+        0x03 => branch_on_bit(cpu, bus, row, true),
+        0x04 => calculate(cpu, bus, row, Logic(LogicKind::Or)),
+        0x05 => calculate(cpu, bus, row, Logic(LogicKind::Or)),
+        0x06 => calculate(cpu, bus, row, Logic(LogicKind::Or)),
+        0x07 => calculate(cpu, bus, row, Logic(LogicKind::Or)),
+        0x08 => calculate(cpu, bus, row, Logic(LogicKind::Or)),
+        0x09 => calculate(cpu, bus, row, Logic(LogicKind::Or)),
+        0x0A => bit_to_carry(cpu, bus, row, BitKind::Or),
+        0x0B => modify(cpu, bus, row, Shift(ShiftKind::Asl)),
+        0x0C => modify(cpu, bus, row, Shift(ShiftKind::Asl)),
+        0x0D => push_register(cpu, bus, row),
+        0x0E => test_and_set(cpu, bus, row),
+        0x0F => brk(cpu, bus, row),
+        others 0x10..
+    )
 }
 
 /// The opcodes 0x10 to 0x1F.
 #[inline]
 fn from_10<B: Bus>(cpu: &mut Cpu, bus: &mut B, op: u8) -> u8
     requires room { HasRoom 12 B.means bus.old }
-    requires row { op / 16 ≡ 1 }
+    requires digit { op / 16 ≡ 1 }
     requires runs { halts (row_of op).kind ≡ false }
-    ensures does { Does B.means (instruction (row_of op) cpu.old) bus.old cpu.new result bus.new }
-    ensures some { 1 ≤ result }
-    ensures few { result ≤ 12 }
-    ensures within { IsWithin 11 B.means bus.old bus.new }
+    ensures { IsInstruction B.means (row_of op) cpu.old bus.old cpu.new result bus.new }
 {
-    match op {
-        0x10 => branch_on_flag(cpu, bus, fitting_row(0x10), NEGATIVE, false),
-        0x11 => table_call(cpu, bus, fitting_row(0x11)),
-        0x12 => bit_in_place(cpu, bus, fitting_row(0x12), BitKind::Clear),
-        0x13 => branch_on_bit(cpu, bus, fitting_row(0x13), false),
-        0x14 => combine(cpu, bus, fitting_row(0x14), Logic(LogicKind::Or)),
-        0x15 => combine(cpu, bus, fitting_row(0x15), Logic(LogicKind::Or)),
-        0x16 => combine(cpu, bus, fitting_row(0x16), Logic(LogicKind::Or)),
-        0x17 => combine(cpu, bus, fitting_row(0x17), Logic(LogicKind::Or)),
-        0x18 => combine(cpu, bus, fitting_row(0x18), Logic(LogicKind::Or)),
-        0x19 => combine(cpu, bus, fitting_row(0x19), Logic(LogicKind::Or)),
-        0x1A => word_down(cpu, bus, fitting_row(0x1A)),
-        0x1B => modify(cpu, bus, fitting_row(0x1B), Shift(ShiftKind::Asl)),
-        0x1C => modify(cpu, bus, fitting_row(0x1C), Shift(ShiftKind::Asl)),
-        0x1D => modify(cpu, bus, fitting_row(0x1D), Down),
-        0x1E => compare(cpu, bus, fitting_row(0x1E)),
-        0x1F => jump(cpu, bus, fitting_row(0x1F)),
-        ..0x10 => unreachable!(),
-        0x20.. => unreachable!(),
-    }
+    instruction_of!(op, row,
+        0x10 => branch_on_flag(cpu, bus, row, NEGATIVE, false),
+        0x11 => table_call(cpu, bus, row),
+        0x12 => bit_in_place(cpu, bus, row, BitKind::Clear),
+        0x13 => branch_on_bit(cpu, bus, row, false),
+        0x14 => calculate(cpu, bus, row, Logic(LogicKind::Or)),
+        0x15 => calculate(cpu, bus, row, Logic(LogicKind::Or)),
+        0x16 => calculate(cpu, bus, row, Logic(LogicKind::Or)),
+        0x17 => calculate(cpu, bus, row, Logic(LogicKind::Or)),
+        0x18 => calculate(cpu, bus, row, Logic(LogicKind::Or)),
+        0x19 => calculate(cpu, bus, row, Logic(LogicKind::Or)),
+        0x1A => word_down(cpu, bus, row),
+        0x1B => modify(cpu, bus, row, Shift(ShiftKind::Asl)),
+        0x1C => modify(cpu, bus, row, Shift(ShiftKind::Asl)),
+        0x1D => modify(cpu, bus, row, Down),
+        0x1E => compare(cpu, bus, row),
+        0x1F => jump(cpu, bus, row),
+        others ..0x10 | 0x20..
+    )
 }
 
 /// The opcodes 0x20 to 0x2F.
 #[inline]
 fn from_20<B: Bus>(cpu: &mut Cpu, bus: &mut B, op: u8) -> u8
     requires room { HasRoom 12 B.means bus.old }
-    requires row { op / 16 ≡ 2 }
+    requires digit { op / 16 ≡ 2 }
     requires runs { halts (row_of op).kind ≡ false }
-    ensures does { Does B.means (instruction (row_of op) cpu.old) bus.old cpu.new result bus.new }
-    ensures some { 1 ≤ result }
-    ensures few { result ≤ 12 }
-    ensures within { IsWithin 11 B.means bus.old bus.new }
+    ensures { IsInstruction B.means (row_of op) cpu.old bus.old cpu.new result bus.new }
 {
-    match op {
-        0x20 => put_flag(cpu, fitting_row(0x20), PAGE, false),
-        0x21 => table_call(cpu, bus, fitting_row(0x21)),
-        0x22 => bit_in_place(cpu, bus, fitting_row(0x22), BitKind::Set),
-        0x23 => branch_on_bit(cpu, bus, fitting_row(0x23), true),
-        0x24 => combine(cpu, bus, fitting_row(0x24), Logic(LogicKind::And)),
-        0x25 => combine(cpu, bus, fitting_row(0x25), Logic(LogicKind::And)),
-        0x26 => combine(cpu, bus, fitting_row(0x26), Logic(LogicKind::And)),
-        0x27 => combine(cpu, bus, fitting_row(0x27), Logic(LogicKind::And)),
-        0x28 => combine(cpu, bus, fitting_row(0x28), Logic(LogicKind::And)),
-        0x29 => combine(cpu, bus, fitting_row(0x29), Logic(LogicKind::And)),
-        0x2A => bit_to_carry(cpu, bus, fitting_row(0x2A), BitKind::OrNot),
-        0x2B => modify(cpu, bus, fitting_row(0x2B), Shift(ShiftKind::Rol)),
-        0x2C => modify(cpu, bus, fitting_row(0x2C), Shift(ShiftKind::Rol)),
-        0x2D => push_register(cpu, bus, fitting_row(0x2D)),
-        0x2E => branch_if_different(cpu, bus, fitting_row(0x2E)),
-        0x2F => branch_always(cpu, bus, fitting_row(0x2F)),
-        ..0x20 => unreachable!(),
-        0x30.. => unreachable!(),
-    }
+    instruction_of!(op, row,
+        0x20 => put_flag(cpu, row, PAGE, false),
+        0x21 => table_call(cpu, bus, row),
+        0x22 => bit_in_place(cpu, bus, row, BitKind::Set),
+        0x23 => branch_on_bit(cpu, bus, row, true),
+        0x24 => calculate(cpu, bus, row, Logic(LogicKind::And)),
+        0x25 => calculate(cpu, bus, row, Logic(LogicKind::And)),
+        0x26 => calculate(cpu, bus, row, Logic(LogicKind::And)),
+        0x27 => calculate(cpu, bus, row, Logic(LogicKind::And)),
+        0x28 => calculate(cpu, bus, row, Logic(LogicKind::And)),
+        0x29 => calculate(cpu, bus, row, Logic(LogicKind::And)),
+        0x2A => bit_to_carry(cpu, bus, row, BitKind::OrNot),
+        0x2B => modify(cpu, bus, row, Shift(ShiftKind::Rol)),
+        0x2C => modify(cpu, bus, row, Shift(ShiftKind::Rol)),
+        0x2D => push_register(cpu, bus, row),
+        0x2E => branch_if_different(cpu, bus, row),
+        0x2F => branch_always(cpu, bus, row),
+        others ..0x20 | 0x30..
+    )
 }
 
 /// The opcodes 0x30 to 0x3F.
 #[inline]
 fn from_30<B: Bus>(cpu: &mut Cpu, bus: &mut B, op: u8) -> u8
     requires room { HasRoom 12 B.means bus.old }
-    requires row { op / 16 ≡ 3 }
+    requires digit { op / 16 ≡ 3 }
     requires runs { halts (row_of op).kind ≡ false }
-    ensures does { Does B.means (instruction (row_of op) cpu.old) bus.old cpu.new result bus.new }
-    ensures some { 1 ≤ result }
-    ensures few { result ≤ 12 }
-    ensures within { IsWithin 11 B.means bus.old bus.new }
+    ensures { IsInstruction B.means (row_of op) cpu.old bus.old cpu.new result bus.new }
 {
-    match op {
-        0x30 => branch_on_flag(cpu, bus, fitting_row(0x30), NEGATIVE, true),
-        0x31 => table_call(cpu, bus, fitting_row(0x31)),
-        0x32 => bit_in_place(cpu, bus, fitting_row(0x32), BitKind::Clear),
-        0x33 => branch_on_bit(cpu, bus, fitting_row(0x33), false),
-        0x34 => combine(cpu, bus, fitting_row(0x34), Logic(LogicKind::And)),
-        0x35 => combine(cpu, bus, fitting_row(0x35), Logic(LogicKind::And)),
-        0x36 => combine(cpu, bus, fitting_row(0x36), Logic(LogicKind::And)),
-        0x37 => combine(cpu, bus, fitting_row(0x37), Logic(LogicKind::And)),
-        0x38 => combine(cpu, bus, fitting_row(0x38), Logic(LogicKind::And)),
-        0x39 => combine(cpu, bus, fitting_row(0x39), Logic(LogicKind::And)),
-        0x3A => word_up(cpu, bus, fitting_row(0x3A)),
-        0x3B => modify(cpu, bus, fitting_row(0x3B), Shift(ShiftKind::Rol)),
-        0x3C => modify(cpu, bus, fitting_row(0x3C), Shift(ShiftKind::Rol)),
-        0x3D => modify(cpu, bus, fitting_row(0x3D), Up),
-        0x3E => compare(cpu, bus, fitting_row(0x3E)),
-        0x3F => call(cpu, bus, fitting_row(0x3F)),
-        ..0x30 => unreachable!(),
-        0x40.. => unreachable!(),
-    }
+    instruction_of!(op, row,
+        0x30 => branch_on_flag(cpu, bus, row, NEGATIVE, true),
+        0x31 => table_call(cpu, bus, row),
+        0x32 => bit_in_place(cpu, bus, row, BitKind::Clear),
+        0x33 => branch_on_bit(cpu, bus, row, false),
+        0x34 => calculate(cpu, bus, row, Logic(LogicKind::And)),
+        0x35 => calculate(cpu, bus, row, Logic(LogicKind::And)),
+        0x36 => calculate(cpu, bus, row, Logic(LogicKind::And)),
+        0x37 => calculate(cpu, bus, row, Logic(LogicKind::And)),
+        0x38 => calculate(cpu, bus, row, Logic(LogicKind::And)),
+        0x39 => calculate(cpu, bus, row, Logic(LogicKind::And)),
+        0x3A => word_up(cpu, bus, row),
+        0x3B => modify(cpu, bus, row, Shift(ShiftKind::Rol)),
+        0x3C => modify(cpu, bus, row, Shift(ShiftKind::Rol)),
+        0x3D => modify(cpu, bus, row, Up),
+        0x3E => compare(cpu, bus, row),
+        0x3F => call(cpu, bus, row),
+        others ..0x30 | 0x40..
+    )
 }
 
 /// The opcodes 0x40 to 0x4F.
 #[inline]
 fn from_40<B: Bus>(cpu: &mut Cpu, bus: &mut B, op: u8) -> u8
     requires room { HasRoom 12 B.means bus.old }
-    requires row { op / 16 ≡ 4 }
+    requires digit { op / 16 ≡ 4 }
     requires runs { halts (row_of op).kind ≡ false }
-    ensures does { Does B.means (instruction (row_of op) cpu.old) bus.old cpu.new result bus.new }
-    ensures some { 1 ≤ result }
-    ensures few { result ≤ 12 }
-    ensures within { IsWithin 11 B.means bus.old bus.new }
+    ensures { IsInstruction B.means (row_of op) cpu.old bus.old cpu.new result bus.new }
 {
-    match op {
-        0x40 => put_flag(cpu, fitting_row(0x40), PAGE, true),
-        0x41 => table_call(cpu, bus, fitting_row(0x41)),
-        0x42 => bit_in_place(cpu, bus, fitting_row(0x42), BitKind::Set),
-        0x43 => branch_on_bit(cpu, bus, fitting_row(0x43), true),
-        0x44 => combine(cpu, bus, fitting_row(0x44), Logic(LogicKind::Eor)),
-        0x45 => combine(cpu, bus, fitting_row(0x45), Logic(LogicKind::Eor)),
-        0x46 => combine(cpu, bus, fitting_row(0x46), Logic(LogicKind::Eor)),
-        0x47 => combine(cpu, bus, fitting_row(0x47), Logic(LogicKind::Eor)),
-        0x48 => combine(cpu, bus, fitting_row(0x48), Logic(LogicKind::Eor)),
-        0x49 => combine(cpu, bus, fitting_row(0x49), Logic(LogicKind::Eor)),
-        0x4A => bit_to_carry(cpu, bus, fitting_row(0x4A), BitKind::And),
-        0x4B => modify(cpu, bus, fitting_row(0x4B), Shift(ShiftKind::Lsr)),
-        0x4C => modify(cpu, bus, fitting_row(0x4C), Shift(ShiftKind::Lsr)),
-        0x4D => push_register(cpu, bus, fitting_row(0x4D)),
-        0x4E => test_and_clear(cpu, bus, fitting_row(0x4E)),
-        0x4F => call(cpu, bus, fitting_row(0x4F)),
-        ..0x40 => unreachable!(),
-        0x50.. => unreachable!(),
-    }
+    instruction_of!(op, row,
+        0x40 => put_flag(cpu, row, PAGE, true),
+        0x41 => table_call(cpu, bus, row),
+        0x42 => bit_in_place(cpu, bus, row, BitKind::Set),
+        0x43 => branch_on_bit(cpu, bus, row, true),
+        0x44 => calculate(cpu, bus, row, Logic(LogicKind::Eor)),
+        0x45 => calculate(cpu, bus, row, Logic(LogicKind::Eor)),
+        0x46 => calculate(cpu, bus, row, Logic(LogicKind::Eor)),
+        0x47 => calculate(cpu, bus, row, Logic(LogicKind::Eor)),
+        0x48 => calculate(cpu, bus, row, Logic(LogicKind::Eor)),
+        0x49 => calculate(cpu, bus, row, Logic(LogicKind::Eor)),
+        0x4A => bit_to_carry(cpu, bus, row, BitKind::And),
+        0x4B => modify(cpu, bus, row, Shift(ShiftKind::Lsr)),
+        0x4C => modify(cpu, bus, row, Shift(ShiftKind::Lsr)),
+        0x4D => push_register(cpu, bus, row),
+        0x4E => test_and_clear(cpu, bus, row),
+        0x4F => call(cpu, bus, row),
+        others ..0x40 | 0x50..
+    )
 }
 
 /// The opcodes 0x50 to 0x5F.
 #[inline]
 fn from_50<B: Bus>(cpu: &mut Cpu, bus: &mut B, op: u8) -> u8
     requires room { HasRoom 12 B.means bus.old }
-    requires row { op / 16 ≡ 5 }
+    requires digit { op / 16 ≡ 5 }
     requires runs { halts (row_of op).kind ≡ false }
-    ensures does { Does B.means (instruction (row_of op) cpu.old) bus.old cpu.new result bus.new }
-    ensures some { 1 ≤ result }
-    ensures few { result ≤ 12 }
-    ensures within { IsWithin 11 B.means bus.old bus.new }
+    ensures { IsInstruction B.means (row_of op) cpu.old bus.old cpu.new result bus.new }
 {
-    match op {
-        0x50 => branch_on_flag(cpu, bus, fitting_row(0x50), OVERFLOW, false),
-        0x51 => table_call(cpu, bus, fitting_row(0x51)),
-        0x52 => bit_in_place(cpu, bus, fitting_row(0x52), BitKind::Clear),
-        0x53 => branch_on_bit(cpu, bus, fitting_row(0x53), false),
-        0x54 => combine(cpu, bus, fitting_row(0x54), Logic(LogicKind::Eor)),
-        0x55 => combine(cpu, bus, fitting_row(0x55), Logic(LogicKind::Eor)),
-        0x56 => combine(cpu, bus, fitting_row(0x56), Logic(LogicKind::Eor)),
-        0x57 => combine(cpu, bus, fitting_row(0x57), Logic(LogicKind::Eor)),
-        0x58 => combine(cpu, bus, fitting_row(0x58), Logic(LogicKind::Eor)),
-        0x59 => combine(cpu, bus, fitting_row(0x59), Logic(LogicKind::Eor)),
-        0x5A => word_on_ya(cpu, bus, fitting_row(0x5A), WordCombination::Compare),
-        0x5B => modify(cpu, bus, fitting_row(0x5B), Shift(ShiftKind::Lsr)),
-        0x5C => modify(cpu, bus, fitting_row(0x5C), Shift(ShiftKind::Lsr)),
-        0x5D => mov(cpu, bus, fitting_row(0x5D)),
-        0x5E => compare(cpu, bus, fitting_row(0x5E)),
-        0x5F => jump(cpu, bus, fitting_row(0x5F)),
-        ..0x50 => unreachable!(),
-        0x60.. => unreachable!(),
-    }
+    instruction_of!(op, row,
+        0x50 => branch_on_flag(cpu, bus, row, OVERFLOW, false),
+        0x51 => table_call(cpu, bus, row),
+        0x52 => bit_in_place(cpu, bus, row, BitKind::Clear),
+        0x53 => branch_on_bit(cpu, bus, row, false),
+        0x54 => calculate(cpu, bus, row, Logic(LogicKind::Eor)),
+        0x55 => calculate(cpu, bus, row, Logic(LogicKind::Eor)),
+        0x56 => calculate(cpu, bus, row, Logic(LogicKind::Eor)),
+        0x57 => calculate(cpu, bus, row, Logic(LogicKind::Eor)),
+        0x58 => calculate(cpu, bus, row, Logic(LogicKind::Eor)),
+        0x59 => calculate(cpu, bus, row, Logic(LogicKind::Eor)),
+        0x5A => word_on_ya(cpu, bus, row, WordCalculation::Compare),
+        0x5B => modify(cpu, bus, row, Shift(ShiftKind::Lsr)),
+        0x5C => modify(cpu, bus, row, Shift(ShiftKind::Lsr)),
+        0x5D => mov(cpu, bus, row),
+        0x5E => compare(cpu, bus, row),
+        0x5F => jump(cpu, bus, row),
+        others ..0x50 | 0x60..
+    )
 }
 
 /// The opcodes 0x60 to 0x6F.
 #[inline]
 fn from_60<B: Bus>(cpu: &mut Cpu, bus: &mut B, op: u8) -> u8
     requires room { HasRoom 12 B.means bus.old }
-    requires row { op / 16 ≡ 6 }
+    requires digit { op / 16 ≡ 6 }
     requires runs { halts (row_of op).kind ≡ false }
-    ensures does { Does B.means (instruction (row_of op) cpu.old) bus.old cpu.new result bus.new }
-    ensures some { 1 ≤ result }
-    ensures few { result ≤ 12 }
-    ensures within { IsWithin 11 B.means bus.old bus.new }
+    ensures { IsInstruction B.means (row_of op) cpu.old bus.old cpu.new result bus.new }
 {
-    match op {
-        0x60 => put_flag(cpu, fitting_row(0x60), CARRY, false),
-        0x61 => table_call(cpu, bus, fitting_row(0x61)),
-        0x62 => bit_in_place(cpu, bus, fitting_row(0x62), BitKind::Set),
-        0x63 => branch_on_bit(cpu, bus, fitting_row(0x63), true),
-        0x64 => compare(cpu, bus, fitting_row(0x64)),
-        0x65 => compare(cpu, bus, fitting_row(0x65)),
-        0x66 => compare(cpu, bus, fitting_row(0x66)),
-        0x67 => compare(cpu, bus, fitting_row(0x67)),
-        0x68 => compare(cpu, bus, fitting_row(0x68)),
-        0x69 => compare(cpu, bus, fitting_row(0x69)),
-        0x6A => bit_to_carry(cpu, bus, fitting_row(0x6A), BitKind::AndNot),
-        0x6B => modify(cpu, bus, fitting_row(0x6B), Shift(ShiftKind::Ror)),
-        0x6C => modify(cpu, bus, fitting_row(0x6C), Shift(ShiftKind::Ror)),
-        0x6D => push_register(cpu, bus, fitting_row(0x6D)),
-        0x6E => count_down(cpu, bus, fitting_row(0x6E)),
-        0x6F => ret(cpu, bus, fitting_row(0x6F)),
-        ..0x60 => unreachable!(),
-        0x70.. => unreachable!(),
-    }
+    instruction_of!(op, row,
+        0x60 => put_flag(cpu, row, CARRY, false),
+        0x61 => table_call(cpu, bus, row),
+        0x62 => bit_in_place(cpu, bus, row, BitKind::Set),
+        0x63 => branch_on_bit(cpu, bus, row, true),
+        0x64 => compare(cpu, bus, row),
+        0x65 => compare(cpu, bus, row),
+        0x66 => compare(cpu, bus, row),
+        0x67 => compare(cpu, bus, row),
+        0x68 => compare(cpu, bus, row),
+        0x69 => compare(cpu, bus, row),
+        0x6A => bit_to_carry(cpu, bus, row, BitKind::AndNot),
+        0x6B => modify(cpu, bus, row, Shift(ShiftKind::Ror)),
+        0x6C => modify(cpu, bus, row, Shift(ShiftKind::Ror)),
+        0x6D => push_register(cpu, bus, row),
+        0x6E => count_down(cpu, bus, row),
+        0x6F => ret(cpu, bus, row),
+        others ..0x60 | 0x70..
+    )
 }
 
 /// The opcodes 0x70 to 0x7F.
 #[inline]
 fn from_70<B: Bus>(cpu: &mut Cpu, bus: &mut B, op: u8) -> u8
     requires room { HasRoom 12 B.means bus.old }
-    requires row { op / 16 ≡ 7 }
+    requires digit { op / 16 ≡ 7 }
     requires runs { halts (row_of op).kind ≡ false }
-    ensures does { Does B.means (instruction (row_of op) cpu.old) bus.old cpu.new result bus.new }
-    ensures some { 1 ≤ result }
-    ensures few { result ≤ 12 }
-    ensures within { IsWithin 11 B.means bus.old bus.new }
+    ensures { IsInstruction B.means (row_of op) cpu.old bus.old cpu.new result bus.new }
 {
-    match op {
-        0x70 => branch_on_flag(cpu, bus, fitting_row(0x70), OVERFLOW, true),
-        0x71 => table_call(cpu, bus, fitting_row(0x71)),
-        0x72 => bit_in_place(cpu, bus, fitting_row(0x72), BitKind::Clear),
-        0x73 => branch_on_bit(cpu, bus, fitting_row(0x73), false),
-        0x74 => compare(cpu, bus, fitting_row(0x74)),
-        0x75 => compare(cpu, bus, fitting_row(0x75)),
-        0x76 => compare(cpu, bus, fitting_row(0x76)),
-        0x77 => compare(cpu, bus, fitting_row(0x77)),
-        0x78 => compare(cpu, bus, fitting_row(0x78)),
-        0x79 => compare(cpu, bus, fitting_row(0x79)),
-        0x7A => word_on_ya(cpu, bus, fitting_row(0x7A), WordCombination::Add),
-        0x7B => modify(cpu, bus, fitting_row(0x7B), Shift(ShiftKind::Ror)),
-        0x7C => modify(cpu, bus, fitting_row(0x7C), Shift(ShiftKind::Ror)),
-        0x7D => mov(cpu, bus, fitting_row(0x7D)),
-        0x7E => compare(cpu, bus, fitting_row(0x7E)),
-        0x7F => reti(cpu, bus, fitting_row(0x7F)),
-        ..0x70 => unreachable!(),
-        0x80.. => unreachable!(),
-    }
+    instruction_of!(op, row,
+        0x70 => branch_on_flag(cpu, bus, row, OVERFLOW, true),
+        0x71 => table_call(cpu, bus, row),
+        0x72 => bit_in_place(cpu, bus, row, BitKind::Clear),
+        0x73 => branch_on_bit(cpu, bus, row, false),
+        0x74 => compare(cpu, bus, row),
+        0x75 => compare(cpu, bus, row),
+        0x76 => compare(cpu, bus, row),
+        0x77 => compare(cpu, bus, row),
+        0x78 => compare(cpu, bus, row),
+        0x79 => compare(cpu, bus, row),
+        0x7A => word_on_ya(cpu, bus, row, WordCalculation::Add),
+        0x7B => modify(cpu, bus, row, Shift(ShiftKind::Ror)),
+        0x7C => modify(cpu, bus, row, Shift(ShiftKind::Ror)),
+        0x7D => mov(cpu, bus, row),
+        0x7E => compare(cpu, bus, row),
+        0x7F => reti(cpu, bus, row),
+        others ..0x70 | 0x80..
+    )
 }
 
 /// The opcodes 0x80 to 0x8F.
 #[inline]
 fn from_80<B: Bus>(cpu: &mut Cpu, bus: &mut B, op: u8) -> u8
     requires room { HasRoom 12 B.means bus.old }
-    requires row { op / 16 ≡ 8 }
+    requires digit { op / 16 ≡ 8 }
     requires runs { halts (row_of op).kind ≡ false }
-    ensures does { Does B.means (instruction (row_of op) cpu.old) bus.old cpu.new result bus.new }
-    ensures some { 1 ≤ result }
-    ensures few { result ≤ 12 }
-    ensures within { IsWithin 11 B.means bus.old bus.new }
+    ensures { IsInstruction B.means (row_of op) cpu.old bus.old cpu.new result bus.new }
 {
-    match op {
-        0x80 => put_flag(cpu, fitting_row(0x80), CARRY, true),
-        0x81 => table_call(cpu, bus, fitting_row(0x81)),
-        0x82 => bit_in_place(cpu, bus, fitting_row(0x82), BitKind::Set),
-        0x83 => branch_on_bit(cpu, bus, fitting_row(0x83), true),
-        0x84 => combine(cpu, bus, fitting_row(0x84), Adc),
-        0x85 => combine(cpu, bus, fitting_row(0x85), Adc),
-        0x86 => combine(cpu, bus, fitting_row(0x86), Adc),
-        0x87 => combine(cpu, bus, fitting_row(0x87), Adc),
-        0x88 => combine(cpu, bus, fitting_row(0x88), Adc),
-        0x89 => combine(cpu, bus, fitting_row(0x89), Adc),
-        0x8A => bit_to_carry(cpu, bus, fitting_row(0x8A), BitKind::Eor),
-        0x8B => modify(cpu, bus, fitting_row(0x8B), Down),
-        0x8C => modify(cpu, bus, fitting_row(0x8C), Down),
-        0x8D => mov(cpu, bus, fitting_row(0x8D)),
-        0x8E => pop_register(cpu, bus, fitting_row(0x8E)),
-        0x8F => mov(cpu, bus, fitting_row(0x8F)),
-        ..0x80 => unreachable!(),
-        0x90.. => unreachable!(),
-    }
+    instruction_of!(op, row,
+        0x80 => put_flag(cpu, row, CARRY, true),
+        0x81 => table_call(cpu, bus, row),
+        0x82 => bit_in_place(cpu, bus, row, BitKind::Set),
+        0x83 => branch_on_bit(cpu, bus, row, true),
+        0x84 => calculate(cpu, bus, row, Adc),
+        0x85 => calculate(cpu, bus, row, Adc),
+        0x86 => calculate(cpu, bus, row, Adc),
+        0x87 => calculate(cpu, bus, row, Adc),
+        0x88 => calculate(cpu, bus, row, Adc),
+        0x89 => calculate(cpu, bus, row, Adc),
+        0x8A => bit_to_carry(cpu, bus, row, BitKind::Eor),
+        0x8B => modify(cpu, bus, row, Down),
+        0x8C => modify(cpu, bus, row, Down),
+        0x8D => mov(cpu, bus, row),
+        0x8E => pop_register(cpu, bus, row),
+        0x8F => mov(cpu, bus, row),
+        others ..0x80 | 0x90..
+    )
 }
 
 /// The opcodes 0x90 to 0x9F.
 #[inline]
 fn from_90<B: Bus>(cpu: &mut Cpu, bus: &mut B, op: u8) -> u8
     requires room { HasRoom 12 B.means bus.old }
-    requires row { op / 16 ≡ 9 }
+    requires digit { op / 16 ≡ 9 }
     requires runs { halts (row_of op).kind ≡ false }
-    ensures does { Does B.means (instruction (row_of op) cpu.old) bus.old cpu.new result bus.new }
-    ensures some { 1 ≤ result }
-    ensures few { result ≤ 12 }
-    ensures within { IsWithin 11 B.means bus.old bus.new }
+    ensures { IsInstruction B.means (row_of op) cpu.old bus.old cpu.new result bus.new }
 {
-    match op {
-        0x90 => branch_on_flag(cpu, bus, fitting_row(0x90), CARRY, false),
-        0x91 => table_call(cpu, bus, fitting_row(0x91)),
-        0x92 => bit_in_place(cpu, bus, fitting_row(0x92), BitKind::Clear),
-        0x93 => branch_on_bit(cpu, bus, fitting_row(0x93), false),
-        0x94 => combine(cpu, bus, fitting_row(0x94), Adc),
-        0x95 => combine(cpu, bus, fitting_row(0x95), Adc),
-        0x96 => combine(cpu, bus, fitting_row(0x96), Adc),
-        0x97 => combine(cpu, bus, fitting_row(0x97), Adc),
-        0x98 => combine(cpu, bus, fitting_row(0x98), Adc),
-        0x99 => combine(cpu, bus, fitting_row(0x99), Adc),
-        0x9A => word_on_ya(cpu, bus, fitting_row(0x9A), WordCombination::Subtract),
-        0x9B => modify(cpu, bus, fitting_row(0x9B), Down),
-        0x9C => modify(cpu, bus, fitting_row(0x9C), Down),
-        0x9D => mov(cpu, bus, fitting_row(0x9D)),
-        0x9E => put_ya(cpu, fitting_row(0x9E), div(word(cpu), cpu.x, cpu.psw)),
-        0x9F => put_a(cpu, fitting_row(0x9F), exchange(cpu.a, cpu.psw)),
-        ..0x90 => unreachable!(),
-        0xA0.. => unreachable!(),
-    }
+    instruction_of!(op, row,
+        0x90 => branch_on_flag(cpu, bus, row, CARRY, false),
+        0x91 => table_call(cpu, bus, row),
+        0x92 => bit_in_place(cpu, bus, row, BitKind::Clear),
+        0x93 => branch_on_bit(cpu, bus, row, false),
+        0x94 => calculate(cpu, bus, row, Adc),
+        0x95 => calculate(cpu, bus, row, Adc),
+        0x96 => calculate(cpu, bus, row, Adc),
+        0x97 => calculate(cpu, bus, row, Adc),
+        0x98 => calculate(cpu, bus, row, Adc),
+        0x99 => calculate(cpu, bus, row, Adc),
+        0x9A => word_on_ya(cpu, bus, row, WordCalculation::Subtract),
+        0x9B => modify(cpu, bus, row, Down),
+        0x9C => modify(cpu, bus, row, Down),
+        0x9D => mov(cpu, bus, row),
+        0x9E => put_ya(cpu, row, div(word(cpu), cpu.x, cpu.psw)),
+        0x9F => put_a(cpu, row, exchange(cpu.a, cpu.psw)),
+        others ..0x90 | 0xA0..
+    )
 }
 
 /// The opcodes 0xA0 to 0xAF.
 #[inline]
 fn from_a0<B: Bus>(cpu: &mut Cpu, bus: &mut B, op: u8) -> u8
     requires room { HasRoom 12 B.means bus.old }
-    requires row { op / 16 ≡ 10 }
+    requires digit { op / 16 ≡ 10 }
     requires runs { halts (row_of op).kind ≡ false }
-    ensures does { Does B.means (instruction (row_of op) cpu.old) bus.old cpu.new result bus.new }
-    ensures some { 1 ≤ result }
-    ensures few { result ≤ 12 }
-    ensures within { IsWithin 11 B.means bus.old bus.new }
+    ensures { IsInstruction B.means (row_of op) cpu.old bus.old cpu.new result bus.new }
 {
-    match op {
-        0xA0 => put_flag(cpu, fitting_row(0xA0), INTERRUPT, true),
-        0xA1 => table_call(cpu, bus, fitting_row(0xA1)),
-        0xA2 => bit_in_place(cpu, bus, fitting_row(0xA2), BitKind::Set),
-        0xA3 => branch_on_bit(cpu, bus, fitting_row(0xA3), true),
-        0xA4 => combine(cpu, bus, fitting_row(0xA4), Sbc),
-        0xA5 => combine(cpu, bus, fitting_row(0xA5), Sbc),
-        0xA6 => combine(cpu, bus, fitting_row(0xA6), Sbc),
-        0xA7 => combine(cpu, bus, fitting_row(0xA7), Sbc),
-        0xA8 => combine(cpu, bus, fitting_row(0xA8), Sbc),
-        0xA9 => combine(cpu, bus, fitting_row(0xA9), Sbc),
-        0xAA => bit_to_carry(cpu, bus, fitting_row(0xAA), BitKind::Load),
-        0xAB => modify(cpu, bus, fitting_row(0xAB), Up),
-        0xAC => modify(cpu, bus, fitting_row(0xAC), Up),
-        0xAD => compare(cpu, bus, fitting_row(0xAD)),
-        0xAE => pop_register(cpu, bus, fitting_row(0xAE)),
-        0xAF => mov(cpu, bus, fitting_row(0xAF)),
-        ..0xA0 => unreachable!(),
-        0xB0.. => unreachable!(),
-    }
+    instruction_of!(op, row,
+        0xA0 => put_flag(cpu, row, INTERRUPT, true),
+        0xA1 => table_call(cpu, bus, row),
+        0xA2 => bit_in_place(cpu, bus, row, BitKind::Set),
+        0xA3 => branch_on_bit(cpu, bus, row, true),
+        0xA4 => calculate(cpu, bus, row, Sbc),
+        0xA5 => calculate(cpu, bus, row, Sbc),
+        0xA6 => calculate(cpu, bus, row, Sbc),
+        0xA7 => calculate(cpu, bus, row, Sbc),
+        0xA8 => calculate(cpu, bus, row, Sbc),
+        0xA9 => calculate(cpu, bus, row, Sbc),
+        0xAA => bit_to_carry(cpu, bus, row, BitKind::Load),
+        0xAB => modify(cpu, bus, row, Up),
+        0xAC => modify(cpu, bus, row, Up),
+        0xAD => compare(cpu, bus, row),
+        0xAE => pop_register(cpu, bus, row),
+        0xAF => mov(cpu, bus, row),
+        others ..0xA0 | 0xB0..
+    )
 }
 
 /// The opcodes 0xB0 to 0xBF.
 #[inline]
 fn from_b0<B: Bus>(cpu: &mut Cpu, bus: &mut B, op: u8) -> u8
     requires room { HasRoom 12 B.means bus.old }
-    requires row { op / 16 ≡ 11 }
+    requires digit { op / 16 ≡ 11 }
     requires runs { halts (row_of op).kind ≡ false }
-    ensures does { Does B.means (instruction (row_of op) cpu.old) bus.old cpu.new result bus.new }
-    ensures some { 1 ≤ result }
-    ensures few { result ≤ 12 }
-    ensures within { IsWithin 11 B.means bus.old bus.new }
+    ensures { IsInstruction B.means (row_of op) cpu.old bus.old cpu.new result bus.new }
 {
-    match op {
-        0xB0 => branch_on_flag(cpu, bus, fitting_row(0xB0), CARRY, true),
-        0xB1 => table_call(cpu, bus, fitting_row(0xB1)),
-        0xB2 => bit_in_place(cpu, bus, fitting_row(0xB2), BitKind::Clear),
-        0xB3 => branch_on_bit(cpu, bus, fitting_row(0xB3), false),
-        0xB4 => combine(cpu, bus, fitting_row(0xB4), Sbc),
-        0xB5 => combine(cpu, bus, fitting_row(0xB5), Sbc),
-        0xB6 => combine(cpu, bus, fitting_row(0xB6), Sbc),
-        0xB7 => combine(cpu, bus, fitting_row(0xB7), Sbc),
-        0xB8 => combine(cpu, bus, fitting_row(0xB8), Sbc),
-        0xB9 => combine(cpu, bus, fitting_row(0xB9), Sbc),
-        0xBA => word_on_ya(cpu, bus, fitting_row(0xBA), WordCombination::Load),
-        0xBB => modify(cpu, bus, fitting_row(0xBB), Up),
-        0xBC => modify(cpu, bus, fitting_row(0xBC), Up),
-        0xBD => mov(cpu, bus, fitting_row(0xBD)),
-        0xBE => put_a(cpu, fitting_row(0xBE), das(cpu.a, cpu.psw)),
-        0xBF => mov(cpu, bus, fitting_row(0xBF)),
-        ..0xB0 => unreachable!(),
-        0xC0.. => unreachable!(),
-    }
+    instruction_of!(op, row,
+        0xB0 => branch_on_flag(cpu, bus, row, CARRY, true),
+        0xB1 => table_call(cpu, bus, row),
+        0xB2 => bit_in_place(cpu, bus, row, BitKind::Clear),
+        0xB3 => branch_on_bit(cpu, bus, row, false),
+        0xB4 => calculate(cpu, bus, row, Sbc),
+        0xB5 => calculate(cpu, bus, row, Sbc),
+        0xB6 => calculate(cpu, bus, row, Sbc),
+        0xB7 => calculate(cpu, bus, row, Sbc),
+        0xB8 => calculate(cpu, bus, row, Sbc),
+        0xB9 => calculate(cpu, bus, row, Sbc),
+        0xBA => word_on_ya(cpu, bus, row, WordCalculation::Load),
+        0xBB => modify(cpu, bus, row, Up),
+        0xBC => modify(cpu, bus, row, Up),
+        0xBD => mov(cpu, bus, row),
+        0xBE => put_a(cpu, row, das(cpu.a, cpu.psw)),
+        0xBF => mov(cpu, bus, row),
+        others ..0xB0 | 0xC0..
+    )
 }
 
 /// The opcodes 0xC0 to 0xCF.
 #[inline]
 fn from_c0<B: Bus>(cpu: &mut Cpu, bus: &mut B, op: u8) -> u8
     requires room { HasRoom 12 B.means bus.old }
-    requires row { op / 16 ≡ 12 }
+    requires digit { op / 16 ≡ 12 }
     requires runs { halts (row_of op).kind ≡ false }
-    ensures does { Does B.means (instruction (row_of op) cpu.old) bus.old cpu.new result bus.new }
-    ensures some { 1 ≤ result }
-    ensures few { result ≤ 12 }
-    ensures within { IsWithin 11 B.means bus.old bus.new }
+    ensures { IsInstruction B.means (row_of op) cpu.old bus.old cpu.new result bus.new }
 {
-    match op {
-        0xC0 => put_flag(cpu, fitting_row(0xC0), INTERRUPT, false),
-        0xC1 => table_call(cpu, bus, fitting_row(0xC1)),
-        0xC2 => bit_in_place(cpu, bus, fitting_row(0xC2), BitKind::Set),
-        0xC3 => branch_on_bit(cpu, bus, fitting_row(0xC3), true),
-        0xC4 => mov(cpu, bus, fitting_row(0xC4)),
-        0xC5 => mov(cpu, bus, fitting_row(0xC5)),
-        0xC6 => mov(cpu, bus, fitting_row(0xC6)),
-        0xC7 => mov(cpu, bus, fitting_row(0xC7)),
-        0xC8 => compare(cpu, bus, fitting_row(0xC8)),
-        0xC9 => mov(cpu, bus, fitting_row(0xC9)),
-        0xCA => bit_in_place(cpu, bus, fitting_row(0xCA), BitKind::Store),
-        0xCB => mov(cpu, bus, fitting_row(0xCB)),
-        0xCC => mov(cpu, bus, fitting_row(0xCC)),
-        0xCD => mov(cpu, bus, fitting_row(0xCD)),
-        0xCE => pop_register(cpu, bus, fitting_row(0xCE)),
-        0xCF => put_ya(cpu, fitting_row(0xCF), mul(cpu.y, cpu.a, cpu.psw)),
-        ..0xC0 => unreachable!(),
-        0xD0.. => unreachable!(),
-    }
+    instruction_of!(op, row,
+        0xC0 => put_flag(cpu, row, INTERRUPT, false),
+        0xC1 => table_call(cpu, bus, row),
+        0xC2 => bit_in_place(cpu, bus, row, BitKind::Set),
+        0xC3 => branch_on_bit(cpu, bus, row, true),
+        0xC4 => mov(cpu, bus, row),
+        0xC5 => mov(cpu, bus, row),
+        0xC6 => mov(cpu, bus, row),
+        0xC7 => mov(cpu, bus, row),
+        0xC8 => compare(cpu, bus, row),
+        0xC9 => mov(cpu, bus, row),
+        0xCA => bit_in_place(cpu, bus, row, BitKind::Store),
+        0xCB => mov(cpu, bus, row),
+        0xCC => mov(cpu, bus, row),
+        0xCD => mov(cpu, bus, row),
+        0xCE => pop_register(cpu, bus, row),
+        0xCF => put_ya(cpu, row, mul(cpu.y, cpu.a, cpu.psw)),
+        others ..0xC0 | 0xD0..
+    )
 }
 
 /// The opcodes 0xD0 to 0xDF.
 #[inline]
 fn from_d0<B: Bus>(cpu: &mut Cpu, bus: &mut B, op: u8) -> u8
     requires room { HasRoom 12 B.means bus.old }
-    requires row { op / 16 ≡ 13 }
+    requires digit { op / 16 ≡ 13 }
     requires runs { halts (row_of op).kind ≡ false }
-    ensures does { Does B.means (instruction (row_of op) cpu.old) bus.old cpu.new result bus.new }
-    ensures some { 1 ≤ result }
-    ensures few { result ≤ 12 }
-    ensures within { IsWithin 11 B.means bus.old bus.new }
+    ensures { IsInstruction B.means (row_of op) cpu.old bus.old cpu.new result bus.new }
 {
-    match op {
-        0xD0 => branch_on_flag(cpu, bus, fitting_row(0xD0), ZERO, false),
-        0xD1 => table_call(cpu, bus, fitting_row(0xD1)),
-        0xD2 => bit_in_place(cpu, bus, fitting_row(0xD2), BitKind::Clear),
-        0xD3 => branch_on_bit(cpu, bus, fitting_row(0xD3), false),
-        0xD4 => mov(cpu, bus, fitting_row(0xD4)),
-        0xD5 => mov(cpu, bus, fitting_row(0xD5)),
-        0xD6 => mov(cpu, bus, fitting_row(0xD6)),
-        0xD7 => mov(cpu, bus, fitting_row(0xD7)),
-        0xD8 => mov(cpu, bus, fitting_row(0xD8)),
-        0xD9 => mov(cpu, bus, fitting_row(0xD9)),
-        0xDA => move_word(cpu, bus, fitting_row(0xDA)),
-        0xDB => mov(cpu, bus, fitting_row(0xDB)),
-        0xDC => modify(cpu, bus, fitting_row(0xDC), Down),
-        0xDD => mov(cpu, bus, fitting_row(0xDD)),
-        0xDE => branch_if_different(cpu, bus, fitting_row(0xDE)),
-        0xDF => put_a(cpu, fitting_row(0xDF), daa(cpu.a, cpu.psw)),
-        ..0xD0 => unreachable!(),
-        0xE0.. => unreachable!(),
-    }
+    instruction_of!(op, row,
+        0xD0 => branch_on_flag(cpu, bus, row, ZERO, false),
+        0xD1 => table_call(cpu, bus, row),
+        0xD2 => bit_in_place(cpu, bus, row, BitKind::Clear),
+        0xD3 => branch_on_bit(cpu, bus, row, false),
+        0xD4 => mov(cpu, bus, row),
+        0xD5 => mov(cpu, bus, row),
+        0xD6 => mov(cpu, bus, row),
+        0xD7 => mov(cpu, bus, row),
+        0xD8 => mov(cpu, bus, row),
+        0xD9 => mov(cpu, bus, row),
+        0xDA => move_word(cpu, bus, row),
+        0xDB => mov(cpu, bus, row),
+        0xDC => modify(cpu, bus, row, Down),
+        0xDD => mov(cpu, bus, row),
+        0xDE => branch_if_different(cpu, bus, row),
+        0xDF => put_a(cpu, row, daa(cpu.a, cpu.psw)),
+        others ..0xD0 | 0xE0..
+    )
 }
 
 /// The opcodes 0xE0 to 0xEF.
 #[inline]
 fn from_e0<B: Bus>(cpu: &mut Cpu, bus: &mut B, op: u8) -> u8
     requires room { HasRoom 12 B.means bus.old }
-    requires row { op / 16 ≡ 14 }
+    requires digit { op / 16 ≡ 14 }
     requires runs { halts (row_of op).kind ≡ false }
-    ensures does { Does B.means (instruction (row_of op) cpu.old) bus.old cpu.new result bus.new }
-    ensures some { 1 ≤ result }
-    ensures few { result ≤ 12 }
-    ensures within { IsWithin 11 B.means bus.old bus.new }
+    ensures { IsInstruction B.means (row_of op) cpu.old bus.old cpu.new result bus.new }
 {
-    match op {
-        0xE0 => clear_overflow(cpu, fitting_row(0xE0)),
-        0xE1 => table_call(cpu, bus, fitting_row(0xE1)),
-        0xE2 => bit_in_place(cpu, bus, fitting_row(0xE2), BitKind::Set),
-        0xE3 => branch_on_bit(cpu, bus, fitting_row(0xE3), true),
-        0xE4 => mov(cpu, bus, fitting_row(0xE4)),
-        0xE5 => mov(cpu, bus, fitting_row(0xE5)),
-        0xE6 => mov(cpu, bus, fitting_row(0xE6)),
-        0xE7 => mov(cpu, bus, fitting_row(0xE7)),
-        0xE8 => mov(cpu, bus, fitting_row(0xE8)),
-        0xE9 => mov(cpu, bus, fitting_row(0xE9)),
-        0xEA => bit_in_place(cpu, bus, fitting_row(0xEA), BitKind::Not),
-        0xEB => mov(cpu, bus, fitting_row(0xEB)),
-        0xEC => mov(cpu, bus, fitting_row(0xEC)),
-        0xED => turn_carry(cpu, fitting_row(0xED)),
-        0xEE => pop_register(cpu, bus, fitting_row(0xEE)),
+    instruction_of!(op, row,
+        0xE0 => clear_overflow(cpu, row),
+        0xE1 => table_call(cpu, bus, row),
+        0xE2 => bit_in_place(cpu, bus, row, BitKind::Set),
+        0xE3 => branch_on_bit(cpu, bus, row, true),
+        0xE4 => mov(cpu, bus, row),
+        0xE5 => mov(cpu, bus, row),
+        0xE6 => mov(cpu, bus, row),
+        0xE7 => mov(cpu, bus, row),
+        0xE8 => mov(cpu, bus, row),
+        0xE9 => mov(cpu, bus, row),
+        0xEA => bit_in_place(cpu, bus, row, BitKind::Not),
+        0xEB => mov(cpu, bus, row),
+        0xEC => mov(cpu, bus, row),
+        0xED => turn_carry(cpu, row),
+        0xEE => pop_register(cpu, bus, row),
         0xEF => unreachable!(),
-        ..0xE0 => unreachable!(),
-        0xF0.. => unreachable!(),
-    }
+        others ..0xE0 | 0xF0..
+    )
 }
 
 /// The opcodes 0xF0 to 0xFF.
 #[inline]
 fn from_f0<B: Bus>(cpu: &mut Cpu, bus: &mut B, op: u8) -> u8
     requires room { HasRoom 12 B.means bus.old }
-    requires row { op / 16 ≡ 15 }
+    requires digit { op / 16 ≡ 15 }
     requires runs { halts (row_of op).kind ≡ false }
-    ensures does { Does B.means (instruction (row_of op) cpu.old) bus.old cpu.new result bus.new }
-    ensures some { 1 ≤ result }
-    ensures few { result ≤ 12 }
-    ensures within { IsWithin 11 B.means bus.old bus.new }
+    ensures { IsInstruction B.means (row_of op) cpu.old bus.old cpu.new result bus.new }
 {
-    match op {
-        0xF0 => branch_on_flag(cpu, bus, fitting_row(0xF0), ZERO, true),
-        0xF1 => table_call(cpu, bus, fitting_row(0xF1)),
-        0xF2 => bit_in_place(cpu, bus, fitting_row(0xF2), BitKind::Clear),
-        0xF3 => branch_on_bit(cpu, bus, fitting_row(0xF3), false),
-        0xF4 => mov(cpu, bus, fitting_row(0xF4)),
-        0xF5 => mov(cpu, bus, fitting_row(0xF5)),
-        0xF6 => mov(cpu, bus, fitting_row(0xF6)),
-        0xF7 => mov(cpu, bus, fitting_row(0xF7)),
-        0xF8 => mov(cpu, bus, fitting_row(0xF8)),
-        0xF9 => mov(cpu, bus, fitting_row(0xF9)),
-        0xFA => mov(cpu, bus, fitting_row(0xFA)),
-        0xFB => mov(cpu, bus, fitting_row(0xFB)),
-        0xFC => modify(cpu, bus, fitting_row(0xFC), Up),
-        0xFD => mov(cpu, bus, fitting_row(0xFD)),
-        0xFE => count_down(cpu, bus, fitting_row(0xFE)),
+    instruction_of!(op, row,
+        0xF0 => branch_on_flag(cpu, bus, row, ZERO, true),
+        0xF1 => table_call(cpu, bus, row),
+        0xF2 => bit_in_place(cpu, bus, row, BitKind::Clear),
+        0xF3 => branch_on_bit(cpu, bus, row, false),
+        0xF4 => mov(cpu, bus, row),
+        0xF5 => mov(cpu, bus, row),
+        0xF6 => mov(cpu, bus, row),
+        0xF7 => mov(cpu, bus, row),
+        0xF8 => mov(cpu, bus, row),
+        0xF9 => mov(cpu, bus, row),
+        0xFA => mov(cpu, bus, row),
+        0xFB => mov(cpu, bus, row),
+        0xFC => modify(cpu, bus, row, Up),
+        0xFD => mov(cpu, bus, row),
+        0xFE => count_down(cpu, bus, row),
         0xFF => unreachable!(),
-        ..0xF0 => unreachable!(),
-    }
+        others ..0xF0
+    )
 }
 
 /// The instruction of an opcode, once it was read, by the high digit of the opcode. It gives its cycles.
@@ -563,10 +514,7 @@ fn from_f0<B: Bus>(cpu: &mut Cpu, bus: &mut B, op: u8) -> u8
 pub fn instruct<B: Bus>(cpu: &mut Cpu, bus: &mut B, op: u8) -> u8
     requires room { HasRoom 12 B.means bus.old }
     requires runs { halts (row_of op).kind ≡ false }
-    ensures does { Does B.means (instruction (row_of op) cpu.old) bus.old cpu.new result bus.new }
-    ensures some { 1 ≤ result }
-    ensures few { result ≤ 12 }
-    ensures within { IsWithin 11 B.means bus.old bus.new }
+    ensures { IsInstruction B.means (row_of op) cpu.old bus.old cpu.new result bus.new }
 {
     match op / 16 {
         0 => from_00(cpu, bus, op),

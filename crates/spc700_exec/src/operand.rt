@@ -1,4 +1,6 @@
 //! Operands: the bytes that a form reads, the operand that it names, and the byte or word there.
+//!
+//! Everything here is inlined into the arm of its opcode, where the row is a constant: no form is told apart there at run time.
 
 ghost use Rattle.std.specs.Prelude.{◌≡◌, ◌+◌, ◌/◌, ◌%◌, ◌<◌};
 ghost use Rattle.spc700_exec.specs.Bus.{byte_read, after_read};
@@ -106,7 +108,45 @@ fn read_word_in_page<B: Bus>(bus: &mut B, at: u16) -> u16
     read_word(bus, at, next_in_its_page(at))
 }
 
-/// The operand of a bit of memory, by the word behind the opcode.
+/// The address of the direct page that the byte at PC names, and PC goes on.
+#[inline(always)]
+fn fetch_direct<B: Bus>(cpu: &mut Cpu, bus: &mut B) -> u16
+    requires { HasRoom 1 B.means bus.old }
+    ensures at { result ≡ direct cpu.old (byte_read B.means cpu.old.pc bus.old) }
+    ensures bus { bus.new ≡ after_read B.means cpu.old.pc bus.old }
+    ensures cpu { cpu.new ≡ with_next_pc cpu.old }
+    ensures within { IsWithin 1 B.means bus.old bus.new }
+{
+    let d = fetch(cpu, bus);
+    direct_address(cpu, d)
+}
+
+/// The same with an index, by which the address lies further on in its page, which wraps.
+#[inline(always)]
+fn fetch_direct_indexed<B: Bus>(cpu: &mut Cpu, bus: &mut B, index: u8) -> u16
+    requires { HasRoom 1 B.means bus.old }
+    ensures at { result ≡ direct cpu.old (byte_read B.means cpu.old.pc bus.old + index) }
+    ensures bus { bus.new ≡ after_read B.means cpu.old.pc bus.old }
+    ensures cpu { cpu.new ≡ with_next_pc cpu.old }
+    ensures within { IsWithin 1 B.means bus.old bus.new }
+{
+    let d = fetch(cpu, bus);
+    direct_address(cpu, d.wrapping_add(index))
+}
+
+/// The address that lies an index further on than the word at PC, and PC goes on.
+#[inline(always)]
+fn fetch_word_indexed<B: Bus>(cpu: &mut Cpu, bus: &mut B, index: u8) -> u16
+    requires { HasRoom 2 B.means bus.old }
+    ensures at { result ≡ (word_read B.means cpu.old.pc ((cpu.old.pc + 1) % 0x10000) bus.old + index) % 0x10000 }
+    ensures bus { bus.new ≡ after_word B.means cpu.old.pc ((cpu.old.pc + 1) % 0x10000) bus.old }
+    ensures cpu { cpu.new ≡ with_next_pc (with_next_pc cpu.old) }
+    ensures within { IsWithin 2 B.means bus.old bus.new }
+{
+    fetch_word(cpu, bus).wrapping_add(u16::from(index))
+}
+
+/// The operand of a bit of memory, by the word after the opcode.
 #[inline(always)]
 fn bit_operand(m: u16) -> Operand
     ensures operand { result ≡ Operand.BitAt (m % 0x2000) (m / 0x2000) }
@@ -124,6 +164,7 @@ pub fn address<B: Bus>(cpu: &mut Cpu, bus: &mut B, form: Form) -> Operand
     ensures fits { OperandFits result }
     ensures within { IsWithin 4 B.means bus.old bus.new }
 {
+    let (x, y) = (cpu.x, cpu.y);
     match form {
         Form::A => Operand::A,
         Form::X => Operand::X,
@@ -132,55 +173,34 @@ pub fn address<B: Bus>(cpu: &mut Cpu, bus: &mut B, form: Form) -> Operand
         Form::Psw => Operand::Psw,
         Form::Ya | Form::Carry | Form::None => Operand::Implied,
         Form::Imm | Form::Rel => Operand::Value(fetch(cpu, bus)),
-        Form::Direct => {
-            let d = fetch(cpu, bus);
-            Operand::At(direct_address(cpu, d))
-        }
-        Form::DirectX => {
-            let d = fetch(cpu, bus);
-            Operand::At(direct_address(cpu, d.wrapping_add(cpu.x)))
-        }
-        Form::DirectY => {
-            let d = fetch(cpu, bus);
-            Operand::At(direct_address(cpu, d.wrapping_add(cpu.y)))
-        }
+        Form::Direct => Operand::At(fetch_direct(cpu, bus)),
+        Form::DirectX => Operand::At(fetch_direct_indexed(cpu, bus, x)),
+        Form::DirectY => Operand::At(fetch_direct_indexed(cpu, bus, y)),
+        Form::DirectBit(bit) => Operand::BitAt(fetch_direct(cpu, bus), bit),
+        Form::Upper => Operand::At(0xff00 + u16::from(fetch(cpu, bus))),
         Form::Abs => Operand::At(fetch_word(cpu, bus)),
-        Form::AbsX => {
-            let a = fetch_word(cpu, bus);
-            Operand::At(a.wrapping_add(cpu.x as u16))
-        }
-        Form::AbsY => {
-            let a = fetch_word(cpu, bus);
-            Operand::At(a.wrapping_add(cpu.y as u16))
-        }
-        Form::PtrX => Operand::At(direct_address(cpu, cpu.x)),
-        Form::PtrY => Operand::At(direct_address(cpu, cpu.y)),
+        Form::AbsX => Operand::At(fetch_word_indexed(cpu, bus, x)),
+        Form::AbsY => Operand::At(fetch_word_indexed(cpu, bus, y)),
+        Form::Bit | Form::NotBit => bit_operand(fetch_word(cpu, bus)),
+        Form::PtrX => Operand::At(direct_address(cpu, x)),
+        Form::PtrY => Operand::At(direct_address(cpu, y)),
         Form::PtrXInc => {
-            let at = direct_address(cpu, cpu.x);
-            cpu.x = cpu.x.wrapping_add(1);
-            Operand::At(at)
+            cpu.x = x.wrapping_add(1);
+            Operand::At(direct_address(cpu, x))
         }
         Form::IndX => {
-            let d = fetch(cpu, bus);
-            let pointer = direct_address(cpu, d.wrapping_add(cpu.x));
+            let pointer = fetch_direct_indexed(cpu, bus, x);
             Operand::At(read_word_in_page(bus, pointer))
         }
         Form::IndY => {
-            let d = fetch(cpu, bus);
-            let pointer = direct_address(cpu, d);
-            Operand::At(read_word_in_page(bus, pointer).wrapping_add(cpu.y as u16))
+            let pointer = fetch_direct(cpu, bus);
+            Operand::At(read_word_in_page(bus, pointer).wrapping_add(u16::from(y)))
         }
         Form::AbsPtrX => {
-            let pointer = fetch_word(cpu, bus).wrapping_add(cpu.x as u16);
+            let pointer = fetch_word_indexed(cpu, bus, x);
             Operand::At(read_word(bus, pointer, pointer.wrapping_add(1)))
         }
-        Form::Bit | Form::NotBit => bit_operand(fetch_word(cpu, bus)),
-        Form::DirectBit(bit) => {
-            let d = fetch(cpu, bus);
-            Operand::BitAt(direct_address(cpu, d), bit)
-        }
-        Form::Upper => Operand::At(0xff00 + fetch(cpu, bus) as u16),
-        Form::Table(n) => Operand::At(0xffde - 2 * n as u16),
+        Form::Table(n) => Operand::At(0xffde - 2 * u16::from(n)),
     }
 }
 

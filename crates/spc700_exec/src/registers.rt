@@ -1,4 +1,6 @@
 //! The instructions on registers alone. Each gives its cycles.
+//!
+//! Everything here is inlined into the arm of its opcode, where the row is a constant: no form is told apart there at run time.
 
 ghost use Rattle.std.specs.Prelude.{◌≡◌, not, false};
 ghost use Rattle.spc700_alu.specs.Flags.{V, H, C, flag, with_flag};
@@ -69,6 +71,16 @@ pub fn put_a(cpu: &mut Cpu, row: OpRow, out: Out8) -> u8
     row.cycles
 }
 
+/// Y and A are the bytes of a word, the high one first, and the status is its own.
+#[inline(always)]
+pub fn set_ya(cpu: &mut Cpu, out: Out16)
+    ensures { cpu.new ≡ with_ya out cpu.old }
+{
+    cpu.y = (out.value / 0x100) as u8;
+    cpu.a = (out.value % 0x100) as u8;
+    cpu.psw = out.psw;
+}
+
 /// MUL and DIV: a new YA and status.
 #[inline(always)]
 pub fn put_ya(cpu: &mut Cpu, row: OpRow, out: Out16) -> u8
@@ -77,8 +89,6 @@ pub fn put_ya(cpu: &mut Cpu, row: OpRow, out: Out16) -> u8
     ensures cycles { result ≡ row.cycles }
     ensures time { IsTime row result }
 {
-    cpu.y = (out.value / 0x100) as u8;
-    cpu.a = (out.value % 0x100) as u8;
-    cpu.psw = out.psw;
+    set_ya(cpu, out);
     row.cycles
 }

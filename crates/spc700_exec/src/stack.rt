@@ -1,8 +1,11 @@
 //! The stack: page 1, downwards.
+//!
+//! Everything here is inlined into the arm of its opcode, where the row is a constant: no form is told apart there at run time.
 
 ghost use Rattle.std.specs.Prelude.{◌≡◌, ◌+◌, ◌-◌, ◌/◌, ◌%◌};
 ghost use Rattle.spc700_exec.specs.Bus.{byte_read, after_read, after_write};
-ghost use Rattle.spc700_exec.specs.Pieces.{HasRoom, IsWithin, word_read, after_word};
+ghost use Rattle.spc700_exec.specs.Operands.{sp_after_push, sp_after_pop};
+ghost use Rattle.spc700_exec.specs.Pieces.{HasRoom, IsWithin, word_read, after_word, after_word_push};
 
 use crate::access::{read, write};
 use crate::bus::Bus;
@@ -13,7 +16,7 @@ use crate::cpu::Cpu;
 pub fn push<B: Bus>(cpu: &mut Cpu, bus: &mut B, value: u8)
     requires { HasRoom 1 B.means bus.old }
     ensures bus { bus.new ≡ after_write B.means (0x100 + cpu.old.sp) value bus.old }
-    ensures cpu { cpu.new ≡ record cpu.old { sp = (cpu.old.sp + 0x100 - 1) % 0x100 } }
+    ensures cpu { cpu.new ≡ record cpu.old { sp = sp_after_push cpu.old.sp } }
     ensures within { IsWithin 1 B.means bus.old bus.new }
 {
     write(bus, 0x100 + cpu.sp as u16, value);
@@ -24,8 +27,8 @@ pub fn push<B: Bus>(cpu: &mut Cpu, bus: &mut B, value: u8)
 #[inline(always)]
 pub fn push_word<B: Bus>(cpu: &mut Cpu, bus: &mut B, value: u16)
     requires { HasRoom 2 B.means bus.old }
-    ensures bus { let first = after_write B.means (0x100 + cpu.old.sp) (value / 0x100) bus.old in bus.new ≡ after_write B.means (0x100 + (cpu.old.sp + 0x100 - 1) % 0x100) (value % 0x100) first }
-    ensures cpu { cpu.new ≡ record cpu.old { sp = ((cpu.old.sp + 0x100 - 1) % 0x100 + 0x100 - 1) % 0x100 } }
+    ensures bus { bus.new ≡ after_word_push B.means cpu.old.sp value bus.old }
+    ensures cpu { cpu.new ≡ record cpu.old { sp = sp_after_push (sp_after_push cpu.old.sp) } }
     ensures within { IsWithin 2 B.means bus.old bus.new }
 {
     push(cpu, bus, (value / 0x100) as u8);
@@ -36,9 +39,9 @@ pub fn push_word<B: Bus>(cpu: &mut Cpu, bus: &mut B, value: u16)
 #[inline(always)]
 pub fn pop<B: Bus>(cpu: &mut Cpu, bus: &mut B) -> u8
     requires { HasRoom 1 B.means bus.old }
-    ensures byte { result ≡ byte_read B.means (0x100 + (cpu.old.sp + 1) % 0x100) bus.old }
-    ensures bus { bus.new ≡ after_read B.means (0x100 + (cpu.old.sp + 1) % 0x100) bus.old }
-    ensures cpu { cpu.new ≡ record cpu.old { sp = (cpu.old.sp + 1) % 0x100 } }
+    ensures byte { result ≡ byte_read B.means (0x100 + sp_after_pop cpu.old.sp) bus.old }
+    ensures bus { bus.new ≡ after_read B.means (0x100 + sp_after_pop cpu.old.sp) bus.old }
+    ensures cpu { cpu.new ≡ record cpu.old { sp = sp_after_pop cpu.old.sp } }
     ensures within { IsWithin 1 B.means bus.old bus.new }
 {
     cpu.sp = cpu.sp.wrapping_add(1);
@@ -49,9 +52,9 @@ pub fn pop<B: Bus>(cpu: &mut Cpu, bus: &mut B) -> u8
 #[inline(always)]
 pub fn pop_word<B: Bus>(cpu: &mut Cpu, bus: &mut B) -> u16
     requires { HasRoom 2 B.means bus.old }
-    ensures word { let sp = (cpu.old.sp + 1) % 0x100 in result ≡ word_read B.means (0x100 + sp) (0x100 + (sp + 1) % 0x100) bus.old }
-    ensures bus { let sp = (cpu.old.sp + 1) % 0x100 in bus.new ≡ after_word B.means (0x100 + sp) (0x100 + (sp + 1) % 0x100) bus.old }
-    ensures cpu { cpu.new ≡ record cpu.old { sp = ((cpu.old.sp + 1) % 0x100 + 1) % 0x100 } }
+    ensures word { let sp = sp_after_pop cpu.old.sp in result ≡ word_read B.means (0x100 + sp) (0x100 + sp_after_pop sp) bus.old }
+    ensures bus { let sp = sp_after_pop cpu.old.sp in bus.new ≡ after_word B.means (0x100 + sp) (0x100 + sp_after_pop sp) bus.old }
+    ensures cpu { cpu.new ≡ record cpu.old { sp = sp_after_pop (sp_after_pop cpu.old.sp) } }
     ensures within { IsWithin 2 B.means bus.old bus.new }
 {
     let low = pop(cpu, bus);

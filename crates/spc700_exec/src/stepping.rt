@@ -1,9 +1,11 @@
 //! The step of the processor.
+//!
+//! Its parts are inlined: what a bus passes and how many cycles are left is then known at each arm.
 
 ghost use Rattle.std.specs.Prelude.{◌≡◌, ◌+◌, ◌-◌, ◌%◌, ◌<◌, ◌≤◌};
 ghost use Rattle.spc700_exec.specs.Script.{after_rest};
 ghost use Rattle.spc700_exec.specs.Instruction.{script, step_outcome};
-ghost use Rattle.spc700_exec.specs.Pieces.{HasRoom, IsWithin, outcome_by_clock};
+ghost use Rattle.spc700_exec.specs.Pieces.{HasRoom, IsWithin, DoesFromHere};
 
 use crate::bus::Bus;
 use crate::cpu::Cpu;
@@ -16,7 +18,7 @@ use crate::operand::fetch;
 fn advance<B: Bus>(cpu: &mut Cpu, bus: &mut B, left: u8) -> u8
     requires room { HasRoom 13 B.means bus.old }
     requires left { left ≡ 32 - B.means.clock bus.old % 32 }
-    ensures does { outcome_by_clock B.means (B.means.clock bus.old) (script cpu.old) bus.old ≡ (cpu.new, after_rest B.means result (B.means.clock bus.new - B.means.clock bus.old) bus.new) }
+    ensures does { DoesFromHere B.means (script cpu.old) bus.old cpu.new result bus.new }
     ensures some { 1 ≤ result }
     ensures few { result ≤ 32 }
     ensures within { IsWithin 12 B.means bus.old bus.new }

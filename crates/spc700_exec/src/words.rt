@@ -1,21 +1,24 @@
 //! The instructions on words. Each gives its cycles.
+//!
+//! Everything here is inlined into the arm of its opcode, where the row is a constant: no form is told apart there at run time.
 
 ghost use Rattle.std.specs.Prelude.{◌≡◌, ℕ, ◌+◌, ◌-◌, ◌%◌};
 ghost use Rattle.spc700_exec.specs.Operations.{ya};
-ghost use Rattle.spc700_exec.specs.Lines.{with_ya, word_on_ya_line, word_store_line, word_modify_line};
-ghost use Rattle.spc700_exec.specs.Combinations.{word_combination};
+ghost use Rattle.spc700_exec.specs.Lines.{word_on_ya_line, word_store_line, word_modify_line};
+ghost use Rattle.spc700_exec.specs.Calculations.{word_calculation};
 ghost use Rattle.spc700_exec.specs.Pieces.{HasRoom, IsWithin, Does, IsRow, IsTime};
 
 use crate::bus::Bus;
 use crate::cpu::Cpu;
 use crate::operand::{address, load_word, store_word};
+use crate::registers::set_ya;
 use spc700_alu::flags::put_nz16;
 use spc700_alu::{Out16, addw, cmpw, subw};
 use spc700_table::OpRow;
 
 /// What YA and a word are combined by.
 #[derive(Clone, Copy, Debug, PartialEq, Eq)]
-pub enum WordCombination {
+pub enum WordCalculation {
     /// MOVW: the word itself.
     Load,
     /// ADDW.
@@ -28,17 +31,17 @@ pub enum WordCombination {
 
 /// YA and the word combined, and the status.
 #[inline(always)]
-fn combined(kind: WordCombination, ya: u16, w: u16, psw: u8) -> Out16
-    ensures { result ≡ word_combination kind ya w psw }
+fn word_result(kind: WordCalculation, ya: u16, w: u16, psw: u8) -> Out16
+    ensures { result ≡ word_calculation kind ya w psw }
 {
     match kind {
-        WordCombination::Load => Out16 {
+        WordCalculation::Load => Out16 {
             value: w,
             psw: put_nz16(psw, w),
         },
-        WordCombination::Add => addw(ya, w, psw),
-        WordCombination::Subtract => subw(ya, w, psw),
-        WordCombination::Compare => Out16 {
+        WordCalculation::Add => addw(ya, w, psw),
+        WordCalculation::Subtract => subw(ya, w, psw),
+        WordCalculation::Compare => Out16 {
             value: ya,
             psw: cmpw(ya, w, psw),
         },
@@ -53,29 +56,19 @@ pub fn word(cpu: &Cpu) -> u16
     0x100 * cpu.y as u16 + cpu.a as u16
 }
 
-/// Puts a word into Y and A, and its status.
-#[inline(always)]
-pub fn put_word(cpu: &mut Cpu, out: Out16)
-    ensures { cpu.new ≡ with_ya out cpu.old }
-{
-    cpu.y = (out.value / 0x100) as u8;
-    cpu.a = (out.value % 0x100) as u8;
-    cpu.psw = out.psw;
-}
-
 /// MOVW YA,d, ADDW, SUBW and CMPW.
 #[inline(always)]
-pub fn word_on_ya<B: Bus>(cpu: &mut Cpu, bus: &mut B, row: OpRow, kind: WordCombination) -> u8
+pub fn word_on_ya<B: Bus>(cpu: &mut Cpu, bus: &mut B, row: OpRow, kind: WordCalculation) -> u8
     requires room { HasRoom 12 B.means bus.old }
     requires row { IsRow row }
-    ensures does { Does B.means (word_on_ya_line (word_combination kind) row cpu.old) bus.old cpu.new result bus.new }
+    ensures does { Does B.means (word_on_ya_line (word_calculation kind) row cpu.old) bus.old cpu.new result bus.new }
     ensures time { IsTime row result }
     ensures within { IsWithin 11 B.means bus.old bus.new }
 {
     let operand = address(cpu, bus, row.second);
     let w = load_word(bus, operand);
-    let out = combined(kind, word(cpu), w, cpu.psw);
-    put_word(cpu, out);
+    let out = word_result(kind, word(cpu), w, cpu.psw);
+    set_ya(cpu, out);
     row.cycles
 }
 

@@ -146,7 +146,17 @@ columns = x0 ∷ x1 ∷ x2 ∷ x3 ∷ x4 ∷ x5 ∷ x6 ∷ x7 ∷ x8 ∷ x9 ∷ 
 unfoldable pub row_of : ℕ → OpRow
 row_of opcode = slice_index_or (slice_index_or columns (opcode % 16) []) (opcode / 16) (op0 Nop) (printed_cycles opcode)
 
--- how many bytes an operand of a form has behind the opcode
+-- the distance of a branch
+abbrev pub is_distance : Form → Bool
+is_distance Rel = true
+is_distance _ = false
+
+-- Whether the bytes of an instruction's operands stand in the order of its text, the first operand's before the second's: they do
+-- where the second is a distance, which comes last. Else the second's, the source's, stand before the first's.
+abbrev pub is_in_text_order : OpRow → Bool
+is_in_text_order row = is_distance row.second
+
+-- how many bytes an operand of a form has after the opcode
 abbrev pub operand_bytes : Form → ℕ
 operand_bytes Imm = 1
 operand_bytes Direct = 1

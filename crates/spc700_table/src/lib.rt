@@ -6,7 +6,7 @@ mod rows;
 mod tests;
 
 ghost use Rattle.std.specs.Prelude.{◌≡◌, ◌≤◌};
-ghost use Rattle.spc700_table.specs.Opcodes.{row_of, length_of, operand_bytes};
+ghost use Rattle.spc700_table.specs.Opcodes.{row_of, length_of, operand_bytes, is_in_text_order};
 
 use rows::ROWS;
 
@@ -229,8 +229,16 @@ pub fn row(op: u8) -> OpRow
     ROWS[op as usize]
 }
 
-/// How many bytes an operand has behind the opcode.
-fn byte_count(form: Form) -> u8
+/// Whether the bytes of an instruction's operands stand in the order of its text, the first operand's before the second's.
+/// They do where the second is the distance of a branch; elsewhere the second's stand before the first's.
+pub fn is_in_text_order(row: &OpRow) -> bool
+    ensures { result ≡ is_in_text_order row.now }
+{
+    matches!(row.second, Form::Rel)
+}
+
+/// How many bytes an operand has after the opcode: 0 to 2.
+pub fn byte_count(form: Form) -> u8
     ensures count { result ≡ operand_bytes form }
     ensures few { result ≤ 2 }
 {
@@ -260,7 +268,7 @@ fn byte_count(form: Form) -> u8
     }
 }
 
-/// How many bytes the instruction of an opcode has, the opcode among them.
+/// How many bytes the instruction of an opcode has, the opcode among them: 1 to 3.
 pub fn length(op: u8) -> u8
     ensures length { result ≡ length_of op }
     ensures least { 1 ≤ result }

@@ -1,24 +1,21 @@
-use Rattle.std.proofs.Common.{◌≡◌, ◌+◌, ℕ, refl, sym, ap, ◌∙◌, rules, arith, Some}
-use Rattle.spc700_exec.specs.declared.cpu.Cpu.{Cpu}
-use Rattle.idle_rounds.specs.Looking.{looked_steps}
-use Rattle.idle_rounds.proofs.Trials.{looked_steps-none, looked_steps-more}
+use Rattle.std.proofs.Common.{◌≡◌, ◌+◌, ◌∙◌, rules, arith, Some}
+use Rattle.idle_rounds.proofs.Trials.{look_of_steps-none, look_of_steps-more}
 use Rattle.idle_rounds.proofs.trial.try_round.Goals as goal
 
 pub steps-init : goal.steps-init
-steps-init g c = record { round = looked_steps-none _ _; few = omega arith; some = omega arith }
+steps-init g c = record { round = look_of_steps-none _ _; few = omega arith; some = omega arith }
 
 pub returns-then-eq-clause-round : goal.returns-then-eq-clause-round
 returns-then-eq-clause-round g c =
-    let same : c.try_step.new.cpu ≡ c.args.cpu.now = search rules in
-    (
+    let same : c.try_step.new.cpu ≡ c.args.cpu.now = search rules in (
       c.steps.counter + 1,
-      rw c.from-cycles.ensures (looked_steps-more (g.L.Looks.sees c.args.looks.now) c.steps.counter c.args.cpu.now c.steps.now c.try_step.new.cpu c.steps.cycles c.in-Some.more c.steps.invariant.round c.in-Some.ensures.step
-      ∙ (λ i. Some (same i, c.steps.cycles + c.in-Some.more))),
+      rw c.from-cycles.ensures (look_of_steps-more (g.L.Looks.sees c.args.looks.now) c.steps.counter c.args.cpu.now c.steps.now c.try_step.new.cpu c.steps.cycles c.in-Some.more c.steps.invariant.round c.in-Some.ensures.step
+          ∙ (λ i. Some (same i, c.steps.cycles + c.in-Some.more))),
     )
 
 pub steps-preserved : goal.steps-preserved
 steps-preserved g c = record {
-  round = rw c.from-cycles.ensures (looked_steps-more (g.L.Looks.sees c.args.looks.now) c.steps.counter c.args.cpu.now c.steps.now c.try_step.new.cpu c.steps.cycles c.in-Some.more c.steps.invariant.round c.in-Some.ensures.step);
+  round = rw c.from-cycles.ensures (look_of_steps-more (g.L.Looks.sees c.args.looks.now) c.steps.counter c.args.cpu.now c.steps.now c.try_step.new.cpu c.steps.cycles c.in-Some.more c.steps.invariant.round c.in-Some.ensures.step);
   few = omega (arith, c.from-cycles.ensures, c.in-Some.ensures.few, c.steps.invariant.few);
   some = omega (arith, c.from-cycles.ensures, c.in-Some.ensures.few, c.steps.invariant.some);
 }

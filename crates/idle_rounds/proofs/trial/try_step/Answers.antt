@@ -1,11 +1,11 @@
 use Rattle.std.proofs.Common.{◌≡◌, false, true, refl, sym, ap, ◌∙◌, rules, Some}
 use Rattle.idle_rounds.specs.Looking.{Look}
-use Rattle.idle_rounds.proofs.Trials.{looked-step}
+use Rattle.idle_rounds.proofs.Trials.{look_of_script-step}
 use Rattle.idle_rounds.proofs.trial.try_step.Goals as goal
 
 pub returns-then-not-cpu-clause-step : goal.returns-then-not-cpu-clause-step
 returns-then-not-cpu-clause-step g c =
     let idle : c.step.new.bus.idle ≡ true = sym (ap (λ (t : Look g.row.L.Denot). t.idle) c.trial.view_is) ∙ c.if-trial.true in
     let runs : c.step.new.cpu.halted ≡ false = search rules in
-    looked-step g.L.Looks.sees c.args.cpu.now c.step.new.cpu _ c.step.new.bus c.step.ensures.does refl idle runs
+    look_of_script-step g.L.Looks.sees c.args.cpu.now c.step.new.cpu _ c.step.new.bus c.step.ensures.does refl idle runs
     ∙ (λ i. Some (c.step.new.cpu, (sym c.trial.view_is i).clock))

@@ -1,22 +1,24 @@
-use Rattle.std.proofs.Common.{ap, sym, ◌∙◌}
+use Rattle.std.proofs.Common.{ap, sym, ◌∙◌, rules}
 use Rattle.spc700_table.specs.Opcodes.{row_of, columns}
 use Rattle.spc700_table.specs.Cycles.{printed_cycles, cycle_map}
 use Rattle.spc700_alu.specs.declared.bits.BitKind.TheVariants.{Clear}
 use Rattle.spc700_exec.specs.Instruction.{instruction}
-use Rattle.spc700_exec.specs.Lines.{table_call_line, bit_in_place_line}
+use Rattle.spc700_exec.specs.Lines.{bit_in_place_line}
 use Rattle.spc700_exec.specs.Pieces.{outcome_by_clock}
+use Rattle.spc700_exec.proofs.Table.{IsTime-bounds}
 use Rattle.spc700_exec.proofs.opcodes.from_90.Goals as goal
 
-pub returns-in-145-clause-does : goal.returns-in-145-clause-does
+pub returns-in-146 : goal.returns-in-146
 unfolding row_of columns printed_cycles cycle_map
-returns-in-145-clause-does g c = λ start.
-    ap (λ op. outcome_by_clock g.B.Bus.means start (instruction (row_of op) c.args.cpu.now) c.args.bus.now) c.in-145.is
-    ∙ ap (λ row. outcome_by_clock g.B.Bus.means start (table_call_line row c.args.cpu.now) c.args.bus.now) (sym c.fitting_row-in-145.ensures.row)
-    ∙ c.table_call.ensures.does start
-
-pub returns-in-146-clause-does : goal.returns-in-146-clause-does
-unfolding row_of columns printed_cycles cycle_map
-returns-in-146-clause-does g c = λ start.
-    ap (λ op. outcome_by_clock g.B.Bus.means start (instruction (row_of op) c.args.cpu.now) c.args.bus.now) c.in-146.is
-    ∙ ap (λ row. outcome_by_clock g.B.Bus.means start (bit_in_place_line Clear row c.args.cpu.now) c.args.bus.now) (sym c.fitting_row-in-146.ensures.row)
-    ∙ c.bit_in_place.ensures.does start
+returns-in-146 g c =
+    let fits = c.fitting_row-row-in-146.ensures.fits (search rules) in
+    let bounds = IsTime-bounds _ _ fits c.bit_in_place.ensures.time in
+    record {
+      does = λ start.
+          ap (λ op. outcome_by_clock g.B.Bus.means start (instruction (row_of op) c.args.cpu.now) c.args.bus.now) c.in-146.is
+          ∙ ap (λ row. outcome_by_clock g.B.Bus.means start (bit_in_place_line Clear row c.args.cpu.now) c.args.bus.now) (sym c.fitting_row-row-in-146.ensures.row)
+          ∙ c.bit_in_place.ensures.does start;
+      some = bounds.0;
+      few = bounds.1;
+      within = c.bit_in_place.ensures.within;
+    }

@@ -1,0 +1,10 @@
+use Rattle.std.proofs.Common.{◌≡◌, length}
+use Rattle.std.specs.Prelude.{reverse}
+use Rattle.spc700_asm.specs.Characters.{without_first_blanks}
+use Rattle.spc700_asm.proofs.characters.without_last_blanks.Given as goal
+
+abbrev pub invariant-blanks : goal.invariant-blanks
+invariant-blanks l = without_first_blanks (reverse l.rest) ≡ without_first_blanks (reverse l.text)
+
+abbrev pub decreases-blanks : goal.decreases-blanks
+decreases-blanks l = length l.rest

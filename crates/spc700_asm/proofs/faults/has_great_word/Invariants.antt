@@ -1,0 +1,17 @@
+use Rattle.std.proofs.Common.{◌≡◌, [], map}
+use Rattle.std.specs.Prelude.{IsSome, option_copied, unwrap_or}
+use Rattle.std.specs.List.{list_any}
+use Rattle.spc700_asm.specs.Characters.{trim}
+use Rattle.spc700_asm.specs.Operands.{written_of, is_above}
+use Rattle.spc700_asm.specs.Statements.{all_of, items_of}
+use Rattle.spc700_asm.specs.Seen.{parts_left, length_left}
+use Rattle.spc700_asm.proofs.faults.has_great_word.Given as goal
+
+abbrev pub invariant-items : goal.invariant-items
+invariant-items l = record {
+  items : IsSome (all_of written_of (map trim (parts_left 44 (option_copied l.rest))));
+  great : list_any (is_above 0xFFFF) (unwrap_or (all_of written_of (map trim (parts_left 44 (option_copied l.rest)))) []) ≡ list_any (is_above 0xFFFF) (unwrap_or (all_of written_of (items_of l.items)) []);
+}
+
+abbrev pub decreases-items : goal.decreases-items
+decreases-items l = length_left (option_copied l.rest)

@@ -1,0 +1,72 @@
+-- Blanks, names and numbers in a source (own).
+use Rattle.std.specs.Prelude.{ℕ, ◌+◌, ◌*◌, ◌-◌, ◌==◌, ◌&&◌, ◌||◌, not, nat_lt, nat_le, Bool, List, [], ◌∷◌, length, slice_index, reverse, map, Option, Some, None, option_and_then, if◌then◌else◌}
+use Rattle.std.specs.List.{list_all}
+use Rattle.std.specs.Char.{is_ascii_digit, is_ascii_alphanumeric, to_ascii_uppercase}
+use Rattle.std.specs.Str.{byte}
+use Rattle.hex.specs.Hex.{hex_digit_value}
+
+-- a blank: a space, a tab or a carriage return
+abbrev pub is_blank : ℕ → Bool
+is_blank character = (character == 32) || ((character == 9) || (character == 13))
+
+abbrev pub is_line_feed : ℕ → Bool
+is_line_feed character = character == byte "\n"
+
+abbrev pub is_semicolon : ℕ → Bool
+is_semicolon character = character == byte ";"
+
+abbrev pub is_colon : ℕ → Bool
+is_colon character = character == byte ":"
+
+abbrev pub is_comma : ℕ → Bool
+is_comma character = character == byte ","
+
+abbrev pub is_dollar : ℕ → Bool
+is_dollar character = character == byte "$"
+
+abbrev pub is_point : ℕ → Bool
+is_point character = character == byte "."
+
+-- a text without the blanks that it begins with
+abbrev pub without_first_blanks : List ℕ → List ℕ
+without_first_blanks [] = []
+without_first_blanks (character ∷ characters) = if is_blank character then without_first_blanks characters else character ∷ characters
+
+-- without the blanks at both ends
+unfoldable pub trim : List ℕ → List ℕ
+trim text = reverse (without_first_blanks (reverse (without_first_blanks text)))
+
+-- letters in capitals
+abbrev pub capitals : List ℕ → List ℕ
+capitals text = map to_ascii_uppercase text
+
+-- a letter, a digit or `_`
+abbrev pub is_name_character : ℕ → Bool
+is_name_character character = is_ascii_alphanumeric character || (character == byte "_")
+
+-- a name: 1 to 32 such characters, the first no digit
+unfoldable pub is_name : List ℕ → Bool
+is_name text =
+    nat_lt 0 (length text) && (nat_le (length text) 32 && (not (is_ascii_digit (slice_index text 0)) && list_all is_name_character text))
+
+-- the value of a decimal digit
+abbrev pub decimal_digit_value : ℕ → Option ℕ
+decimal_digit_value character = if is_ascii_digit character then Some (character - 48) else None
+
+-- the number of digits to a base, after a number of digits before them
+abbrev pub number_of_digits : (base : ℕ) → (digit_value : ℕ → Option ℕ) → (number : ℕ) → List ℕ → Option ℕ
+number_of_digits base digit_value number [] = Some number
+number_of_digits base digit_value number (character ∷ characters) =
+    option_and_then (λ digit. number_of_digits base digit_value (number * base + digit) characters) (digit_value character)
+
+-- a number of 1 to so many digits
+abbrev pub number_within : (most base : ℕ) → (digit_value : ℕ → Option ℕ) → List ℕ → Option ℕ
+number_within most base digit_value digits =
+    if nat_lt 0 (length digits) && nat_le (length digits) most then number_of_digits base digit_value 0 digits else None
+
+-- a number: `$` and 1 to 4 hexadecimal digits, or 1 to 5 decimal digits
+unfoldable pub number_of : List ℕ → Option ℕ
+number_of [] = None
+number_of (character ∷ characters) =
+    if is_dollar character then number_within 4 16 hex_digit_value characters
+    else number_within 5 10 decimal_digit_value (character ∷ characters)

@@ -1,0 +1,175 @@
+//! Blanks, names and numbers in a source.
+ghost use Rattle.std.specs.Prelude.{◌≡◌, ◌+◌, ◌*◌, ◌<◌, ◌≤◌, ◌==◌, ◌^◌, length, position, reverse, map, IfSome};
+ghost use Rattle.std.specs.List.{before_first, after_first, list_all};
+ghost use Rattle.std.specs.Str.{bytes_eq};
+ghost use Rattle.hex.specs.Hex.{hex_digit_value};
+ghost use Rattle.spc700_asm.specs.Characters.{is_blank, is_semicolon, is_name_character, is_name, trim, without_first_blanks, capitals, decimal_digit_value, number_of_digits, number_within, number_of};
+
+/// A blank: a space, a tab or a carriage return.
+pub fn is_blank(character: u8) -> bool
+    ensures { result ≡ is_blank character }
+{
+    character == b' ' || character == b'\t' || character == b'\r'
+}
+
+/// A text without the blanks that it begins with.
+fn without_first_blanks(text: &[u8]) -> &[u8]
+    ensures { result.now ≡ without_first_blanks text.now }
+{
+    let mut rest = text;
+    'blanks: while let [first, after @ ..] = rest {
+        if !is_blank(*first) {
+            break;
+        }
+        rest = after;
+    }
+    rest
+}
+
+/// A text without the blanks that it ends with.
+fn without_last_blanks(text: &[u8]) -> &[u8]
+    ensures { result.now ≡ reverse (without_first_blanks (reverse text.now)) }
+{
+    let mut rest = text;
+    'blanks: while let [before @ .., last] = rest {
+        if !is_blank(*last) {
+            break;
+        }
+        rest = before;
+    }
+    rest
+}
+
+/// A text without the blanks at both ends.
+#[tactic(auto, unfolding(crate::specs::Characters::trim))]
+pub fn trim(text: &[u8]) -> &[u8]
+    ensures { result.now ≡ trim text.now }
+{
+    without_last_blanks(without_first_blanks(text))
+}
+
+/// The place of the first such character.
+pub fn place_of(character: u8, text: &[u8]) -> Option<usize>
+    ensures place { result ≡ position (λ other. other == character) text.now }
+    ensures inside { IfSome result (λ place. place < length text.now) }
+{
+    text.iter().position(|other| *other == character)
+}
+
+/// The place of the first blank.
+pub fn blank_place(text: &[u8]) -> Option<usize>
+    ensures place { result ≡ position is_blank text.now }
+    ensures inside { IfSome result (λ place. place < length text.now) }
+{
+    text.iter().position(|character| is_blank(*character))
+}
+
+/// A letter, a digit or `_`.
+pub fn is_name_character(character: u8) -> bool
+    ensures { result ≡ is_name_character character }
+{
+    character.is_ascii_alphanumeric() || character == b'_'
+}
+
+/// Whether there is no other character.
+fn are_name_characters(text: &[u8]) -> bool
+    ensures { result ≡ list_all is_name_character text.now }
+{
+    text.iter().all(|character| is_name_character(*character))
+}
+
+/// Whether a text is a name.
+#[tactic(auto, unfolding(crate::specs::Characters::is_name))]
+pub fn is_name(text: &[u8]) -> bool
+    ensures { result ≡ is_name text.now }
+{
+    if text.is_empty() || text.len() > 32 {
+        return false;
+    }
+    !text[0].is_ascii_digit() && are_name_characters(text)
+}
+
+/// Whether a text is a name of capitals, its letters of either case.
+pub fn is_capitals_of(text: &[u8], name: &[u8]) -> bool
+    ensures { result ≡ bytes_eq (capitals text.now) name.now }
+{
+    let mut rest = text;
+    for capital in name {
+        let [character, after @ ..] = rest else {
+            return false;
+        };
+        if character.to_ascii_uppercase() != *capital {
+            return false;
+        }
+        rest = after;
+    }
+    rest.is_empty()
+}
+
+/// The value of a hexadecimal digit.
+fn hex_digit(character: u8) -> Option<u32>
+    ensures value { result ≡ hex_digit_value character }
+    ensures bound { IfSome result (λ digit. digit < 16) }
+{
+    match character {
+        b'A'..=b'F' => Some(u32::from(character - 55)),
+        b'a'..=b'f' => Some(u32::from(character - 87)),
+        b'0'..=b'9' => Some(u32::from(character - 48)),
+        _ => None,
+    }
+}
+
+/// The value of a decimal digit.
+fn decimal_digit(character: u8) -> Option<u32>
+    ensures value { result ≡ decimal_digit_value character }
+    ensures bound { IfSome result (λ digit. digit < 10) }
+{
+    if character.is_ascii_digit() {
+        Some(u32::from(character - 48))
+    } else {
+        None
+    }
+}
+
+/// A number of 1 to 4 hexadecimal digits.
+fn hex_number(digits: &[u8]) -> Option<u32>
+    ensures value { result ≡ number_within 4 16 hex_digit_value digits.now }
+    ensures bound { IfSome result (λ number. number < 100000) }
+{
+    if digits.is_empty() || digits.len() > 4 {
+        return None;
+    }
+    let mut number = 0;
+    for digit in digits {
+        number = number * 16 + hex_digit(*digit)?;
+    }
+    Some(number)
+}
+
+/// A number of 1 to 5 decimal digits.
+fn decimal_number(digits: &[u8]) -> Option<u32>
+    ensures value { result ≡ number_within 5 10 decimal_digit_value digits.now }
+    ensures bound { IfSome result (λ number. number < 100000) }
+{
+    if digits.is_empty() || digits.len() > 5 {
+        return None;
+    }
+    let mut number = 0;
+    for digit in digits {
+        number = number * 10 + decimal_digit(*digit)?;
+    }
+    Some(number)
+}
+
+/// The number that a text is: `$` and hexadecimal digits, or decimal digits.
+#[tactic(auto, unfolding(crate::specs::Characters::number_of))]
+pub fn number(text: &[u8]) -> Option<u32>
+    ensures value { result ≡ number_of text.now }
+    ensures bound { IfSome result (λ number. number < 100000) }
+{
+    match text {
+        [] => None,
+        [b'$', digits @ ..] => hex_number(digits),
+        _ => decimal_number(text),
+    }
+}

@@ -1,0 +1,117 @@
+//! An instruction as its line shows it, and its bytes at an address.
+ghost use Rattle.std.specs.Prelude.{◌≡◌, ◌+◌, ◌<◌, ◌≤◌, ◌^◌, length, drop};
+ghost use Rattle.std.specs.Option.{option_map};
+ghost use Rattle.spc700_table.specs.Opcodes.{row_of, operand_bytes, length_of};
+ghost use Rattle.spc700_asm.specs.Instructions.{is_target, is_relative, first_place, second_place, target_of, number_at, number_in_line, instruction_in, instruction_at};
+
+use crate::pattern::{Slot, pattern_for};
+use spc700_table::{Form, OpRow, byte_count, is_in_text_order, length, row};
+
+/// An instruction: its opcode, and the number that stands in the line for each operand: the target of a branch, of a bit of
+/// memory the word of address and bit, and 0 where there is no number.
+#[derive(Clone, Copy, Debug, PartialEq, Eq)]
+pub struct Instruction {
+    pub opcode: u8,
+    pub first: u16,
+    pub second: u16,
+}
+
+/// Whether an operand is the target of a branch.
+pub fn is_relative(form: Form) -> bool
+    ensures { result ≡ is_relative form }
+{
+    matches!(pattern_for(form).slot, Slot::Target)
+}
+
+/// The address that a distance leads to.
+pub fn target(next: u32, distance: u8) -> u16
+    requires { next ≤ 0x1_0000 }
+    ensures { result ≡ target_of next distance }
+{
+    let distance = u32::from(distance);
+    let ahead = if distance < 0x80 {
+        distance
+    } else {
+        distance + 0xff00
+    };
+    ((next + ahead) % 0x1_0000) as u16
+}
+
+/// The number of some bytes at the front, the low byte first.
+pub fn number_at(count: u8, bytes: &[u8]) -> u16
+    requires few { count ≤ 2 }
+    requires inside { count ≤ length bytes.now }
+    ensures { result ≡ number_at count bytes.now }
+{
+    match count {
+        0 => 0,
+        1 => u16::from(bytes[0]),
+        _ => u16::from(bytes[0]) + 0x100 * u16::from(bytes[1]),
+    }
+}
+
+/// What stands in the line for an operand whose bytes are at the front.
+fn number_in_line_at(form: Form, next: u32, bytes: &[u8]) -> u16
+    requires next { next ≤ 0x1_0000 }
+    requires few { operand_bytes form ≤ 2 }
+    requires inside { operand_bytes form ≤ length bytes.now }
+    ensures { result ≡ number_in_line form next (number_at (operand_bytes form) bytes.now) }
+{
+    if is_relative(form) {
+        target(next, bytes[0])
+    } else {
+        number_at(byte_count(form), bytes)
+    }
+}
+
+/// Where the bytes of the first operand begin, after the opcode.
+fn first_place(row: &OpRow) -> usize
+    ensures { result ≡ first_place row.now }
+{
+    if is_in_text_order(row) {
+        0
+    } else {
+        usize::from(byte_count(row.second))
+    }
+}
+
+/// Where the bytes of the second operand begin.
+fn second_place(row: &OpRow) -> usize
+    ensures { result ≡ second_place row.now }
+{
+    if is_in_text_order(row) {
+        usize::from(byte_count(row.first))
+    } else {
+        0
+    }
+}
+
+/// The instruction of an opcode with these bytes after it.
+fn instruction_in(opcode: u8, next: u32, operands: &[u8]) -> Instruction
+    requires next { next ≤ 0x1_0000 }
+    requires inside { length_of opcode ≤ length operands.now + 1 }
+    ensures { result ≡ instruction_in opcode (row_of opcode) next operands.now }
+{
+    let row = row(opcode);
+    let first = first_place(&row);
+    let second = second_place(&row);
+    Instruction {
+        opcode,
+        first: number_in_line_at(row.first, next, &operands[first..]),
+        second: number_in_line_at(row.second, next, &operands[second..]),
+    }
+}
+
+/// The instruction at the front of bytes that stand at an address, where all its bytes are there.
+#[tactic(auto, unfolding(crate::specs::Instructions::instruction_at))]
+pub fn instruction_at(at: u32, bytes: &[u8]) -> Option<Instruction>
+    requires { at + length bytes.now ≤ 0x1_0000 }
+    ensures { result ≡ instruction_at at bytes.now }
+{
+    let (opcode, operands) = bytes.split_first()?;
+    let count = length(*opcode);
+    if operands.len() + 1 < usize::from(count) {
+        return None;
+    }
+    Some(instruction_in(*opcode, at + u32::from(count), operands))
+}
