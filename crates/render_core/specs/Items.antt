@@ -4,9 +4,9 @@ use Rattle.std.specs.Prelude.{ℕ, nat_lt, List, filter}
 use Rattle.num_fix.specs.declared.Frame.{Frame}
 use Rattle.trace_form.specs.declared.record.Record.{Record}
 use Rattle.spc700_exec.specs.Bus.{BusMeaning}
-use Rattle.sound_bus.specs.Emits.{Emits}
-use Rattle.sound_bus.specs.Merge.{sample_number}
-use Rattle.render_core.specs.Run.{Whole, after_run}
+use Rattle.lock_step.specs.Emits.{Emits}
+use Rattle.lock_step.specs.SampleNumbers.{sample_number}
+use Rattle.render_core.specs.MachineRun.{Whole, after_run}
 
 -- the frames of a run to so many samples
 abbrev pub run_frames : {S : Type 0} → BusMeaning S → Emits S → (samples : ℕ) → Whole S → List Frame

@@ -3,11 +3,11 @@ ghost use Rattle.std.specs.Prelude.{◌≡◌, ◌+◌, ◌<◌, ◌≤◌, ◌+
 ghost use Rattle.num_fix.specs.declared.Frame.{Frame};
 ghost use Rattle.trace_form.specs.declared.record.Record.{Record};
 ghost use Rattle.render_core.specs.Fade.{faded_frame, faded_frames};
-ghost use Rattle.render_core.specs.Run.{Whole, after_step, after_run};
+ghost use Rattle.render_core.specs.MachineRun.{Whole, after_step, after_run};
 ghost use Rattle.render_core.specs.Items.{run_frames, run_records, records_before};
 ghost use Rattle.render_core.specs.RenderState.{RenderState, frames_to_come, records_to_come, IsNextPiece};
 
-use sound_bus::{Chip, Source};
+use lock_step::{Chip, DrainedBus};
 use spc700_exec::{Bus, Cpu};
 
 /// A run takes steps as long as samples are to be made, and then no more; no step makes two samples.
@@ -18,12 +18,12 @@ pub fn a_run_ends_with_its_last_sample<B: Bus>(_bus: &B)
 {}
 
 /// A run emits a frame for each sample that it makes, behind those that are still to be drained.
-pub fn a_run_emits_a_frame_for_each_sample<B: Source>(_bus: &B)
+pub fn a_run_emits_a_frame_for_each_sample<B: DrainedBus>(_bus: &B)
     ensures { (samples : ℕ) (w : Whole B) → B.means.made w.1 ≤ samples → length (run_frames B.means B.emits samples w) + B.means.made w.1 ≡ length (B.emits.frames w.1) + samples }
 {}
 
 /// A drain takes from what a run emits exactly what it hands over, and changes nothing else of it.
-pub fn a_drain_takes_what_it_hands_over<B: Source>(_bus: &B)
+pub fn a_drain_takes_what_it_hands_over<B: DrainedBus>(_bus: &B)
     ensures frames { (samples : ℕ) (cpu : Cpu) (old new : B) (given : List Frame) → B.emits.frames old ≡ given ++ B.emits.frames new → B.emits.cleared new ≡ B.emits.cleared old → run_frames B.means B.emits samples (cpu, old) ≡ given ++ run_frames B.means B.emits samples (cpu, new) }
     ensures records { (samples : ℕ) (cpu : Cpu) (old new : B) (given : List Record) → B.emits.records old ≡ given ++ B.emits.records new → B.emits.cleared new ≡ B.emits.cleared old → run_records B.means B.emits samples (cpu, old) ≡ records_before samples given ++ run_records B.means B.emits samples (cpu, new) }
 {}

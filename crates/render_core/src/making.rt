@@ -1,15 +1,15 @@
 // One piece, over any bus that emits.
 ghost use Rattle.std.specs.Prelude.{◌≡◌, ◌+◌, ◌*◌, ◌++◌, ◌<◌, ◌≤◌, [], length, true, false};
-ghost use Rattle.render_core.specs.Idle.{IsIdle};
-ghost use Rattle.render_core.specs.Run.{after_run};
+ghost use Rattle.render_core.specs.BetweenSteps.{IsBetweenSteps};
+ghost use Rattle.render_core.specs.MachineRun.{after_run};
 ghost use Rattle.render_core.specs.Items.{run_frames, run_records, records_before};
 
-use sound_bus::{Source, sample_number};
+use lock_step::{DrainedBus, sample_number};
 use spc700_exec::{Cpu, step};
 use trace_form::{Frames, Records};
 
 /// Takes over the records that stand before the last frame. Behind it a step may have emitted more.
-fn keep_early(drained: &Records, samples: u32, records: &mut Records)
+fn keep_records_before(drained: &Records, samples: u32, records: &mut Records)
     ensures { records.new ≡ records_before samples drained.now }
 {
     records.clear();
@@ -23,7 +23,7 @@ fn keep_early(drained: &Records, samples: u32, records: &mut Records)
 }
 
 /// Makes all pending samples, once the last one is there.
-fn settle_at_end<B: Source>(bus: &mut B, samples: u32)
+fn settle_at_end<B: DrainedBus>(bus: &mut B, samples: u32)
     ensures frames { B.emits.frames bus.new ≡ B.emits.frames bus.old }
     ensures records { B.emits.records bus.new ≡ B.emits.records bus.old }
     ensures still { B.means.made bus.old < samples → bus.new ≡ bus.old }
@@ -47,7 +47,7 @@ pub(crate) struct Lists {
 }
 
 /// A step of the run, which isn't at its end.
-fn step_on<B: Source>(cpu: &mut Cpu, bus: &mut B, samples: u32)
+fn step_on<B: DrainedBus>(cpu: &mut Cpu, bus: &mut B, samples: u32)
     requires calls { B.means.calls bus.old ≤ 32 }
     requires more { B.means.made bus.old < samples }
     requires few { samples ≤ 115200000 }
@@ -58,7 +58,7 @@ fn step_on<B: Source>(cpu: &mut Cpu, bus: &mut B, samples: u32)
 }
 
 /// Makes at once whole rounds of the loop at which the processor stands, as far as they only wait.
-fn wait_on<B: Source>(cpu: &Cpu, bus: &mut B, samples: u32)
+fn wait_on<B: DrainedBus>(cpu: &Cpu, bus: &mut B, samples: u32)
     requires more { B.means.made bus.old < samples }
     requires few { samples ≤ 115200000 }
     ensures frames { B.emits.frames (after_run B.means samples (cpu.now, bus.old)).1 ≡ B.emits.frames (after_run B.means samples (cpu.now, bus.new)).1 }
@@ -104,7 +104,7 @@ impl Patience {
 }
 
 /// The same now and then.
-fn wait_if_due<B: Source>(cpu: &Cpu, bus: &mut B, samples: u32, patience: &mut Patience)
+fn wait_if_due<B: DrainedBus>(cpu: &Cpu, bus: &mut B, samples: u32, patience: &mut Patience)
     requires more { B.means.made bus.old < samples }
     requires few { samples ≤ 115200000 }
     ensures frames { B.emits.frames (after_run B.means samples (cpu.now, bus.old)).1 ≡ B.emits.frames (after_run B.means samples (cpu.now, bus.new)).1 }
@@ -122,7 +122,7 @@ fn wait_if_due<B: Source>(cpu: &Cpu, bus: &mut B, samples: u32, patience: &mut P
 }
 
 /// Steps of the run, one at least: rounds that only wait, and as many as there is room for, unless the run ends.
-fn take_steps<B: Source>(cpu: &mut Cpu, bus: &mut B, samples: u32, patience: &mut Patience)
+fn take_steps<B: DrainedBus>(cpu: &mut Cpu, bus: &mut B, samples: u32, patience: &mut Patience)
     requires calls { B.means.calls bus.old ≡ 0 }
     requires more { B.means.made bus.old < samples }
     requires few { samples ≤ 115200000 }
@@ -141,35 +141,35 @@ fn take_steps<B: Source>(cpu: &mut Cpu, bus: &mut B, samples: u32, patience: &mu
 }
 
 /// Some steps, and what was emitted with them.
-fn step_and_drain<B: Source>(cpu: &mut Cpu, bus: &mut B, samples: u32, lists: &mut Lists)
+fn step_and_drain<B: DrainedBus>(cpu: &mut Cpu, bus: &mut B, samples: u32, lists: &mut Lists)
     requires idle { B.means.calls bus.old ≡ 0 }
     requires more { B.means.made bus.old < samples }
     requires few { samples ≤ 115200000 }
     ensures frames { run_frames B.means B.emits samples (cpu.old, bus.old) ≡ lists.new.frames ++ run_frames B.means B.emits samples (cpu.new, bus.new) }
     ensures records { run_records B.means B.emits samples (cpu.old, bus.old) ≡ lists.new.records ++ run_records B.means B.emits samples (cpu.new, bus.new) }
     ensures counts { B.emits.counts (after_run B.means samples (cpu.old, bus.old)).1 ≡ B.emits.counts (after_run B.means samples (cpu.new, bus.new)).1 }
-    ensures idle { IsIdle B.means B.emits samples bus.new }
+    ensures idle { IsBetweenSteps B.means B.emits samples bus.new }
     ensures later { B.means.clock bus.old < B.means.clock bus.new }
 {
     take_steps(cpu, bus, samples, &mut lists.patience);
     settle_at_end(bus, samples);
     bus.drain(&mut lists.frames, &mut lists.drained);
-    keep_early(&lists.drained, samples, &mut lists.records);
+    keep_records_before(&lists.drained, samples, &mut lists.records);
 }
 
 /// Makes the next piece of a run to so many samples, and tells whether it is the last one: steps until a frame or a record
 /// was emitted, or all samples are made.
-pub(crate) fn make_piece<B: Source>(
+pub(crate) fn make_piece<B: DrainedBus>(
     cpu: &mut Cpu,
     bus: &mut B,
     samples: u32,
     lists: &mut Lists,
 ) -> bool
-    requires idle { IsIdle B.means B.emits samples bus.old }
+    requires idle { IsBetweenSteps B.means B.emits samples bus.old }
     requires few { samples ≤ 115200000 }
     ensures frames { run_frames B.means B.emits samples (cpu.old, bus.old) ≡ lists.new.frames ++ run_frames B.means B.emits samples (cpu.new, bus.new) }
     ensures records { run_records B.means B.emits samples (cpu.old, bus.old) ≡ lists.new.records ++ run_records B.means B.emits samples (cpu.new, bus.new) }
-    ensures idle { IsIdle B.means B.emits samples bus.new }
+    ensures idle { IsBetweenSteps B.means B.emits samples bus.new }
     ensures counts { B.emits.counts (after_run B.means samples (cpu.old, bus.old)).1 ≡ B.emits.counts (after_run B.means samples (cpu.new, bus.new)).1 }
     ensures over { result ≡ true → after_run B.means samples (cpu.new, bus.new) ≡ (cpu.new, bus.new) }
     ensures settled { result ≡ true → B.emits.pending bus.new ≡ 0 }

@@ -2,10 +2,10 @@
 ghost use Rattle.std.specs.Prelude.{◌≡◌, ◌+◌, ◌-◌, ◌/◌, ◌<◌, ◌≤◌, [], length, false, IfOk};
 ghost use Rattle.std.specs.Borrow.{sem};
 ghost use Rattle.std.specs.Io.BufRead.{Rests};
-ghost use Rattle.sound_bus.specs.LockStep.{lock_step};
-ghost use Rattle.sound_bus.specs.PlainBus.{plain_emits};
+ghost use Rattle.lock_step.specs.LockStep.{lock_step};
+ghost use Rattle.lock_step.specs.LockStepEmits.{lock_step_emits};
 ghost use Rattle.render_core.specs.Items.{run_frames, run_records};
-ghost use Rattle.render_core.specs.Batches.{with_opened_book, run_counts};
+ghost use Rattle.render_core.specs.RunCounts.{with_opened_book, run_counts};
 ghost use Rattle.render_core.specs.Opening.{opened_whole, opened_cpu};
 ghost use Rattle.render_core.specs.RenderState.{frames_to_come, records_to_come, counts_to_come, IsNextPiece};
 ghost use Rattle.render_core.specs.contracts.render.Render.{the_row};
@@ -13,7 +13,8 @@ ghost use Rattle.render_core.specs.contracts.render.Render.{the_row};
 use crate::OutOfMemory;
 use crate::making::{Lists, Patience, make_piece};
 use crate::piece::Piece;
-use sound_bus::{Chip, Counts, LagBus};
+use lag_bus::LagBus;
+use lock_step::{Chip, Counts};
 use spc_form::{SpcFile, opening};
 use spc700_exec::Cpu;
 use std::alloc::Global;
@@ -31,9 +32,9 @@ pub struct Render<C: Chip> {
 
 impl<C: Chip> Model for Render<C> {
     ghost use Rattle.std.specs.Prelude.{◌≤◌};
-    ghost use Rattle.sound_bus.specs.Lagging.{lagging};
-    ghost use Rattle.sound_bus.specs.LagEmits.{lag_emits};
-    ghost use Rattle.render_core.specs.Idle.{IsIdle};
+    ghost use Rattle.lag_bus.specs.Lagging.{lagging};
+    ghost use Rattle.lag_bus.specs.LagEmits.{lag_emits};
+    ghost use Rattle.render_core.specs.BetweenSteps.{IsBetweenSteps};
     ghost use Rattle.render_core.specs.RenderState.{RenderState};
     ghost use Rattle.std.specs.Coded.{codes};
     ghost use Rattle.aram_core.specs.contracts.page_set.PageSet as page_set;
@@ -50,7 +51,7 @@ impl<C: Chip> Model for Render<C> {
       records = r.lists.records;
     } };
 
-    ghost invariant = { λ r. (r.samples ≤ 115200000) × IsIdle (lagging C.meaning) (lag_emits C.meaning) r.samples r.bus };
+    ghost invariant = { λ r. (r.samples ≤ 115200000) × IsBetweenSteps (lagging C.meaning) (lag_emits C.meaning) r.samples r.bus };
 }
 
 /// The registers of a file.
@@ -100,8 +101,8 @@ impl<C: Chip> Render<C> {
         requires batches { C.batches chip ≡ 0 }
         ensures whole { IfOk result (λ render. (render.cpu, render.bus) ≡ with_opened_book C.meaning (opened_whole file.now (C.state chip) mask)) }
         ensures samples { IfOk result (λ render. render.samples ≡ samples) }
-        ensures frames { IfOk result (λ render. frames_to_come C.meaning render ≡ run_frames (lock_step C.meaning) plain_emits samples (opened_whole file.now (C.state chip) mask)) }
-        ensures records { IfOk result (λ render. records_to_come C.meaning render ≡ run_records (lock_step C.meaning) plain_emits samples (opened_whole file.now (C.state chip) mask)) }
+        ensures frames { IfOk result (λ render. frames_to_come C.meaning render ≡ run_frames (lock_step C.meaning) lock_step_emits samples (opened_whole file.now (C.state chip) mask)) }
+        ensures records { IfOk result (λ render. records_to_come C.meaning render ≡ run_records (lock_step C.meaning) lock_step_emits samples (opened_whole file.now (C.state chip) mask)) }
         ensures counts { IfOk result (λ render. counts_to_come C.meaning render ≡ run_counts C.meaning samples (with_opened_book C.meaning (opened_whole file.now (C.state chip) mask))) }
         ensures count { IfOk result (λ render. length (frames_to_come C.meaning render) ≡ samples) }
     {

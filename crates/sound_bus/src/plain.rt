@@ -3,16 +3,14 @@ ghost use Rattle.std.specs.Prelude.{◌≡◌, ◌+◌, ◌*◌, ◌/◌, ◌<�
 ghost use Rattle.std.specs.List.{filter};
 ghost use Rattle.std.proofs.Common.{refl};
 ghost use Rattle.dsp_core.specs.Run.{in_mask};
-ghost use Rattle.sound_bus.specs.Machine.{opened_machine};
-ghost use Rattle.sound_bus.specs.LockStep.{bus_answer, after_bus_read, after_bus_write, after_bus_pass, lock_step};
-ghost use Rattle.sound_bus.specs.PlainBus.{drained_machine, plain_emits, plain_counts};
-ghost use Rattle.sound_bus.specs.PlainLaws.{emits_frames, emits_records, frame_each};
+ghost use Rattle.lock_step.specs.Machine.{opened_machine};
+ghost use Rattle.lock_step.specs.LockStep.{bus_answer, after_bus_read, after_bus_write, after_bus_pass, lock_step};
+ghost use Rattle.lock_step.specs.LockStepEmits.{drained_machine, lock_step_emits, plain_counts};
+ghost use Rattle.lock_step.specs.LockStepLaws.{emits_frames, emits_records, frame_each};
 
 use crate::OutOfMemory;
-use crate::chip::Chip;
-use crate::counts::Counts;
-use crate::source::Source;
 use aram_core::Aram;
+use lock_step::{Chip, Counts, DrainedBus};
 use ports_timers::Io;
 use spc_form::OpenState;
 use spc700_exec::{Bus, Cpu};
@@ -35,7 +33,7 @@ pub struct PlainBus<C: Chip> {
 
 impl<C: Chip> Model for PlainBus<C> {
     ghost use Rattle.std.specs.Prelude.{◌≡◌, ◌+◌, ◌*◌, ◌/◌, ◌<◌, ◌≤◌, length};
-    ghost use Rattle.sound_bus.specs.Machine.{Machine};
+    ghost use Rattle.lock_step.specs.Machine.{Machine};
 
     ghost Value = { Machine C.State };
 
@@ -59,7 +57,7 @@ impl<C: Chip> Model for PlainBus<C> {
 }
 
 /// Makes the next sample.
-#[tactic(auto, using(crate::proofs::Records::run_one, crate::proofs::Records::sample_record_count))]
+#[tactic(auto, using(lock_step::proofs::RecordCounts::run_one, lock_step::proofs::RecordCounts::sample_record_count))]
 fn make_sample<C: Chip>(
     chip: &mut C,
     memory: &mut Aram,
@@ -125,14 +123,12 @@ impl<C: Chip> PlainBus<C> {
             end: 0,
         }
     }
+}
 
-    /// A read where memory may not be what answers.
-    #[inline(never)]
-    fn read_port(&mut self, addr: u16) -> u8
-        requires { self.old.calls < 64 }
-        ensures answer { result ≡ bus_answer C.meaning self.old addr }
-        ensures next { self.new ≡ after_bus_read self.old addr }
-    {
+impl<C: Chip> Bus for PlainBus<C> {
+    ghost means = { lock_step C.meaning };
+
+    fn read(&mut self, addr: u16) -> u8 {
         self.calls += 1;
         if addr == 0xF3 {
             return self.chip.reg_read(self.io.dsp_address() % 0x80);
@@ -143,47 +139,32 @@ impl<C: Chip> PlainBus<C> {
         }
     }
 
-    /// What a write of F0h to FFh does beside memory.
-    #[inline(never)]
-    fn write_port(&mut self, addr: u16, value: u8)
-        requires calls { self.old.calls < 64 }
-        ensures { self.new ≡ record (after_bus_write C.meaning self.old addr value) { memory = self.old.memory } }
-    {
+    fn write(&mut self, addr: u16, value: u8) {
+        self.calls += 1;
         let sample = self.made();
         let address = self.io.dsp_address();
-        self.calls += 1;
-        match addr {
-            0xF3 if address < 0x80 => {
-                self.chip.reg_write(address, value);
-                self.records.push(Record::Reg {
-                    sample,
-                    addr: address,
-                    value,
-                });
-            }
-            0xF4..=0xF7 => self.records.push(Record::Port {
+        if addr == 0xF3 && address < 0x80 {
+            self.chip.reg_write(address, value);
+            self.records.push(Record::Reg {
+                sample,
+                addr: address,
+                value,
+            });
+        } else if (0xF4..=0xF7).contains(&addr) {
+            self.records.push(Record::Port {
                 sample,
                 port: (addr - 0xF4) as u8,
                 value,
-            }),
-            _ => {}
+            });
         }
+        self.memory.put(addr, value);
         self.io.write(addr, value);
     }
 
-    /// A pass that comes to a multiple of 16 of the clock, where timers may tick and a sample may be due.
-    #[inline(never)]
-    fn pass_ticks(&mut self, cycles: u8)
-        requires room { self.old.calls < 64 }
-        requires some { 1 ≤ cycles }
-        requires few { cycles ≤ 32 }
-        requires time { self.old.clock / 32 < 4000000000 }
-        ensures { self.new ≡ after_bus_pass C.meaning self.old cycles }
-    {
+    fn pass(&mut self, cycles: u8) {
         self.calls += 1;
-        let from = self.clock;
-        self.clock = from + u64::from(cycles);
-        self.io.ticks(from, cycles);
+        self.io.ticks(self.clock, cycles);
+        self.clock += u64::from(cycles);
         if u64::from(self.chip.sample()) < self.clock / 32 {
             make_sample(
                 &mut self.chip,
@@ -194,42 +175,7 @@ impl<C: Chip> PlainBus<C> {
             );
         }
     }
-}
 
-impl<C: Chip> Bus for PlainBus<C> {
-    ghost means = { lock_step C.meaning };
-
-    #[inline]
-    fn read(&mut self, addr: u16) -> u8 {
-        match addr {
-            0xF0..=0xFF | 0xFFC0.. => self.read_port(addr),
-            _ => {
-                self.calls += 1;
-                self.memory.get(addr)
-            }
-        }
-    }
-
-    #[inline]
-    fn write(&mut self, addr: u16, value: u8) {
-        self.memory.put(addr, value);
-        match addr {
-            0xF0..=0xFF => self.write_port(addr, value),
-            _ => self.calls += 1,
-        }
-    }
-
-    #[inline]
-    fn pass(&mut self, cycles: u8) {
-        if self.clock % 16 + u64::from(cycles) >= 16 {
-            self.pass_ticks(cycles);
-        } else {
-            self.calls += 1;
-            self.clock += u64::from(cycles);
-        }
-    }
-
-    #[inline]
     fn to_sample(&self) -> u8 {
         (32 - self.clock % 32) as u8
     }
@@ -245,8 +191,8 @@ impl<C: Chip> Bus for PlainBus<C> {
     } };
 }
 
-impl<C: Chip> Source for PlainBus<C> {
-    ghost emits = { plain_emits };
+impl<C: Chip> DrainedBus for PlainBus<C> {
+    ghost emits = { lock_step_emits };
 
     fn made(&self) -> u32 {
         (self.clock / 32) as u32

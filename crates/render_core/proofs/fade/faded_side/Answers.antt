@@ -2,7 +2,7 @@ use Rattle.std.proofs.Common.{ℤ, FitsSigned, sym, subst, ap, ◌∙◌}
 use Rattle.std.specs.Int.{w16, cast_signed, cast_unsigned}
 use Rattle.std.proofs.lemmas.Int.{to_z-of_z}
 use Rattle.render_core.specs.Fade.{faded_side}
-use Rattle.render_core.proofs.Fading.{computed_side, faded_side-fits}
+use Rattle.render_core.proofs.FadedFrames.{computed_side, faded_side-fits}
 use Rattle.render_core.proofs.fade.faded_side.Goals as goal
 
 pub overflow_cast-result : goal.overflow_cast-result

@@ -1,5 +1,5 @@
 use Rattle.std.proofs.Common.{◌∙◌, sym}
-use Rattle.render_core.proofs.Lists.{empty-front, empty-back}
+use Rattle.render_core.proofs.EmptyLists.{empty-front, empty-back}
 use Rattle.render_core.proofs.laws.pieces_behind_the_last_are_empty.Goals as goal
 
 pub returns : goal.returns

@@ -1,5 +1,5 @@
 use Rattle.std.proofs.Common.{arith, length-append}
-use Rattle.sound_bus.proofs.Records.{run_one, sample_record_count}
+use Rattle.lock_step.proofs.RecordCounts.{run_one, sample_record_count}
 use Rattle.sound_bus.proofs.plain.make_sample.Goals as goal
 
 pub returns-clause-frame_count : goal.returns-clause-frame_count

@@ -1,0 +1,23 @@
+use Rattle.std.proofs.Common.{◌≤◌, ◌*◌, length, arith}
+use Rattle.lag_bus.proofs.ChangesOfHeld.{late_settled, held_settled, records_within, voices_fit}
+use Rattle.lag_bus.proofs.late.LateChip.settle.Goals as goal
+
+pub merge_into-requires : goal.merge_into-requires
+merge_into-requires g c =
+    let fit : length c.advance.new.records ≤ 8 * c.self.inside.pending = rw (c.advance.ensures.records, c.clear.ensures) (voices_fit g.met.C.Chip.lawful c.self.invariant.0) in
+    omega (arith, c.self.invariant.0.records_fit)
+
+pub invariant_of-self : goal.invariant_of-self
+invariant_of-self g c = (
+  rw (c.advance.ensures.state, c.advance.ensures.sample, c.advance.ensures.memory, c.advance.ensures.frames, c.merge_into.ensures.ring, c.merge_into.ensures.records, c.advance.ensures.records, c.clear.ensures)
+      (held_settled g.met.C.Chip.lawful c.self.invariant.0 _),
+  rw c.forget.ensures tt,
+)
+
+pub returns-clause-made : goal.returns-clause-made
+returns-clause-made g c =
+    rw (c.advance.ensures.state, c.advance.ensures.sample, c.advance.ensures.batches, c.advance.ensures.memory, c.advance.ensures.frames, c.merge_into.ensures.ring, c.merge_into.ensures.records, c.advance.ensures.records, c.clear.ensures, ← c.self.view_is)
+    (late_settled g.met.C.Chip.lawful c.self.invariant.0 _)
+
+pub returns-clause-room : goal.returns-clause-room
+returns-clause-room g c = rw (← c.self.view_is) (records_within g.met.C.Chip.lawful c.self.invariant.0)
