@@ -90,7 +90,7 @@ common_page these those q here there = elim (cases_eq (set.len (set.intersection
 ]
 
 -- two sets with no page in common
-no_common_page : (these those : Pages) → ((q : ℕ) → (set.contains these q && set.contains those q) ≡ false) → have_common_page these those ≡ false
+pub no_common_page : (these those : Pages) → ((q : ℕ) → (set.contains these q && set.contains those q) ≡ false) → have_common_page these those ≡ false
 no_common_page these those apart =
     let none : set.intersection these those ≡ set.empty = set.same_set nat_cmp_total nat_cmp-IsAntisymmetric _ _ (λ q. set.contains-intersection nat_cmp_total these those q ∙ apart q ∙ sym (set.contains-empty nat_cmp q)) in
     let zero_long : set.len (set.intersection these those) ≡ 0 = ap set.len none ∙ set.len-empty nat_cmp in

@@ -1,11 +1,14 @@
 //! The memory itself.
 
 ghost use Rattle.std.specs.Prelude.{◌≡◌, length, IfOk};
-ghost use Rattle.aram_core.specs.Memory.{byte_at, word_at, with_byte};
+ghost use Rattle.aram_core.specs.Memory.{byte_at, word_at, with_byte, page_bytes, with_page};
 
 use crate::OutOfMemory;
 use std::alloc::Global;
 use std::marker::Model;
+
+/// The bytes of a page.
+const PAGE: usize = 256;
 
 /// The memory of the sound unit: 65,536 bytes at the addresses 0000h to FFFFh.
 #[derive(Drop)]
@@ -53,5 +56,30 @@ impl Aram {
         ensures { result ≡ word_at self.now at }
     {
         u16::from(self.get(at)) + 256 * u16::from(self.get(at.wrapping_add(1)))
+    }
+
+    /// The 256 bytes of a page.
+    pub fn page(&self, page: u8) -> &[u8]
+        ensures bytes { result.now ≡ page_bytes self.now page }
+        ensures length { length result.now ≡ 256 }
+    {
+        let first = PAGE * usize::from(page);
+        &self.bytes[first..first + PAGE]
+    }
+
+    /// Puts 256 bytes into a page.
+    pub fn set_page(&mut self, page: u8, bytes: &[u8])
+        requires { length bytes.now ≡ 256 }
+        ensures { self.new ≡ with_page self.old page bytes.now }
+    {
+        let first = PAGE * usize::from(page);
+        self.bytes[first..first + PAGE].copy_from_slice(bytes);
+    }
+
+    /// Takes over all bytes of another memory.
+    pub fn copy_from(&mut self, other: &Aram)
+        ensures { self.new ≡ other.now }
+    {
+        self.bytes.copy_from_slice(&other.bytes);
     }
 }

@@ -7,5 +7,5 @@ mod page_set;
 mod tests;
 
 pub use aram::Aram;
-pub use page_set::PageSet;
+pub use page_set::{PageSet, page_of};
 pub use std::alloc::AllocError as OutOfMemory;

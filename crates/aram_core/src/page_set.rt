@@ -2,9 +2,16 @@
 
 ghost use Rattle.std.specs.Prelude.{◌≡◌, ◌<◌, ◌*◌, ◌%◌, ◌^◌, bit_or};
 ghost use Rattle.std.specs.FinSet as set;
-ghost use Rattle.aram_core.specs.Pages.{have_common_page};
+ghost use Rattle.aram_core.specs.Pages.{page_of, have_common_page};
 
 use std::marker::Model;
+
+/// The page of an address: its high byte.
+pub fn page_of(address: u16) -> u8
+    ensures { result ≡ page_of address }
+{
+    (address / 256) as u8
+}
 
 /// A set of page numbers, 0 to 255; a page is 256 bytes of memory.
 #[derive(Clone, Copy, Debug)]

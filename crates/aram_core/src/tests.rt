@@ -1,14 +1,58 @@
-use crate::{Aram, PageSet};
+use crate::{Aram, PageSet, page_of};
+use std::alloc::Global;
+use std::test::Fail;
+
+/// A memory whose bytes are all one value.
+fn filled(alloc: Global, value: u8) -> Result<Aram, Fail> {
+    let image = vec![in alloc; value; 65536]?;
+    Ok(Aram::from_image(alloc, &image)?)
+}
 
 #[test]
-fn a_word_wraps_from_the_last_address_to_the_first(rt: HostRuntime) {
-    let image = vec![in rt.alloc(); 0u8; 65536].expect(&rt, "image");
-    let mut memory = Aram::from_image(rt.alloc(), &image).expect(&rt, "memory");
+fn a_word_wraps_from_the_last_address_to_the_first(rt: HostRuntime) -> Result<(), Fail> {
+    let mut memory = filled(rt.alloc(), 0)?;
     memory.put(0xFFFF, 0x34);
     memory.put(0x0000, 0x12);
     assert_eq!(rt; memory.get(0xFFFF), 0x34);
     assert_eq!(rt; memory.word(0xFFFF), 0x1234);
     assert_eq!(rt; memory.word(0x0000), 0x0012);
+    Ok(())
+}
+
+#[test]
+fn a_page_is_put_and_read_alone(rt: HostRuntime) -> Result<(), Fail> {
+    let mut memory = filled(rt.alloc(), 0x11)?;
+    memory.set_page(0xFF, &[0x22; 256]);
+    memory.put(0xFF00, 0x33);
+    assert_eq!(rt;
+        (
+            memory.get(0xFEFF),
+            memory.get(0xFF00),
+            memory.get(0xFFFF),
+            memory.get(0x0000)
+        ),
+        (0x11, 0x33, 0x22, 0x11)
+    );
+    let page = memory.page(0xFF);
+    assert_eq!(rt; (page.len(), page[0], page[255]), (256, 0x33, 0x22));
+    assert_eq!(rt; memory.page(0xFE), [0x11; 256].as_slice());
+    Ok(())
+}
+
+#[test]
+fn a_memory_takes_over_another(rt: HostRuntime) -> Result<(), Fail> {
+    let mut memory = filled(rt.alloc(), 0x11)?;
+    memory.copy_from(&filled(rt.alloc(), 0x22)?);
+    assert_eq!(rt; (memory.get(0x0000), memory.get(0xFFFF)), (0x22, 0x22));
+    Ok(())
+}
+
+#[test]
+fn the_page_of_an_address_is_its_high_byte(rt: HostRuntime) {
+    assert_eq!(rt;
+        (page_of(0x00FF), page_of(0x0100), page_of(0xFFFF)),
+        (0x00, 0x01, 0xFF)
+    );
 }
 
 #[test]
