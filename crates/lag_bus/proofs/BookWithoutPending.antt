@@ -15,7 +15,7 @@ use Rattle.lag_bus.specs.Lagging.{lagging}
 use Rattle.lag_bus.specs.Late.{Late}
 use Rattle.lag_bus.specs.IsLagging.{lagging_of}
 
--- an access leaves the book but for the reach, which is that of the machine behind it
+-- an access leaves the book but for the reach, which is that of the machine after it
 pub after_cause-idle : {S : Type 0} (chip : ChipMeaning S) (cause : Option Cause) (m : Machine S) (at : ℕ) (book : Book) (reach : ReachPages)
     → book.pending ≡ 0 → reach ≡ chip.reach m.chip m.memory → (cause ≡ None → reach ≡ book.reach)
     → record book { reach = reach } ≡ after_cause chip cause m (with_event cause at book)

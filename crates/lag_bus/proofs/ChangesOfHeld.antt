@@ -1,5 +1,6 @@
 -- What a chip some samples late comes to, after each change of what is held.
 use Rattle.std.proofs.Common.{◌≡◌, ◌≢◌, if◌then◌else◌, ℕ, zero, suc, ◌+◌, ◌-◌, ◌*◌, ◌<◌, ◌≤◌, List, [], ◌∷◌, ◌++◌, length, Bool, true, false, not, ◌||◌, ◌==◌, refl, ap, sym, arith, rules, append_assoc, length-append}
+use Rattle.std.proofs.lemmas.Bool.{or_parts}
 use Rattle.std.proofs.lemmas.List.{append-nil}
 use Rattle.std.proofs.Math.Seq.{take-append_seam, drop-append_seam}
 use Rattle.std.proofs.lemmas.List.Elements.{filter-append}
@@ -17,22 +18,14 @@ use Rattle.lag_bus.specs.Merge.{merge}
 use Rattle.lock_step.specs.SampleNumbers.{sample_number}
 use Rattle.lag_bus.specs.Ready.{is_before_sample, ready_frames, waiting_frames, ready_records, waiting_records}
 use Rattle.lag_bus.specs.Book.{may_be_read, may_be_written}
+use Rattle.lag_bus.specs.Late.{late_with_sample}
 use Rattle.lag_bus.specs.Held.{Held, IsHeld, pending_samples, late_of}
-use Rattle.lock_step.proofs.RecordCounts.{length-filter-at_most}
 use Rattle.lag_bus.proofs.MergedRecords.{Each-append, Each-map, Each-filter, Each-merge, merge_voices, merge_event, merge_nothing, length-merge, number_before, later_before, event_after, voice_before, voice_after, voice_number, filter_all, filter_none}
-use Rattle.lag_bus.proofs.LawfulSamples.{length-frames-run, voices_within, is_sound-run, voices_within-run, length-voices-run}
+use Rattle.lag_bus.proofs.LawfulSamples.{length-frames-samples, voices_within, is_valid-samples, voices_within-samples, voices_of_mask}
 
 not_true : (b : Bool) → not b ≡ true → b ≡ false
 not_true true h = cc
 not_true false h = refl
-
-or_left : (a b : Bool) → (a || b) ≡ false → a ≡ false
-or_left true b h = h
-or_left false b h = refl
-
-or_right : (a b : Bool) → (a || b) ≡ false → b ≡ false
-or_right true b h = cc
-or_right false b h = h
 
 -- the voices of a sample have its number
 number_of_voice : (k : ℕ) (item : Record) → IsVoiceWithin k (k + 1) item → sample_number item ≡ k
@@ -58,51 +51,51 @@ held_after_settle chip batches h = record {
 }
 
 module _ {S : Type 0} {chip : ChipMeaning S} (laws : IsLawfulChip chip) where
-  byte_stays : (n k : ℕ) (s : S) (memory : List ℕ) (at : ℕ) → n ≤ 64 → chip.is_sound s ≡ true
+  byte_stays : (n k : ℕ) (s : S) (memory : List ℕ) (at : ℕ) → n ≤ 64 → chip.is_valid s ≡ true
       → (n == 0 || not (may_be_written (chip.reach s memory) at)) ≡ true
       → byte_at (run chip.sample n k s memory).memory at ≡ byte_at memory at
-  byte_stays zero k s memory at few sound free = rw run_none refl
-  byte_stays (suc n) k s memory at few sound free =
+  byte_stays zero k s memory at few valid free = rw run_none refl
+  byte_stays (suc n) k s memory at few valid free =
       let some : (suc n == 0) ≡ false = search rules in
-      laws.writes_inside (suc n) k s memory at few sound (not_true _ (rw some at free))
+      laws.writes_inside (suc n) k s memory at few valid (not_true _ (rw some at free))
 
-  register_stays : (n k : ℕ) (s : S) (memory : List ℕ) (address : ℕ) → n ≤ 64 → chip.is_sound s ≡ true
+  register_stays : (n k : ℕ) (s : S) (memory : List ℕ) (address : ℕ) → n ≤ 64 → chip.is_valid s ≡ true
       → (n == 0 || not (is_result address)) ≡ true
       → chip.register_read (run chip.sample n k s memory).state address ≡ chip.register_read s address
-  register_stays zero k s memory address few sound free = rw run_none refl
-  register_stays (suc n) k s memory address few sound free =
+  register_stays zero k s memory address few valid free = rw run_none refl
+  register_stays (suc n) k s memory address few valid free =
       let some : (suc n == 0) ≡ false = search rules in
-      laws.registers_stay (suc n) k s memory address few sound (not_true _ (rw some at free))
+      laws.registers_stay (suc n) k s memory address few valid (not_true _ (rw some at free))
 
-  untouched : (s : S) (memory : List ℕ) (at value : ℕ) → chip.is_sound s ≡ true → may_be_read (chip.reach s memory) at ≡ false
+  untouched : (s : S) (memory : List ℕ) (at value : ℕ) → chip.is_valid s ≡ true → may_be_read (chip.reach s memory) at ≡ false
       → chip.reach s (with_byte memory at value) ≡ chip.reach s memory
-  untouched s memory at value sound free =
-      laws.reach_stays s memory at value sound (or_left _ _ free) (or_right _ _ free)
+  untouched s memory at value valid free =
+      laws.reach_stays s memory at value valid (or_parts _ _ free).0 (or_parts _ _ free).1
 
-  put_apart : (n k : ℕ) (s : S) (memory : List ℕ) (at value : ℕ) → n ≤ 64 → chip.is_sound s ≡ true
+  put_apart : (n k : ℕ) (s : S) (memory : List ℕ) (at value : ℕ) → n ≤ 64 → chip.is_valid s ≡ true
       → (n == 0 || not (may_be_read (chip.reach s memory) at)) ≡ true
       → run chip.sample n k s (with_byte memory at value) ≡ record (run chip.sample n k s memory) { memory = with_byte (run chip.sample n k s memory).memory at value }
-  put_apart zero k s memory at value few sound free = simp run_none refl
-  put_apart (suc n) k s memory at value few sound free =
+  put_apart zero k s memory at value few valid free = simp run_none refl
+  put_apart (suc n) k s memory at value few valid free =
       let some : (suc n == 0) ≡ false = search rules in
       let apart : may_be_read (chip.reach s memory) at ≡ false = not_true _ (rw some at free) in
-      laws.reads_inside (suc n) k s memory at value few sound (or_left _ _ apart) (or_right _ _ apart)
+      laws.reads_inside (suc n) k s memory at value few valid (or_parts _ _ apart).0 (or_parts _ _ apart).1
 
   module _ {h : Held S} (is : IsHeld chip h) where
     -- a byte and a register that the pending samples don't change
     pub late_get : (at : ℕ) → (h.pending == 0 || not (may_be_written (chip.reach h.state h.memory) at)) ≡ true
         → byte_at h.memory at ≡ byte_at (late_of chip h).memory at
-    late_get at free = sym (byte_stays h.pending h.number h.state h.memory at is.pending is.is_sound free)
+    late_get at free = sym (byte_stays h.pending h.number h.state h.memory at is.pending is.is_valid free)
 
     pub late_register : (address : ℕ) → (h.pending == 0 || not (is_result address)) ≡ true
         → chip.register_read h.state address ≡ chip.register_read (late_of chip h).chip address
-    late_register address free = sym (register_stays h.pending h.number h.state h.memory address is.pending is.is_sound free)
+    late_register address free = sym (register_stays h.pending h.number h.state h.memory address is.pending is.is_valid free)
 
     -- a byte that they don't read
     pub late_put : (at value : ℕ) → (h.pending == 0 || not (may_be_read (chip.reach h.state h.memory) at)) ≡ true
         → late_of chip (record h { memory = with_byte h.memory at value }) ≡
         record (late_of chip h) { memory = with_byte (late_of chip h).memory at value; reach = chip.reach h.state (with_byte h.memory at value) }
-    late_put at value free = rw (put_apart h.pending h.number h.state h.memory at value is.pending is.is_sound free) refl
+    late_put at value free = rw (put_apart h.pending h.number h.state h.memory at value is.pending is.is_valid free) refl
 
     pub late_put_reach : (memory : List ℕ) → h.pending ≡ 0
         → chip.reach h.state memory ≡ chip.reach (late_of chip (record h { memory = memory })).chip (late_of chip (record h { memory = memory })).memory
@@ -110,29 +103,19 @@ module _ {S : Type 0} {chip : ChipMeaning S} (laws : IsLawfulChip chip) where
 
     pub late_reach_stays : (at value : ℕ) → may_be_read (chip.reach h.state h.memory) at ≡ false
         → chip.reach h.state (with_byte h.memory at value) ≡ chip.reach h.state h.memory
-    late_reach_stays at value free = untouched h.state h.memory at value is.is_sound free
+    late_reach_stays at value free = untouched h.state h.memory at value is.is_valid free
 
     -- one sample more that is pending
     pub late_pend : late_of chip (record h { pending = h.pending + 1 }) ≡
-        (let made = chip.sample (h.number + h.pending) (late_of chip h).chip (late_of chip h).memory in
-        record (late_of chip h) {
-          chip = made.state;
-          memory = made.memory;
-          frames = (late_of chip h).frames ++ made.frame ∷ [];
-          records = (late_of chip h).records ++ filter (in_mask h.mask) made.voices;
-          made = h.number + h.pending + 1;
-          pending = h.pending + 1;
-          frames_used = (late_of chip h).frames_used + 1;
-          records_used = (late_of chip h).records_used + 8;
-        })
+        late_with_sample chip (late_of chip h)
     late_pend =
         let before : Run S = pending_samples chip h in
         let made : Sampled S = chip.sample (h.number + h.pending) before.state before.memory in
-        let sound = is_sound-run chip laws h.pending h.number h.state h.memory is.is_sound in
+        let valid = is_valid-samples chip laws h.pending h.number h.state h.memory is.is_valid in
         let numbers : Each (λ v. sample_number v ≡ h.number + h.pending) (filter (in_mask h.mask) made.voices) =
         Each-filter (in_mask h.mask) (λ v. sample_number v ≡ h.number + h.pending) made.voices
         (Each-map (IsVoiceWithin (h.number + h.pending) (h.number + h.pending + 1)) (λ v. sample_number v ≡ h.number + h.pending) (number_of_voice (h.number + h.pending)) made.voices
-        (voices_within (h.number + h.pending) 0 made.voices (laws.gives_voice_records (h.number + h.pending) before.state before.memory sound))) in
+        (voices_within (h.number + h.pending) 0 made.voices (laws.gives_voice_records (h.number + h.pending) before.state before.memory valid))) in
         let upto : Each (λ e. sample_number e ≤ h.number + h.pending) h.ring =
         Each-map (λ e. is_before_sample (h.number + h.pending) e ≡ true) (λ e. sample_number e ≤ h.number + h.pending) (number_before (h.number + h.pending)) h.ring is.before_next in
         let merged : merge (filter (in_mask h.mask) (before.voices ++ made.voices)) h.ring ≡ merge (filter (in_mask h.mask) before.voices) h.ring ++ filter (in_mask h.mask) made.voices =
@@ -151,7 +134,7 @@ module _ {S : Type 0} {chip : ChipMeaning S} (laws : IsLawfulChip chip) where
     -- the voices that are pending, of the mask
     pending_voices : Each (IsVoiceWithin h.number (h.number + h.pending)) (filter (in_mask h.mask) (pending_samples chip h).voices)
     pending_voices =
-        Each-filter (in_mask h.mask) (IsVoiceWithin h.number (h.number + h.pending)) (pending_samples chip h).voices (voices_within-run chip laws h.pending h.number h.state h.memory is.is_sound)
+        Each-filter (in_mask h.mask) (IsVoiceWithin h.number (h.number + h.pending)) (pending_samples chip h).voices (voices_within-samples chip laws h.pending h.number h.state h.memory is.is_valid)
 
     -- an event more, and a record more while none is pending
     pub late_event : (event : Record) → h.pending ≢ 0 → sample_number event ≡ h.number + h.pending
@@ -186,10 +169,10 @@ module _ {S : Type 0} {chip : ChipMeaning S} (laws : IsLawfulChip chip) where
     late_reach none = rw (none, run_none) refl
 
     frames_count : length (h.frames ++ (pending_samples chip h).frames) ≡ length h.frames + h.pending
-    frames_count = rw (length-append, length-frames-run) refl
+    frames_count = rw (length-append, length-frames-samples) refl
 
     pub voices_fit : length (filter (in_mask h.mask) (pending_samples chip h).voices) ≤ 8 * h.pending
-    voices_fit = omega (arith, length-filter-at_most (in_mask h.mask) (pending_samples chip h).voices, length-voices-run chip laws h.pending h.number h.state h.memory is.is_sound)
+    voices_fit = voices_of_mask chip laws h.pending h.mask h.number h.state h.memory is.is_valid
 
     pub records_within : length (late_of chip h).records ≤ (late_of chip h).records_used
     records_within =
@@ -204,7 +187,7 @@ module _ {S : Type 0} {chip : ChipMeaning S} (laws : IsLawfulChip chip) where
         let third = Each-append (λ r. is_before_sample (h.number + h.pending) r ≡ true) h.records (merge voices h.ring) first (Each-merge (λ r. is_before_sample (h.number + h.pending) r ≡ true) voices h.ring second is.before_next) in
         let same : h.number + h.pending + 0 ≡ h.number + h.pending = omega arith in
         record {
-          is_sound = is_sound-run chip laws h.pending h.number h.state h.memory is.is_sound;
+          is_valid = is_valid-samples chip laws h.pending h.number h.state h.memory is.is_valid;
           pending = omega arith;
           number_fits = rw same is.number_fits;
           after_first = tt;

@@ -1,19 +1,15 @@
 -- The machine with its lag book passes cycles in which it is only looked at.
-use Rattle.std.proofs.Common.{◌≡◌, ℕ, zero, suc, ◌+◌, ◌-◌, ◌*◌, ◌/◌, ◌%◌, ◌<◌, ◌≤◌, ◌++◌, List, [], ◌∷◌, Bool, true, false, nat_lt, ◌==◌, not, ◌&&◌, refl, sym, ap, ◌∙◌, subst, arith, append_assoc, Option, Some, None}
-use Rattle.std.specs.Prelude.{if◌then◌else◌}
+use Rattle.std.proofs.Common.{◌≡◌, ℕ, ◌+◌, ◌/◌, ◌<◌, ◌≤◌, ◌++◌, [], ◌∷◌, Bool, true, false, ◌==◌, refl, sym, ap, ◌∙◌, arith, append_assoc}
 use Rattle.std.specs.List.{filter}
 use Rattle.std.proofs.lemmas.List.{append-nil}
 use Rattle.std.proofs.lemmas.List.Elements.{filter-append}
 use Rattle.std.proofs.lemmas.Bool.Decides.{nat_tests}
 use Rattle.ports_timers.specs.declared.io.Io.{Io}
 use Rattle.ports_timers.specs.Io.{after_ticks_of}
-use Rattle.trace_form.specs.declared.record.Record.{Record}
-use Rattle.dsp_core.specs.Run.{Run, run, in_mask}
+use Rattle.dsp_core.specs.Run.{run, in_mask}
 use Rattle.dsp_core.proofs.Runs.{run_none, run_more}
 use Rattle.lock_step.specs.ChipMeaning.{ChipMeaning}
-use Rattle.lock_step.specs.Machine.{Machine}
-use Rattle.lock_step.specs.LockStep.{crosses_sample, after_sample, samples_made}
-use Rattle.lag_bus.specs.Book.{Book, with_sample}
+use Rattle.lock_step.specs.LockStep.{crosses_sample, samples_made}
 use Rattle.lag_bus.specs.Lagging.{Lagging, lagging, with_book}
 use Rattle.lag_bus.specs.Waiting.{samples_in, after_wait, without_calls, IsKept}
 use Rattle.idle_rounds.proofs.Ticks.{after_ticks_of-then, after_ticks_of-none}

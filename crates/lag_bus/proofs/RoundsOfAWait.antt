@@ -1,32 +1,26 @@
 -- Over cycles in which nothing comes that is read, the machine with its lag book is a bus that waits.
-use Rattle.std.proofs.Common.{◌≡◌, ℕ, zero, suc, ◌+◌, ◌-◌, ◌*◌, ◌/◌, ◌<◌, ◌≤◌, ◌++◌, Bool, true, false, not, ◌||◌, ◌&&◌, nat_lt, ◌==◌, refl, sym, ap, ◌∙◌, arith, List, Option, Some, None}
+use Rattle.std.proofs.Common.{◌≡◌, ℕ, ◌+◌, ◌-◌, ◌*◌, ◌/◌, ◌<◌, ◌≤◌, ◌++◌, Bool, true, false, not, ◌&&◌, ◌==◌, refl, sym, ap, ◌∙◌, arith, Option, Some, None}
 use Rattle.std.specs.Prelude.{if◌then◌else◌, unwrap_or}
-use Rattle.std.proofs.lemmas.Bool.Decides.{nat_tests}
 use Rattle.aram_core.specs.Memory.{byte_at}
-use Rattle.ports_timers.specs.declared.timer.Timer.{Timer}
 use Rattle.ports_timers.specs.declared.io.Io.{Io}
-use Rattle.ports_timers.specs.Timer.{tick_count}
-use Rattle.ports_timers.specs.Io.{is_enabled, read_answer, after_read, after_ticks_of}
-use Rattle.dsp_core.specs.Results.{is_result}
+use Rattle.ports_timers.specs.Io.{read_answer, after_ticks_of}
 use Rattle.std.specs.List.{filter}
 use Rattle.dsp_core.specs.Run.{run, in_mask}
 use Rattle.spc700_exec.specs.declared.cpu.Cpu.{Cpu}
-use Rattle.spc700_exec.specs.Bus.{BusMeaning}
 use Rattle.lag_bus.specs.declared.cause.Cause.{Cause}
 use Rattle.lock_step.specs.declared.counts.Counts.{Counts}
-use Rattle.lock_step.specs.Emits.{Emits}
 use Rattle.lag_bus.specs.LagEmits.{lag_emits, without_items}
 use Rattle.lag_bus.specs.Late.{Late}
 use Rattle.lag_bus.specs.IsLagging.{lagging_of}
 use Rattle.lock_step.specs.WaitOfRounds.{IsWaitOf}
-use Rattle.lag_bus.proofs.PendingSamples.{late_with_samples}
+use Rattle.lag_bus.specs.Late.{late_with_samples}
 use Rattle.lock_step.specs.ChipMeaning.{ChipMeaning}
 use Rattle.lock_step.specs.Machine.{Machine}
-use Rattle.lock_step.specs.LockStep.{bus_answer, after_bus_read, samples_made}
+use Rattle.lock_step.specs.LockStep.{bus_answer, after_bus_read}
 use Rattle.lag_bus.specs.Book.{Book, may_be_written, cause_of_read, after_cause}
 use Rattle.lag_bus.specs.Lagging.{Lagging, lagging, with_book}
 use Rattle.idle_rounds.specs.Looking.{looked_steps, after_n_steps, IsWaiting}
-use Rattle.idle_rounds.specs.Zeros.{stays_if_0, zeros_stay, counter_is_0, AreTimers}
+use Rattle.idle_rounds.specs.Zeros.{zeros_stay, counter_is_0, AreTimers}
 use Rattle.lag_bus.specs.Waiting.{only_looks, byte_seen, samples_in, after_wait, without_calls, IsKept}
 use Rattle.idle_rounds.proofs.Stays.{and_first, and_second, read_answer-stays, after_read-stays}
 use Rattle.idle_rounds.proofs.Fewer.{zeros_stay-less}
@@ -131,7 +125,7 @@ module _ {S : Type 0} (chip : ChipMeaning S) where
         below = omega arith;
       }
 
-  -- what a bus shows behind a wait
+  -- what a bus shows after a wait
   pub lagging_of-wait : (late : Late S) (io : Io) (clock : ℕ) (counts : Counts) (calls cycles due : ℕ) → late.batches ≡ counts.batches → late.made ≡ clock / 32 → due ≡ samples_in clock cycles
       → lagging_of (late_with_samples chip late due) (after_ticks_of io clock cycles) (clock + cycles) counts calls ≡ after_wait chip (lagging_of late io clock counts calls) cycles
   lagging_of-wait late io clock counts calls cycles due batches made is =

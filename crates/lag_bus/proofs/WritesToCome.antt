@@ -1,13 +1,13 @@
 -- Samples to come write where the reach before the pending ones says.
-use Rattle.std.proofs.Common.{◌≡◌, ℕ, zero, suc, ◌+◌, ◌-◌, ◌≤◌, List, true, false, refl, sym, ap, ◌∙◌, arith}
+use Rattle.std.proofs.Common.{◌≡◌, ℕ, zero, suc, ◌+◌, List, sym, ap, ◌∙◌, arith}
 use Rattle.aram_core.specs.Memory.{byte_at}
-use Rattle.dsp_core.specs.Run.{Sampled, Run, run}
+use Rattle.dsp_core.specs.Run.{Sampled, run}
 use Rattle.lock_step.specs.ChipMeaning.{ChipMeaning}
 use Rattle.lock_step.specs.ChipLaws.{IsLawfulChip}
-use Rattle.lag_bus.specs.Book.{may_be_written}
-use Rattle.lag_bus.specs.Held.{Held, IsHeld, pending_samples, late_of}
+use Rattle.lag_bus.specs.Late.{AreWritesWithin}
+use Rattle.lag_bus.specs.Held.{Held, IsHeld, late_of}
 
--- n samples behind p samples, as far as the chip and memory go
+-- n samples after p samples, as far as the chip and memory go
 both_then : {S : Type 0} (sample : ℕ → S → List ℕ → Sampled S) (n p k : ℕ) (s : S) (memory : List ℕ)
     → (let before = run sample p k s memory in let all = run sample n (k + p) before.state before.memory in
     ((run sample (n + p) k s memory).state ≡ all.state) × ((run sample (n + p) k s memory).memory ≡ all.memory))
@@ -24,10 +24,9 @@ both_then sample (suc n) p k s memory =
     )
 
 module _ {S : Type 0} {chip : ChipMeaning S} (laws : IsLawfulChip chip) {h : Held S} (is : IsHeld chip h) where
-  pub late_writes : (due at : ℕ) → h.pending + due ≤ 64 → may_be_written (late_of chip h).reach at ≡ false
-      → byte_at (run chip.sample due (late_of chip h).made (late_of chip h).chip (late_of chip h).memory).memory at ≡ byte_at (late_of chip h).memory at
+  pub late_writes : AreWritesWithin chip (late_of chip h).reach (late_of chip h).pending (late_of chip h).made (late_of chip h).chip (late_of chip h).memory
   late_writes due at few free =
       let both = both_then chip.sample due h.pending h.number h.state h.memory in
       sym (ap (λ (m : List ℕ). byte_at m at) both.1)
-      ∙ laws.writes_inside (due + h.pending) h.number h.state h.memory at (omega arith) is.is_sound free
-      ∙ sym (laws.writes_inside h.pending h.number h.state h.memory at is.pending is.is_sound free)
+      ∙ laws.writes_inside (due + h.pending) h.number h.state h.memory at (omega arith) is.is_valid free
+      ∙ sym (laws.writes_inside h.pending h.number h.state h.memory at is.pending is.is_valid free)

@@ -11,6 +11,7 @@ use Rattle.lag_bus.specs.declared.cause.Cause.TheVariants.{Register, Memory, Ech
 use Rattle.lock_step.specs.ChipMeaning.{ChipMeaning}
 use Rattle.lock_step.specs.Machine.{Machine}
 use Rattle.lock_step.specs.LockStep.{writes_register, writes_port}
+use Rattle.lock_step.specs.Limits.{most_samples_of_batch, event_room}
 
 pub record Book : Type 0 where
   -- the samples that the chip hasn't made yet
@@ -38,12 +39,12 @@ cause_of_read reach dsp_address at =
     else if may_be_written reach at then Some Echo
     else None
 
--- the cause for which a write has them made first: a register, memory that they may read, or 256 events that wait
+-- the cause for which a write has them made first: a register, memory that they may read, or as many events that wait as there is room for
 abbrev pub cause_of_write : ReachPages → (dsp_address at pending events : ℕ) → Option Cause
 cause_of_write reach dsp_address at pending events =
     if writes_register dsp_address at then Some Register
     else if may_be_read reach at then Some Memory
-    else if writes_port at && nat_lt 0 pending && events == 256 then Some Events
+    else if writes_port at && nat_lt 0 pending && events == event_room then Some Events
     else None
 
 -- nothing has been counted
@@ -61,7 +62,9 @@ counts_with_batch End counts = record counts { batches = counted counts.batches;
 
 -- as long as no count is at the end of 64 bits, the batches are those of the six causes together
 abbrev pub AddsUp : Counts → Type 0
-AddsUp counts = counts.batches < 2 ^ 64 - 1 → counts.batches ≡ counts.register + counts.memory + counts.echo + counts.full + counts.events + counts.«end»
+AddsUp counts =
+    counts.batches < 2 ^ 64 - 1
+    → counts.batches ≡ counts.register + counts.memory + counts.echo + counts.full + counts.events + counts.«end»
 
 -- the book once the pending samples are made for a cause: where there are any, they are one batch
 abbrev pub settled_book : Cause → Book → Book
@@ -85,11 +88,11 @@ abbrev pub with_event : Option Cause → (at : ℕ) → Book → Book
 with_event None at book = if writes_port at && nat_lt 0 book.pending then record book { events = book.events + 1 } else book
 with_event (Some cause) at book = book
 
--- the book after a pass that makes a sample and leaves this machine: once 64 are pending the chip makes them
+-- the book after a pass that makes a sample and leaves this machine: once as many are pending as one batch has at most, the chip makes them
 abbrev pub with_sample : {S : Type 0} → ChipMeaning S → Machine S → Book → Book
 with_sample chip machine book =
     let more = record book { pending = book.pending + 1 } in
-    if more.pending == 64 then with_reach_of chip machine (settled_book Full more) else more
+    if more.pending == most_samples_of_batch then with_reach_of chip machine (settled_book Full more) else more
 
 -- the book at the opening of a machine
 abbrev pub opened_book : {S : Type 0} → ChipMeaning S → Machine S → Book

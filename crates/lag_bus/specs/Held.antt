@@ -7,6 +7,7 @@ use Rattle.trace_form.specs.declared.record.Record.{Record}
 use Rattle.reach_map.specs.declared.ReachPages.{ReachPages}
 use Rattle.dsp_core.specs.Run.{Run, run, in_mask}
 use Rattle.lock_step.specs.ChipMeaning.{ChipMeaning}
+use Rattle.lock_step.specs.Limits.{most_samples_of_batch, most_samples_of_chip, frame_room, record_room}
 use Rattle.lag_bus.specs.Each.{Each}
 use Rattle.lag_bus.specs.Merge.{merge}
 use Rattle.lock_step.specs.SampleNumbers.{sample_number}
@@ -49,16 +50,16 @@ late_of chip h = record {
 
 -- what always holds of it
 pub record IsHeld {S : Type 0} (chip : ChipMeaning S) (h : Held S) : Type 0 where
-  pub is_sound : chip.is_sound h.state ≡ true
-  pub pending : h.pending ≤ 64
-  pub number_fits : h.number + h.pending ≤ 4000000000
+  pub is_valid : chip.is_valid h.state ≡ true
+  pub pending : h.pending ≤ most_samples_of_batch
+  pub number_fits : h.number + h.pending ≤ most_samples_of_chip
   -- an event came after the first of the pending samples, and before the next sample
   pub after_first : Each (λ event. h.number < sample_number event) h.ring
   pub before_next : Each (λ event. is_before_sample (h.number + h.pending) event ≡ true) h.ring
   pub none_waits : h.pending ≡ 0 → h.ring ≡ []
   pub made_before : Each (λ item. is_before_sample h.number item ≡ true) h.records
-  pub frames_fit : length h.frames + h.pending ≤ 128
-  pub records_fit : length h.records + length h.ring + 8 * h.pending ≤ 1344
+  pub frames_fit : length h.frames + h.pending ≤ frame_room
+  pub records_fit : length h.records + length h.ring + 8 * h.pending ≤ record_room
 
 -- a reach that was taken and not dropped is that of what is held
 abbrev pub IsTaken : {S : Type 0} → ChipMeaning S → Option ReachPages → S → (memory : List ℕ) → Type 0

@@ -2,6 +2,7 @@
 use Rattle.std.specs.Prelude.{◌≡◌, ℕ, ◌+◌, ◌-◌, ◌*◌, ◌/◌, ◌<◌, ◌≤◌}
 use Rattle.ports_timers.specs.declared.io.Io.{Io}
 use Rattle.lock_step.specs.declared.counts.Counts.{Counts}
+use Rattle.lock_step.specs.Limits.{most_samples_of_batch, most_samples_of_chip, event_room}
 use Rattle.lag_bus.specs.Book.{AddsUp}
 use Rattle.lag_bus.specs.Lagging.{Lagging}
 use Rattle.lag_bus.specs.Late.{Late}
@@ -27,11 +28,11 @@ lagging_of late io clock counts calls = record {
 pub record IsLagging {S : Type 0} (late : Late S) (counts : Counts) (clock calls : ℕ) : Type 0 where
   pub same_batches : late.batches ≡ counts.batches
   pub same_made : late.made ≡ clock / 32
-  pub pending : late.pending < 64
-  pub events : late.events ≤ 256
-  -- each call takes room for at most a frame and eight records
-  pub frames : late.frames_used ≤ 63 + calls
-  pub records : late.records_used ≤ 760 + 8 * calls
+  pub pending : late.pending < most_samples_of_batch
+  pub events : late.events ≤ event_room
+  -- each call takes room for at most a frame and eight records, beside what the pending samples and the events took before
+  pub frames : late.frames_used ≤ most_samples_of_batch - 1 + calls
+  pub records : late.records_used ≤ event_room + 8 * (most_samples_of_batch - 1) + 8 * calls
   pub adds_up : AddsUp counts
-  pub time : clock < 128000000032
+  pub time : clock < 32 * (most_samples_of_chip + 1)
   pub few : calls ≤ 64

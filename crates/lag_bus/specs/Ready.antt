@@ -19,7 +19,7 @@ ready_frames pending frames = take (length frames - pending) frames
 abbrev pub waiting_frames : (pending : ℕ) → List Frame → List Frame
 waiting_frames pending frames = drop (length frames - pending) frames
 
--- the records before the first item of the first pending sample, which is number `first`, and those behind it
+-- the records before the first item of the first pending sample, which is number `first`, and those after it
 abbrev pub ready_records : (first : ℕ) → List Record → List Record
 ready_records first records = filter (is_before_sample first) records
 

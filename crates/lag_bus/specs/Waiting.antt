@@ -1,17 +1,19 @@
 -- The machine with its lag book after cycles in which it is only looked at.
-use Rattle.std.specs.Prelude.{◌≡◌, ◌≤◌, ℕ, ◌+◌, ◌-◌, ◌/◌, ◌++◌, Bool, true, false, not, ◌&&◌, ◌==◌, if◌then◌else◌, Option, Some, None}
+use Rattle.std.specs.Prelude.{◌≡◌, ◌≤◌, ◌<◌, ℕ, ◌+◌, ◌-◌, ◌*◌, ◌/◌, ◌++◌, Bool, true, not, ◌&&◌, ◌==◌, if◌then◌else◌, Option, Some, None}
 use Rattle.std.specs.List.{filter}
-use Rattle.aram_core.specs.Memory.{byte_at}
 use Rattle.reach_map.specs.declared.ReachPages.{ReachPages}
 use Rattle.ports_timers.specs.declared.io.Io.{Io}
 use Rattle.ports_timers.specs.Io.{after_ticks_of}
-use Rattle.dsp_core.specs.Run.{Run, run, in_mask}
+use Rattle.dsp_core.specs.Run.{run, in_mask}
 use Rattle.lock_step.specs.ChipMeaning.{ChipMeaning}
-use Rattle.lock_step.specs.Machine.{Machine}
 use Rattle.lock_step.specs.LockStep.{samples_made, bus_answer}
 use Rattle.lag_bus.specs.Book.{may_be_written}
-use Rattle.lag_bus.specs.Lagging.{Lagging, with_book}
-use Rattle.idle_rounds.specs.Zeros.{counter_is_0}
+use Rattle.lag_bus.specs.Lagging.{Lagging, lagging, with_book}
+use Rattle.lag_bus.specs.Late.{AreWritesWithin}
+use Rattle.lock_step.specs.Limits.{most_samples_of_batch}
+use Rattle.idle_rounds.specs.Zeros.{counter_is_0, zeros_stay, AreTimers}
+use Rattle.idle_rounds.specs.Looking.{looked_steps, after_n_steps}
+use Rattle.spc700_exec.specs.declared.cpu.Cpu.{Cpu}
 
 -- Whether a read only looks, so that it has the same answer while cycles pass: it is of no register of the chip, no sample
 -- pending or to come writes there, and an output counter that is read is 0.
@@ -26,7 +28,7 @@ byte_seen chip bus at = if only_looks bus.book.reach bus.machine.io at then Some
 abbrev pub samples_in : (clock cycles : ℕ) → ℕ
 samples_in clock cycles = (clock + cycles) / 32 - clock / 32
 
--- The bus after so many cycles alone, while fewer than 64 samples are pending: the timers ticked, and the samples that fell due
+-- The bus after so many cycles alone, while fewer samples are pending than one batch has at most: the timers ticked, and the samples that fell due
 -- are pending. The machine has what they leave and emit, as it always has.
 abbrev pub after_wait : {S : Type 0} → ChipMeaning S → Lagging S → (cycles : ℕ) → Lagging S
 after_wait chip bus cycles =
@@ -52,5 +54,18 @@ without_calls bus = record bus { machine = record bus.machine { calls = 0 } }
 pub record IsKept {S : Type 0} (chip : ChipMeaning S) (bus : Lagging S) : Type 0 where
   pub batches : bus.chip_batches ≡ bus.book.counts.batches
   pub sample : bus.chip_sample ≡ samples_made bus.machine - bus.book.pending
-  pub writes : (due at : ℕ) → bus.book.pending + due ≤ 64 → may_be_written bus.book.reach at ≡ false
-      → byte_at (run chip.sample due (samples_made bus.machine) bus.machine.chip bus.machine.memory).memory at ≡ byte_at bus.machine.memory at
+  pub writes : AreWritesWithin chip bus.book.reach bus.book.pending (samples_made bus.machine) bus.machine.chip bus.machine.memory
+
+-- Over cycles in which no counter comes to 1 and fewer samples fall due than one batch has, rounds of steps that only look bring
+-- the registers back, and the bus to where their cycles alone bring it, but for the number of its calls.
+abbrev pub LeavesCyclesOfRounds : {S : Type 0} → ChipMeaning S → Type 0
+LeavesCyclesOfRounds {S} chip =
+    (bus : Lagging S) (most rounds steps cycles : ℕ) (cpu : Cpu)
+    → IsKept chip bus
+    → AreTimers bus.machine.io
+    → zeros_stay bus.machine.io bus.machine.clock most ≡ true
+    → bus.book.pending + samples_in bus.machine.clock most < most_samples_of_batch
+    → looked_steps (byte_seen chip bus) steps cpu ≡ Some (cpu, cycles)
+    → rounds * cycles ≤ most
+    → let there = after_n_steps (lagging chip) (rounds * steps) (cpu, bus) in
+    (there.0 ≡ cpu) × (without_calls there.1 ≡ without_calls (after_wait chip bus (rounds * cycles)))

@@ -1,10 +1,13 @@
 // Why a bus that lags makes its pending samples, and when.
 ghost use Rattle.std.specs.Prelude.{◌≡◌};
-ghost use Rattle.aram_core.specs.Pages.{page_of};
 ghost use Rattle.dsp_core.specs.Results.{is_result};
 ghost use Rattle.lag_bus.specs.Book.{may_be_read, may_be_written, cause_of_read, cause_of_write};
 
+use aram_core::page_of;
 use reach_map::ReachPages;
+
+/// The most events that wait for pending samples.
+const EVENT_ROOM: usize = 256;
 
 /// Why pending samples are made.
 #[derive(Clone, Copy, Debug, PartialEq, Eq)]
@@ -21,14 +24,6 @@ pub enum Cause {
     Events,
     /// It was asked for.
     End,
-}
-
-/// The page of an address.
-#[inline]
-fn page_of(at: u16) -> u8
-    ensures { result ≡ page_of at }
-{
-    (at / 0x100) as u8
 }
 
 /// Whether samples may read the byte at an address.
@@ -82,7 +77,7 @@ pub fn cause_of_write(
         Some(Cause::Register)
     } else if may_be_read(reach, at) {
         Some(Cause::Memory)
-    } else if (0xF4..=0xF7).contains(&at) && pending > 0 && events == 256 {
+    } else if (0xF4..=0xF7).contains(&at) && pending > 0 && events == EVENT_ROOM {
         Some(Cause::Events)
     } else {
         None

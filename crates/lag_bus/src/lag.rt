@@ -2,11 +2,12 @@
 ghost use Rattle.std.specs.Prelude.{◌≡◌, ◌+◌, ◌*◌, ◌/◌, ◌-◌, ◌<◌, ◌≤◌, ◌%◌, ◌++◌, ◌∷◌, [], ◌==◌, unwrap_or, ◌||◌, not, true, false, length, if◌then◌else◌, IfOk};
 ghost use Rattle.std.proofs.Common.{refl};
 ghost use Rattle.aram_core.specs.Memory.{byte_at, with_byte};
-ghost use Rattle.ports_timers.specs.Io.{read_answer, after_read};
+ghost use Rattle.ports_timers.specs.Io.{after_read};
 ghost use Rattle.dsp_core.specs.Results.{is_result};
 ghost use Rattle.dsp_core.specs.Run.{counted};
+ghost use Rattle.lock_step.specs.Limits.{most_samples_of_run, most_samples_of_chip, most_samples_of_batch, record_room, event_room};
 ghost use Rattle.lock_step.specs.Machine.{opened_machine};
-ghost use Rattle.lock_step.specs.LockStep.{writes_register, writes_port, write_records};
+ghost use Rattle.lock_step.specs.LockStep.{writes_register, writes_port, write_records, byte_answered};
 ghost use Rattle.lag_bus.specs.Ready.{ready_frames, ready_records};
 ghost use Rattle.lag_bus.specs.Book.{counts_with_batch, AddsUp, may_be_read, may_be_written};
 ghost use Rattle.lag_bus.specs.Lagging.{lagging, opened_lagging, after_settle};
@@ -28,6 +29,9 @@ use spc700_exec::{Bus, Cpu};
 use std::alloc::Global;
 use std::marker::Model;
 use trace_form::{EventRing, Frames, Record, Records};
+
+/// The most samples that wait, which are then made as one batch.
+const MOST_PENDING: u8 = 64;
 
 /// A bus over a chip whose samples wait, at most 64 of them, until something needs them, and are then made as one batch.
 /// What is emitted waits in it for the next drain.
@@ -83,7 +87,7 @@ impl<C: Chip> LagBus<C> {
         requires batches { C.batches chip ≡ 0 }
         ensures { IfOk result (λ bus. bus ≡ opened_lagging C.meaning (opened_machine opening.memory opening.cells opening.rom (C.state chip) mask)) }
     {
-        // A chip in hand is sound, which this call tells.
+        // A chip in hand is valid, which this call tells.
         let _sample = chip.sample();
         let frames = Frames::new(alloc)?;
         let records = Records::new(alloc)?;
@@ -98,15 +102,25 @@ impl<C: Chip> LagBus<C> {
         })
     }
 
+    /// The chip in hand. It made the batches that are counted, and all samples but those pending.
+    pub fn chip(&self) -> &C
+        ensures batches { C.batches result.now ≡ self.now.chip_batches }
+        ensures sample { C.sample result.now ≡ self.now.chip_sample }
+        ensures counted { C.batches result.now ≡ self.now.book.counts.batches }
+        ensures made { C.sample result.now ≡ self.now.machine.clock / 32 - self.now.book.pending }
+    {
+        self.late.chip()
+    }
+
     /// The samples that the chip hasn't made yet.
     pub fn pending(&self) -> u8
         ensures pending { result ≡ self.now.book.pending }
-        ensures few { result ≤ 64 }
+        ensures few { result ≤ most_samples_of_batch }
     {
         self.late.pending()
     }
 
-    /// How often the chip ran, and why.
+    /// How often the chip ran, and why. The chip in hand, which `chip` gives, made these batches.
     pub fn counts(&self) -> Counts
         ensures counts { result ≡ self.now.book.counts }
         ensures adds_up { AddsUp result }
@@ -169,13 +183,12 @@ impl<C: Chip> LagBus<C> {
     }
 
     /// A pass that comes to a multiple of 16 of the clock, where timers may tick and a sample may be due.
-    #[cold]
     #[inline(never)]
     fn pass_ticks(&mut self, cycles: u8)
         requires room { self.old.machine.calls < 64 }
         requires some { 1 ≤ cycles }
         requires few { cycles ≤ 32 }
-        requires time { self.old.machine.clock / 32 < 4000000000 }
+        requires time { self.old.machine.clock / 32 < most_samples_of_chip }
         ensures { self.new ≡ (lagging C.meaning).pass self.old cycles }
     {
         self.calls += 1;
@@ -184,7 +197,7 @@ impl<C: Chip> LagBus<C> {
         self.io.ticks(from, cycles);
         if from / 32 < self.clock / 32 {
             self.late.pend();
-            if self.late.pending() == 64 {
+            if self.late.pending() == MOST_PENDING {
                 settle_for(&mut self.late, &mut self.counts, Cause::Full);
             }
         }
@@ -193,13 +206,13 @@ impl<C: Chip> LagBus<C> {
     /// Cycles for which it can be waited before the end of a run to so many samples.
     fn cycles_to_wait(&self, samples: u32) -> u64
         requires more { self.now.machine.clock / 32 < samples }
-        requires few { samples ≤ 115200000 }
+        requires few { samples ≤ most_samples_of_run }
         ensures zeros { zeros_stay self.now.machine.io self.now.machine.clock result ≡ true }
-        ensures free { self.now.book.pending + samples_in self.now.machine.clock result < 64 }
+        ensures free { self.now.book.pending + samples_in self.now.machine.clock result < most_samples_of_batch }
         ensures below { (self.now.machine.clock + result) / 32 < samples }
         ensures timers { AreTimers self.now.machine.io }
     {
-        let free = 32 * (64 - u64::from(self.late.pending())) - 1 - self.clock % 32;
+        let free = 32 * u64::from(MOST_PENDING - self.late.pending()) - 1 - self.clock % 32;
         let rest = 32 * u64::from(samples) - 1 - self.clock;
         cycles_of_zeros(&self.io, self.clock).min(free.min(rest))
     }
@@ -222,7 +235,7 @@ impl<C: Chip> LagBus<C> {
                 settle_for(&mut self.late, &mut self.counts, cause);
                 write_now(&mut self.late, address, addr, value, sample);
             }
-            None => write_late(&mut self.late, addr, value, sample),
+            None => write_beside_pending(&mut self.late, addr, value, sample),
         }
     }
 }
@@ -231,7 +244,7 @@ impl<C: Chip> LagBus<C> {
 fn answer_of<C: Chip>(late: &LateChip<C>, io: &mut Io, at: u16) -> u8
     requires memory { (late.now.pending == 0 || not (may_be_written late.now.reach at)) ≡ true }
     requires register { at ≡ 0xF3 → (late.now.pending == 0 || not (is_result io.old.dsp_address)) ≡ true }
-    ensures answer { result ≡ (if at == 0xF3 then C.meaning.register_read late.now.chip (io.old.dsp_address % 0x80) else unwrap_or (read_answer io.old at) (byte_at late.now.memory at)) }
+    ensures answer { result ≡ byte_answered C.meaning late.now.chip io.old late.now.memory at }
     ensures io { io.new ≡ after_read io.old at }
 {
     let address = io.dsp_address();
@@ -249,7 +262,7 @@ fn answer_of<C: Chip>(late: &LateChip<C>, io: &mut Io, at: u16) -> u8
 fn write_now<C: Chip>(late: &mut LateChip<C>, address: u8, at: u16, value: u8, sample: u32)
     requires none { late.old.pending ≡ 0 }
     requires sample { sample ≡ late.old.made }
-    requires room { late.old.records_used < 1344 }
+    requires room { late.old.records_used < record_room }
     ensures late { late.new ≡ record late.old {
       memory = with_byte late.old.memory at value;
       chip = if writes_register address at then C.meaning.register_write late.old.chip address value else late.old.chip;
@@ -279,12 +292,12 @@ fn write_now<C: Chip>(late: &mut LateChip<C>, address: u8, at: u16, value: u8, s
 }
 
 /// What a write does for which no pending sample is needed.
-fn write_late<C: Chip>(late: &mut LateChip<C>, at: u16, value: u8, sample: u32)
+fn write_beside_pending<C: Chip>(late: &mut LateChip<C>, at: u16, value: u8, sample: u32)
     requires free { may_be_read late.old.reach at ≡ false }
     requires some { 0 < late.old.pending }
-    requires ring { writes_port at ≡ true → late.old.events < 256 }
+    requires ring { writes_port at ≡ true → late.old.events < event_room }
     requires sample { sample ≡ late.old.made }
-    requires room { late.old.records_used < 1344 }
+    requires room { late.old.records_used < record_room }
     ensures late { late.new ≡ record late.old {
       memory = with_byte late.old.memory at value;
       records = late.old.records ++ write_records sample 0x80 at value;

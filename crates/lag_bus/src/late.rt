@@ -5,6 +5,8 @@ ghost use Rattle.aram_core.specs.Memory.{byte_at, with_byte};
 ghost use Rattle.dsp_core.specs.Results.{is_result};
 ghost use Rattle.dsp_core.specs.Run.{run, in_mask, counted};
 ghost use Rattle.lag_bus.specs.Book.{may_be_read, may_be_written, cause_of_read, cause_of_write};
+ghost use Rattle.lag_bus.specs.Late.{late_with_sample, AreWritesWithin};
+ghost use Rattle.lock_step.specs.Limits.{most_samples_of_batch, most_samples_of_chip, frame_room, record_room, event_room};
 ghost use Rattle.lock_step.specs.SampleNumbers.{sample_number};
 ghost use Rattle.lag_bus.specs.Ready.{is_before_sample, ready_frames, waiting_frames, ready_records, waiting_records};
 
@@ -42,10 +44,29 @@ impl<C: Chip> Model for LateChip<C> {
 
     ghost coded = { Prim.hlevel (codes, page_set.the_row.coded) };
 
-    ghost view = { λ b. late_of C.meaning (record { state = C.state b.chip; number = C.sample b.chip; batches = C.batches b.chip; memory = b.memory; frames = b.frames; records = b.records; ring = b.ring; mask = b.mask; pending = b.pending }) };
+    ghost view = { λ b. late_of C.meaning (record {
+      state = C.state b.chip;
+      number = C.sample b.chip;
+      batches = C.batches b.chip;
+      memory = b.memory;
+      frames = b.frames;
+      records = b.records;
+      ring = b.ring;
+      mask = b.mask;
+      pending = b.pending;
+    }) };
 
-    ghost invariant = { λ b. IsHeld C.meaning (record { state = C.state b.chip; number = C.sample b.chip; batches = C.batches b.chip; memory = b.memory; frames = b.frames; records = b.records; ring = b.ring; mask = b.mask; pending = b.pending })
-        × IsTaken C.meaning b.taken (C.state b.chip) b.memory };
+    ghost invariant = { λ b. IsHeld C.meaning (record {
+      state = C.state b.chip;
+      number = C.sample b.chip;
+      batches = C.batches b.chip;
+      memory = b.memory;
+      frames = b.frames;
+      records = b.records;
+      ring = b.ring;
+      mask = b.mask;
+      pending = b.pending;
+    }) × IsTaken C.meaning b.taken (C.state b.chip) b.memory };
 }
 
 /// Clears a list and moves another one into it. Mostly that one is empty.
@@ -70,12 +91,46 @@ fn move_records(from: &mut Records, to: &mut Records)
     }
 }
 
+/// Makes some samples as one batch: their frames at the end of a list, and the records of the voices in the mask as a list
+/// of their own.
+fn make_batch<C: Chip>(
+    chip: &mut C,
+    n: u8,
+    memory: &mut Aram,
+    mask: u8,
+    frames: &mut Frames,
+    voices: &mut Records,
+)
+    requires is_valid { C.meaning.is_valid (C.state chip.old) ≡ true }
+    requires few { n ≤ most_samples_of_batch }
+    requires number { C.sample chip.old + n ≤ most_samples_of_chip }
+    requires room { length frames.old + n ≤ frame_room }
+    ensures state { C.state chip.new ≡ (run C.meaning.sample n (C.sample chip.old) (C.state chip.old) memory.old).state }
+    ensures sample { C.sample chip.new ≡ C.sample chip.old + n }
+    ensures batches { C.batches chip.new ≡ (if n == 0 then C.batches chip.old else counted (C.batches chip.old)) }
+    ensures memory { memory.new ≡ (run C.meaning.sample n (C.sample chip.old) (C.state chip.old) memory.old).memory }
+    ensures frames { frames.new ≡ frames.old ++ (run C.meaning.sample n (C.sample chip.old) (C.state chip.old) memory.old).frames }
+    ensures voices { voices.new ≡ filter (in_mask mask) (run C.meaning.sample n (C.sample chip.old) (C.state chip.old) memory.old).voices }
+    ensures count { length voices.new ≤ 8 * n }
+{
+    voices.clear();
+    chip.advance(n, memory, mask, frames, voices);
+}
+
 impl<C: Chip> LateChip<C> {
+    /// The chip in hand.
+    pub fn chip(&self) -> &C
+        ensures batches { C.batches result.now ≡ self.now.batches }
+        ensures sample { C.sample result.now ≡ self.now.made - self.now.pending }
+    {
+        &self.chip
+    }
+
     /// The samples that are pending.
     #[inline]
     pub fn pending(&self) -> u8
         ensures pending { result ≡ self.now.pending }
-        ensures few { result ≤ 64 }
+        ensures few { result ≤ most_samples_of_batch }
         ensures reach { self.now.pending ≡ 0 → self.now.reach ≡ C.meaning.reach self.now.chip self.now.memory }
     {
         self.pending
@@ -210,7 +265,8 @@ impl<C: Chip> LateChip<C> {
     /// Writes a register while no sample is pending.
     pub fn reg_write(&mut self, address: u8, value: u8)
         requires { self.old.pending ≡ 0 }
-        ensures { self.new ≡ record self.old { chip = C.meaning.register_write self.old.chip address value; reach = C.meaning.reach (C.meaning.register_write self.old.chip address value) self.old.memory } }
+        ensures { let written = C.meaning.register_write self.old.chip address value in
+            self.new ≡ record self.old { chip = written; reach = C.meaning.reach written self.old.memory } }
     {
         self.chip.reg_write(address, value);
         self.taken.forget();
@@ -220,8 +276,8 @@ impl<C: Chip> LateChip<C> {
     pub fn emit(&mut self, item: Record)
         requires number { sample_number item ≡ self.old.made }
         requires before { is_before_sample self.old.made item ≡ true }
-        requires few { 0 < self.old.pending → self.old.events < 256 }
-        requires room { self.old.records_used < 1344 }
+        requires few { 0 < self.old.pending → self.old.events < event_room }
+        requires room { self.old.records_used < record_room }
         ensures { self.new ≡ record self.old {
           records = self.old.records ++ item ∷ [];
           events = if self.old.pending == 0 then self.old.events else self.old.events + 1;
@@ -248,7 +304,7 @@ impl<C: Chip> LateChip<C> {
     /// Takes the reach, unless it was taken. Samples to come, too, write on its write pages alone.
     pub fn ensure_reach(&mut self)
         ensures rest { self.new ≡ self.old }
-        ensures writes { (due at : ℕ) → self.old.pending + due ≤ 64 → may_be_written self.old.reach at ≡ false → byte_at (run C.meaning.sample due self.old.made self.old.chip self.old.memory).memory at ≡ byte_at self.old.memory at }
+        ensures writes { AreWritesWithin C.meaning self.old.reach self.old.pending self.old.made self.old.chip self.old.memory }
     {
         if self.taken.reach().is_none() {
             self.take_reach();
@@ -265,21 +321,11 @@ impl<C: Chip> LateChip<C> {
 
     /// Counts one sample more.
     pub fn pend(&mut self)
-        requires few { self.old.pending < 64 }
-        requires number { self.old.made < 4000000000 }
-        requires frames { self.old.frames_used < 128 }
-        requires records { self.old.records_used + 8 ≤ 1344 }
-        ensures { let made = C.meaning.sample self.old.made self.old.chip self.old.memory in
-            self.new ≡ record self.old {
-              chip = made.state;
-              memory = made.memory;
-              frames = self.old.frames ++ made.frame ∷ [];
-              records = self.old.records ++ filter (in_mask self.old.mask) made.voices;
-              made = self.old.made + 1;
-              pending = self.old.pending + 1;
-              frames_used = self.old.frames_used + 1;
-              records_used = self.old.records_used + 8;
-            } }
+        requires few { self.old.pending < most_samples_of_batch }
+        requires number { self.old.made < most_samples_of_chip }
+        requires frames { self.old.frames_used < frame_room }
+        requires records { self.old.records_used + 8 ≤ record_room }
+        ensures { self.new ≡ late_with_sample C.meaning self.old }
     {
         self.pending += 1;
     }
@@ -295,8 +341,8 @@ impl<C: Chip> LateChip<C> {
         } }
         ensures room { length self.old.records ≤ self.old.records_used }
     {
-        self.voices.clear();
-        self.chip.advance(
+        make_batch(
+            &mut self.chip,
             self.pending,
             &mut self.memory,
             self.mask,
@@ -337,7 +383,7 @@ impl<C: Chip> LateChip<C> {
         ring: EventRing,
     ) -> Self
         requires chip { C.sample chip ≡ 0 }
-        requires is_sound { C.meaning.is_sound (C.state chip) ≡ true }
+        requires is_valid { C.meaning.is_valid (C.state chip) ≡ true }
         requires frames { frames ≡ [] }
         requires records { records ≡ [] }
         requires ring { ring ≡ [] }

@@ -3,6 +3,8 @@ ghost use Rattle.std.specs.Prelude.{◌≡◌, ◌+◌, ◌-◌, ◌*◌, ◌/�
 ghost use Rattle.std.specs.List.{filter};
 ghost use Rattle.dsp_core.specs.Run.{run, in_mask};
 ghost use Rattle.idle_rounds.specs.Zeros.{counter_is_0};
+ghost use Rattle.lag_bus.specs.Late.{late_with_samples};
+ghost use Rattle.lock_step.specs.Limits.{most_samples_of_batch, most_samples_of_chip, frame_room, record_room};
 
 use crate::late::LateChip;
 use lock_step::Chip;
@@ -10,20 +12,11 @@ use ports_timers::Io;
 
 /// Counts some samples more.
 pub(crate) fn pend_all<C: Chip>(late: &mut LateChip<C>, due: u8)
-    requires few { late.old.pending + due ≤ 64 }
-    requires number { late.old.made + due ≤ 4000000000 }
-    requires frames { late.old.frames_used + due ≤ 128 }
-    requires records { late.old.records_used + 8 * due ≤ 1344 }
-    ensures { late.new ≡ record late.old {
-      chip = (run C.meaning.sample due late.old.made late.old.chip late.old.memory).state;
-      memory = (run C.meaning.sample due late.old.made late.old.chip late.old.memory).memory;
-      frames = late.old.frames ++ (run C.meaning.sample due late.old.made late.old.chip late.old.memory).frames;
-      records = late.old.records ++ filter (in_mask late.old.mask) (run C.meaning.sample due late.old.made late.old.chip late.old.memory).voices;
-      made = late.old.made + due;
-      pending = late.old.pending + due;
-      frames_used = late.old.frames_used + due;
-      records_used = late.old.records_used + 8 * due;
-    } }
+    requires few { late.old.pending + due ≤ most_samples_of_batch }
+    requires number { late.old.made + due ≤ most_samples_of_chip }
+    requires frames { late.old.frames_used + due ≤ frame_room }
+    requires records { late.old.records_used + 8 * due ≤ record_room }
+    ensures { late.new ≡ late_with_samples C.meaning late.old due }
 {
     'samples: for _ in 0..due {
         late.pend();

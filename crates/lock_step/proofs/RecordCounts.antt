@@ -28,15 +28,15 @@ length-are_voice_records k v (Voice sample voice level out block keyed looped �
 length-are_voice_records k v (Reg sample addr value ∷ rest) h = cc
 length-are_voice_records k v (Port sample port value ∷ rest) h = cc
 
--- a sample from a sound state gives at most 8 records under any mask
-pub sample_record_count : {S : Type 0} (chip : ChipMeaning S) → IsLawfulChip chip → (mask k : ℕ) (s : S) (memory : List ℕ) → chip.is_sound s ≡ true
+-- a sample from a valid state gives at most 8 records under any mask
+pub sample_record_count : {S : Type 0} (chip : ChipMeaning S) → IsLawfulChip chip → (mask k : ℕ) (s : S) (memory : List ℕ) → chip.is_valid s ≡ true
     → length (filter (in_mask mask) (chip.sample k s memory).voices) ≤ 8
-sample_record_count chip laws mask k s memory sound =
-    let all = length-are_voice_records k 0 (chip.sample k s memory).voices (laws.gives_voice_records k s memory sound) in
+sample_record_count chip laws mask k s memory valid =
+    let all = length-are_voice_records k 0 (chip.sample k s memory).voices (laws.gives_voice_records k s memory valid) in
     omega (arith, length-filter-at_most (in_mask mask) (chip.sample k s memory).voices)
 
 -- a run of one sample is that sample
-pub run_one : {S : Type 0} (sample : ℕ → S → List ℕ → Sampled S) (k : ℕ) (s : S) (memory : List ℕ)
+pub samples_one : {S : Type 0} (sample : ℕ → S → List ℕ → Sampled S) (k : ℕ) (s : S) (memory : List ℕ)
     → run sample 1 k s memory ≡ (let made = sample k s memory in record { state = made.state; memory = made.memory; frames = made.frame ∷ []; voices = made.voices })
 unfolding run
-run_one sample k s memory = rw (add-zero k) refl
+samples_one sample k s memory = rw (add-zero k) refl

@@ -13,4 +13,4 @@ pub record ChipMeaning (S : Type 0) : Type 0 where
   -- the pages that the next 64 samples over a memory can read and write
   pub reach : S → (memory : List ℕ) → ReachPages
   -- the test of the states that a chip can be in
-  pub is_sound : S → Bool
+  pub is_valid : S → Bool

@@ -12,5 +12,5 @@ dsp_chip = record {
   register_write = register_write;
   sample = sample;
   reach = chip_reach;
-  is_sound = is_sound;
+  is_valid = is_sound;
 }

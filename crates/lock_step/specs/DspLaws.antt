@@ -25,7 +25,7 @@ are_voice_records-records_from k v (answer ∷ answers) full =
 
 are_voice_records-sample : (k : ℕ) (s : DspState) (memory : List ℕ) → is_sound s ≡ true → are_voice_records k 0 (sample k s memory).voices ≡ true
 unfolding sample
-are_voice_records-sample k s memory sound =
+are_voice_records-sample k s memory valid =
     let now : DspState = after_noise (after_poll s k) (counter_at k) in
     let results : List VoiceResult = results_from (shared_input now memory k) 0 (pos 0) now.hidden.voices in
     let answers : List VoiceOut = map (λ (result : VoiceResult). result.answer) results in
@@ -33,13 +33,13 @@ are_voice_records-sample k s memory sound =
     length-map results (λ (result : VoiceResult). result.answer)
     ∙ length-results_from (shared_input now memory k) 0 (pos 0) now.hidden.voices
     ∙ ap (λ (voices : List VoiceState). length voices) (voices-before_step s k) in
-    let eight : length s.hidden.voices ≡ 8 = (sound_of s sound).eight in
+    let eight : length s.hidden.voices ≡ 8 = (sound_of s valid).eight in
     are_voice_records-records_from k 0 answers (omega arith)
 
 pub dsp_is_lawful : IsLawfulChip dsp_chip
 dsp_is_lawful = record {
-  write_keeps_sound = λ s address byte _ _ sound. is_sound-register_write s address byte sound;
-  sample_keeps_sound = is_sound-sample;
+  write_keeps_valid = λ s address byte _ _ valid. is_sound-register_write s address byte valid;
+  sample_keeps_valid = is_sound-sample;
   gives_voice_records = are_voice_records-sample;
   writes_inside = writes_inside;
   reads_inside = reads_inside;

@@ -4,6 +4,7 @@ use Rattle.std.specs.List.{filter}
 use Rattle.aram_core.specs.Memory.{byte_at, with_byte}
 use Rattle.ports_timers.specs.Io.{is_within, read_answer, after_ticks_of}
 use Rattle.ports_timers.specs.Io as io
+use Rattle.ports_timers.specs.declared.io.Io.{Io}
 use Rattle.spc700_exec.specs.Bus.{BusMeaning}
 use Rattle.trace_form.specs.declared.record.Record.{Record}
 use Rattle.trace_form.specs.declared.record.Record.TheVariants.{Reg, Port}
@@ -15,11 +16,14 @@ use Rattle.lock_step.specs.Machine.{Machine}
 abbrev pub samples_made : {S : Type 0} → Machine S → ℕ
 samples_made m = m.clock / 32
 
--- A read. At F3h the chip answers, at the ports and timers and in the ROM these do, and elsewhere memory.
+-- What answers a read: at F3h a chip in this state, at the ports and timers and in the ROM these, and elsewhere memory.
+abbrev pub byte_answered : {S : Type 0} → ChipMeaning S → S → Io → (memory : List ℕ) → (at : ℕ) → ℕ
+byte_answered chip state io memory at =
+    if at == 0xF3 then chip.register_read state (io.dsp_address % 0x80) else unwrap_or (read_answer io at) (byte_at memory at)
+
+-- a read
 abbrev pub bus_answer : {S : Type 0} → ChipMeaning S → Machine S → (at : ℕ) → ℕ
-bus_answer chip m at =
-    if at == 0xF3 then chip.register_read m.chip (m.io.dsp_address % 0x80)
-    else unwrap_or (read_answer m.io at) (byte_at m.memory at)
+bus_answer chip m at = byte_answered chip m.chip m.io m.memory at
 
 abbrev pub after_bus_read : {S : Type 0} → Machine S → (at : ℕ) → Machine S
 after_bus_read m at = record m { io = io.after_read m.io at; calls = m.calls + 1 }
@@ -53,7 +57,7 @@ after_bus_write chip m at value = record m {
 abbrev pub crosses_sample : (clock cycles : ℕ) → Bool
 crosses_sample clock cycles = nat_lt (clock / 32) ((clock + cycles) / 32)
 
--- one sample more: its frame, and the records of the voices in the mask, stand behind what was emitted
+-- one sample more: its frame, and the records of the voices in the mask, stand after what was emitted
 abbrev pub after_sample : {S : Type 0} → ChipMeaning S → Machine S → Machine S
 after_sample chip m =
     let made = chip.sample (samples_made m) m.chip m.memory in

@@ -10,8 +10,8 @@ abbrev pub drained_machine : {S : Type 0} → Machine S → Machine S
 drained_machine m = record m { frames = []; records = []; calls = 0 }
 
 -- each sample is a batch of its own, and none of them has a cause
-abbrev pub plain_counts : {S : Type 0} → Machine S → Counts
-plain_counts m = record {
+abbrev pub lock_step_counts : {S : Type 0} → Machine S → Counts
+lock_step_counts m = record {
   batches = samples_made m;
   register = 0;
   memory = 0;
@@ -28,5 +28,5 @@ lock_step_emits = record {
   records = λ m. m.records;
   cleared = drained_machine;
   pending = λ m. 0;
-  counts = plain_counts;
+  counts = lock_step_counts;
 }

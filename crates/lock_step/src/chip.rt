@@ -4,6 +4,7 @@ ghost use Rattle.std.specs.List.{filter};
 ghost use Rattle.dsp_core.specs.Run.{run, in_mask, counted};
 ghost use Rattle.lock_step.specs.ChipMeaning.{ChipMeaning};
 ghost use Rattle.lock_step.specs.ChipLaws.{IsLawfulChip};
+ghost use Rattle.lock_step.specs.Limits.{most_samples_of_batch, most_samples_of_chip, frame_room, record_room};
 
 use aram_core::Aram;
 use reach_map::ReachPages;
@@ -47,10 +48,10 @@ pub trait Chip: Drop {
         frames: &mut Frames,
         records: &mut Records,
     )
-        requires few { n ≤ 64 }
-        requires frame_room { length frames.old + n ≤ 128 }
-        requires record_room { length records.old + 8 * n ≤ 1344 }
-        requires number { sample self.old + n ≤ 4000000000 }
+        requires few { n ≤ most_samples_of_batch }
+        requires frame_room { length frames.old + n ≤ frame_room }
+        requires record_room { length records.old + 8 * n ≤ record_room }
+        requires number { sample self.old + n ≤ most_samples_of_chip }
         ensures state { state self.new ≡ (run meaning.sample n (sample self.old) (state self.old) memory.old).state }
         ensures sample { sample self.new ≡ sample self.old + n }
         ensures batches { batches self.new ≡ (if n == 0 then batches self.old else counted (batches self.old)) }
@@ -69,7 +70,7 @@ pub trait Chip: Drop {
     /// The number of samples made, which is the number of the next one.
     fn sample(&self) -> u32
         ensures number { result ≡ sample self.now }
-        ensures is_sound { meaning.is_sound (state self.now) ≡ true };
+        ensures is_valid { meaning.is_valid (state self.now) ≡ true };
 
     ghost lawful: { IsLawfulChip meaning };
 }

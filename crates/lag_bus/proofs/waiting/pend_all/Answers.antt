@@ -1,6 +1,7 @@
 use Rattle.std.proofs.Common.{sym, ap, ◌∙◌}
 use Rattle.lag_bus.specs.Late.{Late}
-use Rattle.lag_bus.proofs.PendingSamples.{late_with_sample, late_with_samples-none, late_with_samples-more}
+use Rattle.lag_bus.proofs.PendingSamples.{late_with_samples-none, late_with_samples-more}
+use Rattle.lag_bus.specs.Late.{late_with_sample}
 use Rattle.lag_bus.proofs.waiting.pend_all.Goals as goal
 
 pub samples-init : goal.samples-init

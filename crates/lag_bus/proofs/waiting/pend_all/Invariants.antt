@@ -1,5 +1,5 @@
 use Rattle.std.proofs.Common.{◌≡◌}
-use Rattle.lag_bus.proofs.PendingSamples.{late_with_samples}
+use Rattle.lag_bus.specs.Late.{late_with_samples}
 use Rattle.lag_bus.proofs.waiting.pend_all.Given as goal
 
 abbrev pub invariant-samples : goal.invariant-samples

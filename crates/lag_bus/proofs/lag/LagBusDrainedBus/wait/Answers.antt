@@ -1,4 +1,4 @@
-use Rattle.std.proofs.Common.{◌≡◌, ◌+◌, ◌*◌, ◌-◌, ◌/◌, ◌<◌, ◌≤◌, ℕ, true, refl, sym, ap, ◌∙◌, subst, arith, rules, Some}
+use Rattle.std.proofs.Common.{◌≡◌, ◌+◌, ◌*◌, ◌-◌, ◌/◌, ◌<◌, ◌≤◌, ℕ, refl, sym, ap, ◌∙◌, subst, arith, Some}
 use Rattle.std.proofs.Math.Nat.{mod-add-div'}
 use Rattle.aram_core.specs.Memory.{byte_at}
 use Rattle.ports_timers.specs.declared.io.Io.{Io}
@@ -7,10 +7,10 @@ use Rattle.idle_rounds.specs.Looking.{looked_steps}
 use Rattle.idle_rounds.specs.Zeros.{AreTimers}
 use Rattle.lock_step.specs.declared.counts.Counts.{Counts}
 use Rattle.lag_bus.specs.Late.{Late}
-use Rattle.lag_bus.proofs.PendingSamples.{late_with_samples}
-use Rattle.lag_bus.specs.Lagging.{Lagging, lagging}
+use Rattle.lag_bus.specs.Late.{late_with_samples}
+use Rattle.lag_bus.specs.Lagging.{lagging}
 use Rattle.lag_bus.specs.LagEmits.{lag_emits}
-use Rattle.lag_bus.specs.Waiting.{byte_seen, samples_in, after_wait, IsKept}
+use Rattle.lag_bus.specs.Waiting.{byte_seen, samples_in, IsKept}
 use Rattle.lag_bus.specs.IsLagging.{lagging_of}
 use Rattle.lock_step.proofs.NoWait.{no_wait}
 use Rattle.lag_bus.proofs.RoundsOfAWait.{is_wait, lagging_of-wait}
