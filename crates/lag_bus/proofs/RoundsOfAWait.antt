@@ -94,11 +94,11 @@ module _ {S : Type 0} (chip : ChipMeaning S) where
     is_waiting = record {
       pass = λ s n cycles same some few fits. pass-wait chip bus s n cycles same few (omega arith);
       byte = λ s n at byte same less sees.
-      let look = if_some (only_looks bus.book.reach bus.machine.io at) (bus_answer chip bus.machine at) byte sees in
-      ap (λ (x : Lagging S). bus_answer chip x.machine at) same ∙ answer-wait n at less look.0 ∙ look.1;
+          let look = if_some (only_looks bus.book.reach bus.machine.io at) (bus_answer chip bus.machine at) byte sees in
+          ap (λ (x : Lagging S). bus_answer chip x.machine at) same ∙ answer-wait n at less look.0 ∙ look.1;
       read = λ s n at byte same less sees.
-      let look = if_some (only_looks bus.book.reach bus.machine.io at) (bus_answer chip bus.machine at) byte sees in
-      read-without_calls s at ∙ ap (λ (x : Lagging S). without_calls ((lagging chip).read x at).1) same ∙ sym (read-without_calls (after_wait chip bus n) at) ∙ read-wait n at less look.0;
+          let look = if_some (only_looks bus.book.reach bus.machine.io at) (bus_answer chip bus.machine at) byte sees in
+          read-without_calls s at ∙ ap (λ (x : Lagging S). without_calls ((lagging chip).read x at).1) same ∙ sym (read-without_calls (after_wait chip bus n) at) ∙ read-wait n at less look.0;
     }
 
     -- the law: k rounds of n steps and d cycles

@@ -17,14 +17,14 @@ abs-int_div (negsuc n) d = abs-neg_ℤ (suc n / d)
 abs_fits_16 : (z : ℤ) → FitsSigned w16 z → unsigned_abs z ≤ 32768
 abs_fits_16 z h = omega (arith, ints)
 
-pub faded_side-fits : (side : ℤ) (behind fade : ℕ) → FitsSigned w16 side → behind < fade → FitsSigned w16 (faded_side side behind fade)
-faded_side-fits side behind fade fits few =
-    let product : unsigned_abs side * behind ≤ 32768 * behind = mul-le _ _ _ _ (abs_fits_16 side fits) (omega arith) in
-    let below : unsigned_abs side * behind < 32768 * fade = omega arith in
-    let quotient : unsigned_abs side * behind / fade < 32768 = div_below (unsigned_abs side * behind) fade 32768 (omega arith) below in
-    let same : unsigned_abs (faded_side side behind fade) ≡ unsigned_abs side * behind / fade =
-    abs-int_div (side *ℤ pos behind) fade ∙ ap (λ (n : ℕ). n / fade) (unsigned_abs-mul side (pos behind)) in
-    fits_signed_from_abs w16 (faded_side side behind fade) (subst (λ (n : ℕ). n < 32768) (sym same) quotient)
+pub faded_side-fits : (side : ℤ) (after fade : ℕ) → FitsSigned w16 side → after < fade → FitsSigned w16 (faded_side side after fade)
+faded_side-fits side after fade fits few =
+    let product : unsigned_abs side * after ≤ 32768 * after = mul-le _ _ _ _ (abs_fits_16 side fits) (omega arith) in
+    let below : unsigned_abs side * after < 32768 * fade = omega arith in
+    let quotient : unsigned_abs side * after / fade < 32768 = div_below (unsigned_abs side * after) fade 32768 (omega arith) below in
+    let same : unsigned_abs (faded_side side after fade) ≡ unsigned_abs side * after / fade =
+    abs-int_div (side *ℤ pos after) fade ∙ ap (λ (n : ℕ). n / fade) (unsigned_abs-mul side (pos after)) in
+    fits_signed_from_abs w16 (faded_side side after fade) (subst (λ (n : ℕ). n < 32768) (sym same) quotient)
 
 -- an entry of the frames that begin at some place
 entry-faded_from : (list : List Frame) (from frames fade k at : ℕ) → at ≡ from + k → slice_get (faded_from from frames fade list) k ≡ option_map (λ frame. faded_frame frame at frames fade) (slice_get list k)
@@ -39,7 +39,7 @@ pub length-faded_from : (list : List Frame) (at frames fade : ℕ) → length (f
 length-faded_from [] at frames fade = refl
 length-faded_from (frame ∷ list) at frames fade = ap (λ (n : ℕ). suc n) (length-faded_from list (at + 1) frames fade)
 
--- the frames of one piece, and then those behind it
+-- the frames of one piece, and then those after it
 pub faded_from-append : (xs ys : List Frame) (at frames fade : ℕ) → faded_from at frames fade (xs ++ ys) ≡ faded_from at frames fade xs ++ faded_from (at + length xs) frames fade ys
 faded_from-append [] ys at frames fade = let same : at ≡ at + 0 = omega arith in ap (λ (place : ℕ). faded_from place frames fade ys) same
 faded_from-append (x ∷ xs) ys at frames fade =
@@ -53,14 +53,14 @@ read_back : (z : ℤ) → unsigned_abs z < 2 ^ 62 → cast_signed w64 (cast_unsi
 read_back z h = to_z-of_z w64 z (fits_signed_from_abs w64 z (omega arith))
 
 -- what the code computes in 64 bits, of numbers a, b and d that are the side and both counts
-pub computed_side : (a b d side : ℤ) (behind fade : ℕ) → a ≡ side → b ≡ pos behind → d ≡ pos fade → FitsSigned w16 side → behind < fade → fade < 2 ^ 32 →
-    cast_signed w64 (cast_unsigned w64 (int_div (cast_signed w64 (cast_unsigned w64 (cast_signed w64 (cast_unsigned w64 a) *ℤ cast_signed w64 (cast_unsigned w64 b)))) (cast_signed w64 (cast_unsigned w64 d)))) ≡ faded_side side behind fade
-computed_side a b d side behind fade is_a is_b is_d fits few small =
+pub computed_side : (a b d side : ℤ) (after fade : ℕ) → a ≡ side → b ≡ pos after → d ≡ pos fade → FitsSigned w16 side → after < fade → fade < 2 ^ 32 →
+    cast_signed w64 (cast_unsigned w64 (int_div (cast_signed w64 (cast_unsigned w64 (cast_signed w64 (cast_unsigned w64 a) *ℤ cast_signed w64 (cast_unsigned w64 b)))) (cast_signed w64 (cast_unsigned w64 d)))) ≡ faded_side side after fade
+computed_side a b d side after fade is_a is_b is_d fits few small =
     let bound = abs_fits_16 side fits in
-    let product : unsigned_abs side * behind ≤ 32768 * behind = mul-le _ _ _ _ bound (omega arith) in
-    let product_bound : unsigned_abs (side *ℤ pos behind) < 2 ^ 62 = subst (λ (n : ℕ). n < 2 ^ 62) (sym (unsigned_abs-mul side (pos behind))) (omega arith) in
-    let result_bound = abs_fits_16 (faded_side side behind fade) (faded_side-fits side behind fade fits few) in
+    let product : unsigned_abs side * after ≤ 32768 * after = mul-le _ _ _ _ bound (omega arith) in
+    let product_bound : unsigned_abs (side *ℤ pos after) < 2 ^ 62 = subst (λ (n : ℕ). n < 2 ^ 62) (sym (unsigned_abs-mul side (pos after))) (omega arith) in
+    let result_bound = abs_fits_16 (faded_side side after fade) (faded_side-fits side after fade fits few) in
     (λ i. cast_signed w64 (cast_unsigned w64 (int_div (cast_signed w64 (cast_unsigned w64 (cast_signed w64 (cast_unsigned w64 (is_a i)) *ℤ cast_signed w64 (cast_unsigned w64 (is_b i))))) (cast_signed w64 (cast_unsigned w64 (is_d i))))))
-    ∙ (λ i. cast_signed w64 (cast_unsigned w64 (int_div (cast_signed w64 (cast_unsigned w64 (read_back side (omega arith) i *ℤ read_back (pos behind) (omega arith) i))) (read_back (pos fade) (omega arith) i))))
-    ∙ (λ i. cast_signed w64 (cast_unsigned w64 (int_div (read_back (side *ℤ pos behind) product_bound i) (pos fade))))
-    ∙ read_back (faded_side side behind fade) (omega arith)
+    ∙ (λ i. cast_signed w64 (cast_unsigned w64 (int_div (cast_signed w64 (cast_unsigned w64 (read_back side (omega arith) i *ℤ read_back (pos after) (omega arith) i))) (read_back (pos fade) (omega arith) i))))
+    ∙ (λ i. cast_signed w64 (cast_unsigned w64 (int_div (read_back (side *ℤ pos after) product_bound i) (pos fade))))
+    ∙ read_back (faded_side side after fade) (omega arith)

@@ -62,7 +62,7 @@ module _ {S : Type 0} (bus : BusMeaning S) (lawful : IsLawful bus) (frames : S �
             omega arith
       ]
 
-  -- behind the frames that were emitted before a run emits one for each sample that it makes
+  -- after the frames that were emitted before a run emits one for each sample that it makes
   pub length-frames-after_run : (samples : ℕ) (w : Whole S) → bus.made w.1 ≤ samples → length (frames (after_run bus samples w).1) + bus.made w.1 ≡ length (frames w.1) + samples
   unfolding after_run
   length-frames-after_run samples w few = counted-steps samples (32 * samples - bus.clock w.1) w (omega arith) few

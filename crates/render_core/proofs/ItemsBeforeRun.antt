@@ -49,15 +49,15 @@ module _ {S I : Type 0} (bus : BusMeaning S) (lawful : IsLawful bus) (cleared : 
     -- a drain takes what it hands over from what a run emits
     pub items-after_run-drained : (cpu : Cpu) (s t : S) (got : List I) → items s ≡ got ++ items t → cleared t ≡ cleared s → items (after_run bus samples (cpu, s)).1 ≡ got ++ items (after_run bus samples (cpu, t)).1
     items-after_run-drained cpu s t got split same =
-        let pending_samples : AreAhead got (cpu, s) (cpu, t) = (refl, record { same = sym same; front = split }) in
-        (AreAhead-run got (cpu, s) (cpu, t) pending_samples).1.front
+        let ahead : AreAhead got (cpu, s) (cpu, t) = (refl, record { same = sym same; front = split }) in
+        (AreAhead-run got (cpu, s) (cpu, t) ahead).1.front
 
     -- nor does it change what doesn't depend on the items
     pub counts-after_run-drained : {N : Type 0} (counts : S → N) → ((s : S) → counts (cleared s) ≡ counts s) → (cpu : Cpu) (s t : S) (got : List I) → items s ≡ got ++ items t → cleared t ≡ cleared s
         → counts (after_run bus samples (cpu, s)).1 ≡ counts (after_run bus samples (cpu, t)).1
     counts-after_run-drained counts beside cpu s t got split same =
-        let pending_samples : AreAhead got (cpu, s) (cpu, t) = (refl, record { same = sym same; front = split }) in
-        sym (beside _) ∙ ap counts (AreAhead-run got (cpu, s) (cpu, t) pending_samples).1.same ∙ beside _
+        let ahead : AreAhead got (cpu, s) (cpu, t) = (refl, record { same = sym same; front = split }) in
+        sym (beside _) ∙ ap counts (AreAhead-run got (cpu, s) (cpu, t) ahead).1.same ∙ beside _
 
     -- a bus that is settled once the samples are made, and then drained
     module _ (cpu : Cpu) (next settled drained : S) (got : List I) (kept : items settled ≡ items next) (clock : bus.clock settled ≡ bus.clock next) (still : bus.made next < samples → settled ≡ next)

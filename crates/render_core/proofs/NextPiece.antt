@@ -12,7 +12,7 @@ use Rattle.render_core.specs.RunCounts.{run_counts}
 use Rattle.render_core.specs.RenderState.{IsNextPiece}
 use Rattle.render_core.proofs.LaggingRun.{run_frames-lagging, run_records-lagging, counts-settled}
 
--- where something is to come unless it is the last one, nothing is to come only behind the last one
+-- where something is to come unless it is the last one, nothing is to come only after the last one
 last_from_none : (is_last : Bool) (frames : List Frame) → (is_last ≡ false → 0 < length frames) → frames ≡ [] → is_last ≡ true
 last_from_none true frames more none = refl
 last_from_none false frames more none =

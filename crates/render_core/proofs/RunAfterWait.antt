@@ -1,4 +1,4 @@
--- For render_core: a run goes on behind rounds that were made at once.
+-- A run goes on after rounds that were made at once.
 use Rattle.std.proofs.Common.{◌≡◌, ℕ, zero, suc, ◌/◌, ◌<◌, ◌≤◌, List, [], refl, sym, ap, ◌∙◌, arith}
 use Rattle.spc700_exec.specs.declared.cpu.Cpu.{Cpu}
 use Rattle.spc700_exec.specs.Bus.{BusMeaning, IsLawful}
@@ -51,7 +51,7 @@ module _ {S : Type 0} (bus : BusMeaning S) (lawful : IsLawful bus) (samples : �
         let below = wait.below in
         after_run-steps wait.steps (cpu, old) (omega arith) ∙ ap (λ (c : Cpu). after_run bus samples (c, reached)) wait.registers
 
-    -- a run emits the same behind the wait, and comes to the same counts
+    -- a run emits the same after the wait, and comes to the same counts
     pub items-after_run-wait : {I : Type 0} (items : S → List I) → IsEmitting bus emits.cleared items → items reached ≡ items new
         → items (after_run bus samples (cpu, old)).1 ≡ items (after_run bus samples (cpu, new)).1
     items-after_run-wait items law same =

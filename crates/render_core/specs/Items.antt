@@ -12,7 +12,7 @@ use Rattle.render_core.specs.MachineRun.{Whole, after_run}
 abbrev pub run_frames : {S : Type 0} → BusMeaning S → Emits S → (samples : ℕ) → Whole S → List Frame
 run_frames bus emits samples w = emits.frames (after_run bus samples w).1
 
--- the records up to the last frame of so many samples: all that have a sample number below that. A step may go on behind
+-- the records up to the last frame of so many samples: all that have a sample number below that. A step may go on after
 -- its sample, so that a run emits later ones too
 abbrev pub records_before : (samples : ℕ) → List Record → List Record
 records_before samples records = filter (λ item. nat_lt (sample_number item) samples) records

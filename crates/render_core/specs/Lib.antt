@@ -11,5 +11,7 @@ pub mod RunCounts
 pub mod RenderState
 -- the fade at the end
 pub mod Fade
+-- laws of these
+pub mod Laws
 -- A word of the contracts within the crate; no promise speaks of it:
 pub mod BetweenSteps

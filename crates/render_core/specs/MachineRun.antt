@@ -4,7 +4,7 @@ use Rattle.spc700_exec.specs.declared.cpu.Cpu.{Cpu}
 use Rattle.spc700_exec.specs.Bus.{BusMeaning}
 use Rattle.spc700_exec.specs.Instruction.{step_outcome}
 
--- the whole machine: the processor, and the bus with all that is behind it
+-- the whole machine: the processor, and the bus with all that is beneath it
 abbrev pub Whole : Type 0 → Type 0
 Whole S = Cpu × S
 

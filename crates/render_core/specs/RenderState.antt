@@ -37,7 +37,7 @@ pub record IsNextPiece {S : Type 0} (chip : ChipMeaning S) (old new : RenderStat
   -- the piece, followed by what is then still to come, is what was to come before it
   pub frames : frames_to_come chip old ≡ given ++ frames_to_come chip new
   pub records : records_to_come chip old ≡ written ++ records_to_come chip new
-  -- it is the last one exactly where nothing is to come behind it
+  -- it is the last one exactly where nothing is to come after it
   pub done : (is_last ≡ true) ↔ ((frames_to_come chip new ≡ []) × (records_to_come chip new ≡ []))
   -- else it has a frame or a record
   pub some : is_last ≡ false → 0 < length given + length written

@@ -3,9 +3,10 @@ ghost use Rattle.std.specs.Prelude.{◌≡◌, ◌+◌, ◌*◌, ◌/◌, ◌<�
 ghost use Rattle.std.specs.List.{filter};
 ghost use Rattle.std.proofs.Common.{refl};
 ghost use Rattle.dsp_core.specs.Run.{in_mask};
+ghost use Rattle.lock_step.specs.Limits.{most_samples_of_chip, frame_room, record_room};
 ghost use Rattle.lock_step.specs.Machine.{opened_machine};
 ghost use Rattle.lock_step.specs.LockStep.{bus_answer, after_bus_read, after_bus_write, after_bus_pass, lock_step};
-ghost use Rattle.lock_step.specs.LockStepEmits.{drained_machine, lock_step_emits, plain_counts};
+ghost use Rattle.lock_step.specs.LockStepEmits.{drained_machine, lock_step_emits, lock_step_counts};
 ghost use Rattle.lock_step.specs.LockStepLaws.{emits_frames, emits_records, frame_each};
 
 use crate::OutOfMemory;
@@ -33,6 +34,7 @@ pub struct PlainBus<C: Chip> {
 
 impl<C: Chip> Model for PlainBus<C> {
     ghost use Rattle.std.specs.Prelude.{◌≡◌, ◌+◌, ◌*◌, ◌/◌, ◌<◌, ◌≤◌, length};
+    ghost use Rattle.lock_step.specs.Limits.{most_samples_of_chip};
     ghost use Rattle.lock_step.specs.Machine.{Machine};
 
     ghost Value = { Machine C.State };
@@ -52,12 +54,12 @@ impl<C: Chip> Model for PlainBus<C> {
     ghost invariant = { λ b. (C.sample b.chip ≡ b.clock / 32)
         × (length b.frames ≤ b.calls)
         × (length b.records ≤ 9 * b.calls)
-        × (b.clock < 128000000032)
+        × (b.clock < 32 * (most_samples_of_chip + 1))
         × (b.calls ≤ 64) };
 }
 
 /// Makes the next sample.
-#[tactic(auto, using(lock_step::proofs::RecordCounts::run_one, lock_step::proofs::RecordCounts::sample_record_count))]
+#[tactic(auto, using(lock_step::proofs::RecordCounts::samples_one, lock_step::proofs::RecordCounts::sample_record_count))]
 fn make_sample<C: Chip>(
     chip: &mut C,
     memory: &mut Aram,
@@ -65,10 +67,10 @@ fn make_sample<C: Chip>(
     frames: &mut Frames,
     records: &mut Records,
 )
-    requires is_sound { C.meaning.is_sound (C.state chip.old) ≡ true }
-    requires number { C.sample chip.old < 4000000000 }
-    requires frame_room { length frames.old < 128 }
-    requires record_room { length records.old + 8 ≤ 1344 }
+    requires is_valid { C.meaning.is_valid (C.state chip.old) ≡ true }
+    requires number { C.sample chip.old < most_samples_of_chip }
+    requires frame_room { length frames.old < frame_room }
+    requires record_room { length records.old + 8 ≤ record_room }
     ensures state { C.state chip.new ≡ (C.meaning.sample (C.sample chip.old) (C.state chip.old) memory.old).state }
     ensures sample { C.sample chip.new ≡ C.sample chip.old + 1 }
     ensures memory { memory.new ≡ (C.meaning.sample (C.sample chip.old) (C.state chip.old) memory.old).memory }
@@ -111,7 +113,7 @@ impl<C: Chip> PlainBus<C> {
 
     /// How often the chip ran: each sample is a batch of its own, and none of them has a cause.
     pub fn counts(&self) -> Counts
-        ensures { result ≡ plain_counts self.now }
+        ensures { result ≡ lock_step_counts self.now }
     {
         Counts {
             batches: u64::from(self.made()),

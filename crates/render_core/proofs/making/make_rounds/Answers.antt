@@ -1,5 +1,5 @@
 use Rattle.render_core.proofs.RunAfterWait.{items-after_run-wait, counts-after_run-wait, clock-wait}
-use Rattle.render_core.proofs.making.wait_on.Goals as goal
+use Rattle.render_core.proofs.making.make_rounds.Goals as goal
 
 pub returns-clause-frames : goal.returns-clause-frames
 returns-clause-frames g c =

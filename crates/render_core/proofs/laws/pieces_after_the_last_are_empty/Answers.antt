@@ -1,6 +1,6 @@
 use Rattle.std.proofs.Common.{◌∙◌, sym}
 use Rattle.render_core.proofs.EmptyLists.{empty-front, empty-back}
-use Rattle.render_core.proofs.laws.pieces_behind_the_last_are_empty.Goals as goal
+use Rattle.render_core.proofs.laws.pieces_after_the_last_are_empty.Goals as goal
 
 pub returns : goal.returns
 returns g c = λ old new given written is_last next frames records.
