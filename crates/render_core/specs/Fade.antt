@@ -1,10 +1,10 @@
--- The fade at the end of a render (own): over its last frames the sound goes down to nothing, in a straight line.
+-- The fade at the end of a render (own): over its last frames each side goes down to nothing, in a straight line.
 use Rattle.std.specs.Prelude.{ℕ, ◌+◌, ◌-◌, ℤ, pos, ◌*ℤ◌, int_div, List, [], ◌∷◌, length, nat_lt, if◌then◌else◌}
 use Rattle.num_fix.specs.declared.Frame.{Frame}
 
--- a side of the frame behind which so many frames still come, where so many frames fade; the quotient is rounded towards zero
-abbrev pub faded_side : (side : ℤ) → (behind fade : ℕ) → ℤ
-faded_side side behind fade = int_div (side *ℤ pos behind) (pos fade)
+-- a side of the frame after which so many frames still come, where so many frames fade; the quotient is rounded towards zero
+abbrev pub faded_side : (side : ℤ) → (after fade : ℕ) → ℤ
+faded_side side after fade = int_div (side *ℤ pos after) (pos fade)
 
 -- entry `at` of so many frames, of which the last `fade` fade
 abbrev pub faded_frame : Frame → (at frames fade : ℕ) → Frame

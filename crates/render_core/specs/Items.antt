@@ -4,15 +4,15 @@ use Rattle.std.specs.Prelude.{ℕ, nat_lt, List, filter}
 use Rattle.num_fix.specs.declared.Frame.{Frame}
 use Rattle.trace_form.specs.declared.record.Record.{Record}
 use Rattle.spc700_exec.specs.Bus.{BusMeaning}
-use Rattle.sound_bus.specs.Emits.{Emits}
-use Rattle.sound_bus.specs.Merge.{sample_number}
-use Rattle.render_core.specs.Run.{Whole, after_run}
+use Rattle.lock_step.specs.Emits.{Emits}
+use Rattle.lock_step.specs.SampleNumbers.{sample_number}
+use Rattle.render_core.specs.MachineRun.{Whole, after_run}
 
 -- the frames of a run to so many samples
 abbrev pub run_frames : {S : Type 0} → BusMeaning S → Emits S → (samples : ℕ) → Whole S → List Frame
 run_frames bus emits samples w = emits.frames (after_run bus samples w).1
 
--- the records up to the last frame of so many samples: all that have a sample number below that. A step may go on behind
+-- the records up to the last frame of so many samples: all that have a sample number below that. A step may go on after
 -- its sample, so that a run emits later ones too
 abbrev pub records_before : (samples : ℕ) → List Record → List Record
 records_before samples records = filter (λ item. nat_lt (sample_number item) samples) records

@@ -1,15 +1,17 @@
 -- What a reader of the promises needs:
 -- the whole machine that a file opens
 pub mod Opening
--- a run: steps until so many samples are made
-pub mod Run
+-- a run of the machine: steps until so many samples are made
+pub mod MachineRun
 -- the frames and records that a run emits
 pub mod Items
 -- how often the chip makes samples in a run, and why
-pub mod Batches
+pub mod RunCounts
 -- what contracts see of a render: what is still to come, and the next piece of it
 pub mod RenderState
 -- the fade at the end
 pub mod Fade
+-- laws of these
+pub mod Laws
 -- A word of the contracts within the crate; no promise speaks of it:
-pub mod Idle
+pub mod BetweenSteps

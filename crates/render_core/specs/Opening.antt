@@ -3,8 +3,8 @@ use Rattle.std.specs.Prelude.{ℕ, List, slice_index, false}
 use Rattle.spc700_exec.specs.declared.cpu.Cpu.{Cpu}
 use Rattle.spc_form.specs.Layout.{pc_of}
 use Rattle.spc_form.specs.Opening.{opening_memory, opening_cells, opening_rom}
-use Rattle.sound_bus.specs.Machine.{Machine, opened_machine}
-use Rattle.render_core.specs.Run.{Whole}
+use Rattle.lock_step.specs.Machine.{Machine, opened_machine}
+use Rattle.render_core.specs.MachineRun.{Whole}
 
 -- the registers are those of the file, and the processor isn't halted
 abbrev pub opened_cpu : (file : List ℕ) → Cpu

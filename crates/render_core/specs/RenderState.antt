@@ -3,13 +3,13 @@ use Rattle.std.specs.Prelude.{◌≡◌, ℕ, ◌+◌, ◌*◌, ◌<◌, List, [
 use Rattle.num_fix.specs.declared.Frame.{Frame}
 use Rattle.trace_form.specs.declared.record.Record.{Record}
 use Rattle.spc700_exec.specs.declared.cpu.Cpu.{Cpu}
-use Rattle.sound_bus.specs.ChipMeaning.{ChipMeaning}
-use Rattle.sound_bus.specs.declared.counts.Counts.{Counts}
-use Rattle.sound_bus.specs.Lagging.{Lagging}
-use Rattle.sound_bus.specs.LockStep.{lock_step}
-use Rattle.sound_bus.specs.PlainBus.{plain_emits}
+use Rattle.lock_step.specs.ChipMeaning.{ChipMeaning}
+use Rattle.lock_step.specs.declared.counts.Counts.{Counts}
+use Rattle.lag_bus.specs.Lagging.{Lagging}
+use Rattle.lock_step.specs.LockStep.{lock_step}
+use Rattle.lock_step.specs.LockStepEmits.{lock_step_emits}
 use Rattle.render_core.specs.Items.{run_frames, run_records}
-use Rattle.render_core.specs.Batches.{run_counts}
+use Rattle.render_core.specs.RunCounts.{run_counts}
 
 pub record RenderState (S : Type 0) : Type 0 where
   -- the whole machine: the processor, and the bus with its book and what it emitted since it was drained
@@ -23,10 +23,10 @@ pub record RenderState (S : Type 0) : Type 0 where
 
 -- the frames and the records still to come: those that the machine in lock step emits from here until its samples are made
 abbrev pub frames_to_come : {S : Type 0} → ChipMeaning S → RenderState S → List Frame
-frames_to_come chip render = run_frames (lock_step chip) plain_emits render.samples (render.cpu, render.bus.machine)
+frames_to_come chip render = run_frames (lock_step chip) lock_step_emits render.samples (render.cpu, render.bus.machine)
 
 abbrev pub records_to_come : {S : Type 0} → ChipMeaning S → RenderState S → List Record
-records_to_come chip render = run_records (lock_step chip) plain_emits render.samples (render.cpu, render.bus.machine)
+records_to_come chip render = run_records (lock_step chip) lock_step_emits render.samples (render.cpu, render.bus.machine)
 
 -- the counts of batches that there will be once the samples are made
 abbrev pub counts_to_come : {S : Type 0} → ChipMeaning S → RenderState S → Counts
@@ -37,7 +37,7 @@ pub record IsNextPiece {S : Type 0} (chip : ChipMeaning S) (old new : RenderStat
   -- the piece, followed by what is then still to come, is what was to come before it
   pub frames : frames_to_come chip old ≡ given ++ frames_to_come chip new
   pub records : records_to_come chip old ≡ written ++ records_to_come chip new
-  -- it is the last one exactly where nothing is to come behind it
+  -- it is the last one exactly where nothing is to come after it
   pub done : (is_last ≡ true) ↔ ((frames_to_come chip new ≡ []) × (records_to_come chip new ≡ []))
   -- else it has a frame or a record
   pub some : is_last ≡ false → 0 < length given + length written

@@ -1,15 +1,16 @@
 // One piece, over any bus that emits.
 ghost use Rattle.std.specs.Prelude.{◌≡◌, ◌+◌, ◌*◌, ◌++◌, ◌<◌, ◌≤◌, [], length, true, false};
-ghost use Rattle.render_core.specs.Idle.{IsIdle};
-ghost use Rattle.render_core.specs.Run.{after_run};
+ghost use Rattle.render_core.specs.BetweenSteps.{IsBetweenSteps};
+ghost use Rattle.lock_step.specs.Limits.{most_samples_of_run};
+ghost use Rattle.render_core.specs.MachineRun.{after_run};
 ghost use Rattle.render_core.specs.Items.{run_frames, run_records, records_before};
 
-use sound_bus::{Source, sample_number};
+use lock_step::{DrainedBus, sample_number};
 use spc700_exec::{Cpu, step};
 use trace_form::{Frames, Records};
 
-/// Takes over the records that stand before the last frame. Behind it a step may have emitted more.
-fn keep_early(drained: &Records, samples: u32, records: &mut Records)
+/// Takes over the records that stand before the last frame. After it a step may have emitted more.
+fn keep_records_before(drained: &Records, samples: u32, records: &mut Records)
     ensures { records.new ≡ records_before samples drained.now }
 {
     records.clear();
@@ -23,7 +24,7 @@ fn keep_early(drained: &Records, samples: u32, records: &mut Records)
 }
 
 /// Makes all pending samples, once the last one is there.
-fn settle_at_end<B: Source>(bus: &mut B, samples: u32)
+fn settle_at_end<B: DrainedBus>(bus: &mut B, samples: u32)
     ensures frames { B.emits.frames bus.new ≡ B.emits.frames bus.old }
     ensures records { B.emits.records bus.new ≡ B.emits.records bus.old }
     ensures still { B.means.made bus.old < samples → bus.new ≡ bus.old }
@@ -43,14 +44,14 @@ pub(crate) struct Lists {
     pub(crate) frames: Frames,
     pub(crate) records: Records,
     pub(crate) drained: Records,
-    pub(crate) patience: Patience,
+    pub(crate) pause: TrialPause,
 }
 
 /// A step of the run, which isn't at its end.
-fn step_on<B: Source>(cpu: &mut Cpu, bus: &mut B, samples: u32)
+fn step_on<B: DrainedBus>(cpu: &mut Cpu, bus: &mut B, samples: u32)
     requires calls { B.means.calls bus.old ≤ 32 }
     requires more { B.means.made bus.old < samples }
-    requires few { samples ≤ 115200000 }
+    requires few { samples ≤ most_samples_of_run }
     ensures run { after_run B.means samples (cpu.old, bus.old) ≡ after_run B.means samples (cpu.new, bus.new) }
     ensures later { B.means.clock bus.old < B.means.clock bus.new }
 {
@@ -58,9 +59,9 @@ fn step_on<B: Source>(cpu: &mut Cpu, bus: &mut B, samples: u32)
 }
 
 /// Makes at once whole rounds of the loop at which the processor stands, as far as they only wait.
-fn wait_on<B: Source>(cpu: &Cpu, bus: &mut B, samples: u32)
+fn make_rounds<B: DrainedBus>(cpu: &Cpu, bus: &mut B, samples: u32)
     requires more { B.means.made bus.old < samples }
-    requires few { samples ≤ 115200000 }
+    requires few { samples ≤ most_samples_of_run }
     ensures frames { B.emits.frames (after_run B.means samples (cpu.now, bus.old)).1 ≡ B.emits.frames (after_run B.means samples (cpu.now, bus.new)).1 }
     ensures records { B.emits.records (after_run B.means samples (cpu.now, bus.old)).1 ≡ B.emits.records (after_run B.means samples (cpu.now, bus.new)).1 }
     ensures counts { B.emits.counts (after_run B.means samples (cpu.now, bus.old)).1 ≡ B.emits.counts (after_run B.means samples (cpu.now, bus.new)).1 }
@@ -71,20 +72,20 @@ fn wait_on<B: Source>(cpu: &Cpu, bus: &mut B, samples: u32)
     bus.wait(cpu, samples);
 }
 
-/// When rounds are tried again: after a trial that found none it waits twice as long as before it.
+/// How long no rounds are tried: after a trial that found none twice as long as before it.
 #[derive(Drop)]
-pub(crate) struct Patience {
+pub(crate) struct TrialPause {
     left: u8,
-    wait: u8,
+    length: u8,
 }
 
-impl Patience {
-    pub(crate) fn new() -> Patience {
-        Patience { left: 0, wait: 0 }
+impl TrialPause {
+    pub(crate) fn none() -> TrialPause {
+        TrialPause { left: 0, length: 0 }
     }
 
     /// Whether it is time for a trial.
-    fn is_due(&mut self) -> bool {
+    fn is_over(&mut self) -> bool {
         if self.left > 0 {
             self.left -= 1;
             return false;
@@ -92,21 +93,21 @@ impl Patience {
         true
     }
 
-    /// What the last trial brought.
-    fn learn(&mut self, was_found: bool) {
-        self.wait = if was_found {
+    /// Begins the pause after a trial.
+    fn begin(&mut self, was_found: bool) {
+        self.length = if was_found {
             0
         } else {
-            self.wait.saturating_mul(2).saturating_add(1).min(63)
+            self.length.saturating_mul(2).saturating_add(1).min(63)
         };
-        self.left = self.wait;
+        self.left = self.length;
     }
 }
 
-/// The same now and then.
-fn wait_if_due<B: Source>(cpu: &Cpu, bus: &mut B, samples: u32, patience: &mut Patience)
+/// The same, where it is time for a trial.
+fn make_rounds_if_due<B: DrainedBus>(cpu: &Cpu, bus: &mut B, samples: u32, pause: &mut TrialPause)
     requires more { B.means.made bus.old < samples }
-    requires few { samples ≤ 115200000 }
+    requires few { samples ≤ most_samples_of_run }
     ensures frames { B.emits.frames (after_run B.means samples (cpu.now, bus.old)).1 ≡ B.emits.frames (after_run B.means samples (cpu.now, bus.new)).1 }
     ensures records { B.emits.records (after_run B.means samples (cpu.now, bus.old)).1 ≡ B.emits.records (after_run B.means samples (cpu.now, bus.new)).1 }
     ensures counts { B.emits.counts (after_run B.means samples (cpu.now, bus.old)).1 ≡ B.emits.counts (after_run B.means samples (cpu.now, bus.new)).1 }
@@ -114,24 +115,24 @@ fn wait_if_due<B: Source>(cpu: &Cpu, bus: &mut B, samples: u32, patience: &mut P
     ensures more { B.means.made bus.new < samples }
     ensures calls { B.means.calls bus.new ≡ B.means.calls bus.old }
 {
-    if patience.is_due() {
+    if pause.is_over() {
         let before = bus.made();
-        wait_on(cpu, bus, samples);
-        patience.learn(before < bus.made());
+        make_rounds(cpu, bus, samples);
+        pause.begin(before < bus.made());
     }
 }
 
 /// Steps of the run, one at least: rounds that only wait, and as many as there is room for, unless the run ends.
-fn take_steps<B: Source>(cpu: &mut Cpu, bus: &mut B, samples: u32, patience: &mut Patience)
+fn take_steps<B: DrainedBus>(cpu: &mut Cpu, bus: &mut B, samples: u32, pause: &mut TrialPause)
     requires calls { B.means.calls bus.old ≡ 0 }
     requires more { B.means.made bus.old < samples }
-    requires few { samples ≤ 115200000 }
+    requires few { samples ≤ most_samples_of_run }
     ensures frames { B.emits.frames (after_run B.means samples (cpu.old, bus.old)).1 ≡ B.emits.frames (after_run B.means samples (cpu.new, bus.new)).1 }
     ensures records { B.emits.records (after_run B.means samples (cpu.old, bus.old)).1 ≡ B.emits.records (after_run B.means samples (cpu.new, bus.new)).1 }
     ensures counts { B.emits.counts (after_run B.means samples (cpu.old, bus.old)).1 ≡ B.emits.counts (after_run B.means samples (cpu.new, bus.new)).1 }
     ensures later { B.means.clock bus.old < B.means.clock bus.new }
 {
-    wait_if_due(cpu, bus, samples, patience);
+    make_rounds_if_due(cpu, bus, samples, pause);
     'steps: loop {
         step_on(cpu, bus, samples);
         if !bus.has_room() || bus.made() >= samples {
@@ -141,35 +142,35 @@ fn take_steps<B: Source>(cpu: &mut Cpu, bus: &mut B, samples: u32, patience: &mu
 }
 
 /// Some steps, and what was emitted with them.
-fn step_and_drain<B: Source>(cpu: &mut Cpu, bus: &mut B, samples: u32, lists: &mut Lists)
+fn step_and_drain<B: DrainedBus>(cpu: &mut Cpu, bus: &mut B, samples: u32, lists: &mut Lists)
     requires idle { B.means.calls bus.old ≡ 0 }
     requires more { B.means.made bus.old < samples }
-    requires few { samples ≤ 115200000 }
+    requires few { samples ≤ most_samples_of_run }
     ensures frames { run_frames B.means B.emits samples (cpu.old, bus.old) ≡ lists.new.frames ++ run_frames B.means B.emits samples (cpu.new, bus.new) }
     ensures records { run_records B.means B.emits samples (cpu.old, bus.old) ≡ lists.new.records ++ run_records B.means B.emits samples (cpu.new, bus.new) }
     ensures counts { B.emits.counts (after_run B.means samples (cpu.old, bus.old)).1 ≡ B.emits.counts (after_run B.means samples (cpu.new, bus.new)).1 }
-    ensures idle { IsIdle B.means B.emits samples bus.new }
+    ensures idle { IsBetweenSteps B.means B.emits samples bus.new }
     ensures later { B.means.clock bus.old < B.means.clock bus.new }
 {
-    take_steps(cpu, bus, samples, &mut lists.patience);
+    take_steps(cpu, bus, samples, &mut lists.pause);
     settle_at_end(bus, samples);
     bus.drain(&mut lists.frames, &mut lists.drained);
-    keep_early(&lists.drained, samples, &mut lists.records);
+    keep_records_before(&lists.drained, samples, &mut lists.records);
 }
 
 /// Makes the next piece of a run to so many samples, and tells whether it is the last one: steps until a frame or a record
-/// was emitted, or all samples are made.
-pub(crate) fn make_piece<B: Source>(
+/// was emitted, or all samples are made. It looks only after as many steps as a drained bus has room for.
+pub(crate) fn make_piece<B: DrainedBus>(
     cpu: &mut Cpu,
     bus: &mut B,
     samples: u32,
     lists: &mut Lists,
 ) -> bool
-    requires idle { IsIdle B.means B.emits samples bus.old }
-    requires few { samples ≤ 115200000 }
+    requires idle { IsBetweenSteps B.means B.emits samples bus.old }
+    requires few { samples ≤ most_samples_of_run }
     ensures frames { run_frames B.means B.emits samples (cpu.old, bus.old) ≡ lists.new.frames ++ run_frames B.means B.emits samples (cpu.new, bus.new) }
     ensures records { run_records B.means B.emits samples (cpu.old, bus.old) ≡ lists.new.records ++ run_records B.means B.emits samples (cpu.new, bus.new) }
-    ensures idle { IsIdle B.means B.emits samples bus.new }
+    ensures idle { IsBetweenSteps B.means B.emits samples bus.new }
     ensures counts { B.emits.counts (after_run B.means samples (cpu.old, bus.old)).1 ≡ B.emits.counts (after_run B.means samples (cpu.new, bus.new)).1 }
     ensures over { result ≡ true → after_run B.means samples (cpu.new, bus.new) ≡ (cpu.new, bus.new) }
     ensures settled { result ≡ true → B.emits.pending bus.new ≡ 0 }

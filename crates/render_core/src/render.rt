@@ -2,18 +2,20 @@
 ghost use Rattle.std.specs.Prelude.{◌≡◌, ◌+◌, ◌-◌, ◌/◌, ◌<◌, ◌≤◌, [], length, false, IfOk};
 ghost use Rattle.std.specs.Borrow.{sem};
 ghost use Rattle.std.specs.Io.BufRead.{Rests};
-ghost use Rattle.sound_bus.specs.LockStep.{lock_step};
-ghost use Rattle.sound_bus.specs.PlainBus.{plain_emits};
+ghost use Rattle.lock_step.specs.Limits.{most_samples_of_run, frame_room, record_room};
+ghost use Rattle.lock_step.specs.LockStep.{lock_step};
+ghost use Rattle.lock_step.specs.LockStepEmits.{lock_step_emits};
 ghost use Rattle.render_core.specs.Items.{run_frames, run_records};
-ghost use Rattle.render_core.specs.Batches.{with_opened_book, run_counts};
+ghost use Rattle.render_core.specs.RunCounts.{with_opened_book, run_counts};
 ghost use Rattle.render_core.specs.Opening.{opened_whole, opened_cpu};
 ghost use Rattle.render_core.specs.RenderState.{frames_to_come, records_to_come, counts_to_come, IsNextPiece};
 ghost use Rattle.render_core.specs.contracts.render.Render.{the_row};
 
 use crate::OutOfMemory;
-use crate::making::{Lists, Patience, make_piece};
+use crate::making::{Lists, TrialPause, make_piece};
 use crate::piece::Piece;
-use sound_bus::{Chip, Counts, LagBus};
+use lag_bus::LagBus;
+use lock_step::{Chip, Counts};
 use spc_form::{SpcFile, opening};
 use spc700_exec::Cpu;
 use std::alloc::Global;
@@ -31,9 +33,10 @@ pub struct Render<C: Chip> {
 
 impl<C: Chip> Model for Render<C> {
     ghost use Rattle.std.specs.Prelude.{◌≤◌};
-    ghost use Rattle.sound_bus.specs.Lagging.{lagging};
-    ghost use Rattle.sound_bus.specs.LagEmits.{lag_emits};
-    ghost use Rattle.render_core.specs.Idle.{IsIdle};
+    ghost use Rattle.lock_step.specs.Limits.{most_samples_of_run};
+    ghost use Rattle.lag_bus.specs.Lagging.{lagging};
+    ghost use Rattle.lag_bus.specs.LagEmits.{lag_emits};
+    ghost use Rattle.render_core.specs.BetweenSteps.{IsBetweenSteps};
     ghost use Rattle.render_core.specs.RenderState.{RenderState};
     ghost use Rattle.std.specs.Coded.{codes};
     ghost use Rattle.aram_core.specs.contracts.page_set.PageSet as page_set;
@@ -50,7 +53,7 @@ impl<C: Chip> Model for Render<C> {
       records = r.lists.records;
     } };
 
-    ghost invariant = { λ r. (r.samples ≤ 115200000) × IsIdle (lagging C.meaning) (lag_emits C.meaning) r.samples r.bus };
+    ghost invariant = { λ r. (r.samples ≤ most_samples_of_run) × IsBetweenSteps (lagging C.meaning) (lag_emits C.meaning) r.samples r.bus };
 }
 
 /// The registers of a file.
@@ -73,8 +76,8 @@ fn piece_of<C: Chip>(render: &Render<C>, done: bool) -> Piece<'_>
     ensures frames { result.frames.now ≡ render.now.frames }
     ensures records { result.records.now ≡ render.now.records }
     ensures done { result.done ≡ done }
-    ensures few_frames { length result.frames.now ≤ 128 }
-    ensures few_records { length result.records.now ≤ 1344 }
+    ensures few_frames { length result.frames.now ≤ frame_room }
+    ensures few_records { length result.records.now ≤ record_room }
 {
     let _frame_room = render.lists.frames.room();
     let _record_room = render.lists.records.room();
@@ -95,14 +98,17 @@ impl<C: Chip> Render<C> {
         samples: u32,
         mask: u8,
     ) -> Result<Render<C>, OutOfMemory>
-        requires few { samples ≤ 115200000 }
+        requires few { samples ≤ most_samples_of_run }
         requires sample { C.sample chip ≡ 0 }
         requires batches { C.batches chip ≡ 0 }
         ensures whole { IfOk result (λ render. (render.cpu, render.bus) ≡ with_opened_book C.meaning (opened_whole file.now (C.state chip) mask)) }
         ensures samples { IfOk result (λ render. render.samples ≡ samples) }
-        ensures frames { IfOk result (λ render. frames_to_come C.meaning render ≡ run_frames (lock_step C.meaning) plain_emits samples (opened_whole file.now (C.state chip) mask)) }
-        ensures records { IfOk result (λ render. records_to_come C.meaning render ≡ run_records (lock_step C.meaning) plain_emits samples (opened_whole file.now (C.state chip) mask)) }
-        ensures counts { IfOk result (λ render. counts_to_come C.meaning render ≡ run_counts C.meaning samples (with_opened_book C.meaning (opened_whole file.now (C.state chip) mask))) }
+        ensures frames { let whole = opened_whole file.now (C.state chip) mask in
+            IfOk result (λ render. frames_to_come C.meaning render ≡ run_frames (lock_step C.meaning) lock_step_emits samples whole) }
+        ensures records { let whole = opened_whole file.now (C.state chip) mask in
+            IfOk result (λ render. records_to_come C.meaning render ≡ run_records (lock_step C.meaning) lock_step_emits samples whole) }
+        ensures counts { let whole = with_opened_book C.meaning (opened_whole file.now (C.state chip) mask) in
+            IfOk result (λ render. counts_to_come C.meaning render ≡ run_counts C.meaning samples whole) }
         ensures count { IfOk result (λ render. length (frames_to_come C.meaning render) ≡ samples) }
     {
         let state = opening(alloc, file)?;
@@ -118,7 +124,7 @@ impl<C: Chip> Render<C> {
                 frames,
                 records,
                 drained,
-                patience: Patience::new(),
+                pause: TrialPause::none(),
             },
         })
     }
@@ -130,21 +136,32 @@ impl<C: Chip> Render<C> {
         make_piece(&mut self.cpu, &mut self.bus, self.samples, &mut self.lists)
     }
 
-    /// Makes the next piece: steps until a frame or a record was emitted, or all samples are made. The pieces in order are
-    /// the whole render, each with at most 128 frames and 1,344 records. Behind the last one each piece is empty and is a
-    /// last one.
+    /// Makes the next piece: steps until a frame or a record was emitted, or all samples are made. It looks only after as many
+    /// steps as a drained bus has room for, so that a piece can have more than was emitted first. The pieces in order are the
+    /// whole render, each with at most 128 frames and 1,344 records. After the last one each piece is empty and is a last one.
     pub fn next_piece(&mut self) -> Piece<'_>
-        ensures* next { sem 𝓛 (Rests (the_row C.row C.State.row C.Chip) self.entry (λ new. IsNextPiece C.meaning self.old new result.frames.now result.records.now result.done)) }
+        ensures* next { sem 𝓛 (Rests (the_row C.row C.State.row C.Chip) self.entry
+            (λ new. IsNextPiece C.meaning self.old new result.frames.now result.records.now result.done)) }
         ensures some { result.done ≡ false → 0 < length result.frames.now + length result.records.now }
-        ensures few_frames { length result.frames.now ≤ 128 }
-        ensures few_records { length result.records.now ≤ 1344 }
+        ensures few_frames { length result.frames.now ≤ frame_room }
+        ensures few_records { length result.records.now ≤ record_room }
     {
         let done = self.make_next();
         piece_of(self, done)
     }
 
-    /// How often the chip ran so far, and why. The batches are those that the chip itself counts, and it has made all
-    /// samples but those pending.
+    /// The chip in hand. It made the batches that are counted, and all samples but those pending.
+    pub fn chip(&self) -> &C
+        ensures batches { C.batches result.now ≡ self.now.bus.chip_batches }
+        ensures sample { C.sample result.now ≡ self.now.bus.chip_sample }
+        ensures counted { C.batches result.now ≡ self.now.bus.book.counts.batches }
+        ensures made { C.sample result.now ≡ self.now.bus.machine.clock / 32 - self.now.bus.book.pending }
+    {
+        self.bus.chip()
+    }
+
+    /// How often the chip ran so far, and why. The chip in hand, which `chip` gives, made these batches, and all samples but
+    /// those pending.
     pub fn counts(&self) -> Counts
         ensures counts { result ≡ self.now.bus.book.counts }
         ensures batches { self.now.bus.chip_batches ≡ result.batches }

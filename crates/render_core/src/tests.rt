@@ -157,7 +157,7 @@ fn a_voice_is_heard_from_sample_six_on(rt: HostRuntime) -> Result<(), Fail> {
 }
 
 #[test]
-fn records_behind_the_last_frame_are_dropped(rt: HostRuntime) -> Result<(), Fail> {
+fn records_after_the_last_frame_are_dropped(rt: HostRuntime) -> Result<(), Fail> {
     // 14 NOPs, and then a write of port 0 whose last cycle is that of a sample's end.
     let program = [
         0, 0, 0, 0, 0, 0, 0, 0, 0, 0, 0, 0, 0, 0, 0x8F, 0x5A, 0xF4, 0x2F, 0xFE,

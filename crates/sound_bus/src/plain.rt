@@ -3,16 +3,15 @@ ghost use Rattle.std.specs.Prelude.{◌≡◌, ◌+◌, ◌*◌, ◌/◌, ◌<�
 ghost use Rattle.std.specs.List.{filter};
 ghost use Rattle.std.proofs.Common.{refl};
 ghost use Rattle.dsp_core.specs.Run.{in_mask};
-ghost use Rattle.sound_bus.specs.Machine.{opened_machine};
-ghost use Rattle.sound_bus.specs.LockStep.{bus_answer, after_bus_read, after_bus_write, after_bus_pass, lock_step};
-ghost use Rattle.sound_bus.specs.PlainBus.{drained_machine, plain_emits, plain_counts};
-ghost use Rattle.sound_bus.specs.PlainLaws.{emits_frames, emits_records, frame_each};
+ghost use Rattle.lock_step.specs.Limits.{most_samples_of_chip, frame_room, record_room};
+ghost use Rattle.lock_step.specs.Machine.{opened_machine};
+ghost use Rattle.lock_step.specs.LockStep.{bus_answer, after_bus_read, after_bus_write, after_bus_pass, lock_step};
+ghost use Rattle.lock_step.specs.LockStepEmits.{drained_machine, lock_step_emits, lock_step_counts};
+ghost use Rattle.lock_step.specs.LockStepLaws.{emits_frames, emits_records, frame_each};
 
 use crate::OutOfMemory;
-use crate::chip::Chip;
-use crate::counts::Counts;
-use crate::source::Source;
 use aram_core::Aram;
+use lock_step::{Chip, Counts, DrainedBus};
 use ports_timers::Io;
 use spc_form::OpenState;
 use spc700_exec::{Bus, Cpu};
@@ -35,7 +34,8 @@ pub struct PlainBus<C: Chip> {
 
 impl<C: Chip> Model for PlainBus<C> {
     ghost use Rattle.std.specs.Prelude.{◌≡◌, ◌+◌, ◌*◌, ◌/◌, ◌<◌, ◌≤◌, length};
-    ghost use Rattle.sound_bus.specs.Machine.{Machine};
+    ghost use Rattle.lock_step.specs.Limits.{most_samples_of_chip};
+    ghost use Rattle.lock_step.specs.Machine.{Machine};
 
     ghost Value = { Machine C.State };
 
@@ -54,12 +54,12 @@ impl<C: Chip> Model for PlainBus<C> {
     ghost invariant = { λ b. (C.sample b.chip ≡ b.clock / 32)
         × (length b.frames ≤ b.calls)
         × (length b.records ≤ 9 * b.calls)
-        × (b.clock < 128000000032)
+        × (b.clock < 32 * (most_samples_of_chip + 1))
         × (b.calls ≤ 64) };
 }
 
 /// Makes the next sample.
-#[tactic(auto, using(crate::proofs::Records::run_one, crate::proofs::Records::sample_record_count))]
+#[tactic(auto, using(lock_step::proofs::RecordCounts::samples_one, lock_step::proofs::RecordCounts::sample_record_count))]
 fn make_sample<C: Chip>(
     chip: &mut C,
     memory: &mut Aram,
@@ -67,10 +67,10 @@ fn make_sample<C: Chip>(
     frames: &mut Frames,
     records: &mut Records,
 )
-    requires is_sound { C.meaning.is_sound (C.state chip.old) ≡ true }
-    requires number { C.sample chip.old < 4000000000 }
-    requires frame_room { length frames.old < 128 }
-    requires record_room { length records.old + 8 ≤ 1344 }
+    requires is_valid { C.meaning.is_valid (C.state chip.old) ≡ true }
+    requires number { C.sample chip.old < most_samples_of_chip }
+    requires frame_room { length frames.old < frame_room }
+    requires record_room { length records.old + 8 ≤ record_room }
     ensures state { C.state chip.new ≡ (C.meaning.sample (C.sample chip.old) (C.state chip.old) memory.old).state }
     ensures sample { C.sample chip.new ≡ C.sample chip.old + 1 }
     ensures memory { memory.new ≡ (C.meaning.sample (C.sample chip.old) (C.state chip.old) memory.old).memory }
@@ -113,7 +113,7 @@ impl<C: Chip> PlainBus<C> {
 
     /// How often the chip ran: each sample is a batch of its own, and none of them has a cause.
     pub fn counts(&self) -> Counts
-        ensures { result ≡ plain_counts self.now }
+        ensures { result ≡ lock_step_counts self.now }
     {
         Counts {
             batches: u64::from(self.made()),
@@ -125,14 +125,12 @@ impl<C: Chip> PlainBus<C> {
             end: 0,
         }
     }
+}
 
-    /// A read where memory may not be what answers.
-    #[inline(never)]
-    fn read_port(&mut self, addr: u16) -> u8
-        requires { self.old.calls < 64 }
-        ensures answer { result ≡ bus_answer C.meaning self.old addr }
-        ensures next { self.new ≡ after_bus_read self.old addr }
-    {
+impl<C: Chip> Bus for PlainBus<C> {
+    ghost means = { lock_step C.meaning };
+
+    fn read(&mut self, addr: u16) -> u8 {
         self.calls += 1;
         if addr == 0xF3 {
             return self.chip.reg_read(self.io.dsp_address() % 0x80);
@@ -143,47 +141,32 @@ impl<C: Chip> PlainBus<C> {
         }
     }
 
-    /// What a write of F0h to FFh does beside memory.
-    #[inline(never)]
-    fn write_port(&mut self, addr: u16, value: u8)
-        requires calls { self.old.calls < 64 }
-        ensures { self.new ≡ record (after_bus_write C.meaning self.old addr value) { memory = self.old.memory } }
-    {
+    fn write(&mut self, addr: u16, value: u8) {
+        self.calls += 1;
         let sample = self.made();
         let address = self.io.dsp_address();
-        self.calls += 1;
-        match addr {
-            0xF3 if address < 0x80 => {
-                self.chip.reg_write(address, value);
-                self.records.push(Record::Reg {
-                    sample,
-                    addr: address,
-                    value,
-                });
-            }
-            0xF4..=0xF7 => self.records.push(Record::Port {
+        if addr == 0xF3 && address < 0x80 {
+            self.chip.reg_write(address, value);
+            self.records.push(Record::Reg {
+                sample,
+                addr: address,
+                value,
+            });
+        } else if (0xF4..=0xF7).contains(&addr) {
+            self.records.push(Record::Port {
                 sample,
                 port: (addr - 0xF4) as u8,
                 value,
-            }),
-            _ => {}
+            });
         }
+        self.memory.put(addr, value);
         self.io.write(addr, value);
     }
 
-    /// A pass that comes to a multiple of 16 of the clock, where timers may tick and a sample may be due.
-    #[inline(never)]
-    fn pass_ticks(&mut self, cycles: u8)
-        requires room { self.old.calls < 64 }
-        requires some { 1 ≤ cycles }
-        requires few { cycles ≤ 32 }
-        requires time { self.old.clock / 32 < 4000000000 }
-        ensures { self.new ≡ after_bus_pass C.meaning self.old cycles }
-    {
+    fn pass(&mut self, cycles: u8) {
         self.calls += 1;
-        let from = self.clock;
-        self.clock = from + u64::from(cycles);
-        self.io.ticks(from, cycles);
+        self.io.ticks(self.clock, cycles);
+        self.clock += u64::from(cycles);
         if u64::from(self.chip.sample()) < self.clock / 32 {
             make_sample(
                 &mut self.chip,
@@ -194,42 +177,7 @@ impl<C: Chip> PlainBus<C> {
             );
         }
     }
-}
 
-impl<C: Chip> Bus for PlainBus<C> {
-    ghost means = { lock_step C.meaning };
-
-    #[inline]
-    fn read(&mut self, addr: u16) -> u8 {
-        match addr {
-            0xF0..=0xFF | 0xFFC0.. => self.read_port(addr),
-            _ => {
-                self.calls += 1;
-                self.memory.get(addr)
-            }
-        }
-    }
-
-    #[inline]
-    fn write(&mut self, addr: u16, value: u8) {
-        self.memory.put(addr, value);
-        match addr {
-            0xF0..=0xFF => self.write_port(addr, value),
-            _ => self.calls += 1,
-        }
-    }
-
-    #[inline]
-    fn pass(&mut self, cycles: u8) {
-        if self.clock % 16 + u64::from(cycles) >= 16 {
-            self.pass_ticks(cycles);
-        } else {
-            self.calls += 1;
-            self.clock += u64::from(cycles);
-        }
-    }
-
-    #[inline]
     fn to_sample(&self) -> u8 {
         (32 - self.clock % 32) as u8
     }
@@ -245,8 +193,8 @@ impl<C: Chip> Bus for PlainBus<C> {
     } };
 }
 
-impl<C: Chip> Source for PlainBus<C> {
-    ghost emits = { plain_emits };
+impl<C: Chip> DrainedBus for PlainBus<C> {
+    ghost emits = { lock_step_emits };
 
     fn made(&self) -> u32 {
         (self.clock / 32) as u32

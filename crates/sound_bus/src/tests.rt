@@ -2,7 +2,7 @@
 
 ghost use Rattle.std.specs.Prelude.{◌≡◌, ◌+◌, ◌<◌, IfOk};
 
-use crate::{Chip, Counts, LagBus, PlainBus, Source};
+use crate::{Chip, Counts, DrainedBus, LagBus, PlainBus};
 use aram_core::Aram;
 use dsp_core::Dsp;
 use gauss_table::GaussTable;
@@ -122,7 +122,7 @@ fn write<B: Bus>(bus: &mut B, addr: u16, value: u8)
 }
 
 /// The lists that a drain fills: how many frames, whether all are silent, and how many records.
-fn drained<B: Source>(alloc: Global, bus: &mut B) -> Result<(usize, bool, usize), Fail>
+fn drained<B: DrainedBus>(alloc: Global, bus: &mut B) -> Result<(usize, bool, usize), Fail>
     ensures calls { IfOk result (λ _. B.means.calls bus.new ≡ 0) }
 {
     let mut frames = Frames::new(alloc)?;

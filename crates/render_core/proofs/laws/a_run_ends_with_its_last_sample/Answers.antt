@@ -1,4 +1,4 @@
-use Rattle.render_core.proofs.Runs.{after_run-next, after_run-reached, made-after_run}
+use Rattle.render_core.proofs.RunBySteps.{after_run-next, after_run-reached, made-after_run}
 use Rattle.render_core.proofs.laws.a_run_ends_with_its_last_sample.Goals as goal
 
 pub returns-clause-step : goal.returns-clause-step

@@ -1,4 +1,4 @@
-use Rattle.render_core.proofs.Fading.{entry-faded_frames, length-faded_from}
+use Rattle.render_core.proofs.FadedFrames.{entry-faded_frames, length-faded_from}
 use Rattle.std.proofs.Common.{length}
 use Rattle.render_core.proofs.laws.entries_of_faded_frames.Goals as goal
 

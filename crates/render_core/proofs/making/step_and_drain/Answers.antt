@@ -1,14 +1,13 @@
 use Rattle.std.proofs.Common.{◌∙◌, ◌++◌, List, ap, sym}
 use Rattle.trace_form.specs.declared.record.Record.{Record}
-use Rattle.render_core.specs.Run.{Whole}
 use Rattle.render_core.specs.Items.{run_records, records_before}
-use Rattle.render_core.proofs.Ahead.{items-after_run-settled, counts-after_run-settled, records_before-append}
+use Rattle.render_core.proofs.ItemsBeforeRun.{items-after_run-settled, counts-after_run-settled, records_before-append}
 use Rattle.render_core.proofs.making.step_and_drain.Goals as goal
 
 pub returns-clause-frames : goal.returns-clause-frames
 returns-clause-frames g c =
     c.take_steps.ensures.frames
-    ∙ items-after_run-settled g.B.Bus.means g.met.B.Bus.lawful g.B.Source.emits.cleared g.B.Source.emits.frames g.met.B.Source.emits_frames c.args.samples
+    ∙ items-after_run-settled g.B.Bus.means g.met.B.Bus.lawful g.B.DrainedBus.emits.cleared g.B.DrainedBus.emits.frames g.met.B.DrainedBus.emits_frames c.args.samples
     c.take_steps.new.cpu c.take_steps.new.bus c.settle_at_end.new.bus c.drain.new.self c.drain.new.frames
     c.settle_at_end.ensures.frames c.settle_at_end.ensures.clock c.settle_at_end.ensures.still c.drain.ensures.frames c.drain.ensures.rest
 
@@ -17,16 +16,16 @@ returns-clause-records g c =
     let n = c.args.samples in
     ap (records_before n)
     (c.take_steps.ensures.records
-    ∙ items-after_run-settled g.B.Bus.means g.met.B.Bus.lawful g.B.Source.emits.cleared g.B.Source.emits.records g.met.B.Source.emits_records n
+    ∙ items-after_run-settled g.B.Bus.means g.met.B.Bus.lawful g.B.DrainedBus.emits.cleared g.B.DrainedBus.emits.records g.met.B.DrainedBus.emits_records n
     c.take_steps.new.cpu c.take_steps.new.bus c.settle_at_end.new.bus c.drain.new.self c.drain.new.records
     c.settle_at_end.ensures.records c.settle_at_end.ensures.clock c.settle_at_end.ensures.still c.drain.ensures.records c.drain.ensures.rest)
     ∙ records_before-append n c.drain.new.records _
-    ∙ ap (λ (early : List Record). early ++ run_records g.B.Bus.means g.B.Source.emits n (c.take_steps.new.cpu, c.drain.new.self)) (sym c.keep_early.ensures)
+    ∙ ap (λ (early : List Record). early ++ run_records g.B.Bus.means g.B.DrainedBus.emits n (c.take_steps.new.cpu, c.drain.new.self)) (sym c.keep_records_before.ensures)
 
 pub returns-clause-counts : goal.returns-clause-counts
 returns-clause-counts g c =
     c.take_steps.ensures.counts
-    ∙ counts-after_run-settled g.B.Bus.means g.met.B.Bus.lawful g.B.Source.emits.cleared g.B.Source.emits.frames g.met.B.Source.emits_frames c.args.samples
+    ∙ counts-after_run-settled g.B.Bus.means g.met.B.Bus.lawful g.B.DrainedBus.emits.cleared g.B.DrainedBus.emits.frames g.met.B.DrainedBus.emits_frames c.args.samples
     c.take_steps.new.cpu c.take_steps.new.bus c.settle_at_end.new.bus c.drain.new.self c.drain.new.frames
     c.settle_at_end.ensures.frames c.settle_at_end.ensures.clock c.settle_at_end.ensures.still c.drain.ensures.frames c.drain.ensures.rest
-    g.B.Source.emits.counts g.met.B.Source.counted_beside c.settle_at_end.ensures.counts
+    g.B.DrainedBus.emits.counts g.met.B.DrainedBus.counted_beside c.settle_at_end.ensures.counts

@@ -1,5 +1,5 @@
 use Rattle.std.proofs.Common.{refl}
-use Rattle.render_core.proofs.Runs.{after_run-stepped}
+use Rattle.render_core.proofs.RunBySteps.{after_run-stepped}
 use Rattle.render_core.proofs.making.step_on.Goals as goal
 
 pub returns-clause-run : goal.returns-clause-run

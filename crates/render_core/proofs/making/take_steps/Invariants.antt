@@ -1,5 +1,5 @@
 use Rattle.std.proofs.Common.{◌≡◌, ◌*◌, ◌-◌, ◌<◌, ◌≤◌}
-use Rattle.render_core.specs.Run.{after_run}
+use Rattle.render_core.specs.MachineRun.{after_run}
 use Rattle.render_core.proofs.making.take_steps.Given as goal
 
 -- the run goes on from here, with room for a step that isn't behind its end

@@ -1,4 +1,4 @@
-use Rattle.render_core.proofs.Pieces.{is_next_piece}
+use Rattle.render_core.proofs.NextPiece.{is_next_piece}
 use Rattle.render_core.proofs.render.Render.make_next.Goals as goal
 
 pub returns : goal.returns

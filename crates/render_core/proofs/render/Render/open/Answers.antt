@@ -1,5 +1,5 @@
 use Rattle.std.proofs.Common.{ap}
-use Rattle.render_core.proofs.Opened.{length-opened}
+use Rattle.render_core.proofs.FramesFromOpening.{length-opened}
 use Rattle.render_core.proofs.render.Render.open.Goals as goal
 
 pub returns-clause-count : goal.returns-clause-count

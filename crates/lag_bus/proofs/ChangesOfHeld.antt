@@ -1,0 +1,270 @@
+-- What a chip some samples late comes to, after each change of what is held.
+use Rattle.std.proofs.Common.{◌≡◌, ◌≢◌, if◌then◌else◌, ℕ, zero, suc, ◌+◌, ◌-◌, ◌*◌, ◌<◌, ◌≤◌, List, [], ◌∷◌, ◌++◌, length, Bool, true, false, not, ◌||◌, ◌==◌, refl, ap, sym, arith, rules, append_assoc, length-append}
+use Rattle.std.proofs.lemmas.Bool.{or_parts}
+use Rattle.std.proofs.lemmas.List.{append-nil}
+use Rattle.std.proofs.Math.Seq.{take-append_seam, drop-append_seam}
+use Rattle.std.proofs.lemmas.List.Elements.{filter-append}
+use Rattle.std.specs.List.{filter}
+use Rattle.aram_core.specs.Memory.{byte_at, with_byte}
+use Rattle.trace_form.specs.declared.record.Record.{Record}
+use Rattle.trace_form.specs.declared.record.Record.TheVariants.{Reg, Port, Voice}
+use Rattle.dsp_core.specs.Results.{is_result}
+use Rattle.dsp_core.specs.Run.{Sampled, Run, run, in_mask}
+use Rattle.dsp_core.proofs.Runs.{run_none, run_more}
+use Rattle.lock_step.specs.ChipMeaning.{ChipMeaning}
+use Rattle.lock_step.specs.ChipLaws.{IsLawfulChip}
+use Rattle.lag_bus.specs.Each.{Each, IsVoiceWithin}
+use Rattle.lag_bus.specs.Merge.{merge}
+use Rattle.lock_step.specs.SampleNumbers.{sample_number}
+use Rattle.lag_bus.specs.Ready.{is_before_sample, ready_frames, waiting_frames, ready_records, waiting_records}
+use Rattle.lag_bus.specs.Book.{may_be_read, may_be_written}
+use Rattle.lag_bus.specs.Late.{late_with_sample}
+use Rattle.lag_bus.specs.Held.{Held, IsHeld, pending_samples, late_of}
+use Rattle.lag_bus.proofs.MergedRecords.{Each-append, Each-map, Each-filter, Each-merge, merge_voices, merge_event, merge_nothing, length-merge, number_before, later_before, event_after, voice_before, voice_after, voice_number, filter_all, filter_none}
+use Rattle.lag_bus.proofs.LawfulSamples.{length-frames-samples, voices_within, is_valid-samples, voices_within-samples, voices_of_mask}
+
+not_true : (b : Bool) → not b ≡ true → b ≡ false
+not_true true h = cc
+not_true false h = refl
+
+-- the voices of a sample have its number
+number_of_voice : (k : ℕ) (item : Record) → IsVoiceWithin k (k + 1) item → sample_number item ≡ k
+number_of_voice k (Voice sample voice level out block keyed looped) w = omega arith
+number_of_voice k (Reg sample addr value) w = absurd w
+number_of_voice k (Port sample port value) w = absurd w
+
+opposite : (k : ℕ) (b : Bool) (item : Record) → is_before_sample k item ≡ b → not (is_before_sample k item) ≡ not b
+opposite k b item h = ap not h
+
+-- what is held once the pending samples are made
+abbrev pub held_after_settle : {S : Type 0} → ChipMeaning S → ℕ → Held S → Held S
+held_after_settle chip batches h = record {
+  state = (pending_samples chip h).state;
+  number = h.number + h.pending;
+  batches = batches;
+  memory = (pending_samples chip h).memory;
+  frames = h.frames ++ (pending_samples chip h).frames;
+  records = h.records ++ merge (filter (in_mask h.mask) (pending_samples chip h).voices) h.ring;
+  ring = [];
+  mask = h.mask;
+  pending = 0;
+}
+
+module _ {S : Type 0} {chip : ChipMeaning S} (laws : IsLawfulChip chip) where
+  byte_stays : (n k : ℕ) (s : S) (memory : List ℕ) (at : ℕ) → n ≤ 64 → chip.is_valid s ≡ true
+      → (n == 0 || not (may_be_written (chip.reach s memory) at)) ≡ true
+      → byte_at (run chip.sample n k s memory).memory at ≡ byte_at memory at
+  byte_stays zero k s memory at few valid free = rw run_none refl
+  byte_stays (suc n) k s memory at few valid free =
+      let some : (suc n == 0) ≡ false = search rules in
+      laws.writes_inside (suc n) k s memory at few valid (not_true _ (rw some at free))
+
+  register_stays : (n k : ℕ) (s : S) (memory : List ℕ) (address : ℕ) → n ≤ 64 → chip.is_valid s ≡ true
+      → (n == 0 || not (is_result address)) ≡ true
+      → chip.register_read (run chip.sample n k s memory).state address ≡ chip.register_read s address
+  register_stays zero k s memory address few valid free = rw run_none refl
+  register_stays (suc n) k s memory address few valid free =
+      let some : (suc n == 0) ≡ false = search rules in
+      laws.registers_stay (suc n) k s memory address few valid (not_true _ (rw some at free))
+
+  untouched : (s : S) (memory : List ℕ) (at value : ℕ) → chip.is_valid s ≡ true → may_be_read (chip.reach s memory) at ≡ false
+      → chip.reach s (with_byte memory at value) ≡ chip.reach s memory
+  untouched s memory at value valid free =
+      laws.reach_stays s memory at value valid (or_parts _ _ free).0 (or_parts _ _ free).1
+
+  put_apart : (n k : ℕ) (s : S) (memory : List ℕ) (at value : ℕ) → n ≤ 64 → chip.is_valid s ≡ true
+      → (n == 0 || not (may_be_read (chip.reach s memory) at)) ≡ true
+      → run chip.sample n k s (with_byte memory at value) ≡ record (run chip.sample n k s memory) { memory = with_byte (run chip.sample n k s memory).memory at value }
+  put_apart zero k s memory at value few valid free = simp run_none refl
+  put_apart (suc n) k s memory at value few valid free =
+      let some : (suc n == 0) ≡ false = search rules in
+      let apart : may_be_read (chip.reach s memory) at ≡ false = not_true _ (rw some at free) in
+      laws.reads_inside (suc n) k s memory at value few valid (or_parts _ _ apart).0 (or_parts _ _ apart).1
+
+  module _ {h : Held S} (is : IsHeld chip h) where
+    -- a byte and a register that the pending samples don't change
+    pub late_get : (at : ℕ) → (h.pending == 0 || not (may_be_written (chip.reach h.state h.memory) at)) ≡ true
+        → byte_at h.memory at ≡ byte_at (late_of chip h).memory at
+    late_get at free = sym (byte_stays h.pending h.number h.state h.memory at is.pending is.is_valid free)
+
+    pub late_register : (address : ℕ) → (h.pending == 0 || not (is_result address)) ≡ true
+        → chip.register_read h.state address ≡ chip.register_read (late_of chip h).chip address
+    late_register address free = sym (register_stays h.pending h.number h.state h.memory address is.pending is.is_valid free)
+
+    -- a byte that they don't read
+    pub late_put : (at value : ℕ) → (h.pending == 0 || not (may_be_read (chip.reach h.state h.memory) at)) ≡ true
+        → late_of chip (record h { memory = with_byte h.memory at value }) ≡
+        record (late_of chip h) { memory = with_byte (late_of chip h).memory at value; reach = chip.reach h.state (with_byte h.memory at value) }
+    late_put at value free = rw (put_apart h.pending h.number h.state h.memory at value is.pending is.is_valid free) refl
+
+    pub late_put_reach : (memory : List ℕ) → h.pending ≡ 0
+        → chip.reach h.state memory ≡ chip.reach (late_of chip (record h { memory = memory })).chip (late_of chip (record h { memory = memory })).memory
+    late_put_reach memory none = rw (none, run_none) refl
+
+    pub late_reach_stays : (at value : ℕ) → may_be_read (chip.reach h.state h.memory) at ≡ false
+        → chip.reach h.state (with_byte h.memory at value) ≡ chip.reach h.state h.memory
+    late_reach_stays at value free = untouched h.state h.memory at value is.is_valid free
+
+    -- one sample more that is pending
+    pub late_pend : late_of chip (record h { pending = h.pending + 1 }) ≡
+        late_with_sample chip (late_of chip h)
+    late_pend =
+        let before : Run S = pending_samples chip h in
+        let made : Sampled S = chip.sample (h.number + h.pending) before.state before.memory in
+        let valid = is_valid-samples chip laws h.pending h.number h.state h.memory is.is_valid in
+        let numbers : Each (λ v. sample_number v ≡ h.number + h.pending) (filter (in_mask h.mask) made.voices) =
+        Each-filter (in_mask h.mask) (λ v. sample_number v ≡ h.number + h.pending) made.voices
+        (Each-map (IsVoiceWithin (h.number + h.pending) (h.number + h.pending + 1)) (λ v. sample_number v ≡ h.number + h.pending) (number_of_voice (h.number + h.pending)) made.voices
+        (voices_within (h.number + h.pending) 0 made.voices (laws.gives_voice_records (h.number + h.pending) before.state before.memory valid))) in
+        let upto : Each (λ e. sample_number e ≤ h.number + h.pending) h.ring =
+        Each-map (λ e. is_before_sample (h.number + h.pending) e ≡ true) (λ e. sample_number e ≤ h.number + h.pending) (number_before (h.number + h.pending)) h.ring is.before_next in
+        let merged : merge (filter (in_mask h.mask) (before.voices ++ made.voices)) h.ring ≡ merge (filter (in_mask h.mask) before.voices) h.ring ++ filter (in_mask h.mask) made.voices =
+        rw filter-append (merge_voices (h.number + h.pending) (filter (in_mask h.mask) before.voices) (filter (in_mask h.mask) made.voices) h.ring upto numbers) in
+        let used : length h.frames + (h.pending + 1) ≡ length h.frames + h.pending + 1 = omega arith in
+        let records : length h.records + length h.ring + 8 * (h.pending + 1) ≡ length h.records + length h.ring + 8 * h.pending + 8 = omega arith in
+        let number : h.number + (h.pending + 1) ≡ h.number + h.pending + 1 = omega arith in
+        rw (run_more, merged, used, records, number, append_assoc, append_assoc) refl
+
+    -- a register written while none is pending
+    pub late_reg_write : (address byte : ℕ) → h.pending ≡ 0
+        → late_of chip (record h { state = chip.register_write h.state address byte }) ≡
+        record (late_of chip h) { chip = chip.register_write (late_of chip h).chip address byte; reach = chip.reach (chip.register_write (late_of chip h).chip address byte) (late_of chip h).memory }
+    late_reg_write address byte none = rw none (simp run_none refl)
+
+    -- the voices that are pending, of the mask
+    pending_voices : Each (IsVoiceWithin h.number (h.number + h.pending)) (filter (in_mask h.mask) (pending_samples chip h).voices)
+    pending_voices =
+        Each-filter (in_mask h.mask) (IsVoiceWithin h.number (h.number + h.pending)) (pending_samples chip h).voices (voices_within-samples chip laws h.pending h.number h.state h.memory is.is_valid)
+
+    -- an event more, and a record more while none is pending
+    pub late_event : (event : Record) → h.pending ≢ 0 → sample_number event ≡ h.number + h.pending
+        → late_of chip (record h { ring = h.ring ++ event ∷ [] }) ≡
+        record (late_of chip h) {
+          records = (late_of chip h).records ++ event ∷ [];
+          events = if h.pending == 0 then (late_of chip h).events else (late_of chip h).events + 1;
+          records_used = (late_of chip h).records_used + 1;
+        }
+    late_event event some now =
+        let pends : (h.pending == 0) ≡ false = search rules in
+        let voices = filter (in_mask h.mask) (pending_samples chip h).voices in
+        let below : Each (λ v. sample_number v < sample_number event) voices =
+        rw now (Each-map (IsVoiceWithin h.number (h.number + h.pending)) (λ v. sample_number v < h.number + h.pending) (voice_number h.number (h.number + h.pending)) voices pending_voices) in
+        let used : length h.records + (length h.ring + 1) + 8 * h.pending ≡ length h.records + length h.ring + 8 * h.pending + 1 = omega arith in
+        rw (pends, merge_event voices h.ring event below, length-append h.ring (event ∷ []), used, append_assoc) refl
+
+    pub late_emit : (item : Record) → h.pending ≡ 0
+        → late_of chip (record h { records = h.records ++ item ∷ [] }) ≡
+        record (late_of chip h) {
+          records = (late_of chip h).records ++ item ∷ [];
+          events = if h.pending == 0 then (late_of chip h).events else (late_of chip h).events + 1;
+          records_used = (late_of chip h).records_used + 1;
+        }
+    late_emit item none =
+        let empty : h.ring ≡ [] = is.none_waits none in
+        let used : length h.records + 1 + 0 + 8 * 0 ≡ length h.records + 0 + 8 * 0 + 1 = omega arith in
+        rw (none, empty) (simp (run_none, merge_nothing, append-nil, length-append, used) refl)
+
+    -- with none pending the reach is that of what there is
+    pub late_reach : h.pending ≡ 0 → (late_of chip h).reach ≡ chip.reach (late_of chip h).chip (late_of chip h).memory
+    late_reach none = rw (none, run_none) refl
+
+    frames_count : length (h.frames ++ (pending_samples chip h).frames) ≡ length h.frames + h.pending
+    frames_count = rw (length-append, length-frames-samples) refl
+
+    pub voices_fit : length (filter (in_mask h.mask) (pending_samples chip h).voices) ≤ 8 * h.pending
+    voices_fit = voices_of_mask chip laws h.pending h.mask h.number h.state h.memory is.is_valid
+
+    pub records_within : length (late_of chip h).records ≤ (late_of chip h).records_used
+    records_within =
+        omega (arith, length-append h.records (merge (filter (in_mask h.mask) (pending_samples chip h).voices) h.ring), length-merge (filter (in_mask h.mask) (pending_samples chip h).voices) h.ring, voices_fit)
+
+    -- all pending samples made
+    pub held_settled : (batches : ℕ) → IsHeld chip (held_after_settle chip batches h)
+    held_settled batches =
+        let voices = filter (in_mask h.mask) (pending_samples chip h).voices in
+        let first = Each-map (λ r. is_before_sample h.number r ≡ true) (λ r. is_before_sample (h.number + h.pending) r ≡ true) (later_before h.number (h.number + h.pending) (omega arith)) h.records is.made_before in
+        let second = Each-map (IsVoiceWithin h.number (h.number + h.pending)) (λ r. is_before_sample (h.number + h.pending) r ≡ true) (voice_before h.number (h.number + h.pending)) voices pending_voices in
+        let third = Each-append (λ r. is_before_sample (h.number + h.pending) r ≡ true) h.records (merge voices h.ring) first (Each-merge (λ r. is_before_sample (h.number + h.pending) r ≡ true) voices h.ring second is.before_next) in
+        let same : h.number + h.pending + 0 ≡ h.number + h.pending = omega arith in
+        record {
+          is_valid = is_valid-samples chip laws h.pending h.number h.state h.memory is.is_valid;
+          pending = omega arith;
+          number_fits = rw same is.number_fits;
+          after_first = tt;
+          before_next = tt;
+          none_waits = λ _. refl;
+          made_before = third;
+          frames_fit = omega (arith, frames_count, is.frames_fit);
+          records_fit = omega (arith, records_within, is.records_fit);
+        }
+
+    pub late_settled : (batches : ℕ)
+        → late_of chip (held_after_settle chip batches h) ≡
+        record (late_of chip h) {
+          pending = 0;
+          events = 0;
+          reach = chip.reach (late_of chip h).chip (late_of chip h).memory;
+          batches = batches;
+          records_used = length (late_of chip h).records;
+        }
+    late_settled batches =
+        let made : h.number + h.pending + 0 ≡ h.number + h.pending = omega arith in
+        let frames : length (h.frames ++ (pending_samples chip h).frames) + 0 ≡ length h.frames + h.pending = omega (arith, frames_count) in
+        let records : length (late_of chip h).records + 0 + 8 * 0 ≡ length (late_of chip h).records = omega arith in
+        rw (run_none, made, frames) (simp (merge_nothing, append-nil, records) refl)
+
+    -- nothing that is pending stands before the first pending sample
+    pending_after : Each (λ r. is_before_sample h.number r ≡ false) (merge (filter (in_mask h.mask) (pending_samples chip h).voices) h.ring)
+    pending_after =
+        let voices = filter (in_mask h.mask) (pending_samples chip h).voices in
+        Each-merge (λ r. is_before_sample h.number r ≡ false) voices h.ring
+        (Each-map (IsVoiceWithin h.number (h.number + h.pending)) (λ r. is_before_sample h.number r ≡ false) (voice_after h.number (h.number + h.pending)) voices pending_voices)
+        (Each-map (λ e. h.number < sample_number e) (λ r. is_before_sample h.number r ≡ false) (event_after h.number) h.ring is.after_first)
+
+    drained_records : filter (is_before_sample h.number) (late_of chip h).records ≡ h.records
+    drained_records =
+        let after = merge (filter (in_mask h.mask) (pending_samples chip h).voices) h.ring in
+        rw (filter-append (is_before_sample h.number) h.records after, filter_all (is_before_sample h.number) h.records is.made_before, filter_none (is_before_sample h.number) after pending_after) (append-nil h.records)
+
+    kept_records : filter (λ r. not (is_before_sample h.number r)) (late_of chip h).records ≡ merge (filter (in_mask h.mask) (pending_samples chip h).voices) h.ring
+    kept_records =
+        let after = merge (filter (in_mask h.mask) (pending_samples chip h).voices) h.ring in
+        let is_late : Record → Bool = λ r. not (is_before_sample h.number r) in
+        let none = filter_none is_late h.records (Each-map (λ r. is_before_sample h.number r ≡ true) (λ r. is_late r ≡ false) (opposite h.number true) h.records is.made_before) in
+        let all = filter_all is_late after (Each-map (λ r. is_before_sample h.number r ≡ false) (λ r. is_late r ≡ true) (opposite h.number false) after pending_after) in
+        rw (filter-append is_late h.records after, none, all) refl
+
+    drained_frames : ready_frames h.pending (late_of chip h).frames ≡ h.frames
+    drained_frames =
+        let count : length (h.frames ++ (pending_samples chip h).frames) - h.pending ≡ length h.frames = omega (arith, frames_count) in
+        rw count (take-append_seam h.frames (pending_samples chip h).frames)
+
+    kept_frames : waiting_frames h.pending (late_of chip h).frames ≡ (pending_samples chip h).frames
+    kept_frames =
+        let count : length (h.frames ++ (pending_samples chip h).frames) - h.pending ≡ length h.frames = omega (arith, frames_count) in
+        rw count (drop-append_seam h.frames (pending_samples chip h).frames)
+
+    -- what a drain hands over and leaves
+    pub late_ready_frames : h.frames ≡ ready_frames h.pending (late_of chip h).frames
+    late_ready_frames = sym drained_frames
+
+    pub late_ready_records : h.records ≡ ready_records (h.number + h.pending - h.pending) (late_of chip h).records
+    late_ready_records =
+        let first : h.number + h.pending - h.pending ≡ h.number = omega arith in
+        rw first (sym drained_records)
+
+    pub late_drained : late_of chip (record h { frames = []; records = [] }) ≡
+        record (late_of chip h) {
+          frames = waiting_frames h.pending (late_of chip h).frames;
+          records = waiting_records (h.number + h.pending - h.pending) (late_of chip h).records;
+          frames_used = h.pending;
+          records_used = length h.ring + 8 * h.pending;
+        }
+    late_drained =
+        let first : h.number + h.pending - h.pending ≡ h.number = omega arith in
+        let one : 0 + h.pending ≡ h.pending = omega arith in
+        let two : 0 + length h.ring ≡ length h.ring = omega arith in
+        rw (first, kept_records, kept_frames, one, two) refl
+
+    pub late_none_waits : h.pending ≡ 0 → merge (filter (in_mask h.mask) (pending_samples chip h).voices) h.ring ≡ []
+    late_none_waits none = rw (none, run_none, is.none_waits none) merge_nothing

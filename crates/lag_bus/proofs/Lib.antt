@@ -1,0 +1,22 @@
+-- SameMachine: the machine beside the lag book is the one in lock step
+pub mod SameMachine
+-- MergedRecords: what a merge of records of voices and events has, and how it grows
+pub mod MergedRecords
+-- LawfulSamples: what samples of a lawful chip keep and give, one after another
+pub mod LawfulSamples
+-- ChangesOfHeld: what a chip some samples late comes to, after each change of what is held
+pub mod ChangesOfHeld
+-- WritesToCome: samples to come write where the reach says
+pub mod WritesToCome
+-- PendingSamples: some samples more that are pending
+pub mod PendingSamples
+-- CountsAddUp: the batches are those of the causes together
+pub mod CountsAddUp
+-- BookWithoutPending: the lag book while nothing is pending
+pub mod BookWithoutPending
+-- PageMarks: marks of pages that samples don't write
+pub mod PageMarks
+-- PassesOfAWait: the machine with its lag book passes cycles in which it is only looked at
+pub mod PassesOfAWait
+-- RoundsOfAWait: and it makes rounds of steps that only look
+pub mod RoundsOfAWait

@@ -1,0 +1,63 @@
+use Rattle.std.proofs.Common.{◌≡◌, ◌+◌, ◌*◌, ◌-◌, ◌/◌, ◌<◌, ◌≤◌, ℕ, refl, sym, ap, ◌∙◌, subst, arith, Some}
+use Rattle.std.proofs.Math.Nat.{mod-add-div'}
+use Rattle.aram_core.specs.Memory.{byte_at}
+use Rattle.ports_timers.specs.declared.io.Io.{Io}
+use Rattle.dsp_core.specs.Run.{run}
+use Rattle.idle_rounds.specs.Looking.{looked_steps}
+use Rattle.idle_rounds.specs.Zeros.{AreTimers}
+use Rattle.lock_step.specs.declared.counts.Counts.{Counts}
+use Rattle.lag_bus.specs.Late.{Late}
+use Rattle.lag_bus.specs.Late.{late_with_samples}
+use Rattle.lag_bus.specs.Lagging.{lagging}
+use Rattle.lag_bus.specs.LagEmits.{lag_emits}
+use Rattle.lag_bus.specs.Waiting.{byte_seen, samples_in, IsKept}
+use Rattle.lag_bus.specs.IsLagging.{lagging_of}
+use Rattle.lock_step.proofs.NoWait.{no_wait}
+use Rattle.lag_bus.proofs.RoundsOfAWait.{is_wait, lagging_of-wait}
+use Rattle.lag_bus.proofs.lag.LagBusDrainedBus.wait.Goals as goal
+
+pub returns-then-not-is_drained : goal.returns-then-not-is_drained
+returns-then-not-is_drained g c =
+    rw (c.ensure_reach.ensures.rest, ← c.self.view_is)
+    (no_wait (lagging g.C.Chip.meaning) (lag_emits g.C.Chip.meaning) c.args.samples c.args.cpu.now _ (rw (← c.self.view_is) at c.requires.more))
+
+pub returns-in_default : goal.returns-in_default
+returns-in_default g c =
+    rw (c.ensure_reach.ensures.rest, ← c.self.view_is)
+    (no_wait (lagging g.C.Chip.meaning) (lag_emits g.C.Chip.meaning) c.args.samples c.args.cpu.now _ (rw (← c.self.view_is) at c.requires.more))
+
+pub returns : goal.returns
+returns g c =
+    let chip = g.C.Chip.meaning in
+    let late : Late g.row.C-State.Denot = c.self.inside.late in
+    let io : Io = c.self.inside.io in
+    let clock : ℕ = c.self.inside.clock in
+    let counts : Counts = c.self.inside.counts in
+    let calls : ℕ = c.self.inside.calls in
+    let most : ℕ = c.cycles_to_wait.result in
+    let d : ℕ = c.from-2.result in
+    let k : ℕ = most / c.from.result in
+    let made : late.made ≡ clock / 32 = c.self.invariant.same_made in
+    let reached : c.ensure_reach.new.self ≡ late = c.ensure_reach.ensures.rest in
+    let kept : IsKept chip (lagging_of late io clock counts calls) = record {
+      batches = c.self.invariant.same_batches;
+      sample = ap (λ (n : ℕ). n - late.pending) made;
+      writes = λ due at few free. subst (λ (n : ℕ). byte_at (run chip.sample due n late.chip late.memory).memory at ≡ byte_at late.memory at) made (c.ensure_reach.ensures.writes due at few free);
+    } in
+    let small : AreTimers io = c.cycles_to_wait.ensures.timers in
+    let free : late.pending + samples_in clock most < 64 = subst (λ (l : Late g.row.C-State.Denot). l.pending + samples_in clock most < 64) reached c.cycles_to_wait.ensures.free in
+    let tried = c.in-Some.ensures.round in
+    let length : c.in-Some.round ≡ d = sym c.from-2.ensures in
+    let round : looked_steps (byte_seen chip (lagging_of late io clock counts calls)) tried.0 c.args.cpu.now ≡ Some (c.args.cpu.now, d) =
+    subst (λ (l : Late g.row.C-State.Denot). looked_steps (byte_seen chip (lagging_of l io clock counts calls)) tried.0 c.args.cpu.now ≡ Some (c.args.cpu.now, d)) reached
+    (tried.1 ∙ (λ i. Some (c.args.cpu.now, length i))) in
+    let same : c.from.result ≡ d = c.from.ensures ∙ sym c.from-2.ensures in
+    let parts = mod-add-div' most c.from.result in
+    let whole : k * c.from.result ≤ most = omega arith in
+    let fits : k * d ≤ most = subst (λ (n : ℕ). k * n ≤ most) same whole in
+    let due : ℕ = samples_in clock (k * d) in
+    let pends : c.pend_all.new.late ≡ late_with_samples chip late due = c.pend_all.ensures ∙ ap (λ (l : Late g.row.C-State.Denot). late_with_samples chip l due) reached in
+    rw (← c.self.view_is)
+    (is_wait chip c.args.samples c.args.cpu.now (lagging_of late io clock counts calls) (lagging_of c.pend_all.new.late c.tick_through.new.io (clock + k * d) counts calls)
+    most k tried.0 d kept small c.cycles_to_wait.ensures.zeros free c.cycles_to_wait.ensures.below round fits
+    ((λ i. lagging_of (pends i) (c.tick_through.ensures i) (clock + k * d) counts calls) ∙ lagging_of-wait chip late io clock counts calls (k * d) due c.self.invariant.same_batches made refl))

@@ -1,0 +1,8 @@
+use Rattle.lag_bus.proofs.ChangesOfHeld.{late_put, late_put_reach}
+use Rattle.lag_bus.proofs.late.LateChip.put.Goals as goal
+
+pub returns-then-self-eq0-clause-memory : goal.returns-then-self-eq0-clause-memory
+returns-then-self-eq0-clause-memory g c = rw (c.put.ensures, ← c.self.view_is) (late_put g.met.C.Chip.lawful c.self.invariant.0 c.args.at c.args.value (rw (← c.self.view_is) at c.requires))
+
+pub returns-then-self-eq0-clause-reach : goal.returns-then-self-eq0-clause-reach
+returns-then-self-eq0-clause-reach g c = λ none. late_put_reach g.met.C.Chip.lawful c.self.invariant.0 c.put.new.self c.if-self-eq0.true

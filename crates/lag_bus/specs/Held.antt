@@ -1,0 +1,75 @@
+-- What is held while samples are pending, and what it comes to once they are made.
+use Rattle.std.specs.Prelude.{◌≡◌, ◌<◌, ◌≤◌, ℕ, ◌+◌, ◌*◌, List, [], ◌++◌, length, slice_index_or, Bool, true, false, Option, Some, None, IfSome}
+use Rattle.std.specs.List.{filter}
+use Rattle.std.specs.FinSet as set
+use Rattle.num_fix.specs.declared.Frame.{Frame}
+use Rattle.trace_form.specs.declared.record.Record.{Record}
+use Rattle.reach_map.specs.declared.ReachPages.{ReachPages}
+use Rattle.dsp_core.specs.Run.{Run, run, in_mask}
+use Rattle.lock_step.specs.ChipMeaning.{ChipMeaning}
+use Rattle.lock_step.specs.Limits.{most_samples_of_batch, most_samples_of_chip, frame_room, record_room}
+use Rattle.lag_bus.specs.Each.{Each}
+use Rattle.lag_bus.specs.Merge.{merge}
+use Rattle.lock_step.specs.SampleNumbers.{sample_number}
+use Rattle.lag_bus.specs.Ready.{is_before_sample}
+use Rattle.lag_bus.specs.Late.{Late}
+
+pub record Held (S : Type 0) : Type 0 where
+  -- the chip's state, the samples that it made, and its batches
+  pub state : S
+  pub number : ℕ
+  pub batches : ℕ
+  pub memory : List ℕ
+  -- the frames and records made, and the events that wait
+  pub frames : List Frame
+  pub records : List Record
+  pub ring : List Record
+  pub mask : ℕ
+  pub pending : ℕ
+
+-- the pending samples
+abbrev pub pending_samples : {S : Type 0} → ChipMeaning S → Held S → Run S
+pending_samples chip h = run chip.sample h.pending h.number h.state h.memory
+
+-- what there is once they are made
+abbrev pub late_of : {S : Type 0} → ChipMeaning S → Held S → Late S
+late_of chip h = record {
+  chip = (pending_samples chip h).state;
+  memory = (pending_samples chip h).memory;
+  frames = h.frames ++ (pending_samples chip h).frames;
+  records = h.records ++ merge (filter (in_mask h.mask) (pending_samples chip h).voices) h.ring;
+  mask = h.mask;
+  made = h.number + h.pending;
+  pending = h.pending;
+  events = length h.ring;
+  reach = chip.reach h.state h.memory;
+  batches = h.batches;
+  frames_used = length h.frames + h.pending;
+  records_used = length h.records + length h.ring + 8 * h.pending;
+}
+
+-- what always holds of it
+pub record IsHeld {S : Type 0} (chip : ChipMeaning S) (h : Held S) : Type 0 where
+  pub is_valid : chip.is_valid h.state ≡ true
+  pub pending : h.pending ≤ most_samples_of_batch
+  pub number_fits : h.number + h.pending ≤ most_samples_of_chip
+  -- an event came after the first of the pending samples, and before the next sample
+  pub after_first : Each (λ event. h.number < sample_number event) h.ring
+  pub before_next : Each (λ event. is_before_sample (h.number + h.pending) event ≡ true) h.ring
+  pub none_waits : h.pending ≡ 0 → h.ring ≡ []
+  pub made_before : Each (λ item. is_before_sample h.number item ≡ true) h.records
+  pub frames_fit : length h.frames + h.pending ≤ frame_room
+  pub records_fit : length h.records + length h.ring + 8 * h.pending ≤ record_room
+
+-- a reach that was taken and not dropped is that of what is held
+abbrev pub IsTaken : {S : Type 0} → ChipMeaning S → Option ReachPages → S → (memory : List ℕ) → Type 0
+IsTaken chip taken state memory = IfSome taken (λ reach. reach ≡ chip.reach state memory)
+
+-- Pages that are marked aren't written by samples to come, by the reach that was taken. Without one none is marked.
+abbrev pub AreUnwritten : Option ReachPages → (marks : List Bool) → Type 0
+AreUnwritten None marks = (page : ℕ) → slice_index_or marks page false ≡ false
+AreUnwritten (Some reach) marks = (page : ℕ) → slice_index_or marks page false ≡ true → set.contains reach.write_pages page ≡ false
+
+-- pages that are marked as plain are marked as unwritten too, and hold neither the ports nor the ROM
+abbrev pub ArePlain : (unwritten plain : List Bool) → Type 0
+ArePlain unwritten plain = (page : ℕ) → slice_index_or plain page false ≡ true → (slice_index_or unwritten page false ≡ true) × (0 < page) × (page < 255)

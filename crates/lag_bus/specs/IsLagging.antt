@@ -1,0 +1,38 @@
+-- What a bus that lags shows of what it has, and what always holds of this.
+use Rattle.std.specs.Prelude.{◌≡◌, ℕ, ◌+◌, ◌-◌, ◌*◌, ◌/◌, ◌<◌, ◌≤◌}
+use Rattle.ports_timers.specs.declared.io.Io.{Io}
+use Rattle.lock_step.specs.declared.counts.Counts.{Counts}
+use Rattle.lock_step.specs.Limits.{most_samples_of_batch, most_samples_of_chip, event_room}
+use Rattle.lag_bus.specs.Book.{AddsUp}
+use Rattle.lag_bus.specs.Lagging.{Lagging}
+use Rattle.lag_bus.specs.Late.{Late}
+
+-- It has the chip with its late samples, the ports and timers, the clock, the counts, and the calls since the last drain.
+abbrev pub lagging_of : {S : Type 0} → Late S → Io → (clock : ℕ) → Counts → (calls : ℕ) → Lagging S
+lagging_of late io clock counts calls = record {
+  machine = record {
+    memory = late.memory;
+    io = io;
+    chip = late.chip;
+    mask = late.mask;
+    clock = clock;
+    frames = late.frames;
+    records = late.records;
+    calls = calls;
+  };
+  book = record { pending = late.pending; events = late.events; reach = late.reach; counts = counts };
+  chip_batches = late.batches;
+  chip_sample = late.made - late.pending;
+}
+
+pub record IsLagging {S : Type 0} (late : Late S) (counts : Counts) (clock calls : ℕ) : Type 0 where
+  pub same_batches : late.batches ≡ counts.batches
+  pub same_made : late.made ≡ clock / 32
+  pub pending : late.pending < most_samples_of_batch
+  pub events : late.events ≤ event_room
+  -- each call takes room for at most a frame and eight records, beside what the pending samples and the events took before
+  pub frames : late.frames_used ≤ most_samples_of_batch - 1 + calls
+  pub records : late.records_used ≤ event_room + 8 * (most_samples_of_batch - 1) + 8 * calls
+  pub adds_up : AddsUp counts
+  pub time : clock < 32 * (most_samples_of_chip + 1)
+  pub few : calls ≤ 64

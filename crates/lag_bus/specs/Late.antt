@@ -1,0 +1,66 @@
+-- A chip with its memory and its output, some samples late, as it is once these are made.
+use Rattle.std.specs.Prelude.{◌≡◌, ◌≤◌, ℕ, ◌+◌, ◌*◌, List, [], ◌∷◌, ◌++◌, false}
+use Rattle.std.specs.List.{filter}
+use Rattle.aram_core.specs.Memory.{byte_at}
+use Rattle.num_fix.specs.declared.Frame.{Frame}
+use Rattle.trace_form.specs.declared.record.Record.{Record}
+use Rattle.reach_map.specs.declared.ReachPages.{ReachPages}
+use Rattle.dsp_core.specs.Run.{run, in_mask}
+use Rattle.lock_step.specs.ChipMeaning.{ChipMeaning}
+use Rattle.lock_step.specs.Limits.{most_samples_of_batch}
+use Rattle.lag_bus.specs.Book.{may_be_written}
+
+pub record Late (S : Type 0) : Type 0 where
+  -- what there is once the pending samples are made: the chip's state, memory, and what was emitted and not handed over
+  pub chip : S
+  pub memory : List ℕ
+  pub frames : List Frame
+  pub records : List Record
+  pub mask : ℕ
+  -- the samples made or pending, those pending, and the events that wait for them
+  pub made : ℕ
+  pub pending : ℕ
+  pub events : ℕ
+  -- the reach before the pending samples, and the batches that the chip made
+  pub reach : ReachPages
+  pub batches : ℕ
+  -- the room that frames and records take at most, with those of the pending samples
+  pub frames_used : ℕ
+  pub records_used : ℕ
+
+-- one sample more that is pending
+abbrev pub late_with_sample : {S : Type 0} → ChipMeaning S → Late S → Late S
+late_with_sample chip late =
+    let made = chip.sample late.made late.chip late.memory in
+    record late {
+      chip = made.state;
+      memory = made.memory;
+      frames = late.frames ++ made.frame ∷ [];
+      records = late.records ++ filter (in_mask late.mask) made.voices;
+      made = late.made + 1;
+      pending = late.pending + 1;
+      frames_used = late.frames_used + 1;
+      records_used = late.records_used + 8;
+    }
+
+-- and so many of them
+abbrev pub late_with_samples : {S : Type 0} → ChipMeaning S → Late S → (due : ℕ) → Late S
+late_with_samples chip late due =
+    let made = run chip.sample due late.made late.chip late.memory in
+    record late {
+      chip = made.state;
+      memory = made.memory;
+      frames = late.frames ++ made.frames;
+      records = late.records ++ filter (in_mask late.mask) made.voices;
+      made = late.made + due;
+      pending = late.pending + due;
+      frames_used = late.frames_used + due;
+      records_used = late.records_used + 8 * due;
+    }
+
+-- Samples to come write where the reach before the pending ones says: from a state and memory after these, as many as make no
+-- more than one batch with them.
+abbrev pub AreWritesWithin : {S : Type 0} → ChipMeaning S → ReachPages → (pending made : ℕ) → S → (memory : List ℕ) → Type 0
+AreWritesWithin chip reach pending made state memory =
+    (due at : ℕ) → pending + due ≤ most_samples_of_batch → may_be_written reach at ≡ false
+    → byte_at (run chip.sample due made state memory).memory at ≡ byte_at memory at

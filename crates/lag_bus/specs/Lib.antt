@@ -1,0 +1,28 @@
+-- What a reader of the promises needs:
+-- the lag book: what is pending, what settles it, and the counts
+pub mod Book
+-- the machine in lock step with the book beside it
+pub mod Lagging
+-- what is emitted before the first pending sample
+pub mod Ready
+-- what the bus emits and hands over that lags
+pub mod LagEmits
+-- lists of calls of a bus
+pub mod Calls
+-- That it keeps its laws; no promise speaks of these words:
+-- the machine with the lag book beside it those of a bus that emits
+pub mod LagLaws
+-- And words of the proof that a chip some samples late comes to the same:
+-- such a chip as it is once these samples are made
+pub mod Late
+-- what it holds until then
+pub mod Held
+-- records of voices and events in their order
+pub mod Merge
+-- what holds of each record
+pub mod Each
+-- what always holds of a bus over such a chip
+pub mod IsLagging
+-- Words of rounds that only wait, which no promise speaks of:
+-- the bus after cycles in which it is only looked at
+pub mod Waiting

@@ -1,0 +1,71 @@
+-- The machine with its lag book after cycles in which it is only looked at.
+use Rattle.std.specs.Prelude.{◌≡◌, ◌≤◌, ◌<◌, ℕ, ◌+◌, ◌-◌, ◌*◌, ◌/◌, ◌++◌, Bool, true, not, ◌&&◌, ◌==◌, if◌then◌else◌, Option, Some, None}
+use Rattle.std.specs.List.{filter}
+use Rattle.reach_map.specs.declared.ReachPages.{ReachPages}
+use Rattle.ports_timers.specs.declared.io.Io.{Io}
+use Rattle.ports_timers.specs.Io.{after_ticks_of}
+use Rattle.dsp_core.specs.Run.{run, in_mask}
+use Rattle.lock_step.specs.ChipMeaning.{ChipMeaning}
+use Rattle.lock_step.specs.LockStep.{samples_made, bus_answer}
+use Rattle.lag_bus.specs.Book.{may_be_written}
+use Rattle.lag_bus.specs.Lagging.{Lagging, lagging, with_book}
+use Rattle.lag_bus.specs.Late.{AreWritesWithin}
+use Rattle.lock_step.specs.Limits.{most_samples_of_batch}
+use Rattle.idle_rounds.specs.Zeros.{counter_is_0, zeros_stay, AreTimers}
+use Rattle.idle_rounds.specs.Looking.{looked_steps, after_n_steps}
+use Rattle.spc700_exec.specs.declared.cpu.Cpu.{Cpu}
+
+-- Whether a read only looks, so that it has the same answer while cycles pass: it is of no register of the chip, no sample
+-- pending or to come writes there, and an output counter that is read is 0.
+abbrev pub only_looks : ReachPages → Io → (at : ℕ) → Bool
+only_looks reach io at = not (at == 0xF3) && not (may_be_written reach at) && counter_is_0 io at
+
+-- the byte that such a read sees
+abbrev pub byte_seen : {S : Type 0} → ChipMeaning S → Lagging S → (at : ℕ) → Option ℕ
+byte_seen chip bus at = if only_looks bus.book.reach bus.machine.io at then Some (bus_answer chip bus.machine at) else None
+
+-- the samples that fall due in some cycles
+abbrev pub samples_in : (clock cycles : ℕ) → ℕ
+samples_in clock cycles = (clock + cycles) / 32 - clock / 32
+
+-- The bus after so many cycles alone, while fewer samples are pending than one batch has at most: the timers ticked, and the samples that fell due
+-- are pending. The machine has what they leave and emit, as it always has.
+abbrev pub after_wait : {S : Type 0} → ChipMeaning S → Lagging S → (cycles : ℕ) → Lagging S
+after_wait chip bus cycles =
+    let m = bus.machine in
+    let due = samples_in m.clock cycles in
+    let made = run chip.sample due (samples_made m) m.chip m.memory in
+    with_book
+    (record m {
+      memory = made.memory;
+      io = after_ticks_of m.io m.clock cycles;
+      chip = made.state;
+      clock = m.clock + cycles;
+      frames = m.frames ++ made.frames;
+      records = m.records ++ filter (in_mask m.mask) made.voices;
+    })
+    (record bus.book { pending = bus.book.pending + due })
+
+-- a bus but for the number of its calls, which nothing depends on but the next drain
+abbrev pub without_calls : {S : Type 0} → Lagging S → Lagging S
+without_calls bus = record bus { machine = record bus.machine { calls = 0 } }
+
+-- what a bus that lags keeps: its chip made what the book says, and samples that come write where the book's reach says
+pub record IsKept {S : Type 0} (chip : ChipMeaning S) (bus : Lagging S) : Type 0 where
+  pub batches : bus.chip_batches ≡ bus.book.counts.batches
+  pub sample : bus.chip_sample ≡ samples_made bus.machine - bus.book.pending
+  pub writes : AreWritesWithin chip bus.book.reach bus.book.pending (samples_made bus.machine) bus.machine.chip bus.machine.memory
+
+-- Over cycles in which no counter comes to 1 and fewer samples fall due than one batch has, rounds of steps that only look bring
+-- the registers back, and the bus to where their cycles alone bring it, but for the number of its calls.
+abbrev pub LeavesCyclesOfRounds : {S : Type 0} → ChipMeaning S → Type 0
+LeavesCyclesOfRounds {S} chip =
+    (bus : Lagging S) (most rounds steps cycles : ℕ) (cpu : Cpu)
+    → IsKept chip bus
+    → AreTimers bus.machine.io
+    → zeros_stay bus.machine.io bus.machine.clock most ≡ true
+    → bus.book.pending + samples_in bus.machine.clock most < most_samples_of_batch
+    → looked_steps (byte_seen chip bus) steps cpu ≡ Some (cpu, cycles)
+    → rounds * cycles ≤ most
+    → let there = after_n_steps (lagging chip) (rounds * steps) (cpu, bus) in
+    (there.0 ≡ cpu) × (without_calls there.1 ≡ without_calls (after_wait chip bus (rounds * cycles)))

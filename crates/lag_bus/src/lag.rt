@@ -1,0 +1,439 @@
+// A bus that makes samples late, many at once.
+ghost use Rattle.std.specs.Prelude.{◌≡◌, ◌+◌, ◌*◌, ◌/◌, ◌-◌, ◌<◌, ◌≤◌, ◌%◌, ◌++◌, ◌∷◌, [], ◌==◌, unwrap_or, ◌||◌, not, true, false, length, if◌then◌else◌, IfOk};
+ghost use Rattle.std.proofs.Common.{refl};
+ghost use Rattle.aram_core.specs.Memory.{byte_at, with_byte};
+ghost use Rattle.ports_timers.specs.Io.{after_read};
+ghost use Rattle.dsp_core.specs.Results.{is_result};
+ghost use Rattle.dsp_core.specs.Run.{counted};
+ghost use Rattle.lock_step.specs.Limits.{most_samples_of_run, most_samples_of_chip, most_samples_of_batch, record_room, event_room};
+ghost use Rattle.lock_step.specs.Machine.{opened_machine};
+ghost use Rattle.lock_step.specs.LockStep.{writes_register, writes_port, write_records, byte_answered};
+ghost use Rattle.lag_bus.specs.Ready.{ready_frames, ready_records};
+ghost use Rattle.lag_bus.specs.Book.{counts_with_batch, AddsUp, may_be_read, may_be_written};
+ghost use Rattle.lag_bus.specs.Lagging.{lagging, opened_lagging, after_settle};
+ghost use Rattle.lag_bus.specs.LagEmits.{lag_emits, after_drain};
+ghost use Rattle.lag_bus.specs.LagLaws.{emits_frames, emits_records, frame_each};
+ghost use Rattle.idle_rounds.specs.Zeros.{zeros_stay, AreTimers};
+ghost use Rattle.lag_bus.specs.Waiting.{byte_seen, samples_in};
+
+use crate::OutOfMemory;
+use crate::cause::Cause;
+use crate::counting::{counts_with_batch, no_counts};
+use crate::late::LateChip;
+use crate::waiting::{counter_is_0, pend_all};
+use idle_rounds::{Looks, cycles_of_zeros, tick_through, try_round};
+use lock_step::{Chip, Counts, DrainedBus};
+use ports_timers::Io;
+use spc_form::OpenState;
+use spc700_exec::{Bus, Cpu};
+use std::alloc::Global;
+use std::marker::Model;
+use trace_form::{EventRing, Frames, Record, Records};
+
+/// The most samples that wait, which are then made as one batch.
+const MOST_PENDING: u8 = 64;
+
+/// A bus over a chip whose samples wait, at most 64 of them, until something needs them, and are then made as one batch.
+/// What is emitted waits in it for the next drain.
+#[derive(Drop)]
+pub struct LagBus<C: Chip> {
+    late: LateChip<C>,
+    io: Io,
+    clock: u64,
+    counts: Counts,
+    calls: u8,
+}
+
+impl<C: Chip> Model for LagBus<C> {
+    ghost use Rattle.std.specs.Coded.{codes};
+    ghost use Rattle.aram_core.specs.contracts.page_set.PageSet as page_set;
+    ghost use Rattle.lag_bus.specs.Lagging.{Lagging};
+    ghost use Rattle.lag_bus.specs.IsLagging.{lagging_of, IsLagging};
+
+    ghost Value = { Lagging C.State };
+
+    ghost coded = { Prim.hlevel (codes, page_set.the_row.coded) };
+
+    ghost view = { λ b. lagging_of b.late b.io b.clock b.counts b.calls };
+
+    ghost invariant = { λ b. IsLagging b.late b.counts b.clock b.calls };
+}
+
+/// Makes the pending samples, for a cause.
+#[inline(never)]
+#[tactic(auto, using(crate::proofs::CountsAddUp::adds_up))]
+fn settle_for<C: Chip>(late: &mut LateChip<C>, counts: &mut Counts, cause: Cause)
+    requires { 0 < late.old.pending }
+    ensures late { late.new ≡ record late.old {
+      pending = 0;
+      events = 0;
+      reach = C.meaning.reach late.old.chip late.old.memory;
+      batches = counted late.old.batches;
+      records_used = late.new.records_used;
+    } }
+    ensures room { late.new.records_used ≤ late.old.records_used }
+    ensures counts { counts.new ≡ counts_with_batch cause counts.old }
+    ensures adds_up { AddsUp counts.old → AddsUp counts.new }
+{
+    late.settle();
+    *counts = counts_with_batch(cause, *counts);
+}
+
+impl<C: Chip> LagBus<C> {
+    /// The bus at clock 0 over a chip that has made no sample. It emits the records of the voices in the mask; bit v of
+    /// the mask is voice v. All room is made here. The chip has its registers already, so the opening's aren't used.
+    pub fn open(alloc: Global, opening: OpenState, chip: C, mask: u8) -> Result<Self, OutOfMemory>
+        requires sample { C.sample chip ≡ 0 }
+        requires batches { C.batches chip ≡ 0 }
+        ensures { IfOk result (λ bus. bus ≡ opened_lagging C.meaning (opened_machine opening.memory opening.cells opening.rom (C.state chip) mask)) }
+    {
+        // A chip in hand is valid, which this call tells.
+        let _sample = chip.sample();
+        let frames = Frames::new(alloc)?;
+        let records = Records::new(alloc)?;
+        let voices = Records::new(alloc)?;
+        let ring = EventRing::new(alloc)?;
+        Ok(LagBus {
+            late: LateChip::new(chip, opening.memory, mask, frames, records, voices, ring),
+            io: Io::from_cells(opening.cells, opening.rom),
+            clock: 0,
+            counts: no_counts(),
+            calls: 0,
+        })
+    }
+
+    /// The chip in hand. It made the batches that are counted, and all samples but those pending.
+    pub fn chip(&self) -> &C
+        ensures batches { C.batches result.now ≡ self.now.chip_batches }
+        ensures sample { C.sample result.now ≡ self.now.chip_sample }
+        ensures counted { C.batches result.now ≡ self.now.book.counts.batches }
+        ensures made { C.sample result.now ≡ self.now.machine.clock / 32 - self.now.book.pending }
+    {
+        self.late.chip()
+    }
+
+    /// The samples that the chip hasn't made yet.
+    pub fn pending(&self) -> u8
+        ensures pending { result ≡ self.now.book.pending }
+        ensures few { result ≤ most_samples_of_batch }
+    {
+        self.late.pending()
+    }
+
+    /// How often the chip ran, and why. The chip in hand, which `chip` gives, made these batches.
+    pub fn counts(&self) -> Counts
+        ensures counts { result ≡ self.now.book.counts }
+        ensures adds_up { AddsUp result }
+        ensures batches { self.now.chip_batches ≡ result.batches }
+        ensures sample { self.now.chip_sample ≡ self.now.machine.clock / 32 - self.now.book.pending }
+    {
+        self.counts
+    }
+
+    /// A read of F3h.
+    #[inline(never)]
+    fn read_register(&mut self) -> u8
+        requires { self.old.machine.calls < 64 }
+        ensures answer { result ≡ ((lagging C.meaning).read self.old 0xF3).0 }
+        ensures next { self.new ≡ ((lagging C.meaning).read self.old 0xF3).1 }
+    {
+        self.calls += 1;
+        let address = self.io.dsp_address();
+        if self.late.pending() > 0 {
+            if let Some(cause) = self.late.cause_of_read(address, 0xF3) {
+                settle_for(&mut self.late, &mut self.counts, cause);
+            }
+        }
+        answer_of(&self.late, &mut self.io, 0xF3)
+    }
+
+    /// A read of an address of which no mark tells anything.
+    #[inline(never)]
+    fn read_unmarked(&mut self, addr: u16) -> u8
+        requires { self.old.machine.calls < 64 }
+        ensures answer { result ≡ ((lagging C.meaning).read self.old addr).0 }
+        ensures next { self.new ≡ ((lagging C.meaning).read self.old addr).1 }
+    {
+        if addr == 0xF3 {
+            return self.read_register();
+        }
+        self.calls += 1;
+        if self.late.pending_may_write(addr) {
+            settle_for(&mut self.late, &mut self.counts, Cause::Echo);
+        }
+        answer_of(&self.late, &mut self.io, addr)
+    }
+
+    /// A read of a page that isn't marked as plain. Mostly it is page 0, which no sample writes.
+    #[inline(never)]
+    fn read_elsewhere(&mut self, addr: u16) -> u8
+        requires { self.old.machine.calls < 64 }
+        ensures answer { result ≡ ((lagging C.meaning).read self.old addr).0 }
+        ensures next { self.new ≡ ((lagging C.meaning).read self.old addr).1 }
+    {
+        if addr >= 0x100 || addr == 0xF3 || !self.late.is_unwritten(addr) {
+            return self.read_unmarked(addr);
+        }
+        self.calls += 1;
+        if addr < 0xF0 {
+            self.late.get(addr)
+        } else {
+            answer_of(&self.late, &mut self.io, addr)
+        }
+    }
+
+    /// A pass that comes to a multiple of 16 of the clock, where timers may tick and a sample may be due.
+    #[inline(never)]
+    fn pass_ticks(&mut self, cycles: u8)
+        requires room { self.old.machine.calls < 64 }
+        requires some { 1 ≤ cycles }
+        requires few { cycles ≤ 32 }
+        requires time { self.old.machine.clock / 32 < most_samples_of_chip }
+        ensures { self.new ≡ (lagging C.meaning).pass self.old cycles }
+    {
+        self.calls += 1;
+        let from = self.clock;
+        self.clock = from + u64::from(cycles);
+        self.io.ticks(from, cycles);
+        if from / 32 < self.clock / 32 {
+            self.late.pend();
+            if self.late.pending() == MOST_PENDING {
+                settle_for(&mut self.late, &mut self.counts, Cause::Full);
+            }
+        }
+    }
+
+    /// Cycles for which it can be waited before the end of a run to so many samples.
+    fn cycles_to_wait(&self, samples: u32) -> u64
+        requires more { self.now.machine.clock / 32 < samples }
+        requires few { samples ≤ most_samples_of_run }
+        ensures zeros { zeros_stay self.now.machine.io self.now.machine.clock result ≡ true }
+        ensures free { self.now.book.pending + samples_in self.now.machine.clock result < most_samples_of_batch }
+        ensures below { (self.now.machine.clock + result) / 32 < samples }
+        ensures timers { AreTimers self.now.machine.io }
+    {
+        let free = 32 * u64::from(MOST_PENDING - self.late.pending()) - 1 - self.clock % 32;
+        let rest = 32 * u64::from(samples) - 1 - self.clock;
+        cycles_of_zeros(&self.io, self.clock).min(free.min(rest))
+    }
+
+    /// A write of F0h to FFh.
+    #[inline(never)]
+    fn write_port(&mut self, addr: u16, value: u8)
+        requires { self.old.machine.calls < 64 }
+        ensures { self.new ≡ (lagging C.meaning).write self.old addr value }
+    {
+        self.calls += 1;
+        let sample = self.made();
+        let address = self.io.dsp_address();
+        self.io.write(addr, value);
+        if self.late.pending() == 0 {
+            return write_now(&mut self.late, address, addr, value, sample);
+        }
+        match self.late.cause_of_write(address, addr) {
+            Some(cause) => {
+                settle_for(&mut self.late, &mut self.counts, cause);
+                write_now(&mut self.late, address, addr, value, sample);
+            }
+            None => write_beside_pending(&mut self.late, addr, value, sample),
+        }
+    }
+}
+
+/// The answer of a read for which no pending sample is needed.
+fn answer_of<C: Chip>(late: &LateChip<C>, io: &mut Io, at: u16) -> u8
+    requires memory { (late.now.pending == 0 || not (may_be_written late.now.reach at)) ≡ true }
+    requires register { at ≡ 0xF3 → (late.now.pending == 0 || not (is_result io.old.dsp_address)) ≡ true }
+    ensures answer { result ≡ byte_answered C.meaning late.now.chip io.old late.now.memory at }
+    ensures io { io.new ≡ after_read io.old at }
+{
+    let address = io.dsp_address();
+    let answer = io.read(at);
+    if at == 0xF3 {
+        return late.reg_read(address % 0x80);
+    }
+    match answer {
+        Some(byte) => byte,
+        None => late.get(at),
+    }
+}
+
+/// What a write does while no sample is pending.
+fn write_now<C: Chip>(late: &mut LateChip<C>, address: u8, at: u16, value: u8, sample: u32)
+    requires none { late.old.pending ≡ 0 }
+    requires sample { sample ≡ late.old.made }
+    requires room { late.old.records_used < record_room }
+    ensures late { late.new ≡ record late.old {
+      memory = with_byte late.old.memory at value;
+      chip = if writes_register address at then C.meaning.register_write late.old.chip address value else late.old.chip;
+      records = late.old.records ++ write_records sample address at value;
+      reach = late.new.reach;
+      records_used = late.new.records_used;
+    } }
+    ensures reach { late.new.reach ≡ C.meaning.reach late.new.chip late.new.memory }
+    ensures same_reach { writes_register address at ≡ false → may_be_read late.old.reach at ≡ false → late.new.reach ≡ late.old.reach }
+    ensures room { late.new.records_used ≤ late.old.records_used + 1 }
+{
+    if at == 0xF3 && address < 0x80 {
+        late.reg_write(address, value);
+        late.emit(Record::Reg {
+            sample,
+            addr: address,
+            value,
+        });
+    } else if (0xF4..=0xF7).contains(&at) {
+        late.emit(Record::Port {
+            sample,
+            port: (at - 0xF4) as u8,
+            value,
+        });
+    }
+    late.put(at, value);
+}
+
+/// What a write does for which no pending sample is needed.
+fn write_beside_pending<C: Chip>(late: &mut LateChip<C>, at: u16, value: u8, sample: u32)
+    requires free { may_be_read late.old.reach at ≡ false }
+    requires some { 0 < late.old.pending }
+    requires ring { writes_port at ≡ true → late.old.events < event_room }
+    requires sample { sample ≡ late.old.made }
+    requires room { late.old.records_used < record_room }
+    ensures late { late.new ≡ record late.old {
+      memory = with_byte late.old.memory at value;
+      records = late.old.records ++ write_records sample 0x80 at value;
+      events = if writes_port at then late.old.events + 1 else late.old.events;
+      records_used = late.new.records_used;
+    } }
+    ensures room { late.new.records_used ≤ late.old.records_used + 1 }
+{
+    if (0xF4..=0xF7).contains(&at) {
+        late.emit(Record::Port {
+            sample,
+            port: (at - 0xF4) as u8,
+            value,
+        });
+    }
+    late.put(at, value);
+}
+
+impl<C: Chip> Bus for LagBus<C> {
+    ghost means = { lagging C.meaning };
+
+    #[inline(always)]
+    fn read(&mut self, addr: u16) -> u8 {
+        if self.late.is_plain(addr) {
+            self.calls += 1;
+            return self.late.get(addr);
+        }
+        self.read_elsewhere(addr)
+    }
+
+    #[inline]
+    fn write(&mut self, addr: u16, value: u8) {
+        match addr {
+            0xF0..=0xFF => self.write_port(addr, value),
+            _ => {
+                self.calls += 1;
+                if self.late.pending() > 0 && self.late.may_be_read(addr) {
+                    settle_for(&mut self.late, &mut self.counts, Cause::Memory);
+                }
+                self.late.put(addr, value);
+            }
+        }
+    }
+
+    #[inline(always)]
+    fn pass(&mut self, cycles: u8) {
+        let clock = self.clock + u64::from(cycles);
+        if clock % 16 < u64::from(cycles) {
+            self.pass_ticks(cycles);
+        } else {
+            self.calls += 1;
+            self.clock = clock;
+        }
+    }
+
+    #[inline]
+    fn to_sample(&self) -> u8 {
+        (32 - self.clock % 32) as u8
+    }
+
+    ghost lawful = { record {
+      read_calls = λ _ _. refl;
+      read_clock = λ _ _. refl;
+      write_calls = λ _ _ _. refl;
+      write_clock = λ _ _ _. refl;
+      pass_calls = λ _ _. refl;
+      pass_clock = λ _ _. refl;
+      samples = λ _. refl;
+    } };
+}
+
+impl<C: Chip> Looks for LagBus<C> {
+    ghost sees = { byte_seen C.meaning };
+
+    fn see(&self, addr: u16) -> Option<u8> {
+        if addr == 0xF3 || self.late.is_written(addr) || !counter_is_0(&self.io, addr) {
+            return None;
+        }
+        let mut io = self.io;
+        Some(answer_of(&self.late, &mut io, addr))
+    }
+}
+
+impl<C: Chip> DrainedBus for LagBus<C> {
+    ghost emits = { lag_emits C.meaning };
+
+    fn made(&self) -> u32 {
+        (self.clock / 32) as u32
+    }
+
+    fn has_room(&self) -> bool {
+        self.calls <= 32
+    }
+
+    fn wait(&mut self, cpu: &Cpu, samples: u32) {
+        self.late.ensure_reach();
+        if !self.late.is_drained() {
+            return;
+        }
+        let Some(round) = try_round(&*self, cpu) else {
+            return;
+        };
+        let rounds = self.cycles_to_wait(samples) / u64::from(round);
+        let cycles = rounds * u64::from(round);
+        let due = ((self.clock + cycles) / 32 - self.clock / 32) as u8;
+        tick_through(&mut self.io, self.clock, cycles);
+        pend_all(&mut self.late, due);
+        self.clock += cycles;
+    }
+
+    /// Makes the pending samples, as one batch.
+    fn settle(&mut self)
+        ensures { self.new ≡ after_settle C.meaning self.old }
+    {
+        if self.late.pending() > 0 {
+            settle_for(&mut self.late, &mut self.counts, Cause::End);
+        }
+    }
+
+    /// Clears both lists and moves into them what was emitted since the last drain and before the first pending sample.
+    fn drain(&mut self, frames: &mut Frames, records: &mut Records)
+        ensures ready_frames { frames.new ≡ ready_frames self.old.book.pending self.old.machine.frames }
+        ensures ready_records { records.new ≡ ready_records self.old.chip_sample self.old.machine.records }
+        ensures rest { self.new ≡ after_drain self.old }
+        ensures all_records { self.old.machine.records ≡ records.new ++ self.new.machine.records }
+        ensures none_waits { self.old.book.pending ≡ 0 → self.new.machine.records ≡ [] }
+    {
+        self.late.drain(frames, records);
+        self.calls = 0;
+    }
+
+    ghost emits_frames = { emits_frames C.meaning };
+
+    ghost emits_records = { emits_records C.meaning };
+
+    ghost frame_each = { frame_each C.meaning };
+
+    ghost counted_beside = { λ _. refl };
+}

@@ -1,0 +1,417 @@
+// A chip with its memory and its output, some samples late.
+ghost use Rattle.std.specs.Prelude.{ℕ, ◌≡◌, ◌&&◌, ◌+◌, ◌-◌, ◌*◌, ◌<◌, ◌≤◌, ◌++◌, ◌∷◌, [], ◌==◌, true, false, length, if◌then◌else◌, ◌||◌, not};
+ghost use Rattle.std.specs.List.{filter};
+ghost use Rattle.aram_core.specs.Memory.{byte_at, with_byte};
+ghost use Rattle.dsp_core.specs.Results.{is_result};
+ghost use Rattle.dsp_core.specs.Run.{run, in_mask, counted};
+ghost use Rattle.lag_bus.specs.Book.{may_be_read, may_be_written, cause_of_read, cause_of_write};
+ghost use Rattle.lag_bus.specs.Late.{late_with_sample, AreWritesWithin};
+ghost use Rattle.lock_step.specs.Limits.{most_samples_of_batch, most_samples_of_chip, frame_room, record_room, event_room};
+ghost use Rattle.lock_step.specs.SampleNumbers.{sample_number};
+ghost use Rattle.lag_bus.specs.Ready.{is_before_sample, ready_frames, waiting_frames, ready_records, waiting_records};
+
+use crate::cause::{self, Cause};
+use crate::merging::merge_into;
+use crate::taken::TakenReach;
+use aram_core::Aram;
+use lock_step::Chip;
+use reach_map::ReachPages;
+use std::marker::Model;
+use trace_form::{EventRing, Frames, Record, Records};
+
+/// A chip, its memory and its output, with samples that are counted and not made yet. Its reach is taken where it is asked
+/// for, and kept until it may be another.
+#[derive(Drop)]
+pub struct LateChip<C: Chip> {
+    chip: C,
+    memory: Aram,
+    mask: u8,
+    pending: u8,
+    taken: TakenReach,
+    frames: Frames,
+    records: Records,
+    voices: Records,
+    ring: EventRing,
+}
+
+impl<C: Chip> Model for LateChip<C> {
+    ghost use Rattle.lag_bus.specs.Late.{Late};
+    ghost use Rattle.lag_bus.specs.Held.{late_of, IsHeld, IsTaken};
+    ghost use Rattle.std.specs.Coded.{codes};
+    ghost use Rattle.aram_core.specs.contracts.page_set.PageSet as page_set;
+
+    ghost Value = { Late C.State };
+
+    ghost coded = { Prim.hlevel (codes, page_set.the_row.coded) };
+
+    ghost view = { λ b. late_of C.meaning (record {
+      state = C.state b.chip;
+      number = C.sample b.chip;
+      batches = C.batches b.chip;
+      memory = b.memory;
+      frames = b.frames;
+      records = b.records;
+      ring = b.ring;
+      mask = b.mask;
+      pending = b.pending;
+    }) };
+
+    ghost invariant = { λ b. IsHeld C.meaning (record {
+      state = C.state b.chip;
+      number = C.sample b.chip;
+      batches = C.batches b.chip;
+      memory = b.memory;
+      frames = b.frames;
+      records = b.records;
+      ring = b.ring;
+      mask = b.mask;
+      pending = b.pending;
+    }) × IsTaken C.meaning b.taken (C.state b.chip) b.memory };
+}
+
+/// Clears a list and moves another one into it. Mostly that one is empty.
+fn move_frames(from: &mut Frames, to: &mut Frames)
+    ensures moved { to.new ≡ from.old }
+    ensures none_left { from.new ≡ [] }
+{
+    to.clear();
+    if !from.as_slice().is_empty() {
+        std::mem::swap(from, to);
+    }
+}
+
+/// Clears a list and moves another one into it. Mostly that one is empty.
+fn move_records(from: &mut Records, to: &mut Records)
+    ensures moved { to.new ≡ from.old }
+    ensures none_left { from.new ≡ [] }
+{
+    to.clear();
+    if !from.as_slice().is_empty() {
+        std::mem::swap(from, to);
+    }
+}
+
+/// Makes some samples as one batch: their frames at the end of a list, and the records of the voices in the mask as a list
+/// of their own.
+fn make_batch<C: Chip>(
+    chip: &mut C,
+    n: u8,
+    memory: &mut Aram,
+    mask: u8,
+    frames: &mut Frames,
+    voices: &mut Records,
+)
+    requires is_valid { C.meaning.is_valid (C.state chip.old) ≡ true }
+    requires few { n ≤ most_samples_of_batch }
+    requires number { C.sample chip.old + n ≤ most_samples_of_chip }
+    requires room { length frames.old + n ≤ frame_room }
+    ensures state { C.state chip.new ≡ (run C.meaning.sample n (C.sample chip.old) (C.state chip.old) memory.old).state }
+    ensures sample { C.sample chip.new ≡ C.sample chip.old + n }
+    ensures batches { C.batches chip.new ≡ (if n == 0 then C.batches chip.old else counted (C.batches chip.old)) }
+    ensures memory { memory.new ≡ (run C.meaning.sample n (C.sample chip.old) (C.state chip.old) memory.old).memory }
+    ensures frames { frames.new ≡ frames.old ++ (run C.meaning.sample n (C.sample chip.old) (C.state chip.old) memory.old).frames }
+    ensures voices { voices.new ≡ filter (in_mask mask) (run C.meaning.sample n (C.sample chip.old) (C.state chip.old) memory.old).voices }
+    ensures count { length voices.new ≤ 8 * n }
+{
+    voices.clear();
+    chip.advance(n, memory, mask, frames, voices);
+}
+
+impl<C: Chip> LateChip<C> {
+    /// The chip in hand.
+    pub fn chip(&self) -> &C
+        ensures batches { C.batches result.now ≡ self.now.batches }
+        ensures sample { C.sample result.now ≡ self.now.made - self.now.pending }
+    {
+        &self.chip
+    }
+
+    /// The samples that are pending.
+    #[inline]
+    pub fn pending(&self) -> u8
+        ensures pending { result ≡ self.now.pending }
+        ensures few { result ≤ most_samples_of_batch }
+        ensures reach { self.now.pending ≡ 0 → self.now.reach ≡ C.meaning.reach self.now.chip self.now.memory }
+    {
+        self.pending
+    }
+
+    /// Takes the reach.
+    fn take_reach(&mut self) -> ReachPages
+        ensures reach { result ≡ self.old.reach }
+        ensures rest { self.new ≡ self.old }
+    {
+        let reach = self.chip.reach(&self.memory);
+        let taken = reach;
+        self.taken.keep(taken);
+        reach
+    }
+
+    /// Whether the pending samples may read the byte at an address.
+    #[inline]
+    pub fn may_be_read(&mut self, at: u16) -> bool
+        ensures answer { result ≡ may_be_read self.old.reach at }
+        ensures rest { self.new ≡ self.old }
+    {
+        match self.taken.reach() {
+            Some(reach) => cause::may_be_read(&reach, at),
+            None => cause::may_be_read(&self.take_reach(), at),
+        }
+    }
+
+    /// Whether the pending samples may write the byte at an address. A page that they don't write is marked.
+    #[inline(never)]
+    fn may_be_written(&mut self, at: u16) -> bool
+        ensures answer { result ≡ may_be_written self.old.reach at }
+        ensures rest { self.new ≡ self.old }
+    {
+        match self.taken.reach() {
+            Some(reach) => {
+                let is_written = cause::may_be_written(&reach, at);
+                if !is_written {
+                    self.taken.mark(at);
+                }
+                is_written
+            }
+            None => cause::may_be_written(&self.take_reach(), at),
+        }
+    }
+
+    /// Whether a mark tells that memory alone is at an address and that no pending sample writes it.
+    #[inline(always)]
+    pub fn is_plain(&self, at: u16) -> bool
+        ensures unwritten { result ≡ true → may_be_written self.now.reach at ≡ false }
+        ensures above_ports { result ≡ true → 0x100 ≤ at }
+        ensures below_rom { result ≡ true → at < 0xFF00 }
+    {
+        self.taken.is_plain(at)
+    }
+
+    /// Whether a mark tells that no pending sample writes the byte at an address.
+    #[inline]
+    pub fn is_unwritten(&self, at: u16) -> bool
+        ensures { result ≡ true → may_be_written self.now.reach at ≡ false }
+    {
+        self.taken.is_unwritten(at)
+    }
+
+    /// Whether samples are pending that may write the byte at an address. Mostly a mark tells that they don't.
+    #[inline]
+    pub fn pending_may_write(&mut self, at: u16) -> bool
+        ensures answer { result ≡ (not (self.old.pending == 0) && may_be_written self.old.reach at) }
+        ensures rest { self.new ≡ self.old }
+        ensures reach { self.old.pending ≡ 0 → self.old.reach ≡ C.meaning.reach self.old.chip self.old.memory }
+    {
+        if self.pending == 0 || self.taken.is_unwritten(at) {
+            return false;
+        }
+        self.may_be_written(at)
+    }
+
+    /// The cause for which a read has the pending samples made first.
+    pub fn cause_of_read(&mut self, dsp_address: u8, at: u16) -> Option<Cause>
+        ensures cause { result ≡ cause_of_read self.old.reach dsp_address at }
+        ensures rest { self.new ≡ self.old }
+    {
+        match self.taken.reach() {
+            Some(reach) => cause::cause_of_read(&reach, dsp_address, at),
+            None => cause::cause_of_read(&self.take_reach(), dsp_address, at),
+        }
+    }
+
+    /// The cause for which a write has the pending samples made first.
+    pub fn cause_of_write(&mut self, dsp_address: u8, at: u16) -> Option<Cause>
+        ensures cause { result ≡ cause_of_write self.old.reach dsp_address at self.old.pending self.old.events }
+        ensures rest { self.new ≡ self.old }
+    {
+        let (pending, events) = (self.pending, self.ring.len());
+        match self.taken.reach() {
+            Some(reach) => cause::cause_of_write(&reach, dsp_address, at, pending, events),
+            None => cause::cause_of_write(&self.take_reach(), dsp_address, at, pending, events),
+        }
+    }
+
+    /// The register at an address. Where it is a result of samples, none is pending.
+    pub fn reg_read(&self, address: u8) -> u8
+        requires { (self.now.pending == 0 || not (is_result address)) ≡ true }
+        ensures { result ≡ C.meaning.register_read self.now.chip address }
+    {
+        self.chip.reg_read(address)
+    }
+
+    /// The byte at an address. Where samples may write it, none is pending.
+    #[inline]
+    pub fn get(&self, at: u16) -> u8
+        requires { (self.now.pending == 0 || not (may_be_written self.now.reach at)) ≡ true }
+        ensures { result ≡ byte_at self.now.memory at }
+    {
+        self.memory.get(at)
+    }
+
+    /// Puts a byte at an address. Where samples may read it, none is pending.
+    #[inline]
+    pub fn put(&mut self, at: u16, value: u8)
+        requires { (self.old.pending == 0 || not (may_be_read self.old.reach at)) ≡ true }
+        ensures memory { self.new ≡ record self.old { memory = with_byte self.old.memory at value; reach = self.new.reach } }
+        ensures reach { self.old.pending ≡ 0 → self.new.reach ≡ C.meaning.reach self.new.chip self.new.memory }
+        ensures same_reach { may_be_read self.old.reach at ≡ false → self.new.reach ≡ self.old.reach }
+    {
+        self.memory.put(at, value);
+        if self.pending == 0 {
+            self.taken.forget();
+        }
+    }
+
+    /// Writes a register while no sample is pending.
+    pub fn reg_write(&mut self, address: u8, value: u8)
+        requires { self.old.pending ≡ 0 }
+        ensures { let written = C.meaning.register_write self.old.chip address value in
+            self.new ≡ record self.old { chip = written; reach = C.meaning.reach written self.old.memory } }
+    {
+        self.chip.reg_write(address, value);
+        self.taken.forget();
+    }
+
+    /// Emits the record of a write. While samples are pending it waits for them.
+    pub fn emit(&mut self, item: Record)
+        requires number { sample_number item ≡ self.old.made }
+        requires before { is_before_sample self.old.made item ≡ true }
+        requires few { 0 < self.old.pending → self.old.events < event_room }
+        requires room { self.old.records_used < record_room }
+        ensures { self.new ≡ record self.old {
+          records = self.old.records ++ item ∷ [];
+          events = if self.old.pending == 0 then self.old.events else self.old.events + 1;
+          records_used = self.old.records_used + 1;
+        } }
+    {
+        if self.pending == 0 {
+            self.records.push(item);
+        } else {
+            let _ = self.ring.try_push(item);
+        }
+    }
+
+    /// Whether the pending samples, or those to come, may write the byte at an address.
+    pub fn is_written(&self, at: u16) -> bool
+        ensures { result ≡ may_be_written self.now.reach at }
+    {
+        match self.taken.reach() {
+            Some(reach) => cause::may_be_written(&reach, at),
+            None => cause::may_be_written(&self.chip.reach(&self.memory), at),
+        }
+    }
+
+    /// Takes the reach, unless it was taken. Samples to come, too, write on its write pages alone.
+    pub fn ensure_reach(&mut self)
+        ensures rest { self.new ≡ self.old }
+        ensures writes { AreWritesWithin C.meaning self.old.reach self.old.pending self.old.made self.old.chip self.old.memory }
+    {
+        if self.taken.reach().is_none() {
+            self.take_reach();
+        }
+    }
+
+    /// Whether nothing waits to be drained but what waits for pending samples.
+    pub fn is_drained(&self) -> bool
+        ensures frames { result ≡ true → self.now.frames_used ≡ self.now.pending }
+        ensures records { result ≡ true → self.now.records_used ≡ self.now.events + 8 * self.now.pending }
+    {
+        self.frames.as_slice().is_empty() && self.records.as_slice().is_empty()
+    }
+
+    /// Counts one sample more.
+    pub fn pend(&mut self)
+        requires few { self.old.pending < most_samples_of_batch }
+        requires number { self.old.made < most_samples_of_chip }
+        requires frames { self.old.frames_used < frame_room }
+        requires records { self.old.records_used + 8 ≤ record_room }
+        ensures { self.new ≡ late_with_sample C.meaning self.old }
+    {
+        self.pending += 1;
+    }
+
+    /// Makes the pending samples.
+    pub fn settle(&mut self)
+        ensures made { self.new ≡ record self.old {
+          pending = 0;
+          events = 0;
+          reach = C.meaning.reach self.old.chip self.old.memory;
+          batches = if self.old.pending == 0 then self.old.batches else counted self.old.batches;
+          records_used = length self.old.records;
+        } }
+        ensures room { length self.old.records ≤ self.old.records_used }
+    {
+        make_batch(
+            &mut self.chip,
+            self.pending,
+            &mut self.memory,
+            self.mask,
+            &mut self.frames,
+            &mut self.voices,
+        );
+        merge_into(&self.voices, &mut self.ring, &mut self.records);
+        self.pending = 0;
+        self.taken.forget();
+    }
+
+    /// Clears two lists and moves into them what was emitted before the first pending sample.
+    pub fn drain(&mut self, frames: &mut Frames, records: &mut Records)
+        ensures frames { frames.new ≡ ready_frames self.old.pending self.old.frames }
+        ensures records { records.new ≡ ready_records (self.old.made - self.old.pending) self.old.records }
+        ensures rest { self.new ≡ record self.old {
+          frames = waiting_frames self.old.pending self.old.frames;
+          records = waiting_records (self.old.made - self.old.pending) self.old.records;
+          frames_used = self.old.pending;
+          records_used = self.old.events + 8 * self.old.pending;
+        } }
+        ensures all_frames { self.old.frames ≡ frames.new ++ self.new.frames }
+        ensures all_records { self.old.records ≡ records.new ++ self.new.records }
+        ensures none_waits { self.old.pending ≡ 0 → self.new.records ≡ [] }
+    {
+        move_frames(&mut self.frames, frames);
+        move_records(&mut self.records, records);
+    }
+
+    /// A chip that has made no sample, over a memory.
+    pub fn new(
+        chip: C,
+        memory: Aram,
+        mask: u8,
+        frames: Frames,
+        records: Records,
+        voices: Records,
+        ring: EventRing,
+    ) -> Self
+        requires chip { C.sample chip ≡ 0 }
+        requires is_valid { C.meaning.is_valid (C.state chip) ≡ true }
+        requires frames { frames ≡ [] }
+        requires records { records ≡ [] }
+        requires ring { ring ≡ [] }
+        ensures { result ≡ record {
+          chip = C.state chip;
+          memory = memory;
+          frames = [];
+          records = [];
+          mask = mask;
+          made = 0;
+          pending = 0;
+          events = 0;
+          reach = C.meaning.reach (C.state chip) memory;
+          batches = C.batches chip;
+          frames_used = 0;
+          records_used = 0;
+        } }
+    {
+        LateChip {
+            chip,
+            memory,
+            mask,
+            pending: 0,
+            taken: TakenReach::none(),
+            frames,
+            records,
+            voices,
+            ring,
+        }
+    }
+}

@@ -1,0 +1,36 @@
+// Rounds of a loop that only wait.
+ghost use Rattle.std.specs.Prelude.{◌≡◌, ◌+◌, ◌-◌, ◌*◌, ◌/◌, ◌<◌, ◌≤◌, ◌++◌, ◌^◌, true, if◌then◌else◌, ◌==◌};
+ghost use Rattle.std.specs.List.{filter};
+ghost use Rattle.dsp_core.specs.Run.{run, in_mask};
+ghost use Rattle.idle_rounds.specs.Zeros.{counter_is_0};
+ghost use Rattle.lag_bus.specs.Late.{late_with_samples};
+ghost use Rattle.lock_step.specs.Limits.{most_samples_of_batch, most_samples_of_chip, frame_room, record_room};
+
+use crate::late::LateChip;
+use lock_step::Chip;
+use ports_timers::Io;
+
+/// Counts some samples more.
+pub(crate) fn pend_all<C: Chip>(late: &mut LateChip<C>, due: u8)
+    requires few { late.old.pending + due ≤ most_samples_of_batch }
+    requires number { late.old.made + due ≤ most_samples_of_chip }
+    requires frames { late.old.frames_used + due ≤ frame_room }
+    requires records { late.old.records_used + 8 * due ≤ record_room }
+    ensures { late.new ≡ late_with_samples C.meaning late.old due }
+{
+    'samples: for _ in 0..due {
+        late.pend();
+    }
+}
+
+/// Whether an address is of no output counter, or of one that is 0.
+pub(crate) fn counter_is_0(io: &Io, at: u16) -> bool
+    ensures { result ≡ counter_is_0 io.now at }
+{
+    match at {
+        0xFD => io.timer0.output == 0,
+        0xFE => io.timer1.output == 0,
+        0xFF => io.timer2.output == 0,
+        _ => true,
+    }
+}

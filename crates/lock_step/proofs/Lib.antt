@@ -1,0 +1,6 @@
+-- RecordCounts: how many records a sample gives
+pub mod RecordCounts
+-- PassWithoutTick: cycles that bring neither a tick nor a sample
+pub mod PassWithoutTick
+-- NoWait: a bus that made no round at once
+pub mod NoWait

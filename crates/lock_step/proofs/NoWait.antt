@@ -1,0 +1,25 @@
+-- A bus that made no round at once.
+use Rattle.std.proofs.Common.{◌≡◌, ◌<◌, ℕ, refl, ap}
+use Rattle.spc700_exec.specs.declared.cpu.Cpu.{Cpu}
+use Rattle.spc700_exec.specs.Bus.{BusMeaning}
+use Rattle.lock_step.specs.Emits.{Emits}
+use Rattle.lock_step.specs.WaitOfRounds.{IsWaitOf}
+use Rattle.idle_rounds.specs.Looking.{after_n_steps}
+
+no_round : {X : Type 0} (bus : BusMeaning X) (w : Cpu × X) → after_n_steps bus 0 w ≡ w
+unfolding after_n_steps
+no_round bus w = refl
+
+-- a bus that didn't wait
+pub no_wait : {X : Type 0} (bus : BusMeaning X) (emits : Emits X) (samples : ℕ) (cpu : Cpu) (s : X) → bus.made s < samples → IsWaitOf bus emits samples cpu s s
+no_wait {X} bus emits samples cpu s more =
+    let none = no_round bus (cpu, s) in
+    record {
+      steps = 0;
+      registers = ap (λ (w : Cpu × X). w.0) none;
+      cleared = ap (λ (w : Cpu × X). emits.cleared w.1) none;
+      frames = ap (λ (w : Cpu × X). emits.frames w.1) none;
+      records = ap (λ (w : Cpu × X). emits.records w.1) none;
+      calls = refl;
+      below = more;
+    }

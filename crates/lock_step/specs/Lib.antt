@@ -1,0 +1,26 @@
+-- What a reader of the promises needs, from a chip up to what is drained:
+-- what contracts see of a chip
+pub mod ChipMeaning
+-- what each chip keeps
+pub mod ChipLaws
+-- the machine beneath the processor
+pub mod Machine
+-- that machine in lock step: what each call of a bus answers and leaves
+pub mod LockStep
+-- what a bus emits and hands over
+pub mod Emits
+-- what the machine in lock step emits and counts
+pub mod LockStepEmits
+-- the limits that several clauses need
+pub mod Limits
+-- the sample numbers of records
+pub mod SampleNumbers
+-- the S-DSP as a chip
+pub mod DspChip
+-- That they keep their laws; no promise speaks of these words:
+-- the S-DSP those of a chip
+pub mod DspLaws
+-- the machine in lock step those of a bus that emits
+pub mod LockStepLaws
+-- And what a call leaves that makes whole rounds at once, which no promise speaks of:
+pub mod WaitOfRounds

@@ -1,0 +1,57 @@
+// A bus that emits frames and records and is drained.
+ghost use Rattle.std.specs.Prelude.{◌≡◌, ◌<◌, ◌≤◌, ◌++◌, [], nat_le};
+ghost use Rattle.spc700_exec.specs.Emitting.{IsEmitting};
+ghost use Rattle.lock_step.specs.Emits.{Emits, IsFrameEach, AreCountedBeside};
+ghost use Rattle.lock_step.specs.Limits.{most_samples_of_run};
+ghost use Rattle.lock_step.specs.WaitOfRounds.{IsWaitOf};
+
+use spc700_exec::{Bus, Cpu};
+use trace_form::{Frames, Records};
+
+/// A bus beneath which frames and records are emitted.
+pub trait DrainedBus: Bus {
+    /// What was emitted since the last drain, the bus without it, the pending samples, and how often the chip ran.
+    ghost emits: { Emits Self };
+
+    /// The samples of the machine, made or pending.
+    fn made(&self) -> u32
+        ensures { result ≡ Self.means.made self.now };
+
+    /// Whether there is room for one more step before the next drain.
+    fn has_room(&self) -> bool
+        ensures { result ≡ nat_le (Self.means.calls self.now) 32 };
+
+    /// Makes at once whole rounds of the loop at which the processor stands, as far as they do nothing but wait and none comes
+    /// to the end of a run to so many samples.
+    fn wait(&mut self, cpu: &Cpu, samples: u32)
+        requires more { Self.means.made self.old < samples }
+        requires few { samples ≤ most_samples_of_run }
+        ensures { IsWaitOf Self.means emits samples cpu.now self.old self.new };
+
+    /// Makes all samples that are pending.
+    fn settle(&mut self)
+        ensures frames { emits.frames self.new ≡ emits.frames self.old }
+        ensures records { emits.records self.new ≡ emits.records self.old }
+        ensures clock { Self.means.clock self.new ≡ Self.means.clock self.old }
+        ensures calls { Self.means.calls self.new ≡ Self.means.calls self.old }
+        ensures counts { emits.counts self.new ≡ emits.counts self.old }
+        ensures pending { emits.pending self.new ≡ 0 };
+
+    /// Clears both lists and moves into them what was emitted; with samples pending, what stands before the first of them.
+    fn drain(&mut self, frames: &mut Frames, records: &mut Records)
+        ensures frames { emits.frames self.old ≡ frames.new ++ emits.frames self.new }
+        ensures records { emits.records self.old ≡ records.new ++ emits.records self.new }
+        ensures rest { emits.cleared self.new ≡ emits.cleared self.old }
+        ensures calls { Self.means.calls self.new ≡ 0 }
+        ensures pending { emits.pending self.new ≡ emits.pending self.old }
+        ensures all_frames { emits.pending self.old ≡ 0 → emits.frames self.new ≡ [] }
+        ensures all_records { emits.pending self.old ≡ 0 → emits.records self.new ≡ [] };
+
+    ghost emits_frames: { IsEmitting Self.means emits.cleared emits.frames };
+
+    ghost emits_records: { IsEmitting Self.means emits.cleared emits.records };
+
+    ghost frame_each: { IsFrameEach Self.means emits.frames };
+
+    ghost counted_beside: { AreCountedBeside emits };
+}

@@ -1,0 +1,60 @@
+// The S-DSP as the chip of a bus.
+ghost use Rattle.std.specs.Prelude.{◌==◌};
+ghost use Rattle.lock_step.specs.DspChip.{dsp_chip};
+ghost use Rattle.lock_step.specs.DspLaws.{dsp_is_lawful};
+
+use crate::chip::Chip;
+use aram_core::Aram;
+use dsp_core::{Dsp, DspState};
+use reach_map::ReachPages;
+use trace_form::{Frames, Records};
+
+impl Chip for Dsp {
+    type State = DspState;
+
+    ghost state = { λ d. d.state };
+
+    ghost sample = { λ d. d.sample };
+
+    ghost batches = { λ d. d.batches };
+
+    ghost meaning = { dsp_chip };
+
+    #[inline]
+    fn reg_read(&self, addr: u8) -> u8 {
+        self.reg_read(addr)
+    }
+
+    #[inline]
+    fn reg_write(&mut self, addr: u8, value: u8) {
+        self.reg_write(addr, value);
+    }
+
+    #[inline]
+    fn advance(
+        &mut self,
+        n: u8,
+        memory: &mut Aram,
+        mask: u8,
+        frames: &mut Frames,
+        records: &mut Records,
+    ) {
+        self.advance(n, memory, mask, frames, records);
+    }
+
+    fn reach(&self, memory: &Aram) -> ReachPages {
+        self.reach(memory)
+    }
+
+    #[inline]
+    fn batches(&self) -> u64 {
+        self.batches()
+    }
+
+    #[inline]
+    fn sample(&self) -> u32 {
+        self.sample()
+    }
+
+    ghost lawful = { dsp_is_lawful };
+}

@@ -1,0 +1,54 @@
+-- The next piece of a render, from what a run of the machine with the lag book gives.
+use Rattle.std.proofs.Common.{◌≡◌, ℕ, ◌+◌, ◌*◌, ◌<◌, Bool, true, false, List, [], ◌++◌, length, refl, ap, sym, ◌∙◌, arith}
+use Rattle.num_fix.specs.declared.Frame.{Frame}
+use Rattle.trace_form.specs.declared.record.Record.{Record}
+use Rattle.spc700_exec.specs.declared.cpu.Cpu.{Cpu}
+use Rattle.lock_step.specs.ChipMeaning.{ChipMeaning}
+use Rattle.lag_bus.specs.Lagging.{Lagging, lagging, after_settle}
+use Rattle.lag_bus.specs.LagEmits.{lag_emits}
+use Rattle.render_core.specs.MachineRun.{Whole, after_run}
+use Rattle.render_core.specs.Items.{run_frames, run_records}
+use Rattle.render_core.specs.RunCounts.{run_counts}
+use Rattle.render_core.specs.RenderState.{IsNextPiece}
+use Rattle.render_core.proofs.LaggingRun.{run_frames-lagging, run_records-lagging, counts-settled}
+
+-- where something is to come unless it is the last one, nothing is to come only after the last one
+last_from_none : (is_last : Bool) (frames : List Frame) → (is_last ≡ false → 0 < length frames) → frames ≡ [] → is_last ≡ true
+last_from_none true frames more none = refl
+last_from_none false frames more none =
+    let some : 0 < length frames = more refl in
+    let zero_long : length frames ≡ 0 = ap (length {A = Frame}) none in
+    absurd (omega arith)
+
+module _ {S : Type 0} (chip : ChipMeaning S) (samples : ℕ) (cpu next_cpu : Cpu) (bus next : Lagging S) (old_frames given : List Frame) (old_records written : List Record) (is_last : Bool) where
+  abbrev frames_from : Cpu → Lagging S → List Frame
+  frames_from cpu bus = run_frames (lagging chip) (lag_emits chip) samples (cpu, bus)
+
+  abbrev records_from : Cpu → Lagging S → List Record
+  records_from cpu bus = run_records (lagging chip) (lag_emits chip) samples (cpu, bus)
+
+  pub is_next_piece : (frames : frames_from cpu bus ≡ given ++ frames_from next_cpu next) → (records : records_from cpu bus ≡ written ++ records_from next_cpu next)
+      → run_counts chip samples (cpu, bus) ≡ run_counts chip samples (next_cpu, next)
+      → (is_last ≡ true → after_run (lagging chip) samples (next_cpu, next) ≡ (next_cpu, next)) → (is_last ≡ true → next.book.pending ≡ 0)
+      → (is_last ≡ true → frames_from next_cpu next ≡ []) → (is_last ≡ true → records_from next_cpu next ≡ [])
+      → (is_last ≡ false → 0 < length given + length written) → (is_last ≡ false → 0 < length (frames_from next_cpu next))
+      → (is_last ≡ false → bus.machine.clock < next.machine.clock) → (is_last ≡ false → next.machine.clock < 32 * samples)
+      → IsNextPiece chip (record { cpu = cpu; bus = bus; samples = samples; frames = old_frames; records = old_records })
+      (record { cpu = next_cpu; bus = next; samples = samples; frames = given; records = written }) given written is_last
+  is_next_piece frames records counts over settled frames_done records_done some more later below =
+      let seen = run_frames-lagging chip samples next_cpu next in
+      let seen_records = run_records-lagging chip samples next_cpu next in
+      record {
+        frames = run_frames-lagging chip samples cpu bus ∙ frames ∙ ap (λ (rest : List Frame). given ++ rest) (sym seen);
+        records = run_records-lagging chip samples cpu bus ∙ records ∙ ap (λ (rest : List Record). written ++ rest) (sym seen_records);
+        done = (
+          λ is. (seen ∙ frames_done is, seen_records ∙ records_done is),
+          λ none. last_from_none is_last (frames_from next_cpu next) more (sym seen ∙ none.0),
+        );
+        some = some;
+        later = later;
+        below = below;
+        counts = sym counts;
+        counted = λ is. sym (ap (λ (w : Whole (Lagging S)). (after_settle chip w.1).book.counts) (over is) ∙ counts-settled chip next (settled is));
+        samples = refl;
+      }

@@ -1,0 +1,71 @@
+-- A run goes on after rounds that were made at once.
+use Rattle.std.proofs.Common.{◌≡◌, ℕ, zero, suc, ◌/◌, ◌<◌, ◌≤◌, List, [], refl, sym, ap, ◌∙◌, arith}
+use Rattle.spc700_exec.specs.declared.cpu.Cpu.{Cpu}
+use Rattle.spc700_exec.specs.Bus.{BusMeaning, IsLawful}
+use Rattle.spc700_exec.specs.Emitting.{IsEmitting}
+use Rattle.spc700_exec.specs.Instruction.{step_outcome}
+use Rattle.spc700_exec.proofs.Bounds.{clock-step_outcome-least}
+use Rattle.lock_step.specs.Emits.{Emits, AreCountedBeside}
+use Rattle.render_core.specs.MachineRun.{Whole, after_step, after_run}
+use Rattle.render_core.proofs.RunBySteps.{after_run-next}
+use Rattle.render_core.proofs.ItemsBeforeRun.{items-after_run-drained, counts-after_run-drained}
+use Rattle.idle_rounds.specs.Looking.{after_n_steps}
+use Rattle.lock_step.specs.WaitOfRounds.{IsWaitOf}
+
+module _ {S : Type 0} (bus : BusMeaning S) (lawful : IsLawful bus) (samples : ℕ) where
+  -- steps that end before the last sample are the first ones of the run
+  after_run-steps : (n : ℕ) (w : Whole S) → bus.made (after_n_steps bus n w).1 < samples → after_run bus samples w ≡ after_run bus samples (after_n_steps bus n w)
+  unfolding after_n_steps after_step
+  after_run-steps zero w more = refl
+  after_run-steps (suc n) w more =
+      let v : Whole S = after_n_steps bus n w in
+      let later = clock-step_outcome-least bus lawful v.0 v.1 in
+      let made = lawful.samples v.1 in
+      let next_made = lawful.samples (step_outcome bus v.0 v.1).1 in
+      let before : bus.made v.1 < samples = omega arith in
+      after_run-steps n w before ∙ after_run-next bus lawful samples v before
+
+  clock-after_n_steps : (n : ℕ) (w : Whole S) → bus.clock w.1 ≤ bus.clock (after_n_steps bus n w).1
+  unfolding after_n_steps
+  clock-after_n_steps zero w = omega arith
+  clock-after_n_steps (suc n) w =
+      let v : Whole S = after_n_steps bus n w in
+      let before = clock-after_n_steps n w in
+      let later = clock-step_outcome-least bus lawful v.0 v.1 in
+      omega arith
+
+  module _ (emits : Emits S) (cpu : Cpu) (old new : S) (wait : IsWaitOf bus emits samples cpu old new) where
+    abbrev reached : S
+    reached = (after_n_steps bus wait.steps (cpu, old)).1
+
+    -- the bus that was reached is made as far as the other one
+    made-reached : {I : Type 0} (items : S → List I) → IsEmitting bus emits.cleared items → bus.made reached ≡ bus.made new
+    made-reached items law =
+        let clock : bus.clock reached ≡ bus.clock new = sym (law.clock reached) ∙ ap bus.clock wait.cleared ∙ law.clock new in
+        lawful.samples reached ∙ ap (λ (c : ℕ). c / 32) clock ∙ sym (lawful.samples new)
+
+    pub after_run-reached-wait : {I : Type 0} (items : S → List I) → IsEmitting bus emits.cleared items
+        → after_run bus samples (cpu, old) ≡ after_run bus samples (cpu, reached)
+    after_run-reached-wait items law =
+        let made = made-reached items law in
+        let below = wait.below in
+        after_run-steps wait.steps (cpu, old) (omega arith) ∙ ap (λ (c : Cpu). after_run bus samples (c, reached)) wait.registers
+
+    -- a run emits the same after the wait, and comes to the same counts
+    pub items-after_run-wait : {I : Type 0} (items : S → List I) → IsEmitting bus emits.cleared items → items reached ≡ items new
+        → items (after_run bus samples (cpu, old)).1 ≡ items (after_run bus samples (cpu, new)).1
+    items-after_run-wait items law same =
+        ap (λ (w : Whole S). items w.1) (after_run-reached-wait items law)
+        ∙ items-after_run-drained bus lawful emits.cleared items law samples cpu reached new [] same (sym wait.cleared)
+
+    pub counts-after_run-wait : {I : Type 0} (items : S → List I) → IsEmitting bus emits.cleared items → AreCountedBeside emits → items reached ≡ items new
+        → emits.counts (after_run bus samples (cpu, old)).1 ≡ emits.counts (after_run bus samples (cpu, new)).1
+    counts-after_run-wait items law beside same =
+        ap (λ (w : Whole S). emits.counts w.1) (after_run-reached-wait items law)
+        ∙ counts-after_run-drained bus lawful emits.cleared items law samples emits.counts beside cpu reached new [] same (sym wait.cleared)
+
+    pub clock-wait : {I : Type 0} (items : S → List I) → IsEmitting bus emits.cleared items → bus.clock old ≤ bus.clock new
+    clock-wait items law =
+        let clock : bus.clock reached ≡ bus.clock new = sym (law.clock reached) ∙ ap bus.clock wait.cleared ∙ law.clock new in
+        let later = clock-after_n_steps wait.steps (cpu, old) in
+        omega arith

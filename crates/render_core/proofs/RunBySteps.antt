@@ -1,0 +1,103 @@
+-- A run is its next step and the run from there; where the samples are made it is no step.
+use Rattle.std.proofs.Common.{◌≡◌, ◌⊎◌, inl, inr, ℕ, zero, suc, ◌+◌, ◌-◌, ◌*◌, ◌≤◌, ◌<◌, Bool, true, false, nat_le, List, [], refl, sym, ◌∙◌, ap, subst, arith}
+use Rattle.std.specs.Prelude.{if◌then◌else◌}
+use Rattle.std.proofs.lemmas.Bool.Decides.{nat_tests}
+use Rattle.spc700_exec.specs.declared.cpu.Cpu.{Cpu}
+use Rattle.spc700_exec.specs.Bus.{BusMeaning, IsLawful}
+use Rattle.spc700_exec.specs.Instruction.{step_outcome}
+use Rattle.spc700_exec.proofs.Bounds.{clock-step_outcome-least, clock-step_outcome-most}
+use Rattle.render_core.specs.MachineRun.{Whole, after_step, after_steps, after_run}
+
+le_true : (a b : ℕ) → a ≤ b → nat_le a b ≡ true
+le_true a b h = grind (arith, nat_tests)
+
+le_from_test : (a b : ℕ) → nat_le a b ≡ true → a ≤ b
+le_from_test a b h = grind (arith, nat_tests)
+
+pub le_false : (a b : ℕ) → b < a → nat_le a b ≡ false
+le_false a b h = grind (arith, nat_tests)
+
+pub lt_or : (a b : ℕ) → (a < b) ⊎ (b ≤ a)
+lt_or a zero = inr (omega arith)
+lt_or zero (suc b) = inl (omega arith)
+lt_or (suc a) (suc b) = elim (lt_or a b) [
+  | inl less ↦ inl (omega arith)
+  | inr more ↦ inr (omega arith)
+]
+
+module _ {S : Type 0} (bus : BusMeaning S) (lawful : IsLawful bus) where
+  pub clock-after_step-least : (w : Whole S) → bus.clock w.1 + 1 ≤ bus.clock (after_step bus w).1
+  unfolding after_step
+  clock-after_step-least w = clock-step_outcome-least bus lawful w.0 w.1
+
+  pub clock-after_step-most : (w : Whole S) → bus.clock (after_step bus w).1 ≤ bus.clock w.1 + 32
+  unfolding after_step
+  clock-after_step-most w = clock-step_outcome-most bus lawful w.0 w.1
+
+  module _ (samples : ℕ) where
+    pub after_steps-reached : (steps : ℕ) (w : Whole S) → samples ≤ bus.made w.1 → after_steps bus samples steps w ≡ w
+    after_steps-reached zero w all = refl
+    after_steps-reached (suc steps) w all = ap (λ (b : Bool). if b then w else after_steps bus samples steps (after_step bus w)) (le_true samples (bus.made w.1) all)
+
+    -- all numbers of steps that are enough do the same
+    after_steps-enough : (i j : ℕ) (w : Whole S) → 32 * samples ≤ bus.clock w.1 + i → 32 * samples ≤ bus.clock w.1 + j → after_steps bus samples i w ≡ after_steps bus samples j w
+    after_steps-enough zero j w first second = let made = lawful.samples w.1 in sym (after_steps-reached j w (omega arith))
+    after_steps-enough (suc i) zero w first second = let made = lawful.samples w.1 in after_steps-reached (suc i) w (omega arith)
+    after_steps-enough (suc i) (suc j) w first second =
+        let later = clock-after_step-least w in
+        ap (λ (rest : Whole S). if nat_le samples (bus.made w.1) then w else rest) (after_steps-enough i j (after_step bus w) (omega arith) (omega arith))
+
+    pub after_run-reached : (w : Whole S) → samples ≤ bus.made w.1 → after_run bus samples w ≡ w
+    unfolding after_run
+    after_run-reached w all = after_steps-reached (32 * samples - bus.clock w.1) w all
+
+    pub after_run-next : (w : Whole S) → bus.made w.1 < samples → after_run bus samples w ≡ after_run bus samples (after_step bus w)
+    unfolding after_run
+    after_run-next w more =
+        let made = lawful.samples w.1 in
+        let later = clock-after_step-least w in
+        let next = after_step bus w in
+        let k = 32 * samples - bus.clock w.1 - 1 in
+        let left : 32 * samples - bus.clock w.1 ≡ suc k = omega arith in
+        ap (λ (steps : ℕ). after_steps bus samples steps w) left
+        ∙ ap (λ (b : Bool). if b then w else after_steps bus samples k next) (le_false samples (bus.made w.1) more)
+        ∙ after_steps-enough k (32 * samples - bus.clock next.1) next (omega arith) (omega arith)
+
+    -- nothing is to come once the samples are made and all was handed over
+    pub items-after_run-none : {I : Type 0} (items : S → List I) (w : Whole S) (made : ℕ) → made ≡ bus.made w.1 → nat_le samples made ≡ true → (samples ≤ bus.made w.1 → items w.1 ≡ []) → items (after_run bus samples w).1 ≡ []
+    items-after_run-none items w made is test none =
+        let all : samples ≤ bus.made w.1 = subst (λ (n : ℕ). samples ≤ n) is (le_from_test samples made test) in
+        ap (λ (v : Whole S). items v.1) (after_run-reached w all) ∙ none all
+
+    made-after_steps : (steps : ℕ) (w : Whole S) → 32 * samples ≤ bus.clock w.1 + steps → bus.made w.1 ≤ samples → bus.made (after_steps bus samples steps w).1 ≡ samples
+    made-after_steps zero w enough few = let made = lawful.samples w.1 in omega arith
+    made-after_steps (suc steps) w enough few =
+        let next = after_step bus w in
+        let made = lawful.samples w.1 in
+        let later = clock-after_step-least w in
+        let most = clock-after_step-most w in
+        let next_made = lawful.samples next.1 in
+        elim (lt_or (bus.made w.1) samples) [
+          | inl more ↦
+              ap (λ (b : Bool). bus.made (if b then w else after_steps bus samples steps next).1) (le_false samples (bus.made w.1) more)
+              ∙ made-after_steps steps next (omega arith) (omega arith)
+          | inr all ↦
+              let same : bus.made (after_steps bus samples (suc steps) w).1 ≡ bus.made w.1 = ap (λ (v : Whole S). bus.made v.1) (after_steps-reached (suc steps) w all) in
+              omega arith
+        ]
+
+    -- at the end of a run its samples are made, and no more
+    pub made-after_run : (w : Whole S) → bus.made w.1 ≤ samples → bus.made (after_run bus samples w).1 ≡ samples
+    unfolding after_run
+    made-after_run w few = made-after_steps (32 * samples - bus.clock w.1) w (omega arith) few
+
+  -- the same of the step that a processor made
+  pub after_run-stepped : (samples : ℕ) (cpu next_cpu : Cpu) (s next : S) (made : ℕ) → made ≡ bus.made s → made < samples → (next_cpu, next) ≡ step_outcome bus cpu s → after_run bus samples (cpu, s) ≡ after_run bus samples (next_cpu, next)
+  unfolding after_step
+  after_run-stepped samples cpu next_cpu s next made is more does =
+      let below : bus.made s < samples = omega arith in
+      after_run-next samples (cpu, s) below ∙ ap (λ (w : Whole S). after_run bus samples w) (sym does)
+
+  -- a run whose samples are made takes no step
+  pub after_run-over : (samples : ℕ) (w : Whole S) (made : ℕ) → made ≡ bus.made w.1 → nat_le samples made ≡ true → after_run bus samples w ≡ w
+  after_run-over samples w made is test = after_run-reached samples w (subst (λ (n : ℕ). samples ≤ n) is (le_from_test samples made test))

@@ -1,0 +1,15 @@
+-- How often the chip makes samples in a run, and why.
+use Rattle.std.specs.Prelude.{ℕ}
+use Rattle.lock_step.specs.declared.counts.Counts.{Counts}
+use Rattle.lock_step.specs.ChipMeaning.{ChipMeaning}
+use Rattle.lock_step.specs.Machine.{Machine}
+use Rattle.lag_bus.specs.Lagging.{Lagging, opened_lagging, after_settle, lagging}
+use Rattle.render_core.specs.MachineRun.{Whole, after_run}
+
+-- the whole machine with the lag book of its opening
+abbrev pub with_opened_book : {S : Type 0} → ChipMeaning S → Whole (Machine S) → Whole (Lagging S)
+with_opened_book chip w = (w.0, opened_lagging chip w.1)
+
+-- the counts of the lag book after a run to so many samples, once the chip has made the last of them
+abbrev pub run_counts : {S : Type 0} → ChipMeaning S → (samples : ℕ) → Whole (Lagging S) → Counts
+run_counts chip samples w = (after_settle chip (after_run (lagging chip) samples w).1).book.counts

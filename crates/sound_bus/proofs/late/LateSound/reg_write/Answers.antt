@@ -1,5 +1,0 @@
-use Rattle.sound_bus.proofs.Holding.{late_reg_write}
-use Rattle.sound_bus.proofs.late.LateSound.reg_write.Goals as goal
-
-pub returns : goal.returns
-returns g c = rw (c.reg_write.ensures.state, c.reg_write.ensures.sample, c.reg_write.ensures.batches, ← c.self.view_is) (late_reg_write g.met.C.Chip.lawful c.self.invariant.0 c.args.address c.args.value (rw (← c.self.view_is) at c.requires))

@@ -1,8 +1,0 @@
-use Rattle.std.proofs.Common.{◌≡◌, ◌+◌, ◌≤◌, ◌++◌, length, drop}
-use Rattle.sound_bus.specs.Merge.{merge}
-use Rattle.sound_bus.proofs.merging.merge_into.Given as goal
-
-abbrev pub invariant-voices : goal.invariant-voices
-invariant-voices l =
-    (l.initial.records ++ merge l.all l.initial.ring ≡ l.records ++ merge (drop l.voice-index l.all) l.ring)
-    × (length l.records + length l.ring + length (drop l.voice-index l.all) ≤ 1344)

@@ -1,8 +1,0 @@
-use Rattle.std.proofs.Common.{◌≡◌, ◌+◌, ◌≤◌, ◌++◌, length}
-use Rattle.sound_bus.proofs.merging.move_all.Given as goal
-
-abbrev pub invariant-events : goal.invariant-events
-invariant-events l = (l.initial.records ++ l.initial.ring ≡ l.records ++ l.ring) × (length l.records + length l.ring ≤ 1344)
-
-abbrev pub decreases-events : goal.decreases-events
-decreases-events l = length l.ring

@@ -1,5 +1,0 @@
-use Rattle.sound_bus.proofs.Marks.{unmarked, none_plain}
-use Rattle.sound_bus.proofs.taken.TakenReach.none.Goals as goal
-
-pub invariant_of-result : goal.invariant_of-result
-invariant_of-result c = (λ page. unmarked page, λ page is. none_plain page is)
