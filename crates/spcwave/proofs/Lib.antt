@@ -6,4 +6,4 @@ pub mod OptionWords
 pub mod Readings
 pub mod Signatures
 pub mod Sounds
-pub mod Unread
+

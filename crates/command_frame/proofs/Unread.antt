@@ -53,8 +53,8 @@ module _ {P C : Type 0} (makes : P → Delivery) (answer : Answer C) where
         outputs = t.outputs;
         ended = t.ended;
         made = t.made;
-        ok_inputs = t.ok_inputs;
-        ok_outputs = t.ok_outputs;
+        calm_inputs = t.calm_inputs;
+        calm_outputs = t.calm_outputs;
         notes = t.notes;
         read = λ is. absurd (no_read x z prepared refusal p c is);
         write = t.write;

@@ -1,4 +1,4 @@
--- What a run leaves on a host that tells it.
+-- What a command leaves on a host that tells it.
 use Rattle.std.specs.Prelude.{◌≡◌, ℕ, Bool, List, [], ◌++◌, IsSomeAnd}
 use Rattle.snd_host.specs.Host.{HostState, Output, IfTold, Rose, IsPrefix}
 use Rattle.command_frame.specs.Answer.{Answer, outputs_of, report_of}
@@ -22,7 +22,7 @@ pub record LeavesPart {C : Type 0} (a : Answer C) (old new : HostState) : Type 0
   pub report : List ℕ
   pub outputs : List Output
   pub flags : List Bool
-  pub left : Leaves report outputs flags old new
+  pub leaves : Leaves report outputs flags old new
   pub reported : IsPrefix report (report_of a)
   pub begun : IsBegun outputs (outputs_of a)
 
