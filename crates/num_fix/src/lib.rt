@@ -5,7 +5,7 @@
 mod tests;
 
 ghost use Rattle.std.specs.Prelude.{◌≡◌, ◌<◌, ◌≤◌, ◌^◌, ◌-◌, ◌+ℤ◌, unsigned_abs};
-ghost use Rattle.num_fix.specs.Arithmetic.{clamp16, wrap16, floor_shift, scaled, clear_bit0, sign4, sign8};
+ghost use Rattle.num_fix.specs.Arithmetic.{clamp16, wrap16, floor_shift, scaled, clear_bit0, sign4, sign8, has_bit};
 
 /// One stereo sample: a signed 16-bit number for each side, 32,000 a second.
 #[derive(Clone, Copy, Debug, PartialEq, Eq, Default)]
@@ -88,4 +88,12 @@ pub fn add_clamped(a: i16, b: i16) -> i16
     ensures { result ≡ clamp16 (a +ℤ b) }
 {
     clamp16(i32::from(a) + i32::from(b))
+}
+
+/// Whether bit `bit` of a byte is set; bit 0 is the lowest.
+pub fn has_bit(byte: u8, bit: u8) -> bool
+    requires { bit < 8 }
+    ensures { result ≡ has_bit byte bit }
+{
+    byte >> bit & 1 == 1
 }

@@ -1,4 +1,6 @@
-use crate::{Frame, add_clamped, clamp16, clear_bit0, half, sar, scaled, sign4, sign8, wrap16};
+use crate::{
+    Frame, add_clamped, clamp16, clear_bit0, half, has_bit, sar, scaled, sign4, sign8, wrap16,
+};
 
 #[test]
 fn each_call_at_the_ends_of_its_range(rt: HostRuntime) {
@@ -17,5 +19,6 @@ fn each_call_at_the_ends_of_its_range(rt: HostRuntime) {
     assert_eq!(rt; scaled(-32768, -32768, 0), 1073741824);
     assert_eq!(rt; half(-1), -1);
     assert_eq!(rt; add_clamped(32767, 1), 32767);
+    assert_eq!(rt; (has_bit(0x80, 7), has_bit(0x80, 0)), (true, false));
     assert_eq!(rt; Frame::default(), Frame { left: 0, right: 0 });
 }

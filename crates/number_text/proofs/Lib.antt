@@ -1,0 +1,2 @@
+-- Places: how large a number of so many digits can be.
+pub mod Places
