@@ -151,7 +151,13 @@ fn prepare<H: Host>(
     ensures { let answer = λ (files : Files). info_answer (files input.now) in
         Prepares plan_makes answer (H.state host.old) (H.state host.new) result }
 {
-    match read_input(alloc, host, input, INPUT_LIMIT, Cause::SpcLength(INPUT_LIMIT + 1)) {
+    match read_input(
+        alloc,
+        host,
+        input,
+        INPUT_LIMIT,
+        Cause::SpcLength(INPUT_LIMIT + 1),
+    ) {
         Ok(bytes) => plan(alloc, bytes.as_slice()),
         Err(refusal) => Err(refusal),
     }

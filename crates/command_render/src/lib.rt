@@ -2,9 +2,9 @@
 #![tactic(auto)]
 
 mod command;
-mod options;
 #[cfg(test)]
 mod lag_tests;
+mod options;
 #[cfg(test)]
 mod render_tests;
 #[cfg(test)]

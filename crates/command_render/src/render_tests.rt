@@ -187,7 +187,9 @@ fn tags_give_the_length_and_the_fade(rt: HostRuntime) -> Result<(), Fail> {
     let outcome = rendered(rt.alloc(), file.as_slice(), no_options())?;
     let line = "batches 501 register 0 memory 0 echo 0 full 500 events 0 end 1\n";
     let report = expected_report(rt.alloc(), 32032, line)?;
-    assert!(rt; outcome.is_done(outcome.first(), report.as_str()) && outcome.first().len() == 128172);
+    assert!(rt;
+        outcome.is_done(outcome.first(), report.as_str()) && outcome.first().len() == 128172
+    );
     for (at, side) in FADED {
         assert!(rt; has_frame(outcome.first(), *at, *side), "at {at}");
     }
@@ -231,7 +233,13 @@ fn a_table_that_is_not_there_cannot_be_read(rt: HostRuntime) -> Result<(), Fail>
 fn render_over_zeros(alloc: Global, length: usize) -> Result<Outcome, Fail> {
     let file = tune_of(alloc, &[], &[])?;
     let table = vec![in alloc; 0u8; length]?;
-    render_failing(alloc, file.as_slice(), table.as_slice(), traced(None, None), &[])
+    render_failing(
+        alloc,
+        file.as_slice(),
+        table.as_slice(),
+        traced(None, None),
+        &[],
+    )
 }
 
 #[test]

@@ -157,7 +157,11 @@ impl Traced {
         let count = u32::from(self.samples);
         let file = tune_of(alloc, self.sound, self.more)?;
         let plain = rendered(alloc, file.as_slice(), samples(count))?;
-        let with_trace = rendered(alloc, file.as_slice(), traced(Some(count), Some(self.voices)))?;
+        let with_trace = rendered(
+            alloc,
+            file.as_slice(),
+            traced(Some(count), Some(self.voices)),
+        )?;
         let report = expected_report(alloc, count, self.batches)?;
         Ok(
             has_frames(alloc, &plain, self.frames, report.as_str())?

@@ -32,7 +32,13 @@ pub fn read_file<H: Host>(
 ) -> Result<SpcFile, Refusal<Cause>>
     ensures { Reads (λ files. file_in (files name.now)) (H.state host.old) (H.state host.new) result }
 {
-    match read_input(alloc, host, name, INPUT_LIMIT, Cause::SpcLength(INPUT_LIMIT + 1)) {
+    match read_input(
+        alloc,
+        host,
+        name,
+        INPUT_LIMIT,
+        Cause::SpcLength(INPUT_LIMIT + 1),
+    ) {
         Ok(bytes) => accept_file(alloc, bytes.as_slice()),
         Err(refusal) => Err(refusal),
     }

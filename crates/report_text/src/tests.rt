@@ -14,7 +14,10 @@ fn numbers_and_texts_are_printed(rt: HostRuntime) -> Result<(), Fail> {
     put_word(&mut report, 0x04ef)?;
     report.extend_from_slice(b" ")?;
     put_text(&mut report, b"a\\\x07~")?;
-    assert_eq!(rt; report.as_slice(), b"320000 worst 4095 left -17 0c 04ef a\\x5c\\x07~".as_slice());
+    assert_eq!(rt;
+        report.as_slice(),
+        b"320000 worst 4095 left -17 0c 04ef a\\x5c\\x07~".as_slice()
+    );
     Ok(())
 }
 

@@ -181,7 +181,7 @@ mod tests {
     use super::DiskHost;
     use crate::run::run;
     use status_lines::Status;
-        use std::test::Fail;
+    use std::test::Fail;
     use std::{env, fs};
 
     #[test]

@@ -74,7 +74,10 @@ const COMMANDS: &[(&[&str], Status, &str)] = &[
 fn each_word_says_its_command(rt: HostRuntime) -> Result<(), Fail> {
     for (words, wanted, report) in COMMANDS {
         let outcome = run_words(rt.alloc(), words, &BLOCK)?;
-        assert!(rt; outcome.status() == *wanted && outcome.report() == report.as_bytes(), "{words:?}");
+        assert!(rt;
+            outcome.status() == *wanted && outcome.report() == report.as_bytes(),
+            "{words:?}"
+        );
     }
     Ok(())
 }

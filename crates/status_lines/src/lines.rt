@@ -79,11 +79,7 @@ impl Complaint for Cause {
     fn write_line<H: Host>(refusal: &Refusal<Cause>, host: &mut H) -> Result<(), Failed> {
         match refusal {
             Refusal::Usage => write_all(host, COMPLAINT, b"spcwave: words not understood\n"),
-            Refusal::ReadFault => write_all(
-                host,
-                COMPLAINT,
-                b"spcwave: input could not be read\n",
-            ),
+            Refusal::ReadFault => write_all(host, COMPLAINT, b"spcwave: input could not be read\n"),
             Refusal::WriteFault => write_all(
                 host,
                 COMPLAINT,

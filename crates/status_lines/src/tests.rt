@@ -55,11 +55,7 @@ const CAUSES: &[(Cause, u8, &str)] = &[
         14,
         "spcwave: cut list is wrong at line 1\n",
     ),
-    (
-        Cause::Script(1),
-        15,
-        "spcwave: script is wrong at line 1\n",
-    ),
+    (Cause::Script(1), 15, "spcwave: script is wrong at line 1\n"),
 ];
 
 /// Whether the complaint of an end is this line.
