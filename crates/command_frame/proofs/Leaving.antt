@@ -4,7 +4,7 @@ use Rattle.std.specs.Prelude.{IsSomeAnd}
 use Rattle.snd_host.specs.Host.{HostState, Given, Output}
 use Rattle.command_frame.specs.Delivery.{Gains}
 use Rattle.command_frame.specs.Conduct.{HasComplaint}
-use Rattle.command_frame.specs.Left.{Leaves, Complains}
+use Rattle.command_frame.specs.Leaves.{Leaves, Complains}
 
 pub leaves : (report complaint : List ℕ) (outputs : List Output) (flags : List Bool) (x z : HostState) → Gains report complaint outputs flags x z → Leaves report outputs flags x z
 leaves report complaint outputs flags x z gains = record {

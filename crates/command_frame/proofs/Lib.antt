@@ -4,4 +4,5 @@ pub mod Obeying
 pub mod Places
 pub mod Standing
 pub mod Streams
+pub mod Unread
 pub mod Writing

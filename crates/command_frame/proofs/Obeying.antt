@@ -100,8 +100,8 @@ module _ {P C : Type 0} (makes : P → Delivery) (answer : Files → Answer C) (
     outputs = d.begun;
     ended = d.ended;
     made = made_behind d.reported [] d.begun d.ended x y z p.others d.made;
-    ok_inputs = λ _. d.inputs ∙ calm;
-    ok_outputs = λ _. d.cause.same ∙ p.others.outputs;
+    calm_inputs = λ _. d.inputs ∙ calm;
+    calm_outputs = λ _. d.cause.same ∙ p.others.outputs;
     notes = d.notes ∙ p.others.notes;
     read = λ wrong. absurd (cc);
     write = λ wrong. absurd (cc);
@@ -117,8 +117,8 @@ module _ {P C : Type 0} (makes : P → Delivery) (answer : Files → Answer C) (
     outputs = d.begun;
     ended = d.ended;
     made = made_behind d.reported [] d.begun d.ended x y z p.others d.made;
-    ok_inputs = λ wrong. absurd (cc);
-    ok_outputs = λ wrong. absurd (cc);
+    calm_inputs = λ _. d.inputs ∙ calm;
+    calm_outputs = λ other. absurd (other refl);
     notes = d.notes ∙ p.others.notes;
     read = λ wrong. absurd (cc);
     write = λ _. subst (λ (n : ℕ). Rose n z.faults.outputs) p.others.outputs d.cause.failed;
@@ -150,8 +150,8 @@ module _ {P C : Type 0} (makes : P → Delivery) (answer : Files → Answer C) (
     outputs = [];
     ended = [];
     made = gains_nothing x y p.others.given p.others.ended p.others.holds;
-    ok_inputs = λ wrong. absurd (cc);
-    ok_outputs = λ wrong. absurd (cc);
+    calm_inputs = λ other. p.calm (λ is. other cc);
+    calm_outputs = λ other. p.others.outputs;
     notes = p.others.notes;
     read = λ is. (p.read (ap (λ (r : Refusal C). Err r) cc), search rules);
     write = λ is. absurd (p.no_write (ap (λ (r : Refusal C). Err r) cc));
@@ -166,7 +166,7 @@ module _ {P C : Type 0} (makes : P → Delivery) (answer : Files → Answer C) (
       subst (λ (s : HostState). Attempts answer true refusal x s) (sym c.err.1) (subst (λ (r : Option (Refusal C)). Attempts answer true r x y) (sym c.err.0) (attempts_refused why p))
 
 -- the attempt, and then its complaint
-pub obeys : {C : Type 0} (line : C → List ℕ) (answer : Files → Answer C) (names : Bool) (refusal : Option (Refusal C)) (x y z : HostState) → Attempts answer names refusal x y → WritesComplaint (line_of line refusal) y z → (refusal ≡ None → z ≡ y) → Obeys line answer names refusal x z
+pub obeys : {C : Type 0} (line : Refusal C → List ℕ) (answer : Files → Answer C) (names : Bool) (refusal : Option (Refusal C)) (x y z : HostState) → Attempts answer names refusal x y → WritesComplaint (line_of line refusal) y z → (refusal ≡ None → z ≡ y) → Obeys line answer names refusal x z
 obeys {C = C} line answer names refusal x y z t c silent = record {
   report = t.report;
   complaint = c.complaint;
@@ -177,7 +177,9 @@ obeys {C = C} line answer names refusal x y z t c silent = record {
     ended = c.wrote.ended ∙ t.made.ended;
     holds = c.wrote.others.holds ∙ t.made.holds;
   };
-  ok = λ is. (λ i. record { inputs = (inputs ∙ t.ok_inputs is) i; notes = (ap (λ (s : HostState). s.faults.notes) (silent is) ∙ t.notes) i; outputs = (c.outputs ∙ t.ok_outputs is) i });
+  ok = λ is. (λ i. record { inputs = (inputs ∙ t.calm_inputs (no_read is)) i; notes = (ap (λ (s : HostState). s.faults.notes) (silent is) ∙ t.notes) i; outputs = (c.outputs ∙ t.calm_outputs (no_write is)) i });
+  calm_inputs = λ other. inputs ∙ t.calm_inputs other;
+  calm_outputs = λ other. c.outputs ∙ t.calm_outputs other;
   read = λ is. let r = t.read is in (subst (λ (n : ℕ). Rose x.faults.inputs n) (sym inputs) r.0, r.1);
   write = λ is. subst (λ (n : ℕ). Rose x.faults.outputs n) (sym c.outputs) (t.write is);
   refused = t.refused;
@@ -190,6 +192,12 @@ obeys {C = C} line answer names refusal x y z t c silent = record {
   complete = λ files told calm. complete (answer files) (t.answered files told) calm;
 }
   where
+    no_read : refusal ≡ None → refusal ≡ Some ReadFault → ⊥
+    no_read none read = absurd (cc)
+
+    no_write : refusal ≡ None → refusal ≡ Some WriteFault → ⊥
+    no_write none write = absurd (cc)
+
     inputs : z.faults.inputs ≡ y.faults.inputs
     inputs = c.wrote.others.inputs
 
@@ -233,8 +241,8 @@ attempts_usage x = record {
   outputs = [];
   ended = [];
   made = gains_nothing x x refl refl refl;
-  ok_inputs = λ wrong. refl;
-  ok_outputs = λ wrong. refl;
+  calm_inputs = λ other. refl;
+  calm_outputs = λ other. refl;
   notes = refl;
   read = λ wrong. absurd (cc);
   write = λ wrong. absurd (cc);

@@ -6,7 +6,7 @@ use Rattle.std.proofs.lemmas.Bool.{cases_eq}
 use Rattle.snd_host.specs.Host.{Given, Output, IsOpen, IsPrefix, given_with, outputs_with, rooms_less}
 use Rattle.snd_host.proofs.Writes.{index-rooms_less}
 use Rattle.command_frame.specs.Delivery.{IsBegun, HaveRooms}
-use Rattle.command_frame.specs.Stream.{bytes_of, Left}
+use Rattle.command_frame.specs.Stream.{bytes_of, RoomsAfter}
 
 pub grown_behind : (created outputs : List Output) (i : ℕ) (bytes : List ℕ) → outputs_with (created ++ outputs) (length created + i) bytes ≡ created ++ outputs_with outputs i bytes
 grown_behind [] outputs i bytes = let same : zero + i ≡ i = omega arith in ap (λ (k : ℕ). outputs_with outputs k bytes) same
@@ -75,9 +75,9 @@ bytes_of-end (o ∷ outputs) name (suc j) = bytes_of-end outputs name j
 pub index-rooms_less_other : (rooms : List ℕ) (file k count : ℕ) → k ≢ file → get_or (rooms_less rooms file count) k 0 ≡ get_or rooms k 0
 index-rooms_less_other rooms file k count other = get_or-set_other rooms file k (get_or rooms file 0 - count) 0 other
 
-pub left_lowered : (first : ℕ) (outputs : List Output) (report rooms after : List ℕ) (n i : ℕ) (bytes : List ℕ) → Left first outputs report rooms after → 2 ≤ first → n ≡ first + i → i < length outputs →
-    Left first (outputs_with outputs i bytes) report rooms (rooms_less after n (length bytes))
-left_lowered first outputs report rooms after n i bytes left low is below = record {
+pub rooms_lowered : (first : ℕ) (outputs : List Output) (report rooms after : List ℕ) (n i : ℕ) (bytes : List ℕ) → RoomsAfter first outputs report rooms after → 2 ≤ first → n ≡ first + i → i < length outputs →
+    RoomsAfter first (outputs_with outputs i bytes) report rooms (rooms_less after n (length bytes))
+rooms_lowered first outputs report rooms after n i bytes left low is below = record {
   count = length-set after n _ ∙ left.count;
   report_room = index-rooms_less_other after n 0 (length bytes) (λ same. absurd (omega arith)) ∙ left.report_room;
   complaint_room = index-rooms_less_other after n 1 (length bytes) (λ same. absurd (omega arith)) ∙ left.complaint_room;

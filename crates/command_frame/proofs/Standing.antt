@@ -4,8 +4,8 @@ use Rattle.std.specs.Prelude.{slice_get}
 use Rattle.std.proofs.lemmas.List.{append-nil, length-set}
 use Rattle.snd_host.specs.Host.{HostState, Given, Output, HasCause, Rose, ChangesOutputs, KeepsRooms, IsOpen, Writes, WritesAll, outputs_with, rooms_less}
 use Rattle.command_frame.specs.Delivery.{Gains, IsBegun, HaveRooms, Delivers}
-use Rattle.command_frame.specs.Stream.{bytes_of, Left, Stands, Stops}
-use Rattle.command_frame.proofs.Places.{grown_since, open_since, ended_since, length-outputs_with, bytes_of-end, left_lowered, begun_at, have_at, begun_less, prefix_short, bytes_of-given_with}
+use Rattle.command_frame.specs.Stream.{bytes_of, RoomsAfter, Stands, Stops}
+use Rattle.command_frame.proofs.Places.{grown_since, open_since, ended_since, length-outputs_with, bytes_of-end, rooms_lowered, begun_at, have_at, begun_less, prefix_short, bytes_of-given_with}
 
 -- nothing was created yet
 pub stands_at_first : (a : HostState) → ((given : Given) → a.given ≡ Some given → length given.created ≡ length a.ended) → Stands [] [] [] a a
@@ -67,11 +67,11 @@ module _ (outputs : List Output) (flags : List Bool) (a c : HostState) (s : Stan
   }
 
   rooms_written : (d : HostState) (bytes : List ℕ) → i < length outputs → Writes n bytes c d → (rooms : List ℕ) → a.steady ≡ Some rooms →
-      (after : List ℕ) × (d.steady ≡ Some after) × Left (length a.ended + 2) (outputs_with outputs i bytes) [] rooms after
+      (after : List ℕ) × (d.steady ≡ Some after) × RoomsAfter (length a.ended + 2) (outputs_with outputs i bytes) [] rooms after
   rooms_written d bytes below w rooms told = let before = s.rooms rooms told in (
     rooms_less before.0 n (length bytes),
     w.rooms before.0 before.1,
-    left_lowered (length a.ended + 2) outputs [] rooms before.0 n i bytes before.2 (omega arith) is below,
+    rooms_lowered (length a.ended + 2) outputs [] rooms before.0 n i bytes before.2 (omega arith) is below,
   )
 
   not_report : n ≢ 0

@@ -1,9 +1,9 @@
--- What a command answers, and the line of complaint. `C` is why the bytes of an input are refused, which each program says for itself.
-use Rattle.std.specs.Prelude.{ℕ, List, [], Option, Some, None, Result, Ok, Err, codes}
+-- What a command answers, and its line of complaint. `C` is why the bytes of an input are refused; the program says it, and the lines.
+use Rattle.std.specs.Prelude.{ℕ, List, [], Option, Some, None, Result, Ok, Err}
 use Rattle.snd_host.specs.Host.{Output}
 use Rattle.snd_host.specs.declared.host.Failed.{Failed}
 use Rattle.command_frame.specs.declared.refusals.Refusal.{Refusal}
-use Rattle.command_frame.specs.declared.refusals.Refusal.TheVariants.{Usage, ReadFault, WriteFault, OutOfMemory, Input}
+use Rattle.command_frame.specs.declared.refusals.Refusal.TheVariants.{WriteFault}
 
 -- What a command answers: its outputs in order and its report, or why it is refused.
 pub data Answer (C : Type 0) : Type 0 where
@@ -22,14 +22,10 @@ abbrev pub report_of : {C : Type 0} → Answer C → List ℕ
 report_of (done outputs report) = report
 report_of (refused refusal) = []
 
--- The line of complaint: none where nothing was refused. `line` is the line of a cause in the bytes of an input.
-abbrev pub line_of : {C : Type 0} → (C → List ℕ) → Option (Refusal C) → List ℕ
+-- The line of complaint of an end: none where nothing was refused. `line` is the line of a refusal.
+abbrev pub line_of : {C : Type 0} → (Refusal C → List ℕ) → Option (Refusal C) → List ℕ
 line_of line None = []
-line_of line (Some Usage) = codes "spcwave: words not understood\n"
-line_of line (Some ReadFault) = codes "spcwave: input could not be read\n"
-line_of line (Some WriteFault) = codes "spcwave: output could not be written\n"
-line_of line (Some OutOfMemory) = codes "spcwave: out of memory\n"
-line_of line (Some (Input cause)) = line cause
+line_of line (Some refusal) = line refusal
 
 -- the refusal of a delivery
 abbrev pub delivery_refusal : {C : Type 0} → Result (Unit {0}) Failed → Option (Refusal C)

@@ -35,8 +35,8 @@ pub record Attempts {C : Type 0} (answer : Files → Answer C) (names_input : Bo
   pub ended : List Bool
   pub made : Gains report [] outputs ended old new
   -- whatever is told
-  pub ok_inputs : refusal ≡ None → new.faults.inputs ≡ old.faults.inputs
-  pub ok_outputs : refusal ≡ None → new.faults.outputs ≡ old.faults.outputs
+  pub calm_inputs : (refusal ≡ Some ReadFault → ⊥) → new.faults.inputs ≡ old.faults.inputs
+  pub calm_outputs : (refusal ≡ Some WriteFault → ⊥) → new.faults.outputs ≡ old.faults.outputs
   pub notes : new.faults.notes ≡ old.faults.notes
   pub read : refusal ≡ Some ReadFault → Rose old.faults.inputs new.faults.inputs × IsTrue names_input
   pub write : refusal ≡ Some WriteFault → Rose old.faults.outputs new.faults.outputs
@@ -58,8 +58,8 @@ pub record WritesComplaint (line : List ℕ) (old new : HostState) : Type 0 wher
   pub wrote : Writes 1 complaint old new
   pub outputs : new.faults.outputs ≡ old.faults.outputs
 
--- What a command did, its complaint included. `line` is the line of a cause in the bytes of an input.
-pub record Obeys {C : Type 0} (line : C → List ℕ) (answer : Files → Answer C) (names_input : Bool) (refusal : Option (Refusal C)) (old new : HostState) : Type 0 where
+-- What a command did, its complaint included. `line` is the line of a refusal.
+pub record Obeys {C : Type 0} (line : Refusal C → List ℕ) (answer : Files → Answer C) (names_input : Bool) (refusal : Option (Refusal C)) (old new : HostState) : Type 0 where
   pub report : List ℕ
   pub complaint : List ℕ
   pub outputs : List Output
@@ -67,6 +67,8 @@ pub record Obeys {C : Type 0} (line : C → List ℕ) (answer : Files → Answer
   pub made : Gains report complaint outputs ended old new
   -- whatever is told
   pub ok : refusal ≡ None → new.faults ≡ old.faults
+  pub calm_inputs : (refusal ≡ Some ReadFault → ⊥) → new.faults.inputs ≡ old.faults.inputs
+  pub calm_outputs : (refusal ≡ Some WriteFault → ⊥) → new.faults.outputs ≡ old.faults.outputs
   pub read : refusal ≡ Some ReadFault → Rose old.faults.inputs new.faults.inputs × IsTrue names_input
   pub write : refusal ≡ Some WriteFault → Rose old.faults.outputs new.faults.outputs
   pub refused : refusal ≢ None → refusal ≢ Some WriteFault → (report ≡ []) × (outputs ≡ []) × (ended ≡ [])

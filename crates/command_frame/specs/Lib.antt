@@ -5,7 +5,7 @@ pub mod Conduct
 -- what a delivery makes on a host
 pub mod Delivery
 -- what a run leaves on a host that tells it
-pub mod Left
+pub mod Leaves
 -- what a plan makes
 pub mod Plan
 -- two outputs that are written at once, in pieces

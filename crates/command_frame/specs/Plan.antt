@@ -3,7 +3,7 @@ use Rattle.std.specs.Prelude.{ℕ, List, [], ◌∷◌, ◌++◌, Option, Some, 
 use Rattle.std.specs.Option.{option_map}
 use Rattle.snd_host.specs.Host.{Output}
 use Rattle.command_frame.specs.Conduct.{Delivery}
-use Rattle.command_frame.specs.Stream.{Both, pair}
+use Rattle.command_frame.specs.Stream.{Both, stream_outputs}
 use Rattle.command_frame.specs.declared.delivery.Plan.{Plan}
 use Rattle.command_frame.specs.declared.delivery.PlannedOutput.{PlannedOutput}
 use Rattle.command_frame.specs.declared.delivery.StreamedPlan.{StreamedPlan}
@@ -19,6 +19,6 @@ plan_makes plan = record { outputs = planned_outputs plan.output; report = plan.
 -- what a plan in pieces makes: the head is written to the first output alone
 abbrev pub stream_makes : {P : Type 0} → (to_come : P → Both) → (report : P → List ℕ) → StreamedPlan P → Delivery
 stream_makes to_come report plan = record {
-  outputs = pair plan.first.now (option_map (λ name. name.now) plan.second) (plan.head.items ++ (to_come plan.source).first) (to_come plan.source).second;
+  outputs = stream_outputs plan.first.now (option_map (λ name. name.now) plan.second) plan.head.items (to_come plan.source);
   report = report plan.source;
 }

@@ -18,7 +18,7 @@ bytes_of (o ∷ outputs) zero = o.bytes
 bytes_of (o ∷ outputs) (suc place) = bytes_of outputs place
 
 -- what is left of the rooms, where the new outputs begin at the number `first`
-pub record Left (first : ℕ) (outputs : List Output) (report rooms after : List ℕ) : Type 0 where
+pub record RoomsAfter (first : ℕ) (outputs : List Output) (report rooms after : List ℕ) : Type 0 where
   pub count : length after ≡ length rooms
   pub report_room : slice_index after 0 ≡ slice_index rooms 0 - length report
   pub complaint_room : slice_index after 1 ≡ slice_index rooms 1
@@ -32,7 +32,7 @@ pub record Stands (outputs : List Output) (flags : List Bool) (report : List ℕ
   pub inputs : c.faults.inputs ≡ a.faults.inputs
   pub notes : c.faults.notes ≡ a.faults.notes
   pub faults : c.faults.outputs ≡ a.faults.outputs
-  pub rooms : (rooms : List ℕ) → a.steady ≡ Some rooms → (after : List ℕ) × (c.steady ≡ Some after) × Left (length a.ended + 2) outputs report rooms after
+  pub rooms : (rooms : List ℕ) → a.steady ≡ Some rooms → (after : List ℕ) × (c.steady ≡ Some after) × RoomsAfter (length a.ended + 2) outputs report rooms after
 
 -- A call failed: of these outputs and this report a part stands.
 abbrev pub Stops : List Output → List ℕ → HostState → HostState → Type 0
@@ -42,6 +42,10 @@ Stops outputs report old new = (e : Failed) → Delivers {T = Unit {0}} {E = Fai
 abbrev pub pair : (first : List ℕ) (second : Option (List ℕ)) → List ℕ → List ℕ → List Output
 pair first None xs ys = record { name = first; bytes = xs } ∷ []
 pair first (Some second) xs ys = record { name = first; bytes = xs } ∷ record { name = second; bytes = ys } ∷ []
+
+-- the outputs of a stream: the head of the first, and what is made of each
+abbrev pub stream_outputs : (first : List ℕ) (second : Option (List ℕ)) (head : List ℕ) → Both → List Output
+stream_outputs first second head made = pair first second (head ++ made.first) made.second
 
 -- a flag for each output of a stream
 abbrev pub flags_of : Option (List ℕ) → Bool → List Bool

@@ -3,14 +3,25 @@ ghost use Rattle.std.specs.Prelude.{◌≡◌, ℕ, List, ◌++◌, Option, None
 ghost use Rattle.snd_host.specs.Host.{HostState, WritesAll};
 ghost use Rattle.command_frame.specs.Answer.{line_of};
 ghost use Rattle.command_frame.specs.Conduct.{WritesComplaint};
+ghost use Rattle.command_frame.specs.declared.refusals.Refusal.{Refusal};
 
-use crate::{Complaint, Refusal};
+use crate::Refusal;
 use snd_host::{Failed, Host, OutFile, write_all};
 
 /// The output that takes the complaint.
 pub const COMPLAINT: OutFile = OutFile(1);
 
-/// Writes a number between two texts to the complaint.
+/// Why the bytes of an input are refused, in a program that has a line of complaint for every refusal.
+pub trait Complaint: Sized {
+    /// The line of a refusal, with a line feed at its end.
+    ghost line: { Refusal Self → List ℕ };
+
+    /// Writes the line of a refusal, or a prefix of it where a write fails.
+    fn write_line<H: Host>(refusal: &Refusal<Self>, host: &mut H) -> Result<(), Failed>
+        ensures { WritesAll 1 (line refusal.now) (H.state host.old) (H.state host.new) result };
+}
+
+/// Writes a number between two texts to the complaint, in decimal digits.
 pub fn note_number<H: Host>(
     host: &mut H,
     head: &[u8],
@@ -25,31 +36,14 @@ pub fn note_number<H: Host>(
     write_all(host, COMPLAINT, tail)
 }
 
-/// Writes the line of a refusal.
-fn note<H: Host, C: Complaint + Drop>(host: &mut H, refusal: Refusal<C>) -> Result<(), Failed>
-    ensures { WritesAll 1 (line_of C.line (Some refusal)) (H.state host.old) (H.state host.new) result }
-{
-    match refusal {
-        Refusal::Usage => write_all(host, COMPLAINT, b"spcwave: words not understood\n"),
-        Refusal::ReadFault => write_all(host, COMPLAINT, b"spcwave: input could not be read\n"),
-        Refusal::WriteFault => write_all(
-            host,
-            COMPLAINT,
-            b"spcwave: output could not be written\n",
-        ),
-        Refusal::OutOfMemory => write_all(host, COMPLAINT, b"spcwave: out of memory\n"),
-        Refusal::Input(cause) => cause.write_line(host),
-    }
-}
-
-/// Writes the complaint of an outcome: nothing where nothing was refused.
+/// Writes the complaint of an end: the line of its refusal, or nothing where nothing was refused.
 pub fn complain<H: Host, C: Complaint + Drop>(host: &mut H, refusal: Option<Refusal<C>>)
     ensures complained { WritesComplaint (line_of C.line refusal) (H.state host.old) (H.state host.new) }
     ensures silent { refusal ≡ None → H.state host.new ≡ H.state host.old }
 {
     match refusal {
         Some(refusal) => {
-            let _ = note(host, refusal);
+            let _ = C::write_line(&refusal, host);
         }
         None => {}
     }

@@ -2,7 +2,7 @@
 ghost use Rattle.std.specs.Prelude.{◌≡◌, ◌<◌, length};
 ghost use Rattle.snd_host.specs.Host.{HostState};
 ghost use Rattle.command_frame.specs.Conduct.{CarriesOut};
-ghost use Rattle.command_frame.specs.Delivery.{Delivers};
+ghost use Rattle.command_frame.specs.Delivery.{CanDeliver, Delivers};
 ghost use Rattle.command_frame.specs.Plan.{planned_outputs, plan_makes, stream_makes};
 
 use crate::sources::NoPieces;
@@ -35,7 +35,7 @@ pub struct StreamedPlan<'a, P: Pieces + Drop> {
 
 /// Writes the output, if there is one, and then the report.
 fn deliver<H: Host>(host: &mut H, plan: &Plan<'_>) -> Result<(), Failed>
-    requires { length (H.state host.old).ended < 4294966999 }
+    requires { CanDeliver (H.state host.old) }
     ensures { Delivers (planned_outputs plan.now.output) plan.now.report.items (H.state host.old) (H.state host.new) result }
 {
     match &plan.output {
@@ -57,7 +57,7 @@ pub fn carry_out<H: Host, C: Drop>(
     host: &mut H,
     prepared: Result<Plan<'_>, Refusal<C>>,
 ) -> Option<Refusal<C>>
-    requires { length (H.state host.old).ended < 4294966999 }
+    requires { CanDeliver (H.state host.old) }
     ensures { CarriesOut plan_makes prepared.entry (H.state host.old) (H.state host.new) result }
 {
     match prepared {
@@ -74,7 +74,7 @@ pub fn carry_stream<H: Host, P: Pieces + Drop, C: Drop>(
     host: &mut H,
     prepared: Result<StreamedPlan<'_, P>, Refusal<C>>,
 ) -> Option<Refusal<C>>
-    requires { length (H.state host.old).ended < 4294966999 }
+    requires { CanDeliver (H.state host.old) }
     ensures { CarriesOut (stream_makes P.to_come P.report) prepared.entry (H.state host.old) (H.state host.new) result }
 {
     match prepared {

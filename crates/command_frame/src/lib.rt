@@ -1,5 +1,5 @@
-//! What every command of the program does in the same way: it reads its inputs and takes its memory, then it
-//! delivers its outputs and its report, and a refusal has its line of complaint.
+//! What every command of a program does in the same way: it reads its inputs and takes its memory, then it
+//! delivers its outputs and its report, and a refusal has its line of complaint. The lines are the program's own.
 #![tactic(auto)]
 
 mod complaints;
@@ -8,9 +8,9 @@ mod refusals;
 mod sources;
 mod streaming;
 
-pub use complaints::{COMPLAINT, complain, note_number};
+pub use complaints::{COMPLAINT, Complaint, complain, note_number};
 pub use delivery::{Plan, PlannedOutput, StreamedPlan, carry_out, carry_stream};
-pub use refusals::{Complaint, Refusal};
+pub use refusals::Refusal;
 pub use sources::Pieces;
 pub use std::alloc::AllocError as OutOfMemory;
 pub use streaming::{Targets, stream};

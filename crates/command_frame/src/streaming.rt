@@ -1,8 +1,8 @@
 // Two outputs that are created, written piece by piece and ended, and then the report.
 ghost use Rattle.std.specs.Prelude.{◌≡◌, ◌<◌, ◌++◌, [], length, true, Option, option_map, OnOk};
 ghost use Rattle.snd_host.specs.Host.{HostState};
-ghost use Rattle.command_frame.specs.Delivery.{Delivers};
-ghost use Rattle.command_frame.specs.Stream.{Begins, Puts, Ends, AreOpen, pair};
+ghost use Rattle.command_frame.specs.Delivery.{CanDeliver, Delivers};
+ghost use Rattle.command_frame.specs.Stream.{Begins, Puts, Ends, AreOpen, stream_outputs};
 
 use crate::Pieces;
 use snd_host::{Failed, Host, OutFile, write_all};
@@ -18,7 +18,7 @@ pub struct Targets {
 
 /// Creates the outputs.
 fn begin<H: Host>(host: &mut H, first: &str, second: Option<&str>) -> Result<Targets, Failed>
-    requires { length (H.state host.old).ended < 4294966999 }
+    requires { CanDeliver (H.state host.old) }
     ensures { Begins first.now (option_map (λ name. name.now) second.entry) (H.state host.old) (H.state host.new) result }
 {
     let first = host.create(first)?;
@@ -52,7 +52,8 @@ fn put<H: Host>(host: &mut H, targets: Targets, first: &[u8], second: &[u8]) -> 
 /// Writes all pieces.
 fn pump<H: Host, P: Pieces>(host: &mut H, targets: Targets, source: &mut P) -> Result<(), Failed>
     requires { AreOpen (H.state host.old).ended targets }
-    ensures puts { Puts targets (P.to_come source.old).first (P.to_come source.old).second (H.state host.old) (H.state host.new) result }
+    ensures puts { let made = P.to_come source.old in
+        Puts targets made.first made.second (H.state host.old) (H.state host.new) result }
     ensures report { P.report source.new ≡ P.report source.old }
     ensures is_done { OnOk result (P.is_done source.new ≡ true) }
 {
@@ -85,8 +86,9 @@ pub fn stream<H: Host, P: Pieces>(
     head: &[u8],
     source: &mut P,
 ) -> Result<(), Failed>
-    requires { length (H.state host.old).ended < 4294966999 }
-    ensures { Delivers (pair first.now (option_map (λ name. name.now) second.entry) (head.now ++ (P.to_come source.old).first) (P.to_come source.old).second) (P.report source.old) (H.state host.old) (H.state host.new) result }
+    requires { CanDeliver (H.state host.old) }
+    ensures { let outputs = stream_outputs first.now (option_map (λ name. name.now) second.entry) head.now (P.to_come source.old) in
+        Delivers outputs (P.report source.old) (H.state host.old) (H.state host.new) result }
 {
     let targets = begin(host, first, second)?;
     put(host, targets, head, &[])?;

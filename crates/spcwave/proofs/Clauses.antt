@@ -5,16 +5,17 @@ use Rattle.snd_host.specs.Host.{HostState, Files, Output}
 use Rattle.command_frame.specs.Answer.{Answer, refusal_of, outputs_of, report_of}
 use Rattle.command_frame.specs.Conduct.{Obeys}
 use Rattle.command_frame.specs.Delivery.{all_ended}
-use Rattle.command_frame.specs.Left.{Leaves, LeavesNothing, LeavesAll, Complains}
+use Rattle.command_frame.specs.Leaves.{Leaves, LeavesNothing, LeavesAll, Complains}
 use Rattle.command_frame.specs.declared.refusals.Refusal.{Refusal}
 use Rattle.command_frame.specs.declared.refusals.Refusal.TheVariants.{Usage, ReadFault, WriteFault, OutOfMemory, Input}
 use Rattle.command_frame.proofs.Leaving.{leaves, complains}
-use Rattle.spcwave.specs.declared.statuses.Cause.{Cause}
-use Rattle.spcwave.specs.declared.statuses.Cause.TheVariants.{SpcLength, SpcSignature, TableLength, BrrLength, WavForm, EncodeSize, InputTooLong}
-use Rattle.spcwave.specs.declared.statuses.Status.{Status}
-use Rattle.spcwave.specs.declared.statuses.Status.TheVariants as statuses
+use Rattle.status_lines.specs.declared.cause.Cause.{Cause}
+use Rattle.status_lines.specs.declared.cause.Cause.TheVariants.{SpcLength, SpcSignature, TableLength, BrrLength, WavForm, EncodeSize, InputTooLong, AsmLine, CodeLength, CutList, Script}
+use Rattle.status_lines.specs.declared.status.Status.{Status}
+use Rattle.status_lines.specs.declared.status.Status.TheVariants as statuses
 use Rattle.spcwave.specs.Command.{Command, usage, names_input, answer_of}
-use Rattle.spcwave.specs.Status.{status_of, answer_status, plain_end, refusal_line, cause_line}
+use Rattle.status_lines.specs.Statuses.{status_of, answer_status, plain_end}
+use Rattle.status_lines.specs.Lines.{end_line, refusal_line}
 use Rattle.spcwave.specs.Run as clause
 
 -- a status without numbers tells its end
@@ -31,6 +32,10 @@ plain_is (Some (Input (BrrLength n))) p h = absurd (cc)
 plain_is (Some (Input WavForm)) p h = cc
 plain_is (Some (Input (EncodeSize n))) p h = absurd (cc)
 plain_is (Some (Input InputTooLong)) p h = cc
+plain_is (Some (Input (AsmLine line fault))) p h = absurd (cc)
+plain_is (Some (Input (CodeLength n origin))) p h = absurd (cc)
+plain_is (Some (Input (CutList line))) p h = absurd (cc)
+plain_is (Some (Input (Script line))) p h = absurd (cc)
 
 -- an end is that of the answer, or one of three others
 abbrev IsEnd : Option (Refusal Cause) → Answer Cause → Type 0
@@ -57,6 +62,10 @@ line_end (Some (Input (BrrLength n))) a end = input_end (BrrLength n) a end
 line_end (Some (Input WavForm)) a end = refl
 line_end (Some (Input (EncodeSize n))) a end = input_end (EncodeSize n) a end
 line_end (Some (Input InputTooLong)) a end = refl
+line_end (Some (Input (AsmLine line fault))) a end = input_end (AsmLine line fault) a end
+line_end (Some (Input (CodeLength n origin))) a end = input_end (CodeLength n origin) a end
+line_end (Some (Input (CutList line))) a end = input_end (CutList line) a end
+line_end (Some (Input (Script line))) a end = input_end (Script line) a end
 
 -- an end that has the status of the answer is the answer's
 same_end : (r : Option (Refusal Cause)) (a : Answer Cause) → IsEnd r a → status_of r ≡ answer_status a → r ≡ refusal_of a
@@ -66,7 +75,7 @@ same_end r a (inr (inr (inl is))) equal = is ∙ sym (plain_is (refusal_of a) (S
 same_end r a (inr (inr (inr is))) equal = is ∙ sym (plain_is (refusal_of a) (Some OutOfMemory) (ap plain_end (sym equal ∙ ap status_of is)))
 
 module _ (command : Command) (r : Option (Refusal Cause)) (x z : HostState) (status : Status) (is : status ≡ status_of r)
-    (o : Obeys cause_line (answer_of command) (names_input command) r x z) (misread : (r ≡ Some Usage) ↔ (command ≡ usage)) where
+    (o : Obeys refusal_line (answer_of command) (names_input command) r x z) (misread : (r ≡ Some Usage) ↔ (command ≡ usage)) where
   end_of : (p : Option (Refusal Cause)) (s : Status) → plain_end s ≡ Some p → status ≡ s → r ≡ p
   end_of p s plain same = plain_is r p (ap plain_end (sym is ∙ same) ∙ plain)
 
@@ -92,9 +101,9 @@ module _ (command : Command) (r : Option (Refusal Cause)) (x z : HostState) (sta
       (subst (λ (l : List Output). Leaves o.report l (all_ended (outputs_of a)) x z) are.1
       (subst (λ (l : List Bool). Leaves o.report o.outputs l x z) are.2 left))
 
-  complains_of : (end : Option (Refusal Cause)) → r ≡ end → Complains (refusal_line end) x z
-  complains_of end same = subst (λ (e : Option (Refusal Cause)). Complains (refusal_line e) x z) same
-      (complains (refusal_line r) o.report o.complaint o.outputs o.ended x z o.made o.complains)
+  complains_of : (end : Option (Refusal Cause)) → r ≡ end → Complains (end_line end) x z
+  complains_of end same = subst (λ (e : Option (Refusal Cause)). Complains (end_line e) x z) same
+      (complains (end_line r) o.report o.complaint o.outputs o.ended x z o.made o.complains)
 
   line_is : (files : Files) → x.holds ≡ Some files → r ≡ unwrap_or (plain_end status) (refusal_of (answer_of command files))
   line_is files told = sym (ap (λ (s : Status). unwrap_or (plain_end s) (refusal_of (answer_of command files))) is ∙ line_end r (answer_of command files) (truthful files told))
@@ -120,21 +129,21 @@ module _ (command : Command) (r : Option (Refusal Cause)) (x z : HostState) (sta
   read_fault = record {
     cause = λ same. (o.read (end_of (Some ReadFault) statuses.ReadFault refl same)).0;
     input = λ same. (o.read (end_of (Some ReadFault) statuses.ReadFault refl same)).1;
-    left = λ same. refused_is ReadFault (end_of (Some ReadFault) statuses.ReadFault refl same) (λ wrong. absurd (cc));
+    leaves = λ same. refused_is ReadFault (end_of (Some ReadFault) statuses.ReadFault refl same) (λ wrong. absurd (cc));
   }
 
   pub write_fault : clause.WriteFault command x z status
   write_fault = record {
     cause = λ same. o.write (end_of (Some WriteFault) statuses.WriteFault refl same);
     accepted = λ same files told. ap status_of ((o.answered files told).written (end_of (Some WriteFault) statuses.WriteFault refl same)).0;
-    left = λ same files told.
+    leaves = λ same files told.
         let written = (o.answered files told).written (end_of (Some WriteFault) statuses.WriteFault refl same) in
-        record { report = o.report; outputs = o.outputs; flags = o.ended; left = left; reported = written.1; begun = written.2 };
+        record { report = o.report; outputs = o.outputs; flags = o.ended; leaves = left; reported = written.1; begun = written.2 };
   }
 
   pub memory : clause.Memory command x z status
   memory = record {
-    left = λ same. refused_is OutOfMemory (end_of (Some OutOfMemory) statuses.OutOfMemory refl same) (λ wrong. absurd (cc));
+    leaves = λ same. refused_is OutOfMemory (end_of (Some OutOfMemory) statuses.OutOfMemory refl same) (λ wrong. absurd (cc));
     never_usage = λ same words. other_usage r (end_of (Some OutOfMemory) statuses.OutOfMemory refl same) (misread.1 words);
   }
     where
@@ -175,9 +184,9 @@ module _ (command : Command) (r : Option (Refusal Cause)) (x z : HostState) (sta
   }
 
   -- on a steady host that has room for the line of the end
-  calm_with : (rooms : List ℕ) → x.steady ≡ Some rooms → (end : Option (Refusal Cause)) → r ≡ end → length (refusal_line end) ≤ slice_index rooms 1 → z.faults.notes ≡ x.faults.notes
+  calm_with : (rooms : List ℕ) → x.steady ≡ Some rooms → (end : Option (Refusal Cause)) → r ≡ end → length (end_line end) ≤ slice_index rooms 1 → z.faults.notes ≡ x.faults.notes
   calm_with rooms steady end same fits =
-      o.complains.steady rooms steady (subst (λ (e : Option (Refusal Cause)). length (refusal_line e) ≤ slice_index rooms 1) (sym same) fits)
+      o.complains.steady rooms steady (subst (λ (e : Option (Refusal Cause)). length (end_line e) ≤ slice_index rooms 1) (sym same) fits)
 
   pub completes_complaint : clause.CompletesComplaint command x z status
   completes_complaint = record {

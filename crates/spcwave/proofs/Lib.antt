@@ -1,9 +1,4 @@
-pub mod CheckSums
+-- Clauses: the clauses of a run, from what its command did.
 pub mod Clauses
-pub mod Commands
-pub mod Encodings
+-- OptionWords: the options of `render`, word by word.
 pub mod OptionWords
-pub mod Readings
-pub mod Signatures
-pub mod Sounds
-pub mod Unread

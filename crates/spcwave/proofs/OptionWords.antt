@@ -1,16 +1,8 @@
 -- The options of `render`, word by word.
 use Rattle.std.proofs.Common.{◌≡◌, sym, ℕ, ◌-◌, ◌<◌, ◌≤◌, ◌^◌, List, [], ◌∷◌, length, take, drop, map, get_or, Some, arith}
-use Rattle.std.proofs.Math.Nat.{pow-le-pow_right}
 use Rattle.std.proofs.lemmas.List.{take_rest}
-use Rattle.spcwave.specs.Options.{Options, options_with, options_from}
-
--- a number of at most nine digits
-pub below_power : (v i : ℕ) → v < 10 ^ i → i < 10 → v < 1000000000
-below_power v i small few =
-    let ten : 0 < 10 = omega arith in
-    let within : i ≤ 9 = omega arith in
-    let top : 10 ^ i ≤ 10 ^ 9 = pow-le-pow_right {n = 10} ten {i = i} {j = 9} within in
-    omega (arith, top)
+use Rattle.command_render.specs.Options.{Options}
+use Rattle.spcwave.specs.Options.{options_with, options_from}
 
 -- two words more are one option more
 pub next_options : {X : Type 0} (f : X → List ℕ) (o : Options) (rest : List X) (name value : X) → 2 ≤ length rest → name ≡ get_or rest 0 name → value ≡ get_or rest 1 value →

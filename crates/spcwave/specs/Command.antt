@@ -4,14 +4,15 @@ use Rattle.std.specs.Str.{bytes_eq}
 use Rattle.snd_host.specs.Host.{Files}
 use Rattle.command_frame.specs.Answer.{Answer, refused}
 use Rattle.command_frame.specs.declared.refusals.Refusal.TheVariants.{Usage}
-use Rattle.spcwave.specs.declared.statuses.Cause.{Cause}
-use Rattle.spcwave.specs.Brr.{brr_answer}
-use Rattle.spcwave.specs.Encode.{encode_answer}
-use Rattle.spcwave.specs.Check.{check_answer}
-use Rattle.spcwave.specs.Demo.{demo_answer}
-use Rattle.spcwave.specs.Options.{Options, is_name, options_in, demo_number_in}
-use Rattle.spcwave.specs.Render.{render_answer}
-use Rattle.spcwave.specs.Info.{info_answer}
+use Rattle.status_lines.specs.declared.cause.Cause.{Cause}
+use Rattle.command_brr.specs.Brr.{brr_answer}
+use Rattle.command_encode.specs.Encode.{encode_answer}
+use Rattle.command_check.specs.Check.{check_answer}
+use Rattle.command_demo.specs.Demo.{demo_answer}
+use Rattle.command_render.specs.Options.{Options}
+use Rattle.spcwave.specs.Options.{is_name, options_in, demo_number_in}
+use Rattle.command_render.specs.Render.{render_answer}
+use Rattle.command_info.specs.Info.{info_answer}
 
 -- a command with its names
 pub data Command : Type 0 where
@@ -29,17 +30,17 @@ pub data Command : Type 0 where
   -- tells sums over the frames of the demo file of a number
   check : (number : ℕ) → Command
 
--- the words behind `brr`
+-- the words after `brr`
 abbrev pub brr_command : List (List ℕ) → Command
 brr_command (input ∷ output ∷ []) = if is_name input && is_name output then brr input output else usage
 brr_command words = usage
 
--- the words behind `info`
+-- the words after `info`
 abbrev pub info_command : List (List ℕ) → Command
 info_command (input ∷ []) = if is_name input then info input else usage
 info_command words = usage
 
--- the words behind `encode`
+-- the words after `encode`
 abbrev pub encode_command : List (List ℕ) → Command
 encode_command (input ∷ output ∷ []) = if is_name input && is_name output then encode input output false else usage
 encode_command (input ∷ output ∷ option ∷ []) =
@@ -56,7 +57,7 @@ abbrev pub render_with : (file table wave : List ℕ) → Option Options → Com
 render_with file table wave None = usage
 render_with file table wave (Some options) = if have_same_name wave options.trace then usage else render file table wave options
 
--- the words behind `render`
+-- the words after `render`
 abbrev pub render_command : List (List ℕ) → Command
 render_command (file ∷ table ∷ wave ∷ words) =
     if is_name file && (is_name table && is_name wave) then render_with file table wave (options_in words) else usage
@@ -67,7 +68,7 @@ abbrev pub demo_with : (number : Option ℕ) → (output : List ℕ) → Command
 demo_with None output = usage
 demo_with (Some number) output = demo number output
 
--- the words behind `demo`
+-- the words after `demo`
 abbrev pub demo_command : List (List ℕ) → Command
 demo_command (number ∷ output ∷ []) = if is_name output then demo_with (demo_number_in number) output else usage
 demo_command words = usage
@@ -76,7 +77,7 @@ abbrev pub check_with : (number : Option ℕ) → Command
 check_with None = usage
 check_with (Some number) = check number
 
--- the words behind `check`
+-- the words after `check`
 abbrev pub check_command : List (List ℕ) → Command
 check_command (number ∷ []) = check_with (demo_number_in number)
 check_command words = usage

@@ -1,21 +1,12 @@
 -- The options of `render`, as words say them.
-use Rattle.std.specs.Prelude.{ℕ, ◌==◌, ◌&&◌, not, Bool, false, List, [], ◌∷◌, length, slice_index, Option, Some, None, Result, Ok, Err, codes, nat_lt, nat_le, if◌then◌else◌}
-use Rattle.std.specs.List.{list_all}
+use Rattle.std.specs.Prelude.{ℕ, ◌==◌, ◌&&◌, not, Bool, false, List, [], ◌∷◌, slice_index, Option, Some, None, Result, Ok, Err, codes, nat_le, if◌then◌else◌}
 use Rattle.std.specs.Option.{option_map}
 use Rattle.std.specs.Str.{bytes_eq}
-use Rattle.std.specs.Char.{is_ascii_digit}
 use Rattle.hex.specs.Hex.{decode_sized}
 use Rattle.hex.specs.declared.error.FromHexError.{FromHexError}
-use Rattle.spc_form.specs.Tags.{decimal_value}
-
--- each option with its value, where it was given
-pub record Options : Type 0 where
-  -- the number of samples
-  pub samples : Option ℕ
-  -- the name of the trace
-  pub trace : Option (List ℕ)
-  -- the voices of the trace: bit v is voice v
-  pub voices : Option ℕ
+use Rattle.number_text.specs.Decimals.{decimal_value, is_number}
+use Rattle.render_files.specs.RenderFiles.{hour}
+use Rattle.command_render.specs.Options.{Options}
 
 abbrev pub no_options : Options
 no_options = record { samples = None; trace = None; voices = None }
@@ -25,17 +16,17 @@ abbrev pub is_name : List ℕ → Bool
 is_name [] = false
 is_name (first ∷ word) = not (first == 45)
 
--- one decimal digit or more, and no more than so many
-abbrev pub is_number : (most : ℕ) → List ℕ → Bool
-is_number most word = nat_lt 0 (length word) && (nat_le (length word) most && list_all is_ascii_digit word)
+-- the greatest number of a demo file
+abbrev pub greatest_number : ℕ
+greatest_number = 4294967295
 
--- the number of samples that a word says in 1 to 9 digits: an hour of sound at most
+-- the number of samples that a word says in 1 to 9 digits: an hour of frames at most
 abbrev pub count_in : List ℕ → Option ℕ
-count_in word = if is_number 9 word && nat_le (decimal_value word) 115200000 then Some (decimal_value word) else None
+count_in word = if is_number 9 word && nat_le (decimal_value word) hour then Some (decimal_value word) else None
 
 -- the number of a demo file that a word says in 1 to 10 digits: below 2 ^ 32
 abbrev pub demo_number_in : List ℕ → Option ℕ
-demo_number_in word = if is_number 10 word && nat_le (decimal_value word) 4294967295 then Some (decimal_value word) else None
+demo_number_in word = if is_number 10 word && nat_le (decimal_value word) greatest_number then Some (decimal_value word) else None
 
 -- the name that a word says
 abbrev pub name_in : List ℕ → Option (List ℕ)
@@ -63,7 +54,7 @@ options_with options name value =
     else if bytes_eq name (codes "--voices") then option_map (λ voices. record options { voices = Some voices }) (once options.voices (voices_in value))
     else None
 
--- the options that words say behind others: names and values in turn
+-- the options that words say after others: names and values in turn
 abbrev pub options_from : Option Options → List (List ℕ) → Option Options
 options_from None words = None
 options_from (Some options) [] = Some options

@@ -1,14 +1,19 @@
 -- What a run of the program does. The answer meant is that of the command, by what the names hold at the call.
-use Rattle.std.specs.Prelude.{◌≡◌, ◌≢◌, ◌↔◌, ◌+◌, ◌≤◌, ◌⊎◌, length, IsTrue, IsSome, slice_index}
+use Rattle.std.specs.Prelude.{◌≡◌, ◌≢◌, ◌↔◌, ◌+◌, ◌<◌, ◌≤◌, ◌⊎◌, length, IsTrue, IsSome, slice_index}
 use Rattle.snd_host.specs.Host.{HostState, IfTold, Rose}
 use Rattle.command_frame.specs.Answer.{outputs_of, report_of}
 use Rattle.command_frame.specs.Conduct.{NoneRose}
 use Rattle.command_frame.specs.Delivery.{HaveRooms}
-use Rattle.command_frame.specs.Left.{LeavesNothing, LeavesAll, LeavesPart, Complains}
-use Rattle.spcwave.specs.declared.statuses.Status.{Status}
-use Rattle.spcwave.specs.declared.statuses.Status.TheVariants as statuses
+use Rattle.command_frame.specs.Leaves.{LeavesNothing, LeavesAll, LeavesPart, Complains}
+use Rattle.status_lines.specs.declared.status.Status.{Status}
+use Rattle.status_lines.specs.declared.status.Status.TheVariants as statuses
 use Rattle.spcwave.specs.Command.{Command, usage, names_input, answer_of}
-use Rattle.spcwave.specs.Status.{answer_status, plain_end, refusal_line, status_line}
+use Rattle.status_lines.specs.Statuses.{answer_status, plain_end}
+use Rattle.status_lines.specs.Lines.{end_line, status_line}
+
+-- Fewer than 4,000,000,000 outputs were created on the host.
+abbrev pub HasFewOutputs : HostState → Type 0
+HasFewOutputs state = length state.ended < 4000000000
 
 -- What stands on the host where the status is the answer's, and the complaint of every status.
 pub record Content (command : Command) (old new : HostState) (status : Status) : Type 0 where
@@ -20,17 +25,17 @@ pub record Content (command : Command) (old new : HostState) (status : Status) :
 pub record ReadFault (command : Command) (old new : HostState) (status : Status) : Type 0 where
   pub cause : status ≡ statuses.ReadFault → Rose old.faults.inputs new.faults.inputs
   pub input : status ≡ statuses.ReadFault → IsTrue (names_input command)
-  pub left : status ≡ statuses.ReadFault → LeavesNothing old new
+  pub leaves : status ≡ statuses.ReadFault → LeavesNothing old new
 
 -- An output or the report could not be written.
 pub record WriteFault (command : Command) (old new : HostState) (status : Status) : Type 0 where
   pub cause : status ≡ statuses.WriteFault → Rose old.faults.outputs new.faults.outputs
   pub accepted : status ≡ statuses.WriteFault → IfTold old.holds (λ files. answer_status (answer_of command files) ≡ statuses.Ok)
-  pub left : status ≡ statuses.WriteFault → IfTold old.holds (λ files. LeavesPart (answer_of command files) old new)
+  pub leaves : status ≡ statuses.WriteFault → IfTold old.holds (λ files. LeavesPart (answer_of command files) old new)
 
 -- There was no memory.
 pub record Memory (command : Command) (old new : HostState) (status : Status) : Type 0 where
-  pub left : status ≡ statuses.OutOfMemory → LeavesNothing old new
+  pub leaves : status ≡ statuses.OutOfMemory → LeavesNothing old new
   pub never_usage : status ≡ statuses.OutOfMemory → command ≢ usage
 
 -- Every status but those three is the answer's.
@@ -65,7 +70,7 @@ pub record CompletesComplaint (command : Command) (old new : HostState) (status 
       length (status_line status (answer_of command files)) ≤ slice_index rooms 1 → new.faults.notes ≡ old.faults.notes))
   -- A status without numbers has its line, whatever is told of the inputs.
   pub calm_plain : IfTold old.steady (λ rooms. IfTold (plain_end status) (λ end.
-      length (refusal_line end) ≤ slice_index rooms 1 → new.faults.notes ≡ old.faults.notes))
+      length (end_line end) ≤ slice_index rooms 1 → new.faults.notes ≡ old.faults.notes))
 
 -- What holds on every host, whether it tells anything or not.
 pub record Untold (command : Command) (old new : HostState) (status : Status) : Type 0 where
@@ -74,4 +79,4 @@ pub record Untold (command : Command) (old new : HostState) (status : Status) : 
   -- A refusal other than WriteFault leaves nothing.
   pub refused : status ≢ statuses.Ok → status ≢ statuses.WriteFault → LeavesNothing old new
   -- A status without numbers has its line.
-  pub complaint : IfTold (plain_end status) (λ end. Complains (refusal_line end) old new)
+  pub complaint : IfTold (plain_end status) (λ end. Complains (end_line end) old new)

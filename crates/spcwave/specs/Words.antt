@@ -1,24 +1,10 @@
 -- What the words that were read mean.
-use Rattle.std.specs.Prelude.{ℕ, ◌≤◌, Option, IfSome}
-use Rattle.std.specs.Option.{option_map}
 use Rattle.spcwave.specs.Command as command
-use Rattle.spcwave.specs.Options.{Options}
-use Rattle.spcwave.specs.declared.options.RenderOptions.{RenderOptions}
+use Rattle.command_render.specs.Options.{options_of, IsWithinHour}
 use Rattle.spcwave.specs.declared.words.Command.{Command}
 use Rattle.spcwave.specs.declared.words.Command.TheVariants.{Usage, Brr, Info, Encode, Render, Demo, Check}
 
--- the options that were read
-abbrev pub options_of : RenderOptions → Options
-options_of options = record {
-  samples = options.samples;
-  trace = option_map (λ name. name.now) options.trace;
-  voices = options.voices;
-}
-
--- a number of samples that was given is an hour of sound at most
-abbrev pub IsWithinHour : Option ℕ → Type 0
-IsWithinHour samples = IfSome samples (λ samples. samples ≤ 115200000)
-
+-- an hour of frames at most, where a number of samples is given
 abbrev pub AreWithinHour : Command → Type 0
 AreWithinHour Usage = Unit {0}
 AreWithinHour (Brr input output) = Unit {0}

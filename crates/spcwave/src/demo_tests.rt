@@ -1,6 +1,7 @@
 // Demo files, made and checked by the program over a host in memory.
-use crate::statuses::Status;
-use crate::test_support::{rendered, rendered_in_room, run_words};
+use crate::test_support::{rendered, run_words};
+use command_tests::ROOM;
+use status_lines::Status;
 use std::test::Fail;
 
 /// Sums over the frames of a sound file.
@@ -30,27 +31,18 @@ fn sums_of_wave(wave: &[u8]) -> Summed {
     sums
 }
 
-#[test]
-fn the_demo_file_of_seven_is_made(rt: HostRuntime) -> Result<(), Fail> {
-    let made = run_words(rt.alloc(), &["demo", "7", "OUT"], &[])?;
-    let file = made.output();
-    assert!(rt; made.is_done(file, "bytes 66048\n") && file.len() == 66048);
-    assert!(rt; file.get(0x1100..0x1102) == Some(b"\x90\xe9".as_slice()));
-    Ok(())
-}
-
-/// The demo file of 7 has no tags, so it lasts three minutes.
+/// The demo file of 7 has tags, but no seconds among them, so it lasts three minutes.
 #[test]
 fn the_demo_file_of_seven_is_rendered_whole(rt: HostRuntime) -> Result<(), Fail> {
     let made = run_words(rt.alloc(), &["demo", "7", "OUT"], &[])?;
-    let played = rendered_in_room(rt.alloc(), made.output(), 23040044)?;
+    let played = rendered(rt.alloc(), made.first(), &[], 23040044)?;
     assert!(rt; played.status() == Status::Ok && played.complaint().is_empty());
     assert!(rt; played.report().starts_with(b"samples 5760000\n"));
-    assert!(rt; played.output().len() == 23040044);
+    assert!(rt; played.first().len() == 23040044);
     Ok(())
 }
 
-/// Whether a report on so many samples goes on as the other does behind its sums.
+/// Whether a report on so many samples goes on as the other does after its sums.
 fn have_same_batches(played: &[u8], checked: &[u8]) -> bool {
     let sums = b"samples 320000\nleft -179354194\nright -2380264093\nmix 4229043831\n";
     match checked.strip_prefix(sums) {
@@ -64,9 +56,9 @@ fn have_same_batches(played: &[u8], checked: &[u8]) -> bool {
 fn the_check_of_seven_is_that_of_its_frames(rt: HostRuntime) -> Result<(), Fail> {
     let alloc = rt.alloc();
     let made = run_words(alloc, &["demo", "7", "OUT"], &[])?;
-    let played = rendered(alloc, made.output(), &["--samples", "320000"])?;
-    assert!(rt; played.status() == Status::Ok && played.output().len() == 1280044);
-    let sums = sums_of_wave(played.output().get(44..).unwrap_or(&[]));
+    let played = rendered(alloc, made.first(), &["--samples", "320000"], ROOM)?;
+    assert!(rt; played.status() == Status::Ok && played.first().len() == 1280044);
+    let sums = sums_of_wave(played.first().get(44..).unwrap_or(&[]));
     assert!(rt; sums.left == -179354194 && sums.right == -2380264093);
     assert!(rt; sums.mix == 4229043831);
     let checked = run_words(alloc, &["check", "7"], &[])?;

@@ -180,7 +180,7 @@ impl<'r, R: Files, O: Write + Drop, E: Write + Drop> Host for DiskHost<'r, R, O,
 mod tests {
     use super::DiskHost;
     use crate::run::run;
-    use crate::statuses::Status;
+    use status_lines::Status;
     use std::test::Fail;
     use std::{env, fs};
 

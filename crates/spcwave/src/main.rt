@@ -1,47 +1,27 @@
 //! Renders music of the SPC700 and its S-DSP to sound files: the program, over any host and over real files.
 #![tactic(auto)]
 
-mod batches;
-mod brr;
-mod byte_room;
-mod check;
-mod demo;
 #[cfg(test)]
 mod demo_tests;
 mod disk;
-mod encode;
-#[cfg(test)]
-mod encode_tests;
-mod info;
-mod inputs;
-#[cfg(test)]
-mod lag_tests;
 mod options;
-mod printing;
-mod render;
-#[cfg(test)]
-mod render_tests;
 mod run;
-mod sound;
-mod statuses;
 #[cfg(test)]
 mod test_support;
 #[cfg(test)]
 mod tests;
-#[cfg(test)]
-mod trace_tests;
 mod words;
 
 use crate::disk::DiskHost;
 use crate::run::run;
-use crate::statuses::{Cause, Status, status_for};
 use command_frame::{Refusal, complain};
 use snd_host::Host;
+use status_lines::{Cause, Status, status_for};
 use std::alloc::Global;
 use std::process::ExitCode;
 use std::{env, io};
 
-/// The words behind the program's name.
+/// The words after the program's name.
 fn words_of(alloc: Global, rt: &(impl std::rt::Env + AllocGlobal)) -> io::Result<Vec<String>> {
     let mut words = Vec::new(alloc);
     for word in env::args(rt)?.skip(1) {

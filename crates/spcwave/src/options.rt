@@ -1,24 +1,16 @@
 // The options of `render`.
-ghost use Rattle.std.specs.Prelude.{◌≡◌, ◌^◌, ◌<◌, ◌≤◌, All, length, map, string_bytes, option_map, true, IfSome};
-ghost use Rattle.std.specs.Char.{IsAsciiDigit, is_ascii_digit};
-ghost use Rattle.std.specs.List.{list_all};
-ghost use Rattle.spc_form.specs.Tags.{decimal_value};
-ghost use Rattle.spcwave.specs.Options.{is_name, is_number, count_in, demo_number_in, name_in, voices_in, options_with, options_in};
-ghost use Rattle.spcwave.specs.Words.{options_of, IsWithinHour};
+ghost use Rattle.std.specs.Prelude.{◌≡◌, map, string_bytes, option_map, true, IfSome};
+ghost use Rattle.command_render.specs.Options.{options_of, IsWithinHour};
+ghost use Rattle.spcwave.specs.Options.{is_name, count_in, demo_number_in, name_in, voices_in, options_with, options_in};
 
-/// The options with their values, where they were given.
-#[derive(Clone, Copy)]
-pub struct RenderOptions<'a> {
-    /// The number of samples.
-    pub samples: Option<u32>,
-    /// The name of the trace.
-    pub trace: Option<&'a str>,
-    /// The voices of the trace: bit v is voice v.
-    pub voices: Option<u8>,
-}
+use command_render::RenderOptions;
+use number_text::{decimal_value, is_number};
 
-/// The greatest number of samples: an hour of sound.
+/// The greatest number of samples: an hour of frames.
 const HOUR: u64 = 115_200_000;
+
+/// The greatest number of a demo file.
+const GREATEST_NUMBER: u64 = 4294967295;
 
 /// Whether a word may name a file.
 pub fn is_name(word: &str) -> bool
@@ -28,33 +20,6 @@ pub fn is_name(word: &str) -> bool
         [] => false,
         [first, ..] => *first != b'-',
     }
-}
-
-/// Whether all bytes are decimal digits.
-fn are_digits(word: &[u8]) -> bool
-    ensures { result ≡ list_all is_ascii_digit word.now }
-{
-    word.iter().all(|byte| byte.is_ascii_digit())
-}
-
-/// Whether a word is one decimal digit or more, and no more than so many.
-fn is_number(most: usize, word: &[u8]) -> bool
-    ensures { result ≡ is_number most word.now }
-{
-    !word.is_empty() && word.len() <= most && are_digits(word)
-}
-
-/// The number that digits write.
-fn decimal_value(digits: &[u8]) -> u64
-    requires few { length digits.now ≤ 10 }
-    requires digits { All IsAsciiDigit digits.now }
-    ensures value { result ≡ decimal_value digits.now }
-{
-    let mut value = 0u64;
-    for digit in digits {
-        value = 10 * value + u64::from(*digit - b'0');
-    }
-    value
 }
 
 /// The number of samples that a word says.
@@ -81,7 +46,7 @@ pub fn demo_number_in(word: &[u8]) -> Option<u32>
         return None;
     }
     let number = decimal_value(word);
-    if number <= 4294967295 {
+    if number <= GREATEST_NUMBER {
         Some(number as u32)
     } else {
         None

@@ -1,25 +1,25 @@
 // The whole program over any host.
-ghost use Rattle.std.specs.Prelude.{◌≡◌, ◌<◌, ◌↔◌, length, map, string_bytes};
+ghost use Rattle.std.specs.Prelude.{◌≡◌, ◌↔◌, map, string_bytes};
 ghost use Rattle.snd_host.specs.Host.{HostState};
 ghost use Rattle.command_frame.specs.Conduct.{Attempts};
 ghost use Rattle.spcwave.specs.Command.{command_of, usage, names_input, answer_of};
-ghost use Rattle.spcwave.specs.Run.{Content, ReadFault, WriteFault, Memory, IsTruthful, CompletesCalmly, CompletesInputs, CompletesOutputs, CompletesComplaint, Untold};
+ghost use Rattle.spcwave.specs.Run.{HasFewOutputs, Content, ReadFault, WriteFault, Memory, IsTruthful, CompletesCalmly, CompletesInputs, CompletesOutputs, CompletesComplaint, Untold};
 
-use crate::brr::brr;
-use crate::check::check;
-use crate::demo::demo;
-use crate::encode::encode;
-use crate::info::info;
-use crate::render::render;
-use crate::statuses::{Cause, Status, status_for};
 use crate::words::{Command, read_words};
+use command_brr::brr;
+use command_check::check;
+use command_demo::demo;
+use command_encode::encode;
 use command_frame::{Refusal, complain};
+use command_info::info;
+use command_render::render;
 use snd_host::Host;
+use status_lines::{Cause, Status, status_for};
 use std::alloc::Global;
 
 /// Does what the words say, but for the complaint.
 fn attempt<H: Host>(alloc: Global, words: &[String], host: &mut H) -> Option<Refusal<Cause>>
-    requires { length (H.state host.old).ended < 4294966999 }
+    requires { HasFewOutputs (H.state host.old) }
     ensures attempts { let command = command_of (map string_bytes words.now) in
         Attempts (answer_of command) (names_input command) result (H.state host.old) (H.state host.new) }
     ensures misread { (result ≡ Some Refusal.Usage) ↔ (command_of (map string_bytes words.now) ≡ usage) }
@@ -44,12 +44,12 @@ fn attempt<H: Host>(alloc: Global, words: &[String], host: &mut H) -> Option<Ref
     }
 }
 
-/// Does what the words say, and answers how it ended. `words` are those behind the program's name.
+/// Does what the words say, and answers how it ended. `words` are those after the program's name.
 ///
 /// All inputs are read and all memory is taken before the first output is created. A refusal writes one line of
 /// complaint; only where an output could not be written do parts of outputs stay behind.
 pub fn run<H: Host>(alloc: Global, words: &[String], host: &mut H) -> Status
-    requires { length (H.state host.old).ended < 4000000000 }
+    requires { HasFewOutputs (H.state host.old) }
 
     // What stands where the status is the answer's, and the line of complaint.
     ensures content { Content (command_of (map string_bytes words.now)) (H.state host.old) (H.state host.new) result }

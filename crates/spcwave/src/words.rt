@@ -1,9 +1,11 @@
 // The words of the command line.
 ghost use Rattle.std.specs.Prelude.{◌≡◌, map, string_bytes, option_map, IfSome};
 ghost use Rattle.spcwave.specs.Command.{command_of, brr_command, info_command, encode_command, have_same_name, render_with, render_command, demo_command, check_command};
-ghost use Rattle.spcwave.specs.Words.{meaning_of, options_of, IsWithinHour, AreWithinHour};
+ghost use Rattle.command_render.specs.Options.{options_of, IsWithinHour};
+ghost use Rattle.spcwave.specs.Words.{meaning_of, AreWithinHour};
 
-use crate::options::{RenderOptions, demo_number_in, is_name, read_options};
+use crate::options::{demo_number_in, is_name, read_options};
+use command_render::RenderOptions;
 
 /// A command with its names.
 #[derive(Clone, Copy)]
@@ -36,7 +38,7 @@ pub enum Command<'a> {
     },
 }
 
-/// Reads the words behind `brr`.
+/// Reads the words after `brr`.
 fn read_brr(words: &[String]) -> Command<'_>
     ensures meaning { meaning_of result ≡ brr_command (map string_bytes words.now) }
     ensures within_hour { AreWithinHour result }
@@ -50,7 +52,7 @@ fn read_brr(words: &[String]) -> Command<'_>
     }
 }
 
-/// Reads the words behind `info`.
+/// Reads the words after `info`.
 fn read_info(words: &[String]) -> Command<'_>
     ensures meaning { meaning_of result ≡ info_command (map string_bytes words.now) }
     ensures within_hour { AreWithinHour result }
@@ -63,7 +65,7 @@ fn read_info(words: &[String]) -> Command<'_>
     }
 }
 
-/// Reads the words behind `encode`.
+/// Reads the words after `encode`.
 fn read_encode(words: &[String]) -> Command<'_>
     ensures meaning { meaning_of result ≡ encode_command (map string_bytes words.now) }
     ensures within_hour { AreWithinHour result }
@@ -121,7 +123,7 @@ fn render_with<'a>(
     }
 }
 
-/// Reads the words behind `render`.
+/// Reads the words after `render`.
 fn read_render(words: &[String]) -> Command<'_>
     ensures meaning { meaning_of result ≡ render_command (map string_bytes words.now) }
     ensures within_hour { AreWithinHour result }
@@ -140,7 +142,7 @@ fn read_render(words: &[String]) -> Command<'_>
     }
 }
 
-/// Reads the words behind `demo`.
+/// Reads the words after `demo`.
 fn read_demo(words: &[String]) -> Command<'_>
     ensures meaning { meaning_of result ≡ demo_command (map string_bytes words.now) }
     ensures within_hour { AreWithinHour result }
@@ -157,7 +159,7 @@ fn read_demo(words: &[String]) -> Command<'_>
     }
 }
 
-/// Reads the words behind `check`.
+/// Reads the words after `check`.
 fn read_check(words: &[String]) -> Command<'_>
     ensures meaning { meaning_of result ≡ check_command (map string_bytes words.now) }
     ensures within_hour { AreWithinHour result }

@@ -1,6 +1,7 @@
 use Rattle.std.proofs.Common.{◌≡◌, ◌∙◌, sym, ap, ◌-◌, Option, Some, None, length, take, drop, map, string_bytes, Global}
-use Rattle.spcwave.specs.Options.{Options, options_with, options_from}
-use Rattle.spcwave.specs.Words.{options_of}
+use Rattle.command_render.specs.Options.{Options}
+use Rattle.spcwave.specs.Options.{options_with, options_from}
+use Rattle.command_render.specs.Options.{options_of}
 use Rattle.spcwave.proofs.OptionWords.{next_options}
 use Rattle.spcwave.proofs.options.read_options.Goals as goal
 

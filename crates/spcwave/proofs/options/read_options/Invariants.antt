@@ -1,6 +1,6 @@
 use Rattle.std.proofs.Common.{◌≡◌, Some, length, map, string_bytes}
 use Rattle.spcwave.specs.Options.{options_from, options_in}
-use Rattle.spcwave.specs.Words.{options_of, IsWithinHour}
+use Rattle.command_render.specs.Options.{options_of, IsWithinHour}
 use Rattle.spcwave.proofs.options.read_options.Given as goal
 
 -- the options so far, and those that are left

@@ -1,12 +1,12 @@
 use Rattle.command_frame.proofs.Obeying.{obeys}
-use Rattle.spcwave.specs.Status.{cause_line}
+use Rattle.status_lines.specs.Lines.{refusal_line}
 use Rattle.spcwave.proofs.Clauses as clauses
 use Rattle.spcwave.proofs.run.run.Goals as goal
 
 pub returns : goal.returns
 returns g c =
     let attempt = c.attempt-refusal.ensures in
-    let o = obeys cause_line _ _ c.attempt-refusal.result _ _ _ attempt.attempts c.complain.ensures.complained c.complain.ensures.silent in
+    let o = obeys refusal_line _ _ c.attempt-refusal.result _ _ _ attempt.attempts c.complain.ensures.complained c.complain.ensures.silent in
     record {
       content = clauses.content _ _ _ _ _ c.status_for.ensures o attempt.misread;
       read_fault = clauses.read_fault _ _ _ _ _ c.status_for.ensures o attempt.misread;

@@ -1,0 +1,2 @@
+-- Lengths: bytes that are no blocks are refused.
+pub mod Lengths

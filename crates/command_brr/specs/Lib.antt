@@ -1,0 +1,2 @@
+-- what `brr` answers
+pub mod Brr

@@ -1,0 +1,8 @@
+//! The command `brr`: it decodes blocks of BRR to a sound file of one channel.
+#![tactic(auto)]
+
+mod command;
+#[cfg(test)]
+mod tests;
+
+pub use command::brr;

@@ -1,0 +1,97 @@
+// Runs of `brr` over a host in memory.
+use crate::brr;
+use command_tests::{Outcome, ROOM, host_with};
+use status_lines::Status;
+use std::alloc::Global;
+use std::test::Fail;
+
+/// One block: its first digit is 1 at shift 12, the others are 0.
+const BLOCK: [u8; 9] = [0xc1, 0x10, 0, 0, 0, 0, 0, 0, 0];
+
+/// The 16 samples of that block: 4096, and then zeros.
+const BLOCK_WAV: [u8; 76] =
+    *b"RIFF\x44\0\0\0WAVEfmt \x10\0\0\0\x01\0\x01\0\0\x7d\0\0\0\xfa\0\0\x02\0\x10\0data\x20\0\0\0\
+    \0\x10\0\0\0\0\0\0\0\0\0\0\0\0\0\0\0\0\0\0\0\0\0\0\0\0\0\0\0\0\0\0";
+
+/// Decodes an input, where the calls of these numbers fail.
+fn decoded(alloc: Global, input: &[u8], failing: &[u32]) -> Result<Outcome, Fail> {
+    let mut host = host_with(alloc, &[("IN", input)], failing, ROOM)?;
+    let refusal = brr(alloc, &mut host, "IN", "OUT");
+    Ok(Outcome::of(refusal, host))
+}
+
+#[test]
+fn one_block_is_decoded(rt: HostRuntime) -> Result<(), Fail> {
+    let outcome = decoded(rt.alloc(), &BLOCK, &[])?;
+    assert!(rt; outcome.is_done(&BLOCK_WAV, "blocks 1 samples 16\n"));
+    Ok(())
+}
+
+/// Decodes so many zeros.
+fn decoded_zeros(alloc: Global, length: usize) -> Result<Outcome, Fail> {
+    let input = vec![in alloc; 0u8; length]?;
+    decoded(alloc, input.as_slice(), &[])
+}
+
+#[test]
+fn the_greatest_length_is_decoded(rt: HostRuntime) -> Result<(), Fail> {
+    let outcome = decoded_zeros(rt.alloc(), 65529)?;
+    assert!(rt; outcome.status() == Status::Ok && outcome.first().len() == 233036);
+    assert!(rt; outcome.complaint().is_empty() && !outcome.report().is_empty());
+    Ok(())
+}
+
+/// Lengths that are not those of blocks.
+const LENGTHS: &[(usize, Status, &str)] = &[
+    (
+        0,
+        Status::BrrLength,
+        "spcwave: length 0 is not that of BRR blocks\n",
+    ),
+    (
+        8,
+        Status::BrrLength,
+        "spcwave: length 8 is not that of BRR blocks\n",
+    ),
+    (
+        10,
+        Status::BrrLength,
+        "spcwave: length 10 is not that of BRR blocks\n",
+    ),
+    (
+        65538,
+        Status::BrrLength,
+        "spcwave: length 65538 is not that of BRR blocks\n",
+    ),
+    (
+        1048577,
+        Status::InputTooLong,
+        "spcwave: input is too long\n",
+    ),
+];
+
+#[test]
+fn other_lengths_are_refused(rt: HostRuntime) -> Result<(), Fail> {
+    for (length, wanted, line) in LENGTHS {
+        let outcome = decoded_zeros(rt.alloc(), *length)?;
+        assert!(rt; outcome.is_refused(*wanted, line), "at {length}");
+    }
+    Ok(())
+}
+
+#[test]
+fn each_call_of_the_host_may_fail(rt: HostRuntime) -> Result<(), Fail> {
+    // The input is opened and read twice; then the output is created, written and ended, and the report is written.
+    let whole = decoded(rt.alloc(), &BLOCK, &[])?;
+    assert_eq!(rt; whole.calls(), 7);
+    for call in 0..7 {
+        let outcome = decoded(rt.alloc(), &BLOCK, &[call])?;
+        let holds = if call < 3 {
+            outcome.is_unread(call)
+        } else {
+            outcome.is_cut_off(&whole) && (outcome.first().len() == 76) == (call > 4)
+        };
+        assert!(rt; holds, "at {call}");
+    }
+    Ok(())
+}

@@ -1,0 +1,2 @@
+-- CheckSums: the sums of a check fit into 64 bits.
+pub mod CheckSums

@@ -1,0 +1,2 @@
+-- what `check` answers
+pub mod Check

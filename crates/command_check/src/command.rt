@@ -1,0 +1,118 @@
+// The command `check`: sums over the frames of a demo file, and the counts of its batches.
+ghost use Rattle.std.specs.Prelude.{◌≡◌, ◌≤◌, IfOk, length, false};
+ghost use Rattle.sound_bus.specs.DspChip.{dsp_chip};
+ghost use Rattle.render_core.specs.RenderState.{frames_to_come, counts_to_come};
+ghost use Rattle.snd_host.specs.Host.{HostState, Files};
+ghost use Rattle.command_frame.specs.Answer.{done};
+ghost use Rattle.command_frame.specs.Conduct.{Plans, Attempts};
+ghost use Rattle.command_frame.specs.Delivery.{CanDeliver};
+ghost use Rattle.command_frame.specs.Plan.{plan_makes};
+ghost use Rattle.command_check.specs.Check.{checked_samples, sums_of, demo_frames, demo_counts, check_report, check_answer};
+
+use crate::sums::{Sums, sums_with_all};
+use command_frame::{OutOfMemory, Plan, Refusal, carry_out};
+use dsp_core::Dsp;
+use gauss_table::GaussTable;
+use render_core::Render;
+use render_files::put_batches;
+use report_text::{ByteRoom, put_named, put_signed};
+use snd_host::Host;
+use sound_bus::Counts;
+use status_lines::Cause;
+use std::alloc::Global;
+use tune_render::open_tune;
+
+/// Ten seconds.
+const SAMPLES: u32 = 320000;
+
+/// The sums of all frames to come.
+fn sums_of(render: &mut Render<Dsp>) -> Sums
+    requires { length (frames_to_come dsp_chip render.old) ≤ checked_samples }
+    ensures sums { result ≡ sums_of (frames_to_come dsp_chip render.old) }
+    ensures counts { render.new.bus.book.counts ≡ counts_to_come dsp_chip render.old }
+{
+    let mut sums = Sums {
+        left: 0,
+        right: 0,
+        mix: 0,
+    };
+    let mut before = 0;
+    'pieces: loop {
+        let piece = render.next_piece();
+        sums = sums_with_all(sums, piece.frames, before);
+        before += piece.frames.len() as u32;
+        if piece.done {
+            return sums;
+        }
+    }
+}
+
+/// The report on sums and batches.
+fn report(alloc: Global, sums: Sums, counts: Counts) -> Result<Vec<u8>, OutOfMemory>
+    ensures { IfOk result (λ report. report.items ≡ check_report sums counts) }
+{
+    let mut report = Vec::new(alloc);
+    put_signed(&mut report, b"samples 320000\nleft ", sums.left)?;
+    put_signed(&mut report, b"\nright ", sums.right)?;
+    put_named(&mut report, b"\nmix ", u64::from(sums.mix))?;
+    report.extend_from_slice(b"\n")?;
+    let mut batches = ByteRoom::new(alloc)?;
+    put_batches(&mut batches, counts);
+    report.extend_from_slice(batches.as_slice())?;
+    Ok(report)
+}
+
+/// The sums of a render and the counts of its batches.
+#[derive(Clone, Copy)]
+struct Findings {
+    sums: Sums,
+    counts: Counts,
+}
+
+/// Renders the demo file of a number, and sums its frames.
+fn sum_demo(alloc: Global, number: u32) -> Result<Findings, OutOfMemory>
+    ensures sums { IfOk result (λ findings. findings.sums ≡ sums_of (demo_frames number)) }
+    ensures counts { IfOk result (λ findings. findings.counts ≡ demo_counts number) }
+{
+    let file = demo_gen::demo(alloc, number)?;
+    let table = GaussTable::straight(alloc)?;
+    let mut render = open_tune(alloc, &file, table, SAMPLES, 0)?;
+    let sums = sums_of(&mut render);
+    Ok(Findings {
+        sums,
+        counts: render.counts(),
+    })
+}
+
+/// The plan with its report.
+fn plan_report<'a>(alloc: Global, number: u32) -> Result<Plan<'a>, OutOfMemory>
+    ensures { IfOk result (λ plan. check_answer number ≡ done (plan_makes plan).outputs (plan_makes plan).report) }
+{
+    let findings = sum_demo(alloc, number)?;
+    let report = report(alloc, findings.sums, findings.counts)?;
+    Ok(Plan {
+        output: None,
+        report,
+    })
+}
+
+/// Makes the plan.
+fn plan<'a>(alloc: Global, number: u32) -> Result<Plan<'a>, Refusal<Cause>>
+    ensures { Plans plan_makes (check_answer number) result }
+{
+    match plan_report(alloc, number) {
+        Ok(plan) => Ok(plan),
+        Err(_) => Err(Refusal::OutOfMemory),
+    }
+}
+
+/// Reports sums over the frames of the demo file of a number, rendered for ten seconds, and its batches.
+pub fn check<H: Host>(alloc: Global, host: &mut H, number: u32) -> Option<Refusal<Cause>>
+    requires { CanDeliver (H.state host.old) }
+    ensures attempts { let answer = λ (files : Files). check_answer number in
+        Attempts answer false result (H.state host.old) (H.state host.new) }
+    ensures not_usage { result ≡ Some Refusal.Usage → ⊥ }
+{
+    let prepared = plan(alloc, number);
+    carry_out(host, prepared)
+}

@@ -1,0 +1,2 @@
+-- what `demo` answers
+pub mod Demo

@@ -1,0 +1,31 @@
+// Runs of `demo` over a host in memory.
+use crate::demo;
+use command_tests::{Outcome, ROOM, host_with};
+use std::alloc::Global;
+use std::test::Fail;
+
+/// Makes the demo file of 7, where the calls of these numbers fail.
+fn demo_of_seven(alloc: Global, failing: &[u32]) -> Result<Outcome, Fail> {
+    let mut host = host_with(alloc, &[], failing, ROOM)?;
+    let refusal = demo(alloc, &mut host, 7, "OUT");
+    Ok(Outcome::of(refusal, host))
+}
+
+#[test]
+fn the_demo_file_of_seven_is_made(rt: HostRuntime) -> Result<(), Fail> {
+    let outcome = demo_of_seven(rt.alloc(), &[])?;
+    let file = outcome.first();
+    assert!(rt; outcome.is_done(file, "bytes 66048\n") && file.len() == 66048);
+    assert!(rt; file.get(0x1100..0x1102) == Some(b"\x90\xe9".as_slice()));
+    Ok(())
+}
+
+#[test]
+fn each_call_of_the_host_may_fail(rt: HostRuntime) -> Result<(), Fail> {
+    let whole = demo_of_seven(rt.alloc(), &[])?;
+    for call in 0..whole.calls() {
+        let outcome = demo_of_seven(rt.alloc(), &[call])?;
+        assert!(rt; outcome.is_cut_off(&whole), "at {call}");
+    }
+    Ok(())
+}

@@ -1,0 +1,2 @@
+-- Encodings: what `encode` answers, case by case.
+pub mod Encodings

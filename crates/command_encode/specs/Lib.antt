@@ -1,0 +1,2 @@
+-- what `encode` answers
+pub mod Encode

@@ -1,0 +1,8 @@
+//! The command `encode`: it encodes a sound file of one channel to blocks of BRR.
+#![tactic(auto)]
+
+mod command;
+#[cfg(test)]
+mod tests;
+
+pub use command::encode;

@@ -1,0 +1,145 @@
+// Runs of `encode` over a host in memory.
+use crate::encode;
+use command_tests::{Outcome, ROOM, host_with};
+use status_lines::Status;
+use std::alloc::Global;
+use std::test::Fail;
+
+/// What a file of one channel begins with, whose samples go on to its end.
+const MONO: [u8; 44] =
+    *b"RIFF\xff\xff\xff\xffWAVEfmt \x10\0\0\0\x01\0\x01\0\0\x7d\0\0\0\xfa\0\0\x02\0\x10\0data\xff\xff\xff\xff";
+
+/// The same with two channels.
+const STEREO: [u8; 44] =
+    *b"RIFF\xff\xff\xff\xffWAVEfmt \x10\0\0\0\x01\0\x02\0\0\x7d\0\0\0\xfa\0\0\x02\0\x10\0data\xff\xff\xff\xff";
+
+/// Eight times the greatest sample, and eight times the least.
+const STEEP: [u8; 32] =
+    *b"\xff\x7f\xff\x7f\xff\x7f\xff\x7f\xff\x7f\xff\x7f\xff\x7f\xff\x7f\0\x80\0\x80\0\x80\0\x80\0\x80\0\x80\0\x80\0\x80";
+
+/// Encodes a file of this front, these samples, and zeros up to this length, where the calls of these numbers fail.
+fn encoded(
+    alloc: Global,
+    looped: bool,
+    front: &[u8],
+    samples: &[u8],
+    length: usize,
+    failing: &[u32],
+) -> Result<Outcome, Fail> {
+    let mut bytes = Vec::from_slice(alloc, front)?;
+    bytes.extend_from_slice(samples)?;
+    bytes.resize(length, 0)?;
+    let mut host = host_with(alloc, &[("IN", bytes.as_slice())], failing, ROOM)?;
+    let refusal = encode(alloc, &mut host, "IN", "OUT", looped);
+    Ok(Outcome::of(refusal, host))
+}
+
+/// A file of one channel that is encoded, and what it becomes.
+#[derive(Drop)]
+struct Encoded {
+    looped: bool,
+    samples: &'static [u8],
+    length: usize,
+    blocks: &'static [u8],
+    report: &'static str,
+}
+
+/// Sounds and their blocks.
+const ENCODED: &[Encoded] = &[
+    Encoded {
+        looped: false,
+        samples: &[],
+        length: 76,
+        blocks: b"\x01\0\0\0\0\0\0\0\0",
+        report: "block 0 header 01 worst 0 squares 0\nblocks 1\n",
+    },
+    Encoded {
+        looped: true,
+        samples: &[],
+        length: 76,
+        blocks: b"\x03\0\0\0\0\0\0\0\0",
+        report: "block 0 header 03 worst 0 squares 0\nblocks 1\n",
+    },
+    Encoded {
+        looped: false,
+        samples: &[],
+        length: 78,
+        blocks: b"\0\0\0\0\0\0\0\0\0\x01\0\0\0\0\0\0\0\0",
+        report: "block 0 header 00 worst 0 squares 0\nblock 1 header 01 worst 0 squares 0\nblocks 2\n",
+    },
+    Encoded {
+        looped: false,
+        samples: &STEEP,
+        length: 76,
+        blocks: b"\xc1\x77\x77\x77\x77\x88\x88\x88\x88",
+        report: "block 0 header c1 worst 4095 squares 134152200\nblocks 1\n",
+    },
+];
+
+#[test]
+fn each_sound_has_its_blocks(rt: HostRuntime) -> Result<(), Fail> {
+    for row in ENCODED {
+        let outcome = encoded(rt.alloc(), row.looped, &MONO, row.samples, row.length, &[])?;
+        assert!(rt; outcome.is_done(row.blocks, row.report), "{}", row.report);
+    }
+    Ok(())
+}
+
+/// What is no mono file, and what has too few samples or too many.
+const REFUSED: &[(&[u8], usize, Status, &str)] = &[
+    (
+        &STEREO,
+        76,
+        Status::WavForm,
+        "spcwave: not a mono 16-bit PCM WAV\n",
+    ),
+    (
+        &MONO,
+        44,
+        Status::EncodeSize,
+        "spcwave: 0 samples cannot be encoded\n",
+    ),
+    (
+        &MONO,
+        233006,
+        Status::EncodeSize,
+        "spcwave: 116481 samples cannot be encoded\n",
+    ),
+    (
+        &MONO,
+        16777217,
+        Status::InputTooLong,
+        "spcwave: input is too long\n",
+    ),
+    (
+        b"",
+        0,
+        Status::WavForm,
+        "spcwave: not a mono 16-bit PCM WAV\n",
+    ),
+];
+
+#[test]
+fn other_sounds_are_refused(rt: HostRuntime) -> Result<(), Fail> {
+    for (front, length, wanted, line) in REFUSED {
+        let outcome = encoded(rt.alloc(), false, front, &[], *length, &[])?;
+        assert!(rt; outcome.is_refused(*wanted, line), "{line}");
+    }
+    Ok(())
+}
+
+#[test]
+fn each_call_of_the_host_may_fail(rt: HostRuntime) -> Result<(), Fail> {
+    // The input is opened and read twice.
+    let whole = encoded(rt.alloc(), false, &MONO, &STEEP, 76, &[])?;
+    for call in 0..whole.calls() {
+        let outcome = encoded(rt.alloc(), false, &MONO, &STEEP, 76, &[call])?;
+        let holds = if call < 3 {
+            outcome.is_unread(call)
+        } else {
+            outcome.is_cut_off(&whole)
+        };
+        assert!(rt; holds, "at {call}");
+    }
+    Ok(())
+}

@@ -1,0 +1,67 @@
+-- Commands that read no input.
+use Rattle.std.proofs.Common.{◌≡◌, ◌⊎◌, ap, sym, ◌∙◌, refl, inl, inr, rules, Some, None, false}
+use Rattle.std.specs.Prelude.{Option, Result, Ok, Err}
+use Rattle.snd_host.specs.Host.{HostState, Files}
+use Rattle.snd_host.specs.declared.host.Failed.{Failed}
+use Rattle.command_frame.specs.Answer.{Answer, refused, delivery_refusal}
+use Rattle.command_frame.specs.Conduct.{Delivery, Plans, Prepares, CarriesOut, Attempts}
+use Rattle.command_frame.specs.declared.refusals.Refusal.{Refusal}
+use Rattle.command_frame.specs.declared.refusals.Refusal.TheVariants.{Usage, ReadFault, WriteFault, OutOfMemory}
+use Rattle.command_frame.proofs.Obeying.{attempts, attempts_no_usage}
+
+module _ {P C : Type 0} (makes : P → Delivery) (answer : Answer C) where
+  answered : (why : Refusal C) → (answer ≡ refused why) ⊎ (why ≡ OutOfMemory) → (answer ≡ refused why) ⊎ (why ≡ ReadFault) ⊎ (why ≡ OutOfMemory)
+  answered why (inl is) = inl is
+  answered why (inr is) = inr (inr is)
+
+  -- a plan that stands on no input
+  prepares : (x : HostState) (prepared : Result P (Refusal C)) → Plans makes answer prepared → Prepares makes (λ (files : Files). answer) x x prepared
+  prepares x (Ok plan) p = record {
+    others = record { holds = refl; given = refl; ended = refl; notes = refl; outputs = refl; rooms = λ rooms told. told };
+    read = λ wrong. absurd (cc);
+    calm = λ other. refl;
+    no_usage = p.no_usage;
+    no_write = p.no_write;
+    ok = λ files told. p.ok;
+    err = search rules;
+    steady = λ wrong. absurd (cc);
+  }
+  prepares x (Err why) p = record {
+    others = record { holds = refl; given = refl; ended = refl; notes = refl; outputs = refl; rooms = λ rooms told. told };
+    read = λ is. absurd (p.no_read is);
+    calm = λ other. refl;
+    no_usage = p.no_usage;
+    no_write = p.no_write;
+    ok = search rules;
+    err = λ files told. answered why p.err;
+    steady = λ is. absurd (p.no_read is);
+  }
+
+  delivered : (outcome : Result (Unit {0}) Failed) → delivery_refusal {C = C} outcome ≡ Some ReadFault → ⊥
+  delivered (Ok t) is = absurd (cc)
+  delivered (Err e) is = absurd (cc)
+
+  no_read : (x z : HostState) (prepared : Result P (Refusal C)) (refusal : Option (Refusal C)) → Plans makes answer prepared → CarriesOut makes prepared x z refusal → refusal ≡ Some ReadFault → ⊥
+  no_read x z (Ok plan) refusal p c is = delivered c.ok.0 (sym c.ok.1 ∙ is)
+  no_read x z (Err why) refusal p c is = p.no_read (search rules)
+
+  pub attempts_unread : (x z : HostState) (prepared : Result P (Refusal C)) (refusal : Option (Refusal C)) → Plans makes answer prepared → CarriesOut makes prepared x z refusal → Attempts (λ (files : Files). answer) false refusal x z
+  attempts_unread x z prepared refusal p c =
+      let t = attempts makes (λ (files : Files). answer) x x z prepared refusal (prepares x prepared p) c in
+      record {
+        report = t.report;
+        outputs = t.outputs;
+        ended = t.ended;
+        made = t.made;
+        calm_inputs = t.calm_inputs;
+        calm_outputs = t.calm_outputs;
+        notes = t.notes;
+        read = λ is. absurd (no_read x z prepared refusal p c is);
+        write = t.write;
+        refused = t.refused;
+        note_room = t.note_room;
+        answered = t.answered;
+      }
+
+  pub unread_no_usage : (x z : HostState) (prepared : Result P (Refusal C)) (refusal : Option (Refusal C)) → Plans makes answer prepared → CarriesOut makes prepared x z refusal → refusal ≡ Some Usage → ⊥
+  unread_no_usage x z prepared refusal p c = attempts_no_usage makes (λ (files : Files). answer) x x z prepared refusal (prepares x prepared p) c

@@ -1,0 +1,2 @@
+-- what `info` answers
+pub mod Info

@@ -1,0 +1,109 @@
+// Runs of `info` over a host in memory.
+use crate::info;
+use command_tests::{Outcome, Pieces, ROOM, file_of, host_with};
+use status_lines::Status;
+use std::alloc::Global;
+use std::test::Fail;
+
+/// The report on the base file of so many bytes with these pieces, where the calls of these numbers fail.
+fn fields(alloc: Global, length: usize, pieces: Pieces, failing: &[u32]) -> Result<Outcome, Fail> {
+    let file = file_of(alloc, length, pieces, &[])?;
+    let mut host = host_with(alloc, &[("IN", file.as_slice())], failing, ROOM)?;
+    let refusal = info(alloc, &mut host, "IN");
+    Ok(Outcome::of(refusal, host))
+}
+
+/// Whether the report has the fields of such a file, with these lines on its tags.
+fn has_fields(alloc: Global, length: usize, pieces: Pieces, tags: &str) -> Result<bool, Fail> {
+    let outcome = fields(alloc, length, pieces, &[])?;
+    let registers = "pc 0400 a 00 x 00 y 00 psw 00 sp ef\n";
+    let report = format!(in alloc; "length {length}\nminor 30\n{tags}{registers}")?;
+    Ok(outcome.is_done(&[], report.as_str()))
+}
+
+/// A title, and a game with a backslash and a byte that is not printed.
+const TAGS: Pieces = &[(0x23, b"\x1a"), (0x2e, b"Theme"), (0x4e, b"a\\\x07")];
+
+/// The lines on those tags.
+const TAGGED: &str =
+    "tags yes\ntitle Theme\ngame a\\x5c\\x07\ndumper \ncomments \ndate \nseconds \nfade \nartist \n";
+
+/// Files, and the lines on their tags.
+const SHOWN: &[(usize, Pieces, &str)] = &[
+    (65920, &[], "tags no\n"),
+    (66048, &[], "tags no\n"),
+    (1048576, &[], "tags no\n"),
+    (66048, &[(31, b"1")], "tags no\n"),
+    (66108, TAGS, TAGGED),
+];
+
+#[test]
+fn each_file_shows_its_fields(rt: HostRuntime) -> Result<(), Fail> {
+    for (length, pieces, tags) in SHOWN {
+        assert!(rt;
+            has_fields(rt.alloc(), *length, pieces, tags)?,
+            "at {length}"
+        );
+    }
+    Ok(())
+}
+
+/// Files that are refused.
+const REFUSED: &[(usize, Pieces, Status, &str)] = &[
+    (
+        65919,
+        &[],
+        Status::SpcLength,
+        "spcwave: length 65919 is not that of an SPC file\n",
+    ),
+    (
+        1048577,
+        &[],
+        Status::SpcLength,
+        "spcwave: length 1048577 is not that of an SPC file\n",
+    ),
+    (
+        100,
+        &[(3, b"\0")],
+        Status::SpcLength,
+        "spcwave: length 100 is not that of an SPC file\n",
+    ),
+    (
+        66048,
+        &[(26, b"\0")],
+        Status::SpcSignature,
+        "spcwave: signature differs at 26\n",
+    ),
+    (
+        66048,
+        &[(26, b"\0"), (3, b"\0")],
+        Status::SpcSignature,
+        "spcwave: signature differs at 3\n",
+    ),
+];
+
+#[test]
+fn the_length_of_a_file_is_refused_before_its_signature(rt: HostRuntime) -> Result<(), Fail> {
+    for (length, pieces, wanted, line) in REFUSED {
+        let outcome = fields(rt.alloc(), *length, pieces, &[])?;
+        assert!(rt; outcome.is_refused(*wanted, line), "{line}");
+    }
+    Ok(())
+}
+
+#[test]
+fn each_call_of_the_host_may_fail(rt: HostRuntime) -> Result<(), Fail> {
+    // The input is opened and read 18 times, and then the report is written.
+    let whole = fields(rt.alloc(), 66048, &[], &[])?;
+    assert_eq!(rt; whole.calls(), 20);
+    for call in 0..20 {
+        let outcome = fields(rt.alloc(), 66048, &[], &[call])?;
+        let holds = if call < 19 {
+            outcome.is_unread(call)
+        } else {
+            outcome.is_cut_off(&whole)
+        };
+        assert!(rt; holds, "at {call}");
+    }
+    Ok(())
+}

@@ -1,0 +1,17 @@
+use Rattle.std.proofs.Common.{List, ℕ}
+use Rattle.snd_host.specs.Host.{Files}
+use Rattle.command_frame.specs.Plan.{stream_makes}
+use Rattle.sound_bus.specs.DspChip.{dsp_chip}
+use Rattle.input_files.specs.Inputs.{file_in}
+use Rattle.input_files.proofs.Readings.{reads_then}
+use Rattle.render_files.specs.RenderFiles.{to_come_of, report_of}
+use Rattle.command_render.specs.Options.{options_of}
+use Rattle.command_render.specs.Render.{file_answer}
+use Rattle.command_render.proofs.command.prepare.Goals as goal
+
+pub returns-in-Ok : goal.returns-in-Ok
+returns-in-Ok g c =
+    reads_then (stream_makes (to_come_of dsp_chip) (report_of dsp_chip)) (λ (files : Files). file_in (files c.args.file.now))
+    (λ (files : Files) (file : List ℕ). file_answer c.args.wave.now (options_of c.args.options) (files c.args.table.now) file)
+    (g.H.Host.state c.args.host.now) (g.H.Host.state c.read_file.new.host) (g.H.Host.state c.prepare_with.new.host) c.in-Ok.file c.prepare_with.result
+    c.in-Ok.ensures c.prepare_with.ensures

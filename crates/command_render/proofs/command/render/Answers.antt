@@ -1,0 +1,20 @@
+use Rattle.snd_host.specs.Host.{Files}
+use Rattle.command_frame.specs.Plan.{stream_makes}
+use Rattle.command_frame.proofs.Obeying.{attempts, attempts_no_usage}
+use Rattle.command_render.specs.Render.{render_answer}
+use Rattle.render_files.specs.RenderFiles.{to_come_of, report_of}
+use Rattle.sound_bus.specs.DspChip.{dsp_chip}
+use Rattle.command_render.specs.Options.{options_of}
+use Rattle.command_render.proofs.command.render.Goals as goal
+
+pub returns-clause-attempts : goal.returns-clause-attempts
+returns-clause-attempts g c =
+    attempts (stream_makes (to_come_of dsp_chip) (report_of dsp_chip)) (λ (files : Files). render_answer c.args.wave.now (options_of c.args.options) (files c.args.file.now) (files c.args.table.now))
+    (g.H.Host.state c.args.host.now) (g.H.Host.state c.prepare-prepared.new.host) (g.H.Host.state c.carry_stream.new.host)
+    c.prepare-prepared.result c.carry_stream.result c.prepare-prepared.ensures c.carry_stream.ensures
+
+pub returns-clause-not_usage : goal.returns-clause-not_usage
+returns-clause-not_usage g c =
+    attempts_no_usage (stream_makes (to_come_of dsp_chip) (report_of dsp_chip)) (λ (files : Files). render_answer c.args.wave.now (options_of c.args.options) (files c.args.file.now) (files c.args.table.now))
+    (g.H.Host.state c.args.host.now) (g.H.Host.state c.prepare-prepared.new.host) (g.H.Host.state c.carry_stream.new.host)
+    c.prepare-prepared.result c.carry_stream.result c.prepare-prepared.ensures c.carry_stream.ensures

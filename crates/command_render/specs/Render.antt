@@ -1,0 +1,48 @@
+-- What `render` answers.
+use Rattle.std.specs.Prelude.{ℕ, ℤ, List, Option, Some, None, is_some, unwrap_or}
+use Rattle.std.specs.Option.{option_map}
+use Rattle.wav_form.specs.Wave.{stereo_wave}
+use Rattle.sound_bus.specs.declared.counts.Counts.{Counts}
+use Rattle.render_core.specs.Fade.{faded_frames}
+use Rattle.spc_form.specs.Tags.{length_of}
+use Rattle.spc_form.specs.declared.tags.Length.{Length}
+use Rattle.command_frame.specs.Answer.{Answer, done}
+use Rattle.command_frame.specs.Stream.{pair}
+use Rattle.input_files.specs.Reading.{answer_from}
+use Rattle.input_files.specs.Inputs.{file_in, table_in}
+use Rattle.command_render.specs.Options.{Options}
+use Rattle.render_files.specs.RenderFiles.{trace_of}
+use Rattle.render_files.specs.Batches.{sound_report}
+use Rattle.tune_render.specs.Tune.{tune_frames, tune_records, tune_counts}
+use Rattle.status_lines.specs.declared.cause.Cause.{Cause}
+
+-- the length of a render and its fade: so many samples without a fade, or as the file's tags say
+abbrev pub length_with : (samples : Option ℕ) → (file : List ℕ) → Length
+length_with None file = length_of file
+length_with (Some samples) file = record { frames = samples; fade = 0 }
+
+-- the voices of the trace, where there is a trace: none, unless they are given
+abbrev pub traced_voices : Options → Option ℕ
+traced_voices options = option_map (λ name. unwrap_or options.voices 0) options.trace
+
+-- The sound file, the trace where it has a name, and a report on so many frames and on the batches in which they were made.
+abbrev pub files_answer : (wave : List ℕ) → (trace : Option (List ℕ)) → (frames : ℕ) → Counts → (wave_bytes lines : List ℕ) → Answer Cause
+files_answer wave trace frames counts wave_bytes lines = done (pair wave trace wave_bytes lines) (sound_report frames counts)
+
+-- What a file and a table answer: the frames of the run, faded, the lines of its records, and the counts of its batches.
+abbrev pub rendering_answer : (wave : List ℕ) → Options → (file : List ℕ) → (table : List ℤ) → Answer Cause
+rendering_answer wave options file table =
+    let length = length_with options.samples file in
+    let voices = traced_voices options in
+    files_answer wave options.trace length.frames (tune_counts file table (unwrap_or voices 0) length.frames)
+    (stereo_wave (faded_frames (tune_frames file table (unwrap_or voices 0) length.frames) length.fade))
+    (trace_of (is_some voices) (tune_records file table (unwrap_or voices 0) length.frames))
+
+-- the same by what the table holds
+abbrev pub file_answer : (wave : List ℕ) → Options → (held_table : Option (List ℕ)) → (file : List ℕ) → Answer Cause
+file_answer wave options held_table file = answer_from (table_in held_table) (rendering_answer wave options file)
+
+-- the same by what the inputs hold: the file comes first
+abbrev pub render_answer : (wave : List ℕ) → Options → (held_file held_table : Option (List ℕ)) → Answer Cause
+render_answer wave options held_file held_table =
+    answer_from (file_in held_file) (file_answer wave options held_table)

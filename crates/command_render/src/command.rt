@@ -1,0 +1,157 @@
+// The command `render`: the sound of an SPC file over a table of weights, and its trace where it is wanted.
+ghost use Rattle.std.specs.Prelude.{◌≡◌, ◌≤◌, ◌++◌, IfOk, true, is_some, unwrap_or};
+ghost use Rattle.wav_form.specs.Wave.{header_of, stereo_wave};
+ghost use Rattle.render_core.specs.Fade.{faded_frames};
+ghost use Rattle.sound_bus.specs.DspChip.{dsp_chip};
+ghost use Rattle.snd_host.specs.Host.{HostState, Files};
+ghost use Rattle.command_frame.specs.Conduct.{Plans, Prepares, Attempts};
+ghost use Rattle.command_frame.specs.Delivery.{CanDeliver};
+ghost use Rattle.command_frame.specs.Plan.{stream_makes};
+ghost use Rattle.render_files.specs.Batches.{sound_report};
+ghost use Rattle.render_files.specs.RenderFiles.{hour, trace_of, to_come_of, report_of};
+ghost use Rattle.tune_render.specs.Tune.{tune_frames, tune_records, tune_counts};
+ghost use Rattle.command_render.specs.Options.{options_of, IsWithinHour};
+ghost use Rattle.command_render.specs.Render.{length_with, traced_voices, rendering_answer, file_answer, render_answer};
+
+use crate::RenderOptions;
+use command_frame::{OutOfMemory, Refusal, StreamedPlan, carry_stream};
+use dsp_core::Dsp;
+use gauss_table::GaussTable;
+use input_files::{read_file, read_table};
+use render_files::RenderFiles;
+use snd_host::Host;
+use spc_form::{Length, SpcFile};
+use status_lines::Cause;
+use std::alloc::Global;
+use tune_render::open_tune;
+use wav_form::header;
+
+/// The length of the render and its fade, in frames.
+fn length_with(samples: Option<u32>, file: &SpcFile) -> Length
+    requires { IsWithinHour samples }
+    ensures length { result ≡ length_with samples file.now }
+    ensures frames { result.frames ≤ hour }
+    ensures fade { result.fade ≤ result.frames }
+{
+    match samples {
+        Some(frames) => Length { frames, fade: 0 },
+        None => file.length(),
+    }
+}
+
+/// The voices of the trace, where there is a trace.
+fn traced_voices(options: RenderOptions<'_>) -> Option<u8>
+    ensures { result ≡ traced_voices (options_of options.entry) }
+{
+    match options.trace {
+        Some(_) => Some(options.voices.unwrap_or(0)),
+        None => None,
+    }
+}
+
+/// Opens the files of a render of this length. With voices there is a trace, which has the records of these voices; bit v
+/// is voice v.
+fn open_files(
+    alloc: Global,
+    file: &SpcFile,
+    table: GaussTable,
+    length: Length,
+    voices: Option<u8>,
+) -> Result<RenderFiles<Dsp>, OutOfMemory>
+    requires limit { length.frames ≤ hour }
+    requires within { length.fade ≤ length.frames }
+    ensures wave { IfOk result (λ files. header_of 2 length.frames ++ (to_come_of dsp_chip files).first
+        ≡ stereo_wave (faded_frames (tune_frames file.now table (unwrap_or voices 0) length.frames) length.fade)) }
+    ensures trace { IfOk result (λ files. (to_come_of dsp_chip files).second
+        ≡ trace_of (is_some voices) (tune_records file.now table (unwrap_or voices 0) length.frames)) }
+    ensures report { IfOk result (λ files. report_of dsp_chip files
+        ≡ sound_report length.frames (tune_counts file.now table (unwrap_or voices 0) length.frames)) }
+{
+    let render = open_tune(alloc, file, table, length.frames, voices.unwrap_or(0))?;
+    RenderFiles::open(alloc, render, length.frames, length.fade, voices.is_some())
+}
+
+/// Makes the plan for a file and a table.
+fn plan<'a>(
+    alloc: Global,
+    file: &SpcFile,
+    table: GaussTable,
+    wave: &'a str,
+    options: RenderOptions<'a>,
+) -> Result<StreamedPlan<'a, RenderFiles<Dsp>>, Refusal<Cause>>
+    requires { IsWithinHour options.samples }
+    ensures { let answer = rendering_answer wave.now (options_of options.entry) file.now table in
+        Plans (stream_makes (to_come_of dsp_chip) (report_of dsp_chip)) answer result }
+{
+    let length = length_with(options.samples, file);
+    let voices = traced_voices(options);
+    let Ok(source) = open_files(alloc, file, table, length, voices) else {
+        return Err(Refusal::OutOfMemory);
+    };
+    let Ok(head) = Vec::from_slice(alloc, &header(2, length.frames)) else {
+        return Err(Refusal::OutOfMemory);
+    };
+    Ok(StreamedPlan {
+        first: wave,
+        second: options.trace,
+        head,
+        source,
+    })
+}
+
+/// Reads the table and makes the plan for it and a file.
+fn prepare_with<'a, H: Host>(
+    alloc: Global,
+    host: &mut H,
+    file: &SpcFile,
+    table: &str,
+    wave: &'a str,
+    options: RenderOptions<'a>,
+) -> Result<StreamedPlan<'a, RenderFiles<Dsp>>, Refusal<Cause>>
+    requires { IsWithinHour options.samples }
+    ensures { let answer = λ (files : Files). file_answer wave.now (options_of options.entry) (files table.now) file.now in
+        Prepares (stream_makes (to_come_of dsp_chip) (report_of dsp_chip)) answer (H.state host.old) (H.state host.new) result }
+{
+    match read_table(alloc, host, table) {
+        Ok(table) => plan(alloc, file, table, wave, options),
+        Err(refusal) => Err(refusal),
+    }
+}
+
+/// Reads the file and the table and makes the plan for them.
+fn prepare<'a, H: Host>(
+    alloc: Global,
+    host: &mut H,
+    file: &str,
+    table: &str,
+    wave: &'a str,
+    options: RenderOptions<'a>,
+) -> Result<StreamedPlan<'a, RenderFiles<Dsp>>, Refusal<Cause>>
+    requires { IsWithinHour options.samples }
+    ensures { let answer = λ (files : Files). render_answer wave.now (options_of options.entry) (files file.now) (files table.now) in
+        Prepares (stream_makes (to_come_of dsp_chip) (report_of dsp_chip)) answer (H.state host.old) (H.state host.new) result }
+{
+    match read_file(alloc, host, file) {
+        Ok(file) => prepare_with(alloc, host, &file, table, wave, options),
+        Err(refusal) => Err(refusal),
+    }
+}
+
+/// Renders the file over the table to the sound file, and to the trace where it has a name.
+pub fn render<H: Host>(
+    alloc: Global,
+    host: &mut H,
+    file: &str,
+    table: &str,
+    wave: &str,
+    options: RenderOptions<'_>,
+) -> Option<Refusal<Cause>>
+    requires outputs { CanDeliver (H.state host.old) }
+    requires within_hour { IsWithinHour options.samples }
+    ensures attempts { let answer = λ (files : Files). render_answer wave.now (options_of options.entry) (files file.now) (files table.now) in
+        Attempts answer true result (H.state host.old) (H.state host.new) }
+    ensures not_usage { result ≡ Some Refusal.Usage → ⊥ }
+{
+    let prepared = prepare(alloc, host, file, table, wave, options);
+    carry_stream(host, prepared)
+}

@@ -1,0 +1,16 @@
+//! The command `render`: it renders an SPC file over a table of weights to a sound file, and to a trace where it is wanted.
+#![tactic(auto)]
+
+mod command;
+#[cfg(test)]
+mod lag_tests;
+mod options;
+#[cfg(test)]
+mod render_tests;
+#[cfg(test)]
+mod test_support;
+#[cfg(test)]
+mod trace_tests;
+
+pub use command::render;
+pub use options::RenderOptions;

@@ -1,0 +1,277 @@
+// Renders over a host in memory.
+use crate::render;
+use crate::test_support::{
+    Frames, Heard, NO_BATCH, ONE_BATCH, expected_report, has_frames, no_options, render_failing,
+    rendered, samples, traced, tune_of,
+};
+use command_tests::{DSP, FIVE, MEMORY, Outcome, Pieces, ROOM, host_with, straight_table};
+use status_lines::Status;
+use std::alloc::Global;
+use std::test::Fail;
+
+/// The program stops.
+const STOP: Pieces = &[(MEMORY + 0x0400, b"\xff")];
+
+/// A table whose entries are all the same.
+fn flat_table(alloc: Global, weight: i16) -> Result<Vec<u8>, Fail> {
+    let mut table = Vec::new(alloc);
+    for _ in 0..512 {
+        table.extend_from_slice(&weight.to_le_bytes())?;
+    }
+    Ok(table)
+}
+
+const RING: Pieces = &[(MEMORY + 0x0200, b"\x00\x05\x00\x05")];
+
+const NOISE: Pieces = &[(DSP + 0x3d, b"\x01"), (DSP + 0x6c, b"\x3f")];
+
+const ECHO: Pieces = &[
+    (DSP + 0x6c, b"\x00"),
+    (DSP + 0x4d, b"\x01"),
+    (DSP + 0x2c, b"\x7f"),
+    (DSP + 0x3c, b"\x7f"),
+    (DSP + 0x7f, b"\x7f"),
+];
+
+/// Tags: a second, and a fade of a millisecond.
+const TAGS: Pieces = &[(0x23, b"\x1a"), (0xa9, b"001"), (0xac, b"00001")];
+
+/// Silence, and a voice.
+const VOICES: &[Heard] = &[
+    Heard {
+        shows: "no samples",
+        sound: &[],
+        more: &[],
+        samples: 0,
+        frames: &[],
+        batches: NO_BATCH,
+    },
+    Heard {
+        shows: "silence",
+        sound: &[],
+        more: &[],
+        samples: 4,
+        frames: &[(4, 0)],
+        batches: ONE_BATCH,
+    },
+    Heard {
+        shows: "a voice",
+        sound: FIVE,
+        more: &[],
+        samples: 8,
+        frames: &[(6, 0), (2, 4000)],
+        batches: ONE_BATCH,
+    },
+    Heard {
+        shows: "a voice whose tags give another length and a fade",
+        sound: FIVE,
+        more: TAGS,
+        samples: 8,
+        frames: &[(6, 0), (2, 4000)],
+        batches: ONE_BATCH,
+    },
+];
+
+#[test]
+fn silence_and_a_voice_have_their_frames(rt: HostRuntime) -> Result<(), Fail> {
+    for row in VOICES {
+        assert!(rt; row.holds(rt.alloc())?, "{}", row.shows);
+    }
+    Ok(())
+}
+
+/// Three batches of 64 samples, and one of those that are left.
+const FOUR_BATCHES: &str = "batches 4 register 0 memory 0 echo 0 full 3 events 0 end 1\n";
+
+/// A voice that goes on.
+const LONG: &[Heard] = &[
+    Heard {
+        shows: "the program goes on",
+        sound: FIVE,
+        more: &[],
+        samples: 200,
+        frames: &[(6, 0), (194, 4000)],
+        batches: FOUR_BATCHES,
+    },
+    Heard {
+        shows: "the program stops",
+        sound: FIVE,
+        more: STOP,
+        samples: 200,
+        frames: &[(6, 0), (194, 4000)],
+        batches: FOUR_BATCHES,
+    },
+    Heard {
+        shows: "the block repeats itself",
+        sound: FIVE,
+        more: RING,
+        samples: 200,
+        frames: &[(6, 0), (194, 4000)],
+        batches: FOUR_BATCHES,
+    },
+];
+
+#[test]
+fn a_voice_goes_on_where_the_program_stops(rt: HostRuntime) -> Result<(), Fail> {
+    for row in LONG {
+        assert!(rt; row.holds(rt.alloc())?, "{}", row.shows);
+    }
+    Ok(())
+}
+
+/// A voice of noise, and one with echo.
+const NOISE_AND_ECHO: &[Heard] = &[
+    Heard {
+        shows: "noise",
+        sound: FIVE,
+        more: NOISE,
+        samples: 8,
+        frames: &[(6, 0), (1, 250), (1, 124)],
+        batches: ONE_BATCH,
+    },
+    Heard {
+        shows: "echo",
+        sound: FIVE,
+        more: ECHO,
+        samples: 9,
+        frames: &[(6, 0), (1, 4000), (2, 7968)],
+        batches: ONE_BATCH,
+    },
+];
+
+#[test]
+fn noise_and_echo_have_their_frames(rt: HostRuntime) -> Result<(), Fail> {
+    for row in NOISE_AND_ECHO {
+        assert!(rt; row.holds(rt.alloc())?, "{}", row.shows);
+    }
+    Ok(())
+}
+
+/// Whether the voice has these samples over a table whose entries are all the same.
+fn is_weighed(alloc: Global, weight: i16, frames: Frames) -> Result<bool, Fail> {
+    let file = tune_of(alloc, FIVE, &[])?;
+    let table = flat_table(alloc, weight)?;
+    let outcome = render_failing(alloc, file.as_slice(), table.as_slice(), samples(8), &[])?;
+    let report = expected_report(alloc, 8, ONE_BATCH)?;
+    has_frames(alloc, &outcome, frames, report.as_str())
+}
+
+#[test]
+fn a_table_weighs_the_samples(rt: HostRuntime) -> Result<(), Fail> {
+    assert!(rt; is_weighed(rt.alloc(), -32768, &[(6, 0), (2, -32006)])?);
+    assert!(rt; is_weighed(rt.alloc(), 10000, &[(6, 0), (2, 14125)])?);
+    Ok(())
+}
+
+/// Whether the frame of this number in a sound file is this one on both sides. The header is as long as 11 frames.
+fn has_frame(wave: &[u8], at: usize, side: i16) -> bool {
+    let [low, high] = side.to_le_bytes();
+    let frame = wave.chunks_exact(4).nth(11usize.wrapping_add(at));
+    frame == Some([low, high, low, high].as_slice())
+}
+
+/// Places of frames, and what stands there.
+const FADED: &[(usize, i16)] = &[
+    (5, 0),
+    (6, 4000),
+    (31999, 4000),
+    (32000, 3875),
+    (32001, 3750),
+    (32030, 125),
+    (32031, 0),
+];
+
+#[test]
+fn tags_give_the_length_and_the_fade(rt: HostRuntime) -> Result<(), Fail> {
+    let file = tune_of(rt.alloc(), FIVE, TAGS)?;
+    let outcome = rendered(rt.alloc(), file.as_slice(), no_options())?;
+    let line = "batches 501 register 0 memory 0 echo 0 full 500 events 0 end 1\n";
+    let report = expected_report(rt.alloc(), 32032, line)?;
+    assert!(rt;
+        outcome.is_done(outcome.first(), report.as_str()) && outcome.first().len() == 128172
+    );
+    for (at, side) in FADED {
+        assert!(rt; has_frame(outcome.first(), *at, *side), "at {at}");
+    }
+    Ok(())
+}
+
+/// Whether a render of this file, over a table of three bytes, is refused with this line.
+fn is_refused(alloc: Global, file: &[u8], wanted: Status, line: &str) -> Result<bool, Fail> {
+    let outcome = render_failing(alloc, file, &[0; 3], traced(None, None), &[])?;
+    Ok(outcome.is_refused(wanted, line))
+}
+
+#[test]
+fn the_file_is_refused_before_the_table(rt: HostRuntime) -> Result<(), Fail> {
+    let line = "spcwave: length 100 is not that of an SPC file\n";
+    assert!(rt; is_refused(rt.alloc(), &[0; 100], Status::SpcLength, line)?);
+    let unsigned = tune_of(rt.alloc(), &[], &[(3, b"\0")])?;
+    let line = "spcwave: signature differs at 3\n";
+    assert!(rt; is_refused(rt.alloc(), unsigned.as_slice(), Status::SpcSignature, line)?);
+    Ok(())
+}
+
+#[test]
+fn a_table_that_is_not_there_cannot_be_read(rt: HostRuntime) -> Result<(), Fail> {
+    let file = tune_of(rt.alloc(), &[], &[])?;
+    let mut host = host_with(rt.alloc(), &[("SPC", file.as_slice())], &[], ROOM)?;
+    let refusal = render(
+        rt.alloc(),
+        &mut host,
+        "SPC",
+        "NONE",
+        "OUT",
+        traced(None, None),
+    );
+    let outcome = Outcome::of(refusal, host);
+    assert!(rt; outcome.is_refused(Status::ReadFault, "spcwave: input could not be read\n"));
+    Ok(())
+}
+
+/// Renders over a table of so many zeros.
+fn render_over_zeros(alloc: Global, length: usize) -> Result<Outcome, Fail> {
+    let file = tune_of(alloc, &[], &[])?;
+    let table = vec![in alloc; 0u8; length]?;
+    render_failing(
+        alloc,
+        file.as_slice(),
+        table.as_slice(),
+        traced(None, None),
+        &[],
+    )
+}
+
+#[test]
+fn tables_of_another_length_are_refused(rt: HostRuntime) -> Result<(), Fail> {
+    let short = render_over_zeros(rt.alloc(), 1023)?;
+    let line = "spcwave: table has 1023 bytes, not 1024\n";
+    assert!(rt; short.is_refused(Status::TableLength, line));
+    let long = render_over_zeros(rt.alloc(), 1048577)?;
+    assert!(rt; long.is_refused(Status::InputTooLong, "spcwave: input is too long\n"));
+    Ok(())
+}
+
+#[test]
+fn each_call_of_a_render_may_fail(rt: HostRuntime) -> Result<(), Fail> {
+    let file = tune_of(rt.alloc(), FIVE, &[])?;
+    let table = straight_table(rt.alloc())?;
+    let options = traced(Some(8), Some(1));
+    let whole = rendered(rt.alloc(), file.as_slice(), options)?;
+    for call in 0..whole.calls() {
+        let outcome = render_failing(
+            rt.alloc(),
+            file.as_slice(),
+            table.as_slice(),
+            options,
+            &[call],
+        )?;
+        // The file is opened and read 18 times, the table twice.
+        let holds = match call {
+            0..22 => outcome.is_unread(call),
+            _ => outcome.is_cut_off(&whole),
+        };
+        assert!(rt; holds, "at {call}");
+    }
+    Ok(())
+}

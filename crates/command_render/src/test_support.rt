@@ -1,0 +1,172 @@
+// What the tests of `render` share: renders over a host in memory, and what they have.
+ghost use Rattle.std.specs.Prelude.{◌≡◌, Some, None};
+ghost use Rattle.command_render.specs.Options.{IsWithinHour};
+
+use crate::{RenderOptions, render};
+use command_tests::{Outcome, Pieces, ROOM, file_of, host_with, straight_table};
+use std::alloc::Global;
+use std::test::Fail;
+
+/// Frames that are the same on both sides: how many there are of each, one after another.
+pub type Frames = &'static [(u32, i16)];
+
+/// The sound file of these frames.
+pub fn wave_of(alloc: Global, frames: Frames) -> Result<Vec<u8>, Fail> {
+    let mut sides = Vec::new(alloc);
+    let mut size = 0u32;
+    for (count, side) in frames {
+        for _ in 0..*count {
+            sides.extend_from_slice(&side.to_le_bytes())?;
+            sides.extend_from_slice(&side.to_le_bytes())?;
+            size = size.wrapping_add(4);
+        }
+    }
+    let mut wave = Vec::from_slice(alloc, b"RIFF")?;
+    wave.extend_from_slice(&size.wrapping_add(36).to_le_bytes())?;
+    wave.extend_from_slice(
+        b"WAVEfmt \x10\0\0\0\x01\0\x02\0\0\x7d\0\0\0\xf4\x01\0\x04\0\x10\0data",
+    )?;
+    wave.extend_from_slice(&size.to_le_bytes())?;
+    wave.extend_from_slice(sides.as_slice())?;
+    Ok(wave)
+}
+
+/// No options.
+pub fn no_options() -> RenderOptions<'static>
+    ensures { result.samples ≡ None }
+{
+    RenderOptions {
+        samples: None,
+        trace: None,
+        voices: None,
+    }
+}
+
+/// No options but a number of samples.
+pub fn samples(count: u32) -> RenderOptions<'static>
+    ensures { result.samples ≡ Some count }
+{
+    RenderOptions {
+        samples: Some(count),
+        trace: None,
+        voices: None,
+    }
+}
+
+/// Maybe a number of samples, and a trace of these voices.
+pub fn traced(samples: Option<u32>, voices: Option<u8>) -> RenderOptions<'static>
+    ensures { result.samples ≡ samples }
+{
+    RenderOptions {
+        samples,
+        trace: Some("T"),
+        voices,
+    }
+}
+
+/// Renders the file over the table to `OUT`, with these options, where the calls of these numbers fail.
+pub fn render_failing(
+    alloc: Global,
+    file: &[u8],
+    table: &[u8],
+    options: RenderOptions<'_>,
+    failing: &[u32],
+) -> Result<Outcome, Fail>
+    requires { IsWithinHour options.samples }
+{
+    let inputs = [("SPC", file), ("TABLE", table)];
+    let mut host = host_with(alloc, &inputs, failing, ROOM)?;
+    let refusal = render(alloc, &mut host, "SPC", "TABLE", "OUT", options);
+    Ok(Outcome::of(refusal, host))
+}
+
+/// Renders a file over the table of straight lines.
+pub fn rendered(alloc: Global, file: &[u8], options: RenderOptions<'_>) -> Result<Outcome, Fail>
+    requires { IsWithinHour options.samples }
+{
+    let table = straight_table(alloc)?;
+    render_failing(alloc, file, table.as_slice(), options, &[])
+}
+
+/// A file of these pieces over the base file, later ones over earlier ones.
+pub fn tune_of(alloc: Global, pieces: Pieces, more: Pieces) -> Result<Vec<u8>, Fail> {
+    Ok(file_of(alloc, 66048, pieces, more)?)
+}
+
+/// Whether all was done, with the sound file of these frames and this report.
+pub fn has_frames(
+    alloc: Global,
+    outcome: &Outcome,
+    frames: Frames,
+    report: &str,
+) -> Result<bool, Fail> {
+    let wave = wave_of(alloc, frames)?;
+    Ok(outcome.is_done(wave.as_slice(), report))
+}
+
+/// What a render of so many samples reports, with the line of its batches.
+pub fn expected_report(alloc: Global, samples: u32, batches: &str) -> Result<String, Fail> {
+    Ok(format!(in alloc; "samples {samples}\n{batches}")?)
+}
+
+/// Nothing is made.
+pub const NO_BATCH: &str = "batches 0 register 0 memory 0 echo 0 full 0 events 0 end 0\n";
+
+/// All samples are made at the end.
+pub const ONE_BATCH: &str = "batches 1 register 0 memory 0 echo 0 full 0 events 0 end 1\n";
+
+/// A render, and the frames that it has.
+#[derive(Drop)]
+pub struct Heard {
+    pub shows: &'static str,
+    /// What the file has over a quiet one, and what it has over that.
+    pub sound: Pieces,
+    pub more: Pieces,
+    pub samples: u8,
+    pub frames: Frames,
+    pub batches: &'static str,
+}
+
+impl Heard {
+    /// Whether the render has its frames and its report.
+    pub fn holds(&self, alloc: Global) -> Result<bool, Fail> {
+        let file = tune_of(alloc, self.sound, self.more)?;
+        let count = u32::from(self.samples);
+        let outcome = rendered(alloc, file.as_slice(), samples(count))?;
+        let report = expected_report(alloc, count, self.batches)?;
+        has_frames(alloc, &outcome, self.frames, report.as_str())
+    }
+}
+
+/// A render, and the frames and the trace that it has.
+#[derive(Drop)]
+pub struct Traced {
+    pub shows: &'static str,
+    pub sound: Pieces,
+    pub more: Pieces,
+    pub samples: u8,
+    pub voices: u8,
+    pub frames: Frames,
+    pub trace: &'static str,
+    pub batches: &'static str,
+}
+
+impl Traced {
+    /// Whether the render has its frames, its trace and its report, and the same without the trace.
+    pub fn holds(&self, alloc: Global) -> Result<bool, Fail> {
+        let count = u32::from(self.samples);
+        let file = tune_of(alloc, self.sound, self.more)?;
+        let plain = rendered(alloc, file.as_slice(), samples(count))?;
+        let with_trace = rendered(
+            alloc,
+            file.as_slice(),
+            traced(Some(count), Some(self.voices)),
+        )?;
+        let report = expected_report(alloc, count, self.batches)?;
+        Ok(
+            has_frames(alloc, &plain, self.frames, report.as_str())?
+                && has_frames(alloc, &with_trace, self.frames, report.as_str())?
+                && with_trace.second() == self.trace.as_bytes(),
+        )
+    }
+}

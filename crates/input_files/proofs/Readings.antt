@@ -1,0 +1,190 @@
+-- What is read of an input, and what commands prepare after it.
+use Rattle.std.proofs.Common.{◌≡◌, ◌⊎◌, inl, inr, ap, subst, ◌∙◌, refl, rules, arith, ℕ, ◌<◌, length, Bool, true, List, Option, Some, None, Result, Ok, Err, IsSome}
+use Rattle.std.specs.Prelude.{IfOk, IfErr, IsSomeAnd, nat_lt, if◌then◌else◌}
+use Rattle.std.proofs.lemmas.Bool.Decides.{nat_tests}
+use Rattle.snd_host.specs.Host.{HostState, Files, IfTold, Rose, KeepsRooms, ChangesInputs}
+use Rattle.command_frame.specs.Answer.{Answer, done, refused}
+use Rattle.command_frame.specs.Conduct.{Delivery, Plans, Prepares}
+use Rattle.command_frame.specs.declared.refusals.Refusal.{Refusal}
+use Rattle.command_frame.specs.declared.refusals.Refusal.TheVariants.{Usage, ReadFault, WriteFault, OutOfMemory, Input}
+use Rattle.input_files.specs.Reading.{bytes_in, value_from, answer_from, Declines, Accepts, DeclinesInput, Reads}
+
+-- what was refused by itself is refused for the command
+inside : {T C : Type 0} (why other : Refusal C) → ◌≡◌ {A = Result T (Refusal C)} (Err why) (Err other) → why ≡ other
+inside why other same = cc
+
+declined : {T C : Type 0} (given : Result T (Refusal C)) (next : T → Answer C) (why : Refusal C) →
+    (given ≡ Err why) ⊎ (why ≡ OutOfMemory) → (answer_from given next ≡ refused why) ⊎ (why ≡ OutOfMemory)
+declined {C = C} given next why (inl is) = inl (ap (λ g. answer_from g next) is)
+declined given next why (inr memory) = inr memory
+
+pub plans_declined : {T P C : Type 0} (makes : P → Delivery) (given : Result T (Refusal C)) (next : T → Answer C) (why : Refusal C) →
+    Declines given why → Plans makes (answer_from given next) (Err why)
+plans_declined {P = P} makes given next why d = record {
+  ok = tt;
+  err = declined given next why d.told;
+  no_usage = λ is. d.no_usage (inside {T = P} why Usage is);
+  no_read = λ is. d.no_read (inside {T = P} why ReadFault is);
+  no_write = λ is. d.no_write (inside {T = P} why WriteFault is);
+}
+
+-- an input was refused
+pub reads_declined : {T P C : Type 0} (makes : P → Delivery) (given : Files → Result T (Refusal C)) (next : Files → T → Answer C) (x y : HostState) (why : Refusal C) →
+    Reads given x y (Err why) → Prepares makes (λ files. answer_from (given files) (next files)) x y (Err why)
+reads_declined {P = P} {C = C} makes given next x y why r = record {
+  others = r.others;
+  read = λ is. r.err.read (inside {T = P} why ReadFault is);
+  calm = λ other. r.err.calm (λ is. other (ap (λ (w : Refusal C). Err w) is));
+  no_usage = λ is. r.err.no_usage (inside {T = P} why Usage is);
+  no_write = λ is. r.err.no_write (inside {T = P} why WriteFault is);
+  ok = tt;
+  err = λ files told. told_of files (r.err.told files told);
+  steady = λ is steady files told. ap (λ g. answer_from g (next files)) (r.err.steady (inside {T = P} why ReadFault is) steady files told);
+}
+  where
+    told_of : (files : Files) → (given files ≡ Err why) ⊎ ((why ≡ ReadFault) ⊎ (why ≡ OutOfMemory)) →
+        (answer_from (given files) (next files) ≡ refused why) ⊎ ((why ≡ ReadFault) ⊎ (why ≡ OutOfMemory))
+    told_of files (inl is) = inl (ap (λ g. answer_from g (next files)) is)
+    told_of files (inr other) = inr other
+
+changes_then : (x y z : HostState) → ChangesInputs x y → ChangesInputs y z → ChangesInputs x z
+changes_then x y z a b = record {
+  holds = b.holds ∙ a.holds;
+  given = b.given ∙ a.given;
+  ended = b.ended ∙ a.ended;
+  notes = b.notes ∙ a.notes;
+  outputs = b.outputs ∙ a.outputs;
+  rooms = λ rooms told. b.rooms rooms (a.rooms rooms told);
+}
+
+steady_still : (x y : HostState) → KeepsRooms x y → IsSome x.steady → IsSome y.steady
+steady_still x y keeps steady = still x.steady refl steady
+  where
+    still : (s : Option (List ℕ)) → x.steady ≡ s → IsSome s → IsSome y.steady
+    still None is some = absurd (search rules)
+    still (Some rooms) is some = rw (keeps rooms is) some
+
+-- an input was read, and the rest was prepared by what it gives
+pub reads_then : {T P C : Type 0} (makes : P → Delivery) (given : Files → Result T (Refusal C)) (next : Files → T → Answer C) (x y z : HostState) (value : T) (result : Result P (Refusal C)) →
+    Reads given x y (Ok value) → Prepares makes (λ files. next files value) y z result → Prepares makes (λ files. answer_from (given files) (next files)) x z result
+reads_then {T = T} {P = P} {C = C} makes given next x y z value result r p = record {
+  others = changes_then x y z r.others p.others;
+  read = λ is. subst (λ (n : ℕ). Rose n z.faults.inputs) r.calm (p.read is);
+  calm = λ other. p.calm other ∙ r.calm;
+  no_usage = p.no_usage;
+  no_write = p.no_write;
+  ok = ok_of result p.ok;
+  err = err_of result p.err;
+  steady = λ is steady files told. first files told ∙ p.steady is (steady_still x y r.others.rooms steady) files (r.others.holds ∙ told);
+}
+  where
+    first : (files : Files) → x.holds ≡ Some files → answer_from (given files) (next files) ≡ next files value
+    first files told = ap (λ g. answer_from g (next files)) (r.ok files told)
+
+    ok_of : (result : Result P (Refusal C)) → IfOk result (λ plan. IfTold y.holds (λ files. next files value ≡ done (makes plan).outputs (makes plan).report)) →
+        IfOk result (λ plan. IfTold x.holds (λ files. answer_from (given files) (next files) ≡ done (makes plan).outputs (makes plan).report))
+    ok_of (Ok plan) ok = λ files told. first files told ∙ ok files (r.others.holds ∙ told)
+    ok_of (Err why) ok = tt
+
+    either : (files : Files) (why : Refusal C) → x.holds ≡ Some files → (next files value ≡ refused why) ⊎ ((why ≡ ReadFault) ⊎ (why ≡ OutOfMemory)) →
+        (answer_from (given files) (next files) ≡ refused why) ⊎ ((why ≡ ReadFault) ⊎ (why ≡ OutOfMemory))
+    either files why told (inl is) = inl (first files told ∙ is)
+    either files why told (inr other) = inr other
+
+    err_of : (result : Result P (Refusal C)) → IfErr result (λ why. IfTold y.holds (λ files. (next files value ≡ refused why) ⊎ ((why ≡ ReadFault) ⊎ (why ≡ OutOfMemory)))) →
+        IfErr result (λ why. IfTold x.holds (λ files. (answer_from (given files) (next files) ≡ refused why) ⊎ ((why ≡ ReadFault) ⊎ (why ≡ OutOfMemory))))
+    err_of (Ok plan) err = tt
+    err_of (Err why) err = λ files told. either files why told (err files (r.others.holds ∙ told))
+
+-- nothing was read any more, and the plan is made
+pub prepares_plan : {P C : Type 0} (makes : P → Delivery) (answer : Answer C) (x : HostState) (result : Result P (Refusal C)) → Plans makes answer result → Prepares makes (λ files. answer) x x result
+prepares_plan {P = P} {C = C} makes answer x result p = record {
+  others = record { holds = refl; given = refl; ended = refl; notes = refl; outputs = refl; rooms = λ rooms told. told };
+  read = λ is. absurd (p.no_read is);
+  calm = λ other. refl;
+  no_usage = p.no_usage;
+  no_write = p.no_write;
+  ok = ok_of result p.ok;
+  err = err_of result p.err;
+  steady = λ is. absurd (p.no_read is);
+}
+  where
+    ok_of : (result : Result P (Refusal C)) → IfOk result (λ plan. answer ≡ done (makes plan).outputs (makes plan).report) →
+        IfOk result (λ plan. IfTold x.holds (λ files. answer ≡ done (makes plan).outputs (makes plan).report))
+    ok_of (Ok plan) ok = λ files told. ok
+    ok_of (Err why) ok = tt
+
+    either : (why : Refusal C) → (answer ≡ refused why) ⊎ (why ≡ OutOfMemory) → (answer ≡ refused why) ⊎ ((why ≡ ReadFault) ⊎ (why ≡ OutOfMemory))
+    either why (inl is) = inl is
+    either why (inr memory) = inr (inr memory)
+
+    err_of : (result : Result P (Refusal C)) → IfErr result (λ why. (answer ≡ refused why) ⊎ (why ≡ OutOfMemory)) →
+        IfErr result (λ why. IfTold x.holds (λ files. (answer ≡ refused why) ⊎ ((why ≡ ReadFault) ⊎ (why ≡ OutOfMemory))))
+    err_of (Ok plan) err = tt
+    err_of (Err why) err = λ files told. either why err
+
+-- an input was read, and a plan was made by what it gives
+pub reads_plan : {T P C : Type 0} (makes : P → Delivery) (given : Files → Result T (Refusal C)) (next : T → Answer C) (x y : HostState) (value : T) (result : Result P (Refusal C)) →
+    Reads given x y (Ok value) → Plans makes (next value) result → Prepares makes (λ files. answer_from (given files) next) x y result
+reads_plan {C = C} makes given next x y value result r p = reads_then makes given (λ (files : Files). next) x y y value result r (prepares_plan makes (next value) y result p)
+
+-- an input was refused, and what comes of it with it
+pub reads_refused : {T U C : Type 0} (given : Files → Result T (Refusal C)) (value : T → Result U (Refusal C)) (x y : HostState) (why : Refusal C) →
+    Reads given x y (Err why) → Reads (λ files. value_from (given files) value) x y (Err why)
+reads_refused {T = T} {U = U} {C = C} given value x y why r = record {
+  others = r.others;
+  calm = tt;
+  ok = tt;
+  err = record {
+    told = λ files told. told_of files (r.err.told files told);
+    read = r.err.read;
+    calm = r.err.calm;
+    steady = λ is steady files told. ap (λ g. value_from g value) (r.err.steady is steady files told);
+    no_usage = r.err.no_usage;
+    no_write = r.err.no_write;
+  };
+}
+  where
+    told_of : (files : Files) → (given files ≡ Err why) ⊎ ((why ≡ ReadFault) ⊎ (why ≡ OutOfMemory)) →
+        (value_from (given files) value ≡ Err why) ⊎ ((why ≡ ReadFault) ⊎ (why ≡ OutOfMemory))
+    told_of files (inl is) = inl (ap (λ g. value_from g value) is)
+    told_of files (inr other) = inr other
+
+-- an input was read, and accepted or refused by what it gives
+pub reads_accepts : {T U C : Type 0} (given : Files → Result T (Refusal C)) (value : T → Result U (Refusal C)) (x y : HostState) (bytes : T) (result : Result U (Refusal C)) →
+    Reads given x y (Ok bytes) → Accepts (value bytes) result → Reads (λ files. value_from (given files) value) x y result
+reads_accepts {T = T} {U = U} {C = C} given value x y bytes (Ok accepted) r a = record {
+  others = r.others;
+  calm = r.calm;
+  ok = λ files told. ap (λ g. value_from g value) (r.ok files told) ∙ a.ok;
+  err = tt;
+}
+reads_accepts {T = T} {U = U} {C = C} given value x y bytes (Err why) r a = record {
+  others = r.others;
+  calm = tt;
+  ok = tt;
+  err = record {
+    told = λ files told. told_of files (ap (λ g. value_from g value) (r.ok files told)) a.err.told;
+    read = λ is. absurd (a.err.no_read is);
+    calm = λ other. r.calm;
+    steady = λ is. absurd (a.err.no_read is);
+    no_usage = a.err.no_usage;
+    no_write = a.err.no_write;
+  };
+}
+  where
+    told_of : (files : Files) → value_from (given files) value ≡ value bytes → (value bytes ≡ Err why) ⊎ (why ≡ OutOfMemory) →
+        (value_from (given files) value ≡ Err why) ⊎ ((why ≡ ReadFault) ⊎ (why ≡ OutOfMemory))
+    told_of files same (inl is) = inl (same ∙ is)
+    told_of files same (inr memory) = inr (inr memory)
+
+lt_true : (a b : ℕ) → a < b → nat_lt a b ≡ true
+lt_true a b h = grind (arith, nat_tests)
+
+abbrev by_test : {C : Type 0} → (is_longer : Bool) → (too_long : C) → (bytes : List ℕ) → Result (List ℕ) (Refusal C)
+by_test is_longer too_long bytes = if is_longer then Err (Input too_long) else Ok bytes
+
+-- an input that has more bytes than it may have
+pub too_long_bytes : {C : Type 0} (limit : ℕ) (too_long : C) (held : Option (List ℕ)) → IsSomeAnd held (λ bytes. limit < length bytes) → bytes_in limit too_long held ≡ Err (Input too_long)
+too_long_bytes limit too_long None long = absurd (search rules)
+too_long_bytes limit too_long (Some bytes) long = ap (λ (b : Bool). by_test b too_long bytes) (lt_true limit (length bytes) long)

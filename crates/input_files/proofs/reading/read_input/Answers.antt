@@ -1,0 +1,22 @@
+use Rattle.std.proofs.Common.{inl, ap, Err}
+use Rattle.snd_host.specs.declared.calls.ReadRefusal.{ReadRefusal}
+use Rattle.input_files.proofs.Readings.{too_long_bytes}
+use Rattle.input_files.proofs.reading.read_input.Goals as goal
+
+pub returns-in-Err-TooLong : goal.returns-in-Err-TooLong
+returns-in-Err-TooLong g c =
+    let e = c.in-Err-TooLong.ensures in
+    let is = ap (λ (r : ReadRefusal). Err r) c.in-Err-TooLong.field-0-is in
+    record {
+      others = e.others;
+      calm = tt;
+      ok = tt;
+      err = record {
+        told = λ files told. inl (too_long_bytes c.args.limit c.args.too_long (files c.args.name.now) (e.too_long is files told));
+        read = λ wrong. absurd (cc);
+        calm = λ _. e.same (λ wrong. absurd (cc));
+        steady = λ wrong. absurd (cc);
+        no_usage = λ wrong. absurd (cc);
+        no_write = λ wrong. absurd (cc);
+      };
+    }

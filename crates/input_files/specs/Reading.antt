@@ -1,0 +1,56 @@
+-- What the reading of an input gives, or why it is refused. `C` is why the bytes of an input are refused.
+use Rattle.std.specs.Prelude.{◌≡◌, ◌⊎◌, ℕ, List, length, Option, Some, None, Result, Ok, Err, IfOk, IfErr, IsSome, nat_lt, if◌then◌else◌}
+use Rattle.snd_host.specs.Host.{HostState, Files, IfTold, Rose, ChangesInputs}
+use Rattle.command_frame.specs.Answer.{Answer, refused}
+use Rattle.command_frame.specs.declared.refusals.Refusal.{Refusal}
+use Rattle.command_frame.specs.declared.refusals.Refusal.TheVariants.{Usage, ReadFault, WriteFault, OutOfMemory, Input}
+
+-- the greatest length of most inputs, and that of a sound file to be encoded
+abbrev pub input_limit : ℕ
+input_limit = 1048576
+
+abbrev pub wave_limit : ℕ
+wave_limit = 16777216
+
+-- the bytes that an input holds, of which there may be this many; it may not be there
+abbrev pub bytes_in : {C : Type 0} → (limit : ℕ) → (too_long : C) → (held : Option (List ℕ)) → Result (List ℕ) (Refusal C)
+bytes_in limit too_long None = Err ReadFault
+bytes_in limit too_long (Some bytes) = if nat_lt limit (length bytes) then Err (Input too_long) else Ok bytes
+
+-- what comes of a value, or the refusal in its place
+abbrev pub value_from : {T U C : Type 0} → Result T (Refusal C) → (T → Result U (Refusal C)) → Result U (Refusal C)
+value_from (Ok given) value = value given
+value_from (Err refusal) value = Err refusal
+
+-- the answer by what an input gives, or its refusal
+abbrev pub answer_from : {T C : Type 0} → Result T (Refusal C) → (T → Answer C) → Answer C
+answer_from (Ok given) answer = answer given
+answer_from (Err refusal) answer = refused refusal
+
+-- Bytes are refused as they are to be, or for want of memory.
+pub record Declines {T C : Type 0} (given : Result T (Refusal C)) (refusal : Refusal C) : Type 0 where
+  pub told : (given ≡ Err refusal) ⊎ (refusal ≡ OutOfMemory)
+  pub no_usage : refusal ≡ Usage → ⊥
+  pub no_read : refusal ≡ ReadFault → ⊥
+  pub no_write : refusal ≡ WriteFault → ⊥
+
+-- Bytes were read as what they give.
+pub record Accepts {T C : Type 0} (given : Result T (Refusal C)) (result : Result T (Refusal C)) : Type 0 where
+  pub ok : IfOk result (λ value. given ≡ Ok value)
+  pub err : IfErr result (λ refusal. Declines given refusal)
+
+-- An input was read and refused as it is to be, or it could not be read, or there was no memory.
+pub record DeclinesInput {T C : Type 0} (given : Files → Result T (Refusal C)) (old new : HostState) (refusal : Refusal C) : Type 0 where
+  pub told : IfTold old.holds (λ files. (given files ≡ Err refusal) ⊎ (refusal ≡ ReadFault) ⊎ (refusal ≡ OutOfMemory))
+  pub read : refusal ≡ ReadFault → Rose old.faults.inputs new.faults.inputs
+  pub calm : (refusal ≡ ReadFault → ⊥) → new.faults.inputs ≡ old.faults.inputs
+  pub steady : refusal ≡ ReadFault → IsSome old.steady → IfTold old.holds (λ files. given files ≡ Err ReadFault)
+  pub no_usage : refusal ≡ Usage → ⊥
+  pub no_write : refusal ≡ WriteFault → ⊥
+
+-- An input was read as what it gives, by what the names hold.
+pub record Reads {T C : Type 0} (given : Files → Result T (Refusal C)) (old new : HostState) (result : Result T (Refusal C)) : Type 0 where
+  pub others : ChangesInputs old new
+  pub calm : IfOk result (λ value. new.faults.inputs ≡ old.faults.inputs)
+  pub ok : IfOk result (λ value. IfTold old.holds (λ files. given files ≡ Ok value))
+  pub err : IfErr result (λ refusal. DeclinesInput given old new refusal)

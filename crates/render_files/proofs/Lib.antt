@@ -1,0 +1,2 @@
+-- Waves: how the bytes of a piece, and those still to come, make up those that were to come.
+pub mod Waves

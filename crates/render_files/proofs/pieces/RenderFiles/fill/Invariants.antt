@@ -1,0 +1,17 @@
+use Rattle.std.proofs.Common.{◌≡◌, ◌+◌, ◌≤◌, ◌++◌, length}
+use Rattle.render_files.specs.RenderFiles.{to_come_of, report_of, work_of}
+use Rattle.render_files.proofs.pieces.RenderFiles.fill.Given as goal
+
+-- what was to come is the piece so far and what is to come, and there is room for more
+abbrev pub invariant-pieces : goal.invariant-pieces
+invariant-pieces g l = record {
+  first : l.self.wave ++ (to_come_of g.C.Chip.meaning l.self).first ≡ (to_come_of g.C.Chip.meaning l.fn.self).first;
+  second : l.self.trace ++ (to_come_of g.C.Chip.meaning l.self).second ≡ (to_come_of g.C.Chip.meaning l.fn.self).second;
+  wave_room : length l.self.wave + 512 ≤ 131072;
+  trace_room : length l.self.trace + 64512 ≤ 131072;
+  report : report_of g.C.Chip.meaning l.self ≡ report_of g.C.Chip.meaning l.fn.self;
+  work : work_of l.self ≤ work_of l.fn.self;
+}
+
+abbrev pub decreases-pieces : goal.decreases-pieces
+decreases-pieces g l = work_of l.self

@@ -1,0 +1,68 @@
+-- What contracts see of a render that is turned into the bytes of a sound file and of a trace, piece by piece, over any chip.
+use Rattle.std.specs.Prelude.{◌≡◌, ℕ, ◌+◌, ◌-◌, ◌*◌, ◌<◌, ◌≤◌, Bool, true, false, List, [], ◌++◌, length, if◌then◌else◌}
+use Rattle.std.specs.List.{flat_map}
+use Rattle.num_fix.specs.declared.Frame.{Frame}
+use Rattle.wav_form.specs.Wave.{frame_bytes}
+use Rattle.trace_form.specs.declared.record.Record.{Record}
+use Rattle.trace_form.specs.Line.{lines_of}
+use Rattle.sound_bus.specs.ChipMeaning.{ChipMeaning}
+use Rattle.render_core.specs.RenderState.{RenderState, frames_to_come, records_to_come, counts_to_come}
+use Rattle.render_core.specs.Fade.{faded_from}
+use Rattle.command_frame.specs.Stream.{Both}
+use Rattle.render_files.specs.Batches.{sound_report}
+
+-- the greatest number of frames: an hour
+abbrev pub hour : ℕ
+hour = 115200000
+
+pub record FilesState (S : Type 0) : Type 0 where
+  pub render : RenderState S
+  -- the frames that were made, all of them, and those at the end that fade
+  pub made : ℕ
+  pub samples : ℕ
+  pub fade : ℕ
+  pub is_traced : Bool
+  -- the piece that was made last
+  pub wave : List ℕ
+  pub trace : List ℕ
+  -- whether it was the last one
+  pub is_done : Bool
+
+-- the lines of records, where there is a trace
+abbrev pub trace_of : (is_traced : Bool) → List Record → List ℕ
+trace_of is_traced records = if is_traced then lines_of records else []
+
+-- the bytes of frames after so many others
+abbrev pub wave_of : {S : Type 0} → FilesState S → (made : ℕ) → List Frame → List ℕ
+wave_of files made frames = flat_map frame_bytes (faded_from made files.samples files.fade frames)
+
+abbrev pub held_of : {S : Type 0} → FilesState S → Both
+held_of files = record { first = files.wave; second = files.trace }
+
+-- what is still to come after the piece
+abbrev pub to_come_of : {S : Type 0} → ChipMeaning S → FilesState S → Both
+to_come_of chip files = record {
+  first = wave_of files files.made (frames_to_come chip files.render);
+  second = trace_of files.is_traced (records_to_come chip files.render);
+}
+
+-- the report on all of it
+abbrev pub report_of : {S : Type 0} → ChipMeaning S → FilesState S → List ℕ
+report_of chip files = sound_report files.samples (counts_to_come chip files.render)
+
+-- the cycles that are left
+abbrev pub work_of : {S : Type 0} → FilesState S → ℕ
+work_of files = 32 * files.samples - files.render.bus.machine.clock
+
+-- The frames that were made and those to come are all, of which the last `fade` fade; the report stands once all are made.
+pub record IsComplete {S : Type 0} (chip : ChipMeaning S) (render : RenderState S) (made samples fade : ℕ) (is_done : Bool) (report : List ℕ) : Type 0 where
+  pub limit : samples ≤ hour
+  pub within : fade ≤ samples
+  pub same : render.samples ≡ samples
+  pub all : made + length (frames_to_come chip render) ≡ samples
+  pub told : is_done ≡ true → report ≡ sound_report samples (counts_to_come chip render)
+
+-- Of a render that has made nothing, so many samples are to come.
+pub record IsUnmade {S : Type 0} (chip : ChipMeaning S) (render : RenderState S) (samples : ℕ) : Type 0 where
+  pub same : render.samples ≡ samples
+  pub count : length (frames_to_come chip render) ≡ samples

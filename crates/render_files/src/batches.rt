@@ -1,0 +1,41 @@
+// What a render reports: its samples, and how often the chip ran for them, and why.
+ghost use Rattle.std.specs.Prelude.{◌≡◌, ◌+◌, ◌≤◌, ◌++◌, length, decimal};
+ghost use Rattle.render_files.specs.Batches.{batch_line, sound_report};
+
+use report_text::ByteRoom;
+use sound_bus::Counts;
+
+/// Adds a word and a count.
+fn put_count(report: &mut ByteRoom, word: &[u8], count: u64)
+    requires { length report.old + length word.now + 20 ≤ 131072 }
+    ensures text { report.new ≡ report.old ++ word.now ++ decimal count }
+    ensures len { length report.new ≤ length report.old + length word.now + 20 }
+{
+    report.append(word);
+    report.append(itoa::Buffer::new().format(count).as_bytes());
+}
+
+/// Adds the line of these counts, at most 200 bytes.
+pub fn put_batches(report: &mut ByteRoom, counts: Counts)
+    requires { length report.old + 200 ≤ 131072 }
+    ensures { report.new ≡ report.old ++ batch_line counts }
+{
+    put_count(report, b"batches ", counts.batches);
+    put_count(report, b" register ", counts.register);
+    put_count(report, b" memory ", counts.memory);
+    put_count(report, b" echo ", counts.echo);
+    put_count(report, b" full ", counts.full);
+    put_count(report, b" events ", counts.events);
+    put_count(report, b" end ", counts.end);
+    report.append(b"\n");
+}
+
+/// Adds the report on so many samples, made in batches of these counts.
+pub fn put_sound_report(report: &mut ByteRoom, samples: u32, counts: Counts)
+    requires { length report.old + 250 ≤ 131072 }
+    ensures { report.new ≡ report.old ++ sound_report samples counts }
+{
+    put_count(report, b"samples ", u64::from(samples));
+    report.append(b"\n");
+    put_batches(report, counts);
+}

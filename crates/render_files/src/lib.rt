@@ -1,0 +1,9 @@
+//! What turns the pieces of a render into the bytes of its sound file and of its trace, and its report. It is made over
+//! any chip, and can make none.
+#![tactic(auto)]
+
+mod batches;
+mod pieces;
+
+pub use batches::{put_batches, put_sound_report};
+pub use pieces::RenderFiles;

@@ -1,0 +1,2 @@
+-- how texts are printed
+pub mod Texts

@@ -1,0 +1,68 @@
+// Bytes with a fixed room.
+ghost use Rattle.std.specs.Prelude.{◌≡◌, ◌↔◌, ◌+◌, ◌≤◌, ◌++◌, [], true, length, IfOk};
+
+use crate::OutOfMemory;
+use std::alloc::Global;
+use std::marker::Model;
+
+/// How many bytes there is room for.
+const ROOM: usize = 131072;
+
+/// Up to 131,072 bytes, so that adding some takes no memory.
+#[derive(Drop)]
+pub struct ByteRoom {
+    bytes: Vec<u8>,
+    len: usize,
+}
+
+impl Model for ByteRoom {
+    ghost use Rattle.std.specs.Prelude.{◌≡◌, ◌≤◌, List, ℕ, take, vec_len};
+
+    ghost Value = { List ℕ };
+
+    ghost view = { λ room. take room.len room.bytes.items };
+
+    ghost invariant = { λ room. (vec_len room.bytes ≡ 131072) × (room.len ≤ 131072) };
+}
+
+impl ByteRoom {
+    /// No bytes, and room for 131,072.
+    pub fn new(alloc: Global) -> Result<ByteRoom, OutOfMemory>
+        ensures { IfOk result (λ room. room ≡ []) }
+    {
+        let bytes = vec![in alloc; 0u8; ROOM]?;
+        Ok(ByteRoom { bytes, len: 0 })
+    }
+
+    /// Whether there is room for so many more.
+    pub fn has_room(&self, more: usize) -> bool
+        requires { more ≤ 131072 }
+        ensures { (result ≡ true) ↔ (length self.now + more ≤ 131072) }
+    {
+        self.len + more <= ROOM
+    }
+
+    /// Drops all bytes.
+    pub fn clear(&mut self)
+        ensures { self.new ≡ [] }
+    {
+        self.len = 0;
+    }
+
+    /// Adds bytes at the end.
+    pub fn append(&mut self, piece: &[u8])
+        requires { length self.old + length piece.now ≤ 131072 }
+        ensures { self.new ≡ self.old ++ piece.now }
+    {
+        let end = self.len + piece.len();
+        self.bytes[self.len..end].copy_from_slice(piece);
+        self.len = end;
+    }
+
+    /// The bytes.
+    pub fn as_slice(&self) -> &[u8]
+        ensures { result.now ≡ self.now }
+    {
+        &self.bytes[..self.len]
+    }
+}

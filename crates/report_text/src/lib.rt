@@ -1,0 +1,11 @@
+//! The text of reports: numbers and texts that are printed to bytes, which grow or have a fixed room.
+#![tactic(auto)]
+
+mod byte_room;
+mod growing;
+#[cfg(test)]
+mod tests;
+
+pub use byte_room::ByteRoom;
+pub use growing::{put_named, put_number, put_signed, put_text, put_two_digits, put_word};
+pub use std::alloc::AllocError as OutOfMemory;

@@ -1,0 +1,34 @@
+// Numbers and texts of reports.
+use crate::{ByteRoom, put_named, put_number, put_signed, put_text, put_two_digits, put_word};
+use std::test::Fail;
+
+#[test]
+fn numbers_and_texts_are_printed(rt: HostRuntime) -> Result<(), Fail> {
+    let mut report = Vec::new(rt.alloc());
+    put_number(&mut report, 320000)?;
+    put_named(&mut report, b" worst ", 4095)?;
+    put_signed(&mut report, b" left ", -17)?;
+    report.extend_from_slice(b" ")?;
+    put_two_digits(&mut report, 0x0c)?;
+    report.extend_from_slice(b" ")?;
+    put_word(&mut report, 0x04ef)?;
+    report.extend_from_slice(b" ")?;
+    put_text(&mut report, b"a\\\x07~")?;
+    assert_eq!(rt;
+        report.as_slice(),
+        b"320000 worst 4095 left -17 0c 04ef a\\x5c\\x07~".as_slice()
+    );
+    Ok(())
+}
+
+#[test]
+fn a_room_takes_bytes_until_it_is_full(rt: HostRuntime) -> Result<(), Fail> {
+    let mut room = ByteRoom::new(rt.alloc())?;
+    room.append(b"sam");
+    room.append(b"ples");
+    assert_eq!(rt; room.as_slice(), b"samples".as_slice());
+    assert!(rt; room.has_room(131065) && !room.has_room(131066));
+    room.clear();
+    assert!(rt; room.as_slice().is_empty());
+    Ok(())
+}

@@ -1,9 +1,0 @@
-use Rattle.command_frame.specs.Plan.{plan_makes}
-use Rattle.spcwave.specs.Demo.{demo_answer}
-use Rattle.spcwave.proofs.Unread.{attempts_unread}
-use Rattle.spcwave.proofs.demo.demo.Goals as goal
-
-pub returns-clause-attempts : goal.returns-clause-attempts
-returns-clause-attempts g c =
-    attempts_unread plan_makes (demo_answer c.args.number c.args.output.now) (g.H.Host.state c.args.host.now) (g.H.Host.state c.carry_out.new.host)
-    c.plan-prepared.result c.carry_out.result c.plan-prepared.ensures c.carry_out.ensures

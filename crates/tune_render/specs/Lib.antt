@@ -1,0 +1,2 @@
+-- what the machine of a tune emits
+pub mod Tune
