@@ -3,7 +3,7 @@ use Rattle.std.proofs.Common.{◌≡◌, Result, Ok, Err, ℕ, ◌-◌, List, []
 use Rattle.std.proofs.lemmas.List.{append-nil}
 use Rattle.snd_host.specs.Host.{HostState, Output, Rose, Writes, WritesAll, rooms_less}
 use Rattle.snd_host.proofs.Writes.{index-rooms_less}
-use Rattle.command_frame.proofs.Places.{index-rooms_less_other}
+use Rattle.command_frame.proofs.Places.{index-rooms_less_other, ended_are_whole_as}
 use Rattle.command_frame.specs.Delivery.{Gains, IsBegun, Delivers}
 
 pub gains_nothing : (a b : HostState) → b.given ≡ a.given → b.ended ≡ a.ended → b.holds ≡ a.holds → Gains [] [] [] [] a b
@@ -45,6 +45,8 @@ then_report {T = T} {U = U} {E = E} outputs report a b c x (Ok y) d w =
       made = behind {T = T} {E = E} outputs a b c x d report w.wrote;
       ok = (refl, d.ok.1, d.ok.2);
       part = tt;
+      ended_whole = ended_are_whole_as d.begun outputs d.ended d.ok.1;
+      report_last = λ some. (d.ok.1, d.ok.2);
       inputs = w.wrote.others.inputs ∙ d.inputs;
       notes = w.cause.notes_kept (λ is. absurd (cc)) ∙ d.notes;
       cause = record { later = omega (arith, cause.same, d.cause.same); failed = tt; same = cause.same ∙ d.cause.same };
@@ -60,6 +62,8 @@ then_report {T = T} {U = U} {E = E} outputs report a b c x (Err e) d w =
       made = behind {T = T} {E = E} outputs a b c x d w.part.part w.part.wrote;
       ok = tt;
       part = (w.part.prefix, subst (λ (l : List Output). IsBegun l outputs) (sym d.ok.1) (begun_all outputs));
+      ended_whole = ended_are_whole_as d.begun outputs d.ended d.ok.1;
+      report_last = λ some. (d.ok.1, d.ok.2);
       inputs = w.part.wrote.others.inputs ∙ d.inputs;
       notes = w.cause.notes_kept (λ is. absurd (cc)) ∙ d.notes;
       cause = record { later = omega (arith, cause.later, d.cause.same); failed = subst (λ (k : ℕ). Rose k c.faults.outputs) d.cause.same cause.failed; same = tt };
@@ -78,6 +82,8 @@ no_outputs a x = record {
   made = gains_nothing a a refl refl refl;
   ok = (refl, refl, refl);
   part = tt;
+  ended_whole = tt;
+  report_last = λ some. absurd (some refl);
   inputs = refl;
   notes = refl;
   cause = record { later = omega arith; failed = tt; same = refl };

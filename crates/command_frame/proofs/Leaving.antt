@@ -1,10 +1,12 @@
 -- What was gained is left.
-use Rattle.std.proofs.Common.{◌≡◌, ℕ, Bool, List, ◌++◌, Option, refl, sym, subst}
+use Rattle.std.proofs.Common.{◌≡◌, ◌≢◌, ℕ, Bool, List, [], ◌++◌, Option, Some, refl, sym, ◌∙◌, ap, subst}
+use Rattle.std.proofs.lemmas.List.{append-nil}
+use Rattle.command_frame.specs.Answer.{Answer, outputs_of}
 use Rattle.std.specs.Prelude.{IsSomeAnd}
 use Rattle.snd_host.specs.Host.{HostState, Given, Output}
-use Rattle.command_frame.specs.Delivery.{Gains}
+use Rattle.command_frame.specs.Delivery.{Gains, all_ended}
 use Rattle.command_frame.specs.Conduct.{HasComplaint}
-use Rattle.command_frame.specs.Leaves.{Leaves, Complains}
+use Rattle.command_frame.specs.Leaves.{Leaves, ReportsLast, Complains}
 
 pub leaves : (report complaint : List ℕ) (outputs : List Output) (flags : List Bool) (x z : HostState) → Gains report complaint outputs flags x z → Leaves report outputs flags x z
 leaves report complaint outputs flags x z gains = record {
@@ -19,3 +21,17 @@ complains line report complaint outputs flags x z gains has = record {
   part = has.part;
   all = has.all;
 }
+
+-- the report came last
+pub reports_last : {C : Type 0} (a : Answer C) (report complaint : List ℕ) (outputs : List Output) (flags : List Bool) (x z : HostState) → Gains report complaint outputs flags x z →
+    (report ≢ [] → (outputs ≡ outputs_of a) × (flags ≡ all_ended (outputs_of a))) → ReportsLast a x z
+reports_last {C = C} a report complaint outputs flags x z gains last before told now told_now grew =
+    let made : Some (record { report = before.report ++ report; complaint = before.complaint ++ complaint; created = before.created ++ outputs }) ≡ Some now = sym (gains.given before told) ∙ told_now in
+    let is_now : record { report = before.report ++ report; complaint = before.complaint ++ complaint; created = before.created ++ outputs } ≡ now = inside _ _ made in
+    let all = last (λ none. grew (sym (ap (λ (g : Given). g.report) is_now) ∙ ap (λ (l : List ℕ). before.report ++ l) none ∙ append-nil before.report)) in (
+      sym (ap (λ (g : Given). g.created) is_now) ∙ ap (λ (l : List Output). before.created ++ l) all.0,
+      gains.ended ∙ ap (λ (l : List Bool). x.ended ++ l) all.1,
+    )
+  where
+    inside : (g h : Given) → Some g ≡ Some h → g ≡ h
+    inside g h is = cc

@@ -23,6 +23,8 @@ all_done : {C T E : Type 0} (outputs : List Output) (report : List ℕ) (x y z :
 all_done outputs report x y z t reads calm d = record {
   settled = λ same. (d.ok.0, d.ok.1, d.ok.2);
   written = λ is. absurd (cc);
+  ended_whole = d.ended_whole;
+  report_last = d.report_last;
   truthful = inl refl;
   steady = λ steady. inl refl;
   steady_inputs = λ steady other. d.inputs ∙ calm;
@@ -34,6 +36,8 @@ part_done : {C T E : Type 0} (outputs : List Output) (report : List ℕ) (x y z 
 part_done {C = C} {T = T} {E = E} outputs report x y z e reads calm d = record {
   settled = λ same. absurd (cc);
   written = λ is. (refl, d.part.0, d.part.1);
+  ended_whole = d.ended_whole;
+  report_last = d.report_last;
   truthful = inr (inr (inl refl));
   steady = λ steady. inr (inl refl);
   steady_inputs = λ steady other. d.inputs ∙ calm;
@@ -46,6 +50,8 @@ refused_so : {C : Type 0} (why : Refusal C) (x y : HostState) → (why ≡ Write
 refused_so {C = C} why x y no_write reads calm = record {
   settled = λ same. (refl, refl, refl);
   written = λ is. absurd (no_write cc);
+  ended_whole = tt;
+  report_last = λ some. absurd (some refl);
   truthful = inl refl;
   steady = λ steady. inl refl;
   steady_inputs = λ steady other. calm (λ is. other (ap (λ (r : Refusal C). Some r) is));
@@ -57,6 +63,8 @@ no_memory : {C : Type 0} (a : Answer C) (x y : HostState) → ChangesInputs x y 
 no_memory (done outputs report) x y reads calm = record {
   settled = λ same. absurd (cc);
   written = λ is. absurd (cc);
+  ended_whole = tt;
+  report_last = λ some. absurd (some refl);
   truthful = inr (inr (inr refl));
   steady = λ steady. inr (inr refl);
   steady_inputs = λ steady other. calm;
@@ -65,6 +73,8 @@ no_memory (done outputs report) x y reads calm = record {
 no_memory (refused why) x y reads calm = record {
   settled = λ same. (refl, refl, refl);
   written = λ is. absurd (cc);
+  ended_whole = tt;
+  report_last = λ some. absurd (some refl);
   truthful = inr (inr (inr refl));
   steady = λ steady. inr (inr refl);
   steady_inputs = λ steady other. calm;
@@ -76,6 +86,8 @@ not_read : {C : Type 0} (a : Answer C) (x y : HostState) → ChangesInputs x y �
 not_read {C = C} a x y reads steadily = record {
   settled = λ same. settled_refused a same;
   written = λ is. absurd (cc);
+  ended_whole = tt;
+  report_last = λ some. absurd (some refl);
   truthful = inr (inl refl);
   steady = λ steady. inl (sym (ap refusal_of (steadily steady)));
   steady_inputs = λ steady other. absurd (other (ap refusal_of (steadily steady)));
@@ -205,6 +217,8 @@ obeys {C = C} line answer names refusal x y z t c silent = record {
     same a d = record {
       settled = d.settled;
       written = d.written;
+      ended_whole = d.ended_whole;
+      report_last = d.report_last;
       truthful = d.truthful;
       steady = d.steady;
       steady_inputs = λ steady other. inputs ∙ d.steady_inputs steady other;
@@ -251,6 +265,8 @@ attempts_usage x = record {
   answered = λ files told. record {
     settled = λ same. (refl, refl, refl);
     written = λ is. absurd (cc);
+    ended_whole = tt;
+    report_last = λ some. absurd (some refl);
     truthful = inl refl;
     steady = λ steady. inl refl;
     steady_inputs = λ steady other. refl;

@@ -5,7 +5,7 @@ use Rattle.std.proofs.lemmas.List.{get_or-set_other, length-set}
 use Rattle.std.proofs.lemmas.Bool.{cases_eq}
 use Rattle.snd_host.specs.Host.{Given, Output, IsOpen, IsPrefix, given_with, outputs_with, rooms_less}
 use Rattle.snd_host.proofs.Writes.{index-rooms_less}
-use Rattle.command_frame.specs.Delivery.{IsBegun, HaveRooms}
+use Rattle.command_frame.specs.Delivery.{IsBegun, EndedAreWhole, HaveRooms}
 use Rattle.command_frame.specs.Stream.{bytes_of, RoomsAfter}
 
 pub grown_behind : (created outputs : List Output) (i : ℕ) (bytes : List ℕ) → outputs_with (created ++ outputs) (length created + i) bytes ≡ created ++ outputs_with outputs i bytes
@@ -152,3 +152,23 @@ get_set_other (f ∷ flags) zero zero b other = absurd (other refl)
 get_set_other (f ∷ flags) zero (suc j) b other = refl
 get_set_other (f ∷ flags) (suc i) zero b other = refl
 get_set_other (f ∷ flags) (suc i) (suc j) b other = get_set_other flags i j b (λ same. other (ap suc same))
+
+-- outputs that have all their bytes, whichever of them were ended
+pub ended_are_whole : (outputs : List Output) (flags : List Bool) → EndedAreWhole outputs flags outputs
+ended_are_whole [] flags = tt
+ended_are_whole (o ∷ outputs) [] = tt
+ended_are_whole (o ∷ outputs) (flag ∷ flags) = (λ ended. refl, ended_are_whole outputs flags)
+
+pub ended_are_whole_as : (begun outputs : List Output) (flags : List Bool) → begun ≡ outputs → EndedAreWhole begun flags outputs
+ended_are_whole_as begun outputs flags same = subst (λ (l : List Output). EndedAreWhole l flags outputs) (sym same) (ended_are_whole outputs flags)
+
+-- no output was ended
+abbrev pub NoneEnded : List Bool → Type 0
+NoneEnded [] = Unit {0}
+NoneEnded (flag ∷ flags) = (flag ≡ false) × NoneEnded flags
+
+pub none_ended : (begun : List Output) (flags : List Bool) (outputs : List Output) → NoneEnded flags → EndedAreWhole begun flags outputs
+none_ended [] flags outputs none = tt
+none_ended (o ∷ begun) [] outputs none = tt
+none_ended (o ∷ begun) (flag ∷ flags) [] none = tt
+none_ended (o ∷ begun) (flag ∷ flags) (output ∷ outputs) none = (λ ended. let open_yet = none.0 in absurd (cc), none_ended begun flags outputs none.1)

@@ -3,9 +3,9 @@ use Rattle.std.proofs.Common.{◌≡◌, ◌≢◌, Ok, Err, IsOk, ℕ, ◌+◌,
 use Rattle.std.specs.Prelude.{slice_get}
 use Rattle.std.proofs.lemmas.List.{append-nil, length-set}
 use Rattle.snd_host.specs.Host.{HostState, Given, Output, HasCause, Rose, ChangesOutputs, KeepsRooms, IsOpen, Writes, WritesAll, outputs_with, rooms_less}
-use Rattle.command_frame.specs.Delivery.{Gains, IsBegun, HaveRooms, Delivers}
+use Rattle.command_frame.specs.Delivery.{Gains, IsBegun, EndedAreWhole, HaveRooms, Delivers}
 use Rattle.command_frame.specs.Stream.{bytes_of, RoomsAfter, Stands, Stops}
-use Rattle.command_frame.proofs.Places.{grown_since, open_since, ended_since, length-outputs_with, bytes_of-end, rooms_lowered, begun_at, have_at, begun_less, prefix_short, bytes_of-given_with}
+use Rattle.command_frame.proofs.Places.{grown_since, open_since, ended_since, length-outputs_with, bytes_of-end, rooms_lowered, begun_at, have_at, begun_less, prefix_short, bytes_of-given_with, ended_are_whole, NoneEnded, none_ended}
 
 -- nothing was created yet
 pub stands_at_first : (a : HostState) → ((given : Given) → a.given ≡ Some given → length given.created ≡ length a.ended) → Stands [] [] [] a a
@@ -93,8 +93,8 @@ module _ (outputs : List Output) (flags : List Bool) (a c : HostState) (s : Stan
   }
 
   -- a write to the output of this place failed
-  pub stops_written : {T E : Type 0} (d : HostState) (bytes : List ℕ) (e : E) (total : List Output) (report : List ℕ) → i < length outputs → WritesAll {T = T} {E = E} n bytes c d (Err e) → IsBegun (outputs_with outputs i bytes) total → Stops total report a d
-  stops_written {T = T} {E = E} d bytes e total report below w begun f =
+  pub stops_written : {T E : Type 0} (d : HostState) (bytes : List ℕ) (e : E) (total : List Output) (report : List ℕ) → i < length outputs → WritesAll {T = T} {E = E} n bytes c d (Err e) → IsBegun (outputs_with outputs i bytes) total → NoneEnded flags → Stops total report a d
+  stops_written {T = T} {E = E} d bytes e total report below w begun none f =
       let cause = w.cause.outputs not_complaint in
       record {
         reported = [];
@@ -103,6 +103,8 @@ module _ (outputs : List Output) (flags : List Bool) (a c : HostState) (s : Stan
         made = made_written d w.part.part w.part.wrote;
         ok = tt;
         part = (record { rest = report; split = refl }, begun_less outputs total i w.part.part bytes w.part.prefix begun);
+        ended_whole = none_ended (outputs_with outputs i w.part.part) flags total none;
+        report_last = λ some. absurd (some refl);
         inputs = w.part.wrote.others.inputs ∙ s.inputs;
         notes = w.cause.notes_kept not_complaint ∙ s.notes;
         cause = record { later = omega (arith, cause.later, s.faults); failed = subst (λ (k : ℕ). Rose k d.faults.outputs) s.faults cause.failed; same = tt };
@@ -133,15 +135,17 @@ module _ (outputs : List Output) (flags : List Bool) (a c : HostState) (s : Stan
 
 -- a call that fails and writes nothing: the ending of an output, or the creation of one that there was room for
 pub stops_unwritten : {T E : Type 0} (outputs : List Output) (flags : List Bool) (a c d : HostState) (e : E) (total : List Output) (report : List ℕ) → Stands outputs flags [] a c → d.given ≡ c.given → d.ended ≡ c.ended → ChangesOutputs c d → d.faults.notes ≡ c.faults.notes →
-    HasCause {T = T} {E = E} c.faults.outputs d.faults.outputs (Err e) → KeepsRooms c d → IsBegun outputs total →
+    HasCause {T = T} {E = E} c.faults.outputs d.faults.outputs (Err e) → KeepsRooms c d → IsBegun outputs total → EndedAreWhole outputs flags total →
     ((rooms : List ℕ) (after : List ℕ) → a.steady ≡ Some rooms → c.steady ≡ Some after → length after ≡ length rooms → HaveRooms total rooms (length a.ended + 2) → IsOk {T = T} {E = E} (Err e)) → Stops total report a d
-stops_unwritten outputs flags a c d e total report s given ended others notes cause keeps begun steady f = record {
+stops_unwritten outputs flags a c d e total report s given ended others notes cause keeps begun whole steady f = record {
   reported = [];
   begun = outputs;
   ended = flags;
   made = record { given = λ g told. given ∙ s.made.given g told; ended = ended ∙ s.made.ended; holds = others.holds ∙ s.made.holds };
   ok = tt;
   part = (record { rest = report; split = refl }, begun);
+  ended_whole = whole;
+  report_last = λ some. absurd (some refl);
   inputs = others.inputs ∙ s.inputs;
   notes = notes ∙ s.notes;
   cause = record { later = omega (arith, cause.later, s.faults); failed = subst (λ (k : ℕ). Rose k d.faults.outputs) s.faults cause.failed; same = tt };
@@ -158,6 +162,8 @@ delivered outputs flags a c x s all = record {
   made = s.made;
   ok = (refl, refl, all);
   part = tt;
+  ended_whole = ended_are_whole outputs flags;
+  report_last = λ some. absurd (some refl);
   inputs = s.inputs;
   notes = s.notes;
   cause = record { later = omega (arith, s.faults); failed = tt; same = s.faults };

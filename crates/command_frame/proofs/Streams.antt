@@ -8,7 +8,7 @@ use Rattle.snd_host.specs.declared.host.OutFile.{OutFile}
 use Rattle.command_frame.specs.declared.streaming.Targets.{Targets}
 use Rattle.command_frame.specs.Delivery.{IsBegun, Delivers}
 use Rattle.command_frame.specs.Stream.{Both, Stands, Stops, pair, flags_of, IsSecond, AreTargets, IsOpenBehind, AreOpen, Begins, Puts, Ends, Pumps}
-use Rattle.command_frame.proofs.Places.{prefix_front, open_of, get_set_other, unended_since}
+use Rattle.command_frame.proofs.Places.{ended_are_whole, none_ended, prefix_front, open_of, get_set_other, unended_since}
 use Rattle.command_frame.proofs.Standing.{stands_at_first, stands_created, next_number, stands_written, stops_written, stands_ended, stops_unwritten, delivered}
 
 pub open_first : (ended : List Bool) (targets : Targets) → AreOpen ended targets → IsOpen ended targets.first.0
@@ -33,9 +33,9 @@ put_first_failed targets xs ys old new e w = record { ended = tt; ok = tt; err =
     failed : (first : List ℕ) (second : Option (List ℕ)) (us vs : List ℕ) (a : HostState) → AreTargets second a targets → Stands (pair first second us vs) (flags_of second false) [] a old →
         (ps qs report : List ℕ) → IsPrefix (us ++ xs) ps → IsPrefix (vs ++ ys) qs → Stops (pair first second ps qs) report a new
     failed first None us vs a are s ps qs report p q =
-        stops_written (pair first None us vs) (flags_of None false) a old s targets.first.0 0 (first_place None a targets are) {T = Unit {0}} {E = Failed} new xs e (pair first None ps qs) report (first_below first None us vs) w (refl, p, tt)
+        stops_written (pair first None us vs) (flags_of None false) a old s targets.first.0 0 (first_place None a targets are) {T = Unit {0}} {E = Failed} new xs e (pair first None ps qs) report (first_below first None us vs) w (refl, p, tt) (refl, tt)
     failed first (Some name) us vs a are s ps qs report p q =
-        stops_written (pair first (Some name) us vs) (flags_of (Some name) false) a old s targets.first.0 0 (first_place (Some name) a targets are) {T = Unit {0}} {E = Failed} new xs e (pair first (Some name) ps qs) report (first_below first (Some name) us vs) w (refl, p, (refl, prefix_front vs ys qs q, tt))
+        stops_written (pair first (Some name) us vs) (flags_of (Some name) false) a old s targets.first.0 0 (first_place (Some name) a targets are) {T = Unit {0}} {E = Failed} new xs e (pair first (Some name) ps qs) report (first_below first (Some name) us vs) w (refl, p, (refl, prefix_front vs ys qs q, tt)) (refl, (refl, tt))
 
 -- there is no second output
 pub put_first : (targets : Targets) (xs ys : List ℕ) (old new : HostState) (x : Unit {0}) → targets.second ≡ None → WritesAll {T = Unit {0}} {E = Failed} targets.first.0 xs old new (Ok x) → Puts targets xs ys old new (Ok (tt {0}))
@@ -66,7 +66,7 @@ module _ (targets : Targets) (xs ys : List ℕ) (old mid new : HostState) (x : U
           (ps qs report : List ℕ) → IsPrefix (us ++ xs) ps → IsPrefix (vs ++ ys) qs → Stops (pair first second ps qs) report a new
       failed first None us vs a are s ps qs report p q = absurd (subst (λ (f : Option OutFile). IsSecond None f (length a.ended + 2)) is are.second_number)
       failed first (Some name) us vs a are s ps qs report p q =
-          stops_written (pair first (Some name) (us ++ xs) vs) (flags_of (Some name) false) a mid (half first name us vs a are s) file.0 1 (number name a are) {T = Unit {0}} {E = Failed} new ys e (pair first (Some name) ps qs) report (omega arith) v (refl, p, (refl, q, tt))
+          stops_written (pair first (Some name) (us ++ xs) vs) (flags_of (Some name) false) a mid (half first name us vs a are s) file.0 1 (number name a are) {T = Unit {0}} {E = Failed} new ys e (pair first (Some name) ps qs) report (omega arith) v (refl, p, (refl, q, tt)) (refl, (refl, tt))
 
 -- nothing was written yet
 pub puts_nothing : (targets : Targets) (old : HostState) → Puts targets [] [] old old (Ok (tt {0}))
@@ -162,9 +162,9 @@ pub begin_failed : (first : List ℕ) (second : Option (List ℕ)) (a b : HostSt
 begin_failed first second a b e tells given ended others notes cause keeps steady = record { ok = tt; err = stops second }
   where
     stops : (second : Option (List ℕ)) (xs ys report : List ℕ) → Stops (pair first second xs ys) report a b
-    stops None xs ys report = stops_unwritten {T = OutFile} {E = Failed} [] [] a a b e (pair first None xs ys) report (stands_at_first a tells) given ended others notes cause keeps tt
+    stops None xs ys report = stops_unwritten {T = OutFile} {E = Failed} [] [] a a b e (pair first None xs ys) report (stands_at_first a tells) given ended others notes cause keeps tt tt
         (λ rooms after told still same have. steady rooms told have.0 have.2)
-    stops (Some name) xs ys report = stops_unwritten {T = OutFile} {E = Failed} [] [] a a b e (pair first (Some name) xs ys) report (stands_at_first a tells) given ended others notes cause keeps tt
+    stops (Some name) xs ys report = stops_unwritten {T = OutFile} {E = Failed} [] [] a a b e (pair first (Some name) xs ys) report (stands_at_first a tells) given ended others notes cause keeps tt tt
         (λ rooms after told still same have. steady rooms told have.0 have.2)
 
 pub begun_first : (first : List ℕ) (a b : HostState) → ((given : Given) → a.given ≡ Some given → length given.created ≡ length a.ended) → b.ended ≡ a.ended ++ false ∷ [] →
@@ -185,7 +185,7 @@ pub begin_failed_second : (first name : List ℕ) (a b d : HostState) (e : Faile
     ((rooms : List ℕ) → b.steady ≡ Some rooms → length b.ended + 2 < length rooms → length name ≤ 200 → IsOk {T = OutFile} {E = Failed} (Err e)) → Begins first (Some name) a d (Err e)
 begin_failed_second first name a b d e s given ended others notes cause keeps steady = record {
   ok = tt;
-  err = λ xs ys report. stops_unwritten {T = OutFile} {E = Failed} (pair first None [] []) (flags_of None false) a b d e (pair first (Some name) xs ys) report s given ended others notes cause keeps (refl, record { rest = xs; split = refl }, tt)
+  err = λ xs ys report. stops_unwritten {T = OutFile} {E = Failed} (pair first None [] []) (flags_of None false) a b d e (pair first (Some name) xs ys) report s given ended others notes cause keeps (refl, record { rest = xs; split = refl }, tt) (none_ended (pair first None [] []) (flags_of None false) (pair first (Some name) xs ys) (refl, tt))
       (λ rooms after told still same have.
       let many = next_number (pair first None [] []) (flags_of None false) a b (length b.ended + 2) s refl in
       steady after still (let place = have.3.0 in omega arith) have.3.2);
@@ -217,7 +217,7 @@ pub end_failed : (targets : Targets) (old new : HostState) (e : Failed) → new.
     HasCause {T = Unit {0}} {E = Failed} old.faults.outputs new.faults.outputs (Err e) → KeepsRooms old new → (IsSome old.steady → IsOk {T = Unit {0}} {E = Failed} (Err e)) → Ends targets old new (Err e)
 end_failed targets old new e given ended others notes cause keeps steady = record {
   ok = tt;
-  err = λ first second xs ys report a are s. stops_unwritten {T = Unit {0}} {E = Failed} (pair first second xs ys) (flags_of second false) a old new e (pair first second xs ys) report s given ended others notes cause keeps (begun_all (pair first second xs ys))
+  err = λ first second xs ys report a are s. stops_unwritten {T = Unit {0}} {E = Failed} (pair first second xs ys) (flags_of second false) a old new e (pair first second xs ys) report s given ended others notes cause keeps (begun_all (pair first second xs ys)) (ended_are_whole (pair first second xs ys) (flags_of second false))
       (λ rooms after told still same have. steady (is_steady old after still));
 }
 
@@ -264,7 +264,7 @@ module _ (targets : Targets) (file : OutFile) (old mid new : HostState) (x : Uni
     where
       failed : (first : List ℕ) (second : Option (List ℕ)) (xs ys report : List ℕ) (a : HostState) → AreTargets second a targets → Stands (pair first second xs ys) (flags_of second false) [] a old → Stops (pair first second xs ys) report a new
       failed first None xs ys report a are s = absurd (subst (λ (f : Option OutFile). IsSecond None f (length a.ended + 2)) is are.second_number)
-      failed first (Some name) xs ys report a are s = stops_unwritten {T = Unit {0}} {E = Failed} (pair first (Some name) xs ys) (true ∷ false ∷ []) a mid new e (pair first (Some name) xs ys) report (half_ended first name xs ys a are s) given2 kept2 others2 notes2 cause2 keeps2 (begun_all (pair first (Some name) xs ys))
+      failed first (Some name) xs ys report a are s = stops_unwritten {T = Unit {0}} {E = Failed} (pair first (Some name) xs ys) (true ∷ false ∷ []) a mid new e (pair first (Some name) xs ys) report (half_ended first name xs ys a are s) given2 kept2 others2 notes2 cause2 keeps2 (begun_all (pair first (Some name) xs ys)) (ended_are_whole (pair first (Some name) xs ys) (true ∷ false ∷ []))
           (λ rooms after told still same have. steady2 (is_steady mid after still))
 
 all_ended : (first : List ℕ) (second : Option (List ℕ)) (xs ys : List ℕ) → flags_of second true ≡ map (λ _. true) (pair first second xs ys)

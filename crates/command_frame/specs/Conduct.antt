@@ -2,7 +2,7 @@
 use Rattle.std.specs.Prelude.{◌≡◌, ◌≢◌, ℕ, ◌+◌, ◌≤◌, ◌⊎◌, Bool, List, [], length, Option, Some, None, Result, Err, IfOk, IfErr, IsSome, IsTrue, slice_index}
 use Rattle.snd_host.specs.Host.{HostState, Files, Output, IfTold, Rose, IsPrefix, ChangesInputs, Writes}
 use Rattle.snd_host.specs.declared.host.Failed.{Failed}
-use Rattle.command_frame.specs.Delivery.{Gains, IsBegun, HaveRooms, Delivers, all_ended}
+use Rattle.command_frame.specs.Delivery.{Gains, IsBegun, EndedAreWhole, HaveRooms, Delivers, all_ended}
 use Rattle.command_frame.specs.Answer.{Answer, done, refused, refusal_of, outputs_of, report_of, line_of, delivery_refusal}
 use Rattle.command_frame.specs.declared.refusals.Refusal.{Refusal}
 use Rattle.command_frame.specs.declared.refusals.Refusal.TheVariants.{Usage, ReadFault, WriteFault, OutOfMemory}
@@ -19,6 +19,9 @@ pub record EndsAs {C : Type 0} (a : Answer C) (refusal : Option (Refusal C)) (re
   pub settled : refusal ≡ refusal_of a → (report ≡ report_of a) × (outputs ≡ outputs_of a) × (ended ≡ all_ended (outputs_of a))
   -- Where an output could not be written, the answer was no refusal, and prefixes stand.
   pub written : refusal ≡ Some WriteFault → (refusal_of a ≡ None) × IsPrefix report (report_of a) × IsBegun outputs (outputs_of a)
+  -- An output that was ended has all its bytes, and the report comes last.
+  pub ended_whole : EndedAreWhole outputs ended (outputs_of a)
+  pub report_last : report ≢ [] → (outputs ≡ outputs_of a) × (ended ≡ all_ended (outputs_of a))
   -- Every other end is the answer's, but for an input that could not be read and want of memory.
   pub truthful : (refusal ≡ refusal_of a) ⊎ (refusal ≡ Some ReadFault) ⊎ (refusal ≡ Some WriteFault) ⊎ (refusal ≡ Some OutOfMemory)
   -- A steady host fails no input that is there,

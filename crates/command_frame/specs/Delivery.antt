@@ -1,5 +1,5 @@
 -- What a delivery makes on a host: outputs that are created, written and ended, and then the report.
-use Rattle.std.specs.Prelude.{◌≡◌, ℕ, ◌+◌, ◌-◌, ◌≤◌, ◌<◌, Bool, true, List, [], ◌∷◌, ◌++◌, length, map, Some, Result, IsOk, OnOk, OnErr, slice_index}
+use Rattle.std.specs.Prelude.{◌≡◌, ◌≢◌, ℕ, ◌+◌, ◌-◌, ◌≤◌, ◌<◌, Bool, true, List, [], ◌∷◌, ◌++◌, length, map, Some, Result, IsOk, OnOk, OnErr, slice_index}
 use Rattle.snd_host.specs.Host.{HostState, Output, IfTold, Rose, IsPrefix}
 
 -- Two outputs more have numbers below 2 ^ 32.
@@ -17,6 +17,13 @@ abbrev pub IsBegun : List Output → List Output → Type 0
 IsBegun [] outputs = Unit {0}
 IsBegun (o ∷ begun) [] = ⊥
 IsBegun (o ∷ begun) (output ∷ outputs) = (o.name ≡ output.name) × IsPrefix o.bytes output.bytes × IsBegun begun outputs
+
+-- Of the outputs that were begun those that were ended have all their bytes. There is a flag for each, whether it was ended.
+abbrev pub EndedAreWhole : (begun : List Output) → (flags : List Bool) → (outputs : List Output) → Type 0
+EndedAreWhole [] flags outputs = Unit {0}
+EndedAreWhole (o ∷ begun) [] outputs = Unit {0}
+EndedAreWhole (o ∷ begun) (flag ∷ flags) [] = Unit {0}
+EndedAreWhole (o ∷ begun) (flag ∷ flags) (output ∷ outputs) = (flag ≡ true → o.bytes ≡ output.bytes) × EndedAreWhole begun flags outputs
 
 -- Each of these outputs, the first of which gets the number n, has a room that takes it and a name of at most 200 bytes.
 abbrev pub HaveRooms : List Output → List ℕ → ℕ → Type 0
@@ -41,6 +48,9 @@ pub record Delivers {T E : Type 0} (outputs : List Output) (report : List ℕ) (
   pub made : Gains reported [] begun ended old new
   pub ok : OnOk result ((reported ≡ report) × (begun ≡ outputs) × (ended ≡ all_ended outputs))
   pub part : OnErr result (IsPrefix reported report × IsBegun begun outputs)
+  pub ended_whole : EndedAreWhole begun ended outputs
+  -- The report comes last: where some of it was written, all outputs are whole and ended.
+  pub report_last : reported ≢ [] → (begun ≡ outputs) × (ended ≡ all_ended outputs)
   pub inputs : new.faults.inputs ≡ old.faults.inputs
   pub notes : new.faults.notes ≡ old.faults.notes
   pub cause : CountsFaults old.faults.outputs new.faults.outputs result

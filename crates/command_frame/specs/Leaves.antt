@@ -1,8 +1,8 @@
 -- What a command leaves on a host that tells it.
-use Rattle.std.specs.Prelude.{◌≡◌, ℕ, Bool, List, [], ◌++◌, IsSomeAnd}
+use Rattle.std.specs.Prelude.{◌≡◌, ◌≢◌, ℕ, Bool, List, [], ◌++◌, IsSomeAnd}
 use Rattle.snd_host.specs.Host.{HostState, Output, IfTold, Rose, IsPrefix}
 use Rattle.command_frame.specs.Answer.{Answer, outputs_of, report_of}
-use Rattle.command_frame.specs.Delivery.{IsBegun, all_ended}
+use Rattle.command_frame.specs.Delivery.{IsBegun, EndedAreWhole, all_ended}
 
 -- The report grew by these bytes, and these outputs were created, each with a flag that it was ended.
 pub record Leaves (report : List ℕ) (outputs : List Output) (flags : List Bool) (old new : HostState) : Type 0 where
@@ -25,6 +25,13 @@ pub record LeavesPart {C : Type 0} (a : Answer C) (old new : HostState) : Type 0
   pub leaves : Leaves report outputs flags old new
   pub reported : IsPrefix report (report_of a)
   pub begun : IsBegun outputs (outputs_of a)
+  -- An output that was ended has all its bytes.
+  pub ended_whole : EndedAreWhole outputs flags (outputs_of a)
+
+-- Where the report grew, the outputs of the answer were created before, in order, with all their bytes, and ended.
+abbrev pub ReportsLast : {C : Type 0} → Answer C → HostState → HostState → Type 0
+ReportsLast a old new = IfTold old.given (λ before. IfTold new.given (λ now. now.report ≢ before.report →
+    (now.created ≡ before.created ++ outputs_of a) × (new.ended ≡ old.ended ++ all_ended (outputs_of a))))
 
 -- The complaint grew by a prefix of this line, and by all of it where the count of notes didn't rise.
 pub record Complains (line : List ℕ) (old new : HostState) : Type 0 where

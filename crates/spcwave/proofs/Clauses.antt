@@ -8,7 +8,7 @@ use Rattle.command_frame.specs.Delivery.{all_ended}
 use Rattle.command_frame.specs.Leaves.{Leaves, LeavesNothing, LeavesAll, Complains}
 use Rattle.command_frame.specs.declared.refusals.Refusal.{Refusal}
 use Rattle.command_frame.specs.declared.refusals.Refusal.TheVariants.{Usage, ReadFault, WriteFault, OutOfMemory, Input}
-use Rattle.command_frame.proofs.Leaving.{leaves, complains}
+use Rattle.command_frame.proofs.Leaving.{leaves, complains, reports_last}
 use Rattle.status_lines.specs.declared.cause.Cause.{Cause}
 use Rattle.status_lines.specs.declared.cause.Cause.TheVariants.{SpcLength, SpcSignature, TableLength, BrrLength, WavForm, EncodeSize, InputTooLong, AsmLine, CodeLength, CutList, Script}
 use Rattle.status_lines.specs.declared.status.Status.{Status}
@@ -121,6 +121,7 @@ module _ (command : Command) (r : Option (Refusal Cause)) (x z : HostState) (sta
   content = record {
     settled = λ files told same. let a = answer_of command files in
         all a ((o.answered files told).settled (same_end r a (truthful files told) (sym is ∙ same)));
+    report_last = λ files told. reports_last (answer_of command files) o.report o.complaint o.outputs o.ended x z o.made (o.answered files told).report_last;
     ok = λ same. o.ok (end_of None statuses.Ok refl same);
     complaint = λ files told. complains_of _ (line_is files told);
   }
@@ -138,7 +139,7 @@ module _ (command : Command) (r : Option (Refusal Cause)) (x z : HostState) (sta
     accepted = λ same files told. ap status_of ((o.answered files told).written (end_of (Some WriteFault) statuses.WriteFault refl same)).0;
     leaves = λ same files told.
         let written = (o.answered files told).written (end_of (Some WriteFault) statuses.WriteFault refl same) in
-        record { report = o.report; outputs = o.outputs; flags = o.ended; leaves = left; reported = written.1; begun = written.2 };
+        record { report = o.report; outputs = o.outputs; flags = o.ended; leaves = left; reported = written.1; begun = written.2; ended_whole = (o.answered files told).ended_whole };
   }
 
   pub memory : clause.Memory command x z status
@@ -197,6 +198,8 @@ module _ (command : Command) (r : Option (Refusal Cause)) (x z : HostState) (sta
   pub untold : clause.Untold command x z status
   untold = record {
     misread = (λ same. misread.0 (end_of (Some Usage) statuses.Usage refl same), λ words. status_is _ (misread.1 words));
+    unread = λ other. o.calm_inputs (λ same. other (status_is _ same));
+    unwritten = λ other. o.calm_outputs (λ same. other (status_is _ same));
     refused = λ not_ok not_write. nothing (λ none. not_ok (status_is _ none)) (λ write. not_write (status_is _ write));
     complaint = λ end plain. complains_of end (plain_is r end (ap plain_end (sym is) ∙ plain));
   }

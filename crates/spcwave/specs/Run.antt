@@ -4,7 +4,7 @@ use Rattle.snd_host.specs.Host.{HostState, IfTold, Rose}
 use Rattle.command_frame.specs.Answer.{outputs_of, report_of}
 use Rattle.command_frame.specs.Conduct.{NoneRose}
 use Rattle.command_frame.specs.Delivery.{HaveRooms}
-use Rattle.command_frame.specs.Leaves.{LeavesNothing, LeavesAll, LeavesPart, Complains}
+use Rattle.command_frame.specs.Leaves.{LeavesNothing, LeavesAll, LeavesPart, ReportsLast, Complains}
 use Rattle.status_lines.specs.declared.status.Status.{Status}
 use Rattle.status_lines.specs.declared.status.Status.TheVariants as statuses
 use Rattle.spcwave.specs.Command.{Command, usage, names_input, answer_of}
@@ -18,6 +18,8 @@ HasFewOutputs state = length state.ended < 4000000000
 -- What stands on the host where the status is the answer's, and the complaint of every status.
 pub record Content (command : Command) (old new : HostState) (status : Status) : Type 0 where
   pub settled : IfTold old.holds (λ files. let a = answer_of command files in status ≡ answer_status a → LeavesAll a old new)
+  -- The report comes last: where it grew, all outputs of the answer are whole and ended.
+  pub report_last : IfTold old.holds (λ files. ReportsLast (answer_of command files) old new)
   pub ok : status ≡ statuses.Ok → new.faults ≡ old.faults
   pub complaint : IfTold old.holds (λ files. Complains (status_line status (answer_of command files)) old new)
 
@@ -76,6 +78,9 @@ pub record CompletesComplaint (command : Command) (old new : HostState) (status 
 pub record Untold (command : Command) (old new : HostState) (status : Status) : Type 0 where
   -- Usage comes exactly where the words are no command.
   pub misread : (status ≡ statuses.Usage) ↔ (command ≡ usage)
+  -- Every other status leaves the count of faults on inputs, or on outputs and the report, as it was: no such call failed.
+  pub unread : status ≢ statuses.ReadFault → new.faults.inputs ≡ old.faults.inputs
+  pub unwritten : status ≢ statuses.WriteFault → new.faults.outputs ≡ old.faults.outputs
   -- A refusal other than WriteFault leaves nothing.
   pub refused : status ≢ statuses.Ok → status ≢ statuses.WriteFault → LeavesNothing old new
   -- A status without numbers has its line.
