@@ -21,7 +21,7 @@ use Rattle.lag_bus.specs.Book.{may_be_read, may_be_written}
 use Rattle.lag_bus.specs.Late.{late_with_sample}
 use Rattle.lag_bus.specs.Held.{Held, IsHeld, pending_samples, late_of}
 use Rattle.lag_bus.proofs.MergedRecords.{Each-append, Each-map, Each-filter, Each-merge, merge_voices, merge_event, merge_nothing, length-merge, number_before, later_before, event_after, voice_before, voice_after, voice_number, filter_all, filter_none}
-use Rattle.lag_bus.proofs.LawfulSamples.{length-frames-samples, voices_within, is_valid-samples, voices_within-samples, voices_of_mask}
+use Rattle.lag_bus.proofs.LawfulSamples.{frame_count_of_samples, voices_within, is_valid-samples, voices_within-samples, voices_of_mask}
 
 not_true : (b : Bool) → not b ≡ true → b ≡ false
 not_true true h = cc
@@ -169,7 +169,7 @@ module _ {S : Type 0} {chip : ChipMeaning S} (laws : IsLawfulChip chip) where
     late_reach none = rw (none, run_none) refl
 
     frames_count : length (h.frames ++ (pending_samples chip h).frames) ≡ length h.frames + h.pending
-    frames_count = rw (length-append, length-frames-samples) refl
+    frames_count = rw (length-append, frame_count_of_samples) refl
 
     pub voices_fit : length (filter (in_mask h.mask) (pending_samples chip h).voices) ≤ 8 * h.pending
     voices_fit = voices_of_mask chip laws h.pending h.mask h.number h.state h.memory is.is_valid

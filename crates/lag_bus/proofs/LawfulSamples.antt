@@ -10,10 +10,10 @@ use Rattle.lag_bus.specs.Each.{Each, IsVoiceWithin}
 use Rattle.lag_bus.proofs.MergedRecords.{Each-append, Each-map}
 use Rattle.lock_step.proofs.RecordCounts.{length-are_voice_records, length-filter-at_most}
 
-pub length-frames-samples : {S : Type 0} (sample : ℕ → S → List ℕ → Sampled S) (n k : ℕ) (s : S) (memory : List ℕ) → length (run sample n k s memory).frames ≡ n
+pub frame_count_of_samples : {S : Type 0} (sample : ℕ → S → List ℕ → Sampled S) (n k : ℕ) (s : S) (memory : List ℕ) → length (run sample n k s memory).frames ≡ n
 unfolding run
-length-frames-samples sample zero k s memory = refl
-length-frames-samples sample (suc n) k s memory = rw length-append (rw (length-frames-samples sample n k s memory) (add-one n))
+frame_count_of_samples sample zero k s memory = refl
+frame_count_of_samples sample (suc n) k s memory = rw length-append (rw (frame_count_of_samples sample n k s memory) (add-one n))
 
 -- the records of a sample are of voices and have its number
 pub voices_within : (k v : ℕ) (records : List Record) → are_voice_records k v records ≡ true → Each (IsVoiceWithin k (k + 1)) records

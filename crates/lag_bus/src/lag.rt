@@ -60,6 +60,7 @@ impl<C: Chip> Model for LagBus<C> {
 }
 
 /// Makes the pending samples, for a cause.
+// Out of line, as all that is rarer than an access: what each access runs stays small.
 #[inline(never)]
 #[tactic(auto, using(crate::proofs::CountsAddUp::adds_up))]
 fn settle_for<C: Chip>(late: &mut LateChip<C>, counts: &mut Counts, cause: Cause)
@@ -319,6 +320,7 @@ fn write_beside_pending<C: Chip>(late: &mut LateChip<C>, at: u16, value: u8, sam
 impl<C: Chip> Bus for LagBus<C> {
     ghost means = { lagging C.meaning };
 
+    // In line with each access of the processor, as are `pass` and `write`: a call would cost more than what they mostly do.
     #[inline(always)]
     fn read(&mut self, addr: u16) -> u8 {
         if self.late.is_plain(addr) {

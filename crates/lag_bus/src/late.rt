@@ -99,7 +99,7 @@ fn make_batch<C: Chip>(
     memory: &mut Aram,
     mask: u8,
     frames: &mut Frames,
-    voices: &mut Records,
+    voice_records: &mut Records,
 )
     requires is_valid { C.meaning.is_valid (C.state chip.old) ≡ true }
     requires few { n ≤ most_samples_of_batch }
@@ -110,11 +110,11 @@ fn make_batch<C: Chip>(
     ensures batches { C.batches chip.new ≡ (if n == 0 then C.batches chip.old else counted (C.batches chip.old)) }
     ensures memory { memory.new ≡ (run C.meaning.sample n (C.sample chip.old) (C.state chip.old) memory.old).memory }
     ensures frames { frames.new ≡ frames.old ++ (run C.meaning.sample n (C.sample chip.old) (C.state chip.old) memory.old).frames }
-    ensures voices { voices.new ≡ filter (in_mask mask) (run C.meaning.sample n (C.sample chip.old) (C.state chip.old) memory.old).voices }
-    ensures count { length voices.new ≤ 8 * n }
+    ensures voice_records { let made = run C.meaning.sample n (C.sample chip.old) (C.state chip.old) memory.old in
+        voice_records.new ≡ filter (in_mask mask) made.voices }
 {
-    voices.clear();
-    chip.advance(n, memory, mask, frames, voices);
+    voice_records.clear();
+    chip.advance(n, memory, mask, frames, voice_records);
 }
 
 impl<C: Chip> LateChip<C> {

@@ -68,12 +68,13 @@ fn file(alloc: Global, sound: &[(usize, &[u8])], program: &[u8]) -> Result<SpcFi
     Ok(read_spc(alloc, &image)?)
 }
 
-/// All frames and records of a render, and the number of its batches.
+/// All frames and records of a render, the number of its batches, and the samples that its chip made.
 #[derive(Drop)]
 struct Given {
     frames: Vec<Frame>,
     records: Vec<Record>,
     batches: u64,
+    made: u32,
 }
 
 /// Renders so many samples of a file, with the records of voice 0.
@@ -93,10 +94,12 @@ fn rendered(alloc: Global, file: &SpcFile, samples: u32) -> Result<Given, Fail>
         }
     }
     let batches = render.counts().batches;
+    let made = render.chip().sample();
     Ok(Given {
         frames,
         records,
         batches,
+        made,
     })
 }
 
@@ -146,7 +149,7 @@ fn a_voice_is_heard_from_sample_six_on(rt: HostRuntime) -> Result<(), Fail> {
         voice(7, 2032, 4064),
     ];
     assert_eq!(rt; eight.records.as_slice(), records.as_slice());
-    assert_eq!(rt; eight.batches, 1);
+    assert_eq!(rt; (eight.batches, eight.made), (1, 8));
     // It is heard on where the program stops.
     let stopped = file(rt.alloc(), &SOUND, &[0xFF])?;
     let long = rendered(rt.alloc(), &stopped, 200)?;

@@ -191,6 +191,7 @@ fn samples_wait_until_they_are_needed(rt: HostRuntime) -> Result<(), Fail> {
         end: 0,
     };
     assert_eq!(rt; bus.counts(), counts);
+    assert_eq!(rt; (bus.chip().batches(), bus.chip().sample()), (1, 3));
     Ok(())
 }
 
