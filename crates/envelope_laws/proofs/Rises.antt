@@ -12,9 +12,9 @@ use Rattle.envelope_laws.specs.Course.{envelope_after, ReleaseFalls, ReleaseEnds
 use Rattle.envelope_laws.proofs.Targets.{fires-31, attack-aims, slope-aims, bent_value, level-step, fast_attack_rises, gain_rises}
 
 -- one sample of a release
-released : (e : EnvelopeState) (adsr1 adsr2 gain counter : ℕ) → e.mode ≡ Release → envelope_step e adsr1 adsr2 gain counter ≡ record e { level = e.level - 8 }
+release_step : (e : EnvelopeState) (adsr1 adsr2 gain counter : ℕ) → e.mode ≡ Release → envelope_step e adsr1 adsr2 gain counter ≡ record e { level = e.level - 8 }
 unfolding envelope_step step_target after_target
-released e adsr1 adsr2 gain counter is =
+release_step e adsr1 adsr2 gain counter is =
     ap (λ (m : Mode). after_target e (step_target m e.level e.hidden adsr1 adsr2 gain) (sustain_level adsr1 adsr2 gain) counter) is
 
 pub release_falls : ReleaseFalls
@@ -26,7 +26,7 @@ release_falls (suc n) e adsr1 adsr2 gain counter is =
     let before = release_falls n e adsr1 adsr2 gain counter is in
     let further : e.level - 8 * n - 8 ≡ e.level - 8 * suc n = omega arith in
     ap (λ (s : EnvelopeState). envelope_step s adsr1 adsr2 gain (counter n)) before
-    ∙ released (record e { level = e.level - 8 * n }) adsr1 adsr2 gain (counter n) is
+    ∙ release_step (record e { level = e.level - 8 * n }) adsr1 adsr2 gain (counter n) is
     ∙ ap (λ (l : ℕ). record e { level = l }) further
 
 pub release_ends : ReleaseEnds
@@ -115,24 +115,24 @@ linear_rise_time e adsr1 adsr2 counter other start h = record {
 }
 
 -- the bent rise: its value before it is limited to a level
-abbrev bent : ℕ → ℕ
-bent n = min (0x20 * n) (min (0x600 + 8 * (n - 48)) 0x807)
+abbrev bent_line : ℕ → ℕ
+bent_line n = min (0x20 * n) (min (0x600 + 8 * (n - 48)) 0x807)
 
 record IsBent (n : ℕ) (s : EnvelopeState) : Type 0 where
-  level : s.level ≡ min (bent n) 0x7ff
-  hidden : s.hidden ≡ pos (bent n)
+  level : s.level ≡ min (bent_line n) 0x7ff
+  hidden : s.hidden ≡ pos (bent_line n)
   sounding : s.mode ≢ Release
 
 -- what the bent rise aims at
-bent_aim : (n level : ℕ) (hidden : ℤ) → level ≡ min (bent n) 0x7ff → hidden ≡ pos (bent n) → slope_value 3 level hidden ≡ pos (bent (suc n))
-bent_aim n level hidden at value = elim (cases_lt (bent n) 0x600) [
+bent_aim : (n level : ℕ) (hidden : ℤ) → level ≡ min (bent_line n) 0x7ff → hidden ≡ pos (bent_line n) → slope_value 3 level hidden ≡ pos (bent_line (suc n))
+bent_aim n level hidden at value = elim (cases_lt (bent_line n) 0x600) [
   | inl below ↦
-      let test : nat_lt (bent n) 0x600 ≡ true = grind (arith, nat_tests, below) in
-      let steep : level + 0x20 ≡ bent (suc n) = omega (arith, at, below) in
+      let test : nat_lt (bent_line n) 0x600 ≡ true = grind (arith, nat_tests, below) in
+      let steep : level + 0x20 ≡ bent_line (suc n) = omega (arith, at, below) in
       bent_value level hidden true (ap (λ (z : ℤ). int_lt z (pos 0x600)) value ∙ test) ∙ ap pos steep
   | inr above ↦
-      let test : nat_lt (bent n) 0x600 ≡ false = grind (arith, nat_tests, above) in
-      let flat : level + 8 ≡ bent (suc n) = omega (arith, at, above) in
+      let test : nat_lt (bent_line n) 0x600 ≡ false = grind (arith, nat_tests, above) in
+      let flat : level + 8 ≡ bent_line (suc n) = omega (arith, at, above) in
       bent_value level hidden false (ap (λ (z : ℤ). int_lt z (pos 0x600)) value ∙ test) ∙ ap pos flat
 ]
 

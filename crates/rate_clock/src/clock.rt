@@ -52,7 +52,7 @@ impl Model for RateClock {
 }
 
 /// The number before `n`, from 0 on to the last below `modulus`.
-fn fallen(n: u16, modulus: u16) -> u16
+fn number_before(n: u16, modulus: u16) -> u16
     requires { n < modulus }
     ensures value { result ≡ (n + modulus - 1) % modulus }
     ensures bound { result < modulus }
@@ -77,9 +77,9 @@ impl RateClock {
         ensures falls { self.new ≡ (if self.old == 0 then 30719 else self.old - 1) }
         ensures counts { (n : ℕ) → self.old ≡ counter_after n → self.new ≡ counter_after (n + 1) }
     {
-        self.counter = fallen(self.counter, 30720);
-        self.thirds = fallen(u16::from(self.thirds), 3) as u8;
-        self.fifths = fallen(u16::from(self.fifths), 5) as u8;
+        self.counter = number_before(self.counter, 30720);
+        self.thirds = number_before(u16::from(self.thirds), 3) as u8;
+        self.fifths = number_before(u16::from(self.fifths), 5) as u8;
     }
 
     /// The counter with its offset, modulo the odd part of the rate's period: 0 where the odd part divides it.

@@ -50,7 +50,7 @@ const KEY_ON_DELAY: u8 = 5;
 const LAST_GROUP: u8 = 7;
 
 /// The samples without the four oldest, and four new ones after them.
-fn shifted_in(samples: &[i16; 12], group: [i16; 4]) -> [i16; 12]
+fn samples_with_group(samples: &[i16; 12], group: [i16; 4]) -> [i16; 12]
     ensures { result ≡ drop 4 samples.now ++ group }
 {
     let [_, _, _, _, a, b, c, d, e, f, g, h] = *samples;
@@ -232,7 +232,7 @@ impl Voice {
         let high = memory.get(at);
         let low = memory.get(at.wrapping_add(1));
         let group = decode_group(header, high, low, self.samples[11], self.samples[10]);
-        self.samples = shifted_in(&self.samples, group);
+        self.samples = samples_with_group(&self.samples, group);
     }
 
     /// Goes on to the next group, in this block or the next.

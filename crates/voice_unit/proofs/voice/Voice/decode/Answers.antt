@@ -17,4 +17,4 @@ returns c =
     let low : c.get-low.result ≡ byte_at c.args.memory.now (c.self.inside.block + c.self.inside.offset + 1) = search rules in
     let longer = c.decode_group-group.ensures s (rw (last, before) (ends_with_last_two s c.self.invariant.twelve)) in
     let kept = sym (drop-more s group c.self.invariant.twelve) ∙ sym (ap (drop 4) longer) in
-    rw (← c.self.view_is, c.shifted_in-self-inside.ensures, kept, high, low) refl
+    rw (← c.self.view_is, c.samples_with_group-self-inside.ensures, kept, high, low) refl

@@ -2,7 +2,7 @@ use Rattle.std.proofs.Common.{rules, ◌≡◌, to_z, of_z, List, ℤ}
 use Rattle.std.specs.Int.{w16}
 use Rattle.num_fix.specs.Words.{number_at}
 use Rattle.voice_unit.proofs.Twelve.{shifted_entries}
-use Rattle.voice_unit.proofs.voice.shifted_in.Goals as goal
+use Rattle.voice_unit.proofs.voice.samples_with_group.Goals as goal
 
 -- no entry loses a bit on its way
 pub returns : goal.returns
