@@ -5,6 +5,7 @@ use spc700_exec::Cpu;
 use std::test::Fail;
 
 /// A page: each of its bytes is seen, and none at another address.
+#[derive(Drop)]
 struct Page {
     bytes: [u8; 256],
 }
