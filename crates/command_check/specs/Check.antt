@@ -4,7 +4,7 @@ use Rattle.std.specs.Prelude.{ℕ, ◌+◌, ◌*◌, ◌%◌, ◌^◌, ◌≤◌
 use Rattle.std.specs.Int.{w32, cast_unsigned}
 use Rattle.std.specs.Fmt.{signed_decimal}
 use Rattle.num_fix.specs.declared.Frame.{Frame}
-use Rattle.sound_bus.specs.declared.counts.Counts.{Counts}
+use Rattle.lock_step.specs.declared.counts.Counts.{Counts}
 use Rattle.gauss_table.specs.StraightTable.{straight_table}
 use Rattle.demo_gen.specs.Demo.{demo_bytes}
 use Rattle.command_frame.specs.Answer.{Answer, done}

@@ -2,7 +2,7 @@
 use Rattle.std.specs.Prelude.{ℕ, ℤ, List, Option, Some, None, is_some, unwrap_or}
 use Rattle.std.specs.Option.{option_map}
 use Rattle.wav_form.specs.Wave.{stereo_wave}
-use Rattle.sound_bus.specs.declared.counts.Counts.{Counts}
+use Rattle.lock_step.specs.declared.counts.Counts.{Counts}
 use Rattle.render_core.specs.Fade.{faded_frames}
 use Rattle.spc_form.specs.Tags.{length_of}
 use Rattle.spc_form.specs.declared.tags.Length.{Length}

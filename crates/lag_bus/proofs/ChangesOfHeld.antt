@@ -8,9 +8,9 @@ use Rattle.std.specs.List.{filter}
 use Rattle.aram_core.specs.Memory.{byte_at, with_byte}
 use Rattle.trace_form.specs.declared.record.Record.{Record}
 use Rattle.trace_form.specs.declared.record.Record.TheVariants.{Reg, Port, Voice}
-use Rattle.dsp_core.specs.Results.{is_result}
-use Rattle.dsp_core.specs.Run.{Sampled, Run, run, in_mask}
-use Rattle.dsp_core.proofs.Runs.{run_none, run_more}
+use Rattle.dsp_form.specs.Results.{is_result}
+use Rattle.dsp_form.specs.Samples.{SampleResult, SamplesResult, samples, in_mask}
+use Rattle.dsp_form.proofs.OneMoreSample.{samples_none, samples_more}
 use Rattle.lock_step.specs.ChipMeaning.{ChipMeaning}
 use Rattle.lock_step.specs.ChipLaws.{IsLawfulChip}
 use Rattle.lag_bus.specs.Each.{Each, IsVoiceWithin}
@@ -44,7 +44,7 @@ held_after_settle chip batches h = record {
   batches = batches;
   memory = (pending_samples chip h).memory;
   frames = h.frames ++ (pending_samples chip h).frames;
-  records = h.records ++ merge (filter (in_mask h.mask) (pending_samples chip h).voices) h.ring;
+  records = h.records ++ merge (filter (in_mask h.mask) (pending_samples chip h).records) h.ring;
   ring = [];
   mask = h.mask;
   pending = 0;
@@ -53,16 +53,16 @@ held_after_settle chip batches h = record {
 module _ {S : Type 0} {chip : ChipMeaning S} (laws : IsLawfulChip chip) where
   byte_stays : (n k : ℕ) (s : S) (memory : List ℕ) (at : ℕ) → n ≤ 64 → chip.is_valid s ≡ true
       → (n == 0 || not (may_be_written (chip.reach s memory) at)) ≡ true
-      → byte_at (run chip.sample n k s memory).memory at ≡ byte_at memory at
-  byte_stays zero k s memory at few valid free = rw run_none refl
+      → byte_at (samples chip.sample n k s memory).memory at ≡ byte_at memory at
+  byte_stays zero k s memory at few valid free = rw samples_none refl
   byte_stays (suc n) k s memory at few valid free =
       let some : (suc n == 0) ≡ false = search rules in
       laws.writes_inside (suc n) k s memory at few valid (not_true _ (rw some at free))
 
   register_stays : (n k : ℕ) (s : S) (memory : List ℕ) (address : ℕ) → n ≤ 64 → chip.is_valid s ≡ true
       → (n == 0 || not (is_result address)) ≡ true
-      → chip.register_read (run chip.sample n k s memory).state address ≡ chip.register_read s address
-  register_stays zero k s memory address few valid free = rw run_none refl
+      → chip.register_read (samples chip.sample n k s memory).state address ≡ chip.register_read s address
+  register_stays zero k s memory address few valid free = rw samples_none refl
   register_stays (suc n) k s memory address few valid free =
       let some : (suc n == 0) ≡ false = search rules in
       laws.registers_stay (suc n) k s memory address few valid (not_true _ (rw some at free))
@@ -74,8 +74,8 @@ module _ {S : Type 0} {chip : ChipMeaning S} (laws : IsLawfulChip chip) where
 
   put_apart : (n k : ℕ) (s : S) (memory : List ℕ) (at value : ℕ) → n ≤ 64 → chip.is_valid s ≡ true
       → (n == 0 || not (may_be_read (chip.reach s memory) at)) ≡ true
-      → run chip.sample n k s (with_byte memory at value) ≡ record (run chip.sample n k s memory) { memory = with_byte (run chip.sample n k s memory).memory at value }
-  put_apart zero k s memory at value few valid free = simp run_none refl
+      → samples chip.sample n k s (with_byte memory at value) ≡ record (samples chip.sample n k s memory) { memory = with_byte (samples chip.sample n k s memory).memory at value }
+  put_apart zero k s memory at value few valid free = simp samples_none refl
   put_apart (suc n) k s memory at value few valid free =
       let some : (suc n == 0) ≡ false = search rules in
       let apart : may_be_read (chip.reach s memory) at ≡ false = not_true _ (rw some at free) in
@@ -99,7 +99,7 @@ module _ {S : Type 0} {chip : ChipMeaning S} (laws : IsLawfulChip chip) where
 
     pub late_put_reach : (memory : List ℕ) → h.pending ≡ 0
         → chip.reach h.state memory ≡ chip.reach (late_of chip (record h { memory = memory })).chip (late_of chip (record h { memory = memory })).memory
-    late_put_reach memory none = rw (none, run_none) refl
+    late_put_reach memory none = rw (none, samples_none) refl
 
     pub late_reach_stays : (at value : ℕ) → may_be_read (chip.reach h.state h.memory) at ≡ false
         → chip.reach h.state (with_byte h.memory at value) ≡ chip.reach h.state h.memory
@@ -109,32 +109,32 @@ module _ {S : Type 0} {chip : ChipMeaning S} (laws : IsLawfulChip chip) where
     pub late_pend : late_of chip (record h { pending = h.pending + 1 }) ≡
         late_with_sample chip (late_of chip h)
     late_pend =
-        let before : Run S = pending_samples chip h in
-        let made : Sampled S = chip.sample (h.number + h.pending) before.state before.memory in
+        let before : SamplesResult S = pending_samples chip h in
+        let made : SampleResult S = chip.sample (h.number + h.pending) before.state before.memory in
         let valid = is_valid-samples chip laws h.pending h.number h.state h.memory is.is_valid in
-        let numbers : Each (λ v. sample_number v ≡ h.number + h.pending) (filter (in_mask h.mask) made.voices) =
-        Each-filter (in_mask h.mask) (λ v. sample_number v ≡ h.number + h.pending) made.voices
-        (Each-map (IsVoiceWithin (h.number + h.pending) (h.number + h.pending + 1)) (λ v. sample_number v ≡ h.number + h.pending) (number_of_voice (h.number + h.pending)) made.voices
-        (voices_within (h.number + h.pending) 0 made.voices (laws.gives_voice_records (h.number + h.pending) before.state before.memory valid))) in
+        let numbers : Each (λ v. sample_number v ≡ h.number + h.pending) (filter (in_mask h.mask) made.records) =
+        Each-filter (in_mask h.mask) (λ v. sample_number v ≡ h.number + h.pending) made.records
+        (Each-map (IsVoiceWithin (h.number + h.pending) (h.number + h.pending + 1)) (λ v. sample_number v ≡ h.number + h.pending) (number_of_voice (h.number + h.pending)) made.records
+        (voices_within (h.number + h.pending) 0 made.records (laws.gives_voice_records (h.number + h.pending) before.state before.memory valid))) in
         let upto : Each (λ e. sample_number e ≤ h.number + h.pending) h.ring =
         Each-map (λ e. is_before_sample (h.number + h.pending) e ≡ true) (λ e. sample_number e ≤ h.number + h.pending) (number_before (h.number + h.pending)) h.ring is.before_next in
-        let merged : merge (filter (in_mask h.mask) (before.voices ++ made.voices)) h.ring ≡ merge (filter (in_mask h.mask) before.voices) h.ring ++ filter (in_mask h.mask) made.voices =
-        rw filter-append (merge_voices (h.number + h.pending) (filter (in_mask h.mask) before.voices) (filter (in_mask h.mask) made.voices) h.ring upto numbers) in
+        let merged : merge (filter (in_mask h.mask) (before.records ++ made.records)) h.ring ≡ merge (filter (in_mask h.mask) before.records) h.ring ++ filter (in_mask h.mask) made.records =
+        rw filter-append (merge_voices (h.number + h.pending) (filter (in_mask h.mask) before.records) (filter (in_mask h.mask) made.records) h.ring upto numbers) in
         let used : length h.frames + (h.pending + 1) ≡ length h.frames + h.pending + 1 = omega arith in
         let records : length h.records + length h.ring + 8 * (h.pending + 1) ≡ length h.records + length h.ring + 8 * h.pending + 8 = omega arith in
         let number : h.number + (h.pending + 1) ≡ h.number + h.pending + 1 = omega arith in
-        rw (run_more, merged, used, records, number, append_assoc, append_assoc) refl
+        rw (samples_more, merged, used, records, number, append_assoc, append_assoc) refl
 
     -- a register written while none is pending
     pub late_reg_write : (address byte : ℕ) → h.pending ≡ 0
         → late_of chip (record h { state = chip.register_write h.state address byte }) ≡
         record (late_of chip h) { chip = chip.register_write (late_of chip h).chip address byte; reach = chip.reach (chip.register_write (late_of chip h).chip address byte) (late_of chip h).memory }
-    late_reg_write address byte none = rw none (simp run_none refl)
+    late_reg_write address byte none = rw none (simp samples_none refl)
 
     -- the voices that are pending, of the mask
-    pending_voices : Each (IsVoiceWithin h.number (h.number + h.pending)) (filter (in_mask h.mask) (pending_samples chip h).voices)
+    pending_voices : Each (IsVoiceWithin h.number (h.number + h.pending)) (filter (in_mask h.mask) (pending_samples chip h).records)
     pending_voices =
-        Each-filter (in_mask h.mask) (IsVoiceWithin h.number (h.number + h.pending)) (pending_samples chip h).voices (voices_within-samples chip laws h.pending h.number h.state h.memory is.is_valid)
+        Each-filter (in_mask h.mask) (IsVoiceWithin h.number (h.number + h.pending)) (pending_samples chip h).records (voices_within-samples chip laws h.pending h.number h.state h.memory is.is_valid)
 
     -- an event more, and a record more while none is pending
     pub late_event : (event : Record) → h.pending ≢ 0 → sample_number event ≡ h.number + h.pending
@@ -146,7 +146,7 @@ module _ {S : Type 0} {chip : ChipMeaning S} (laws : IsLawfulChip chip) where
         }
     late_event event some now =
         let pends : (h.pending == 0) ≡ false = search rules in
-        let voices = filter (in_mask h.mask) (pending_samples chip h).voices in
+        let voices = filter (in_mask h.mask) (pending_samples chip h).records in
         let below : Each (λ v. sample_number v < sample_number event) voices =
         rw now (Each-map (IsVoiceWithin h.number (h.number + h.pending)) (λ v. sample_number v < h.number + h.pending) (voice_number h.number (h.number + h.pending)) voices pending_voices) in
         let used : length h.records + (length h.ring + 1) + 8 * h.pending ≡ length h.records + length h.ring + 8 * h.pending + 1 = omega arith in
@@ -162,26 +162,26 @@ module _ {S : Type 0} {chip : ChipMeaning S} (laws : IsLawfulChip chip) where
     late_emit item none =
         let empty : h.ring ≡ [] = is.none_waits none in
         let used : length h.records + 1 + 0 + 8 * 0 ≡ length h.records + 0 + 8 * 0 + 1 = omega arith in
-        rw (none, empty) (simp (run_none, merge_nothing, append-nil, length-append, used) refl)
+        rw (none, empty) (simp (samples_none, merge_nothing, append-nil, length-append, used) refl)
 
     -- with none pending the reach is that of what there is
     pub late_reach : h.pending ≡ 0 → (late_of chip h).reach ≡ chip.reach (late_of chip h).chip (late_of chip h).memory
-    late_reach none = rw (none, run_none) refl
+    late_reach none = rw (none, samples_none) refl
 
     frames_count : length (h.frames ++ (pending_samples chip h).frames) ≡ length h.frames + h.pending
     frames_count = rw (length-append, frame_count_of_samples) refl
 
-    pub voices_fit : length (filter (in_mask h.mask) (pending_samples chip h).voices) ≤ 8 * h.pending
+    pub voices_fit : length (filter (in_mask h.mask) (pending_samples chip h).records) ≤ 8 * h.pending
     voices_fit = voices_of_mask chip laws h.pending h.mask h.number h.state h.memory is.is_valid
 
     pub records_within : length (late_of chip h).records ≤ (late_of chip h).records_used
     records_within =
-        omega (arith, length-append h.records (merge (filter (in_mask h.mask) (pending_samples chip h).voices) h.ring), length-merge (filter (in_mask h.mask) (pending_samples chip h).voices) h.ring, voices_fit)
+        omega (arith, length-append h.records (merge (filter (in_mask h.mask) (pending_samples chip h).records) h.ring), length-merge (filter (in_mask h.mask) (pending_samples chip h).records) h.ring, voices_fit)
 
     -- all pending samples made
     pub held_settled : (batches : ℕ) → IsHeld chip (held_after_settle chip batches h)
     held_settled batches =
-        let voices = filter (in_mask h.mask) (pending_samples chip h).voices in
+        let voices = filter (in_mask h.mask) (pending_samples chip h).records in
         let first = Each-map (λ r. is_before_sample h.number r ≡ true) (λ r. is_before_sample (h.number + h.pending) r ≡ true) (later_before h.number (h.number + h.pending) (omega arith)) h.records is.made_before in
         let second = Each-map (IsVoiceWithin h.number (h.number + h.pending)) (λ r. is_before_sample (h.number + h.pending) r ≡ true) (voice_before h.number (h.number + h.pending)) voices pending_voices in
         let third = Each-append (λ r. is_before_sample (h.number + h.pending) r ≡ true) h.records (merge voices h.ring) first (Each-merge (λ r. is_before_sample (h.number + h.pending) r ≡ true) voices h.ring second is.before_next) in
@@ -211,24 +211,24 @@ module _ {S : Type 0} {chip : ChipMeaning S} (laws : IsLawfulChip chip) where
         let made : h.number + h.pending + 0 ≡ h.number + h.pending = omega arith in
         let frames : length (h.frames ++ (pending_samples chip h).frames) + 0 ≡ length h.frames + h.pending = omega (arith, frames_count) in
         let records : length (late_of chip h).records + 0 + 8 * 0 ≡ length (late_of chip h).records = omega arith in
-        rw (run_none, made, frames) (simp (merge_nothing, append-nil, records) refl)
+        rw (samples_none, made, frames) (simp (merge_nothing, append-nil, records) refl)
 
     -- nothing that is pending stands before the first pending sample
-    pending_after : Each (λ r. is_before_sample h.number r ≡ false) (merge (filter (in_mask h.mask) (pending_samples chip h).voices) h.ring)
+    pending_after : Each (λ r. is_before_sample h.number r ≡ false) (merge (filter (in_mask h.mask) (pending_samples chip h).records) h.ring)
     pending_after =
-        let voices = filter (in_mask h.mask) (pending_samples chip h).voices in
+        let voices = filter (in_mask h.mask) (pending_samples chip h).records in
         Each-merge (λ r. is_before_sample h.number r ≡ false) voices h.ring
         (Each-map (IsVoiceWithin h.number (h.number + h.pending)) (λ r. is_before_sample h.number r ≡ false) (voice_after h.number (h.number + h.pending)) voices pending_voices)
         (Each-map (λ e. h.number < sample_number e) (λ r. is_before_sample h.number r ≡ false) (event_after h.number) h.ring is.after_first)
 
     drained_records : filter (is_before_sample h.number) (late_of chip h).records ≡ h.records
     drained_records =
-        let after = merge (filter (in_mask h.mask) (pending_samples chip h).voices) h.ring in
+        let after = merge (filter (in_mask h.mask) (pending_samples chip h).records) h.ring in
         rw (filter-append (is_before_sample h.number) h.records after, filter_all (is_before_sample h.number) h.records is.made_before, filter_none (is_before_sample h.number) after pending_after) (append-nil h.records)
 
-    kept_records : filter (λ r. not (is_before_sample h.number r)) (late_of chip h).records ≡ merge (filter (in_mask h.mask) (pending_samples chip h).voices) h.ring
+    kept_records : filter (λ r. not (is_before_sample h.number r)) (late_of chip h).records ≡ merge (filter (in_mask h.mask) (pending_samples chip h).records) h.ring
     kept_records =
-        let after = merge (filter (in_mask h.mask) (pending_samples chip h).voices) h.ring in
+        let after = merge (filter (in_mask h.mask) (pending_samples chip h).records) h.ring in
         let is_late : Record → Bool = λ r. not (is_before_sample h.number r) in
         let none = filter_none is_late h.records (Each-map (λ r. is_before_sample h.number r ≡ true) (λ r. is_late r ≡ false) (opposite h.number true) h.records is.made_before) in
         let all = filter_all is_late after (Each-map (λ r. is_before_sample h.number r ≡ false) (λ r. is_late r ≡ true) (opposite h.number false) after pending_after) in
@@ -266,5 +266,5 @@ module _ {S : Type 0} {chip : ChipMeaning S} (laws : IsLawfulChip chip) where
         let two : 0 + length h.ring ≡ length h.ring = omega arith in
         rw (first, kept_records, kept_frames, one, two) refl
 
-    pub late_none_waits : h.pending ≡ 0 → merge (filter (in_mask h.mask) (pending_samples chip h).voices) h.ring ≡ []
-    late_none_waits none = rw (none, run_none, is.none_waits none) merge_nothing
+    pub late_none_waits : h.pending ≡ 0 → merge (filter (in_mask h.mask) (pending_samples chip h).records) h.ring ≡ []
+    late_none_waits none = rw (none, samples_none, is.none_waits none) merge_nothing

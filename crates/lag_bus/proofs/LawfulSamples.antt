@@ -3,15 +3,15 @@ use Rattle.std.proofs.Common.{◌≡◌, ℕ, zero, suc, ◌+◌, ◌*◌, ◌�
 use Rattle.trace_form.specs.declared.record.Record.{Record}
 use Rattle.trace_form.specs.declared.record.Record.TheVariants.{Reg, Port, Voice}
 use Rattle.std.specs.List.{filter}
-use Rattle.dsp_core.specs.Run.{Sampled, Run, run, in_mask}
+use Rattle.dsp_form.specs.Samples.{SampleResult, SamplesResult, samples, in_mask}
 use Rattle.lock_step.specs.ChipMeaning.{ChipMeaning}
 use Rattle.lock_step.specs.ChipLaws.{IsLawfulChip, are_voice_records}
 use Rattle.lag_bus.specs.Each.{Each, IsVoiceWithin}
 use Rattle.lag_bus.proofs.MergedRecords.{Each-append, Each-map}
 use Rattle.lock_step.proofs.RecordCounts.{length-are_voice_records, length-filter-at_most}
 
-pub frame_count_of_samples : {S : Type 0} (sample : ℕ → S → List ℕ → Sampled S) (n k : ℕ) (s : S) (memory : List ℕ) → length (run sample n k s memory).frames ≡ n
-unfolding run
+pub frame_count_of_samples : {S : Type 0} (sample : ℕ → S → List ℕ → SampleResult S) (n k : ℕ) (s : S) (memory : List ℕ) → length (samples sample n k s memory).frames ≡ n
+unfolding samples
 frame_count_of_samples sample zero k s memory = refl
 frame_count_of_samples sample (suc n) k s memory = rw length-append (rw (frame_count_of_samples sample n k s memory) (add-one n))
 
@@ -32,35 +32,35 @@ within_wider a b c d h g (Reg sample addr value) w = w
 within_wider a b c d h g (Port sample port value) w = w
 
 module _ {S : Type 0} (chip : ChipMeaning S) (laws : IsLawfulChip chip) where
-  pub is_valid-samples : (n k : ℕ) (s : S) (memory : List ℕ) → chip.is_valid s ≡ true → chip.is_valid (run chip.sample n k s memory).state ≡ true
-  unfolding run
+  pub is_valid-samples : (n k : ℕ) (s : S) (memory : List ℕ) → chip.is_valid s ≡ true → chip.is_valid (samples chip.sample n k s memory).state ≡ true
+  unfolding samples
   is_valid-samples zero k s memory valid = valid
   is_valid-samples (suc n) k s memory valid =
-      let before = run chip.sample n k s memory in
+      let before = samples chip.sample n k s memory in
       laws.sample_keeps_valid (k + n) before.state before.memory (is_valid-samples n k s memory valid)
 
-  pub voices_within-samples : (n k : ℕ) (s : S) (memory : List ℕ) → chip.is_valid s ≡ true → Each (IsVoiceWithin k (k + n)) (run chip.sample n k s memory).voices
-  unfolding run
+  pub voices_within-samples : (n k : ℕ) (s : S) (memory : List ℕ) → chip.is_valid s ≡ true → Each (IsVoiceWithin k (k + n)) (samples chip.sample n k s memory).records
+  unfolding samples
   voices_within-samples zero k s memory valid = tt
   voices_within-samples (suc n) k s memory valid =
-      let before : Run S = run chip.sample n k s memory in
-      let made : Sampled S = chip.sample (k + n) before.state before.memory in
-      let first = Each-map (IsVoiceWithin k (k + n)) (IsVoiceWithin k (k + suc n)) (within_wider k (k + n) k (k + suc n) (omega arith) (omega arith)) before.voices (voices_within-samples n k s memory valid) in
-      let new = voices_within (k + n) 0 made.voices (laws.gives_voice_records (k + n) before.state before.memory (is_valid-samples n k s memory valid)) in
-      Each-append (IsVoiceWithin k (k + suc n)) before.voices made.voices first
-      (Each-map (IsVoiceWithin (k + n) (k + n + 1)) (IsVoiceWithin k (k + suc n)) (within_wider (k + n) (k + n + 1) k (k + suc n) (omega arith) (omega arith)) made.voices new)
+      let before : SamplesResult S = samples chip.sample n k s memory in
+      let made : SampleResult S = chip.sample (k + n) before.state before.memory in
+      let first = Each-map (IsVoiceWithin k (k + n)) (IsVoiceWithin k (k + suc n)) (within_wider k (k + n) k (k + suc n) (omega arith) (omega arith)) before.records (voices_within-samples n k s memory valid) in
+      let new = voices_within (k + n) 0 made.records (laws.gives_voice_records (k + n) before.state before.memory (is_valid-samples n k s memory valid)) in
+      Each-append (IsVoiceWithin k (k + suc n)) before.records made.records first
+      (Each-map (IsVoiceWithin (k + n) (k + n + 1)) (IsVoiceWithin k (k + suc n)) (within_wider (k + n) (k + n + 1) k (k + suc n) (omega arith) (omega arith)) made.records new)
 
-  pub length-voices-samples : (n k : ℕ) (s : S) (memory : List ℕ) → chip.is_valid s ≡ true → length (run chip.sample n k s memory).voices ≡ 8 * n
-  unfolding run
+  pub length-voices-samples : (n k : ℕ) (s : S) (memory : List ℕ) → chip.is_valid s ≡ true → length (samples chip.sample n k s memory).records ≡ 8 * n
+  unfolding samples
   length-voices-samples zero k s memory valid = refl
   length-voices-samples (suc n) k s memory valid =
-      let before : Run S = run chip.sample n k s memory in
-      let made : Sampled S = chip.sample (k + n) before.state before.memory in
-      let some : length before.voices ≡ 8 * n = length-voices-samples n k s memory valid in
-      let more : length made.voices + 0 ≡ 8 = length-are_voice_records (k + n) 0 made.voices (laws.gives_voice_records (k + n) before.state before.memory (is_valid-samples n k s memory valid)) in
+      let before : SamplesResult S = samples chip.sample n k s memory in
+      let made : SampleResult S = chip.sample (k + n) before.state before.memory in
+      let some : length before.records ≡ 8 * n = length-voices-samples n k s memory valid in
+      let more : length made.records + 0 ≡ 8 = length-are_voice_records (k + n) 0 made.records (laws.gives_voice_records (k + n) before.state before.memory (is_valid-samples n k s memory valid)) in
       rw length-append (omega arith)
 
   -- at most as many of them are of the voices in a mask
-  pub voices_of_mask : (n mask k : ℕ) (s : S) (memory : List ℕ) → chip.is_valid s ≡ true → length (filter (in_mask mask) (run chip.sample n k s memory).voices) ≤ 8 * n
+  pub voices_of_mask : (n mask k : ℕ) (s : S) (memory : List ℕ) → chip.is_valid s ≡ true → length (filter (in_mask mask) (samples chip.sample n k s memory).records) ≤ 8 * n
   voices_of_mask n mask k s memory valid =
-      omega (arith, length-filter-at_most (in_mask mask) (run chip.sample n k s memory).voices, length-voices-samples n k s memory valid)
+      omega (arith, length-filter-at_most (in_mask mask) (samples chip.sample n k s memory).records, length-voices-samples n k s memory valid)

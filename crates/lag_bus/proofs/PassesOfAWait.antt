@@ -6,13 +6,13 @@ use Rattle.std.proofs.lemmas.List.Elements.{filter-append}
 use Rattle.std.proofs.lemmas.Bool.Decides.{nat_tests}
 use Rattle.ports_timers.specs.declared.io.Io.{Io}
 use Rattle.ports_timers.specs.Io.{after_ticks_of}
-use Rattle.dsp_core.specs.Run.{run, in_mask}
-use Rattle.dsp_core.proofs.Runs.{run_none, run_more}
+use Rattle.dsp_form.specs.Samples.{samples, in_mask}
+use Rattle.dsp_form.proofs.OneMoreSample.{samples_none, samples_more}
 use Rattle.lock_step.specs.ChipMeaning.{ChipMeaning}
 use Rattle.lock_step.specs.LockStep.{crosses_sample, samples_made}
 use Rattle.lag_bus.specs.Lagging.{Lagging, lagging, with_book}
 use Rattle.lag_bus.specs.Waiting.{samples_in, after_wait, without_calls, IsKept}
-use Rattle.idle_rounds.proofs.Ticks.{after_ticks_of-then, after_ticks_of-none}
+use Rattle.ports_timers.proofs.Ticks.{after_ticks_of-then, after_ticks_of-none}
 
 module _ {S : Type 0} (chip : ChipMeaning S) where
   -- a pass depends on the number of calls in nothing but that number
@@ -25,7 +25,7 @@ module _ {S : Type 0} (chip : ChipMeaning S) where
   abbrev bus_after_wait : (bus : Lagging S) (due clock : ℕ) (io : Io) → Lagging S
   bus_after_wait bus due clock io =
       let m = bus.machine in
-      let made = run chip.sample due (samples_made m) m.chip m.memory in
+      let made = samples chip.sample due (samples_made m) m.chip m.memory in
       without_calls (with_book
       (record m {
         memory = made.memory;
@@ -33,7 +33,7 @@ module _ {S : Type 0} (chip : ChipMeaning S) where
         chip = made.state;
         clock = clock;
         frames = m.frames ++ made.frames;
-        records = m.records ++ filter (in_mask m.mask) made.voices;
+        records = m.records ++ filter (in_mask m.mask) made.records;
       })
       (record bus.book { pending = bus.book.pending + due }))
 
@@ -41,7 +41,7 @@ module _ {S : Type 0} (chip : ChipMeaning S) where
   abbrev bus_after_wait_and_sample : (bus : Lagging S) (due k clock : ℕ) (io : Io) (pending : ℕ) → Lagging S
   bus_after_wait_and_sample bus due k clock io pending =
       let m = bus.machine in
-      let before = run chip.sample due (samples_made m) m.chip m.memory in
+      let before = samples chip.sample due (samples_made m) m.chip m.memory in
       let made = chip.sample k before.state before.memory in
       without_calls (with_book
       (record m {
@@ -50,12 +50,12 @@ module _ {S : Type 0} (chip : ChipMeaning S) where
         chip = made.state;
         clock = clock;
         frames = m.frames ++ before.frames ++ made.frame ∷ [];
-        records = m.records ++ filter (in_mask m.mask) before.voices ++ filter (in_mask m.mask) made.voices;
+        records = m.records ++ filter (in_mask m.mask) before.records ++ filter (in_mask m.mask) made.records;
       })
       (record bus.book { pending = pending }))
 
   waited_more : (bus : Lagging S) (due clock : ℕ) (io : Io) → bus_after_wait bus (due + 1) clock io ≡ bus_after_wait_and_sample bus due (samples_made bus.machine + due) clock io (bus.book.pending + (due + 1))
-  waited_more bus due clock io = simp (run_more, filter-append, append_assoc) refl
+  waited_more bus due clock io = simp (samples_more, filter-append, append_assoc) refl
 
   pass-wait-by : (bus : Lagging S) (n cycles : ℕ) (b : Bool) → crosses_sample (bus.machine.clock + n) cycles ≡ b → cycles ≤ 32
       → bus.book.pending + samples_in bus.machine.clock (n + cycles) < 64
@@ -90,7 +90,7 @@ module _ {S : Type 0} (chip : ChipMeaning S) where
   waited_none : (bus : Lagging S) → bus_after_wait bus 0 bus.machine.clock bus.machine.io ≡ without_calls (with_book bus.machine bus.book)
   waited_none bus =
       let none : bus.book.pending + 0 ≡ bus.book.pending = omega arith in
-      simp (run_none, append-nil, none) refl
+      simp (samples_none, append-nil, none) refl
 
   pub wait-none : (bus : Lagging S) → IsKept chip bus → without_calls bus ≡ without_calls (after_wait chip bus 0)
   wait-none bus kept =

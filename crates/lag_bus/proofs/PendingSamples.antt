@@ -2,7 +2,7 @@
 use Rattle.std.proofs.Common.{◌≡◌, ℕ, ◌+◌, ◌*◌, refl, arith, append_assoc}
 use Rattle.std.proofs.lemmas.List.{append-nil}
 use Rattle.std.proofs.lemmas.List.Elements.{filter-append}
-use Rattle.dsp_core.proofs.Runs.{run_none, run_more}
+use Rattle.dsp_form.proofs.OneMoreSample.{samples_none, samples_more}
 use Rattle.lock_step.specs.ChipMeaning.{ChipMeaning}
 use Rattle.lag_bus.specs.Late.{Late, late_with_sample, late_with_samples}
 
@@ -12,7 +12,7 @@ late_with_samples-none chip late =
     let pending : late.pending + 0 ≡ late.pending = omega arith in
     let frames : late.frames_used + 0 ≡ late.frames_used = omega arith in
     let records : late.records_used + 8 * 0 ≡ late.records_used = omega arith in
-    simp (run_none, append-nil, made, pending, frames, records) refl
+    simp (samples_none, append-nil, made, pending, frames, records) refl
 
 pub late_with_samples-more : {S : Type 0} (chip : ChipMeaning S) (late : Late S) (due : ℕ) → late_with_sample chip (late_with_samples chip late due) ≡ late_with_samples chip late (due + 1)
 late_with_samples-more chip late due =
@@ -20,4 +20,4 @@ late_with_samples-more chip late due =
     let pending : late.pending + due + 1 ≡ late.pending + (due + 1) = omega arith in
     let frames : late.frames_used + due + 1 ≡ late.frames_used + (due + 1) = omega arith in
     let records : late.records_used + 8 * due + 8 ≡ late.records_used + 8 * (due + 1) = omega arith in
-    simp (run_more, filter-append, append_assoc, made, pending, frames, records) refl
+    simp (samples_more, filter-append, append_assoc, made, pending, frames, records) refl

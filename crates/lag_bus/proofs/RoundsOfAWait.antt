@@ -5,7 +5,7 @@ use Rattle.aram_core.specs.Memory.{byte_at}
 use Rattle.ports_timers.specs.declared.io.Io.{Io}
 use Rattle.ports_timers.specs.Io.{read_answer, after_ticks_of}
 use Rattle.std.specs.List.{filter}
-use Rattle.dsp_core.specs.Run.{run, in_mask}
+use Rattle.dsp_form.specs.Samples.{samples, in_mask}
 use Rattle.spc700_exec.specs.declared.cpu.Cpu.{Cpu}
 use Rattle.lag_bus.specs.declared.cause.Cause.{Cause}
 use Rattle.lock_step.specs.declared.counts.Counts.{Counts}
@@ -19,11 +19,11 @@ use Rattle.lock_step.specs.Machine.{Machine}
 use Rattle.lock_step.specs.LockStep.{bus_answer, after_bus_read}
 use Rattle.lag_bus.specs.Book.{Book, may_be_written, cause_of_read, after_cause}
 use Rattle.lag_bus.specs.Lagging.{Lagging, lagging, with_book}
-use Rattle.idle_rounds.specs.Looking.{looked_steps, after_n_steps, IsWaiting}
-use Rattle.idle_rounds.specs.Zeros.{zeros_stay, counter_is_0, AreTimers}
+use Rattle.idle_rounds.specs.Looking.{look_of_steps, after_n_steps, IsWaiting}
+use Rattle.ports_timers.specs.Zeros.{zeros_stay, counter_is_0, AreTimers}
 use Rattle.lag_bus.specs.Waiting.{only_looks, byte_seen, samples_in, after_wait, without_calls, IsKept}
-use Rattle.idle_rounds.proofs.Stays.{and_first, and_second, read_answer-stays, after_read-stays}
-use Rattle.idle_rounds.proofs.Fewer.{zeros_stay-less}
+use Rattle.ports_timers.proofs.Stays.{and_first, and_second, read_answer-stays, after_read-stays}
+use Rattle.ports_timers.proofs.Fewer.{zeros_stay-less}
 use Rattle.lag_bus.proofs.PassesOfAWait.{pass-wait, wait-none}
 use Rattle.idle_rounds.proofs.Rounds.{waited-rounds}
 
@@ -102,7 +102,7 @@ module _ {S : Type 0} (chip : ChipMeaning S) where
     }
 
     -- the law: k rounds of n steps and d cycles
-    pub rounds-wait : (k n d : ℕ) (cpu : Cpu) → looked_steps (byte_seen chip bus) n cpu ≡ Some (cpu, d) → k * d ≤ most
+    pub rounds-wait : (k n d : ℕ) (cpu : Cpu) → look_of_steps (byte_seen chip bus) n cpu ≡ Some (cpu, d) → k * d ≤ most
         → ((after_n_steps (lagging chip) (k * n) (cpu, bus)).0 ≡ cpu) × (without_calls (after_n_steps (lagging chip) (k * n) (cpu, bus)).1 ≡ without_calls (after_wait chip bus (k * d)))
     rounds-wait k n d cpu round fits =
         waited-rounds (lagging chip) without_calls (byte_seen chip bus) most (after_wait chip bus) is_waiting k n d (cpu, bus) cpu (refl, wait-none chip bus kept) round fits
@@ -110,7 +110,7 @@ module _ {S : Type 0} (chip : ChipMeaning S) where
   -- a bus that waited for rounds
   pub is_wait : (samples : ℕ) (cpu : Cpu) (bus new : Lagging S) (most k n d : ℕ) → IsKept chip bus → AreTimers bus.machine.io → zeros_stay bus.machine.io bus.machine.clock most ≡ true
       → bus.book.pending + samples_in bus.machine.clock most < 64 → (bus.machine.clock + most) / 32 < samples
-      → looked_steps (byte_seen chip bus) n cpu ≡ Some (cpu, d) → k * d ≤ most → new ≡ after_wait chip bus (k * d)
+      → look_of_steps (byte_seen chip bus) n cpu ≡ Some (cpu, d) → k * d ≤ most → new ≡ after_wait chip bus (k * d)
       → IsWaitOf (lagging chip) (lag_emits chip) samples cpu bus new
   is_wait samples cpu bus new most k n d kept small stay free more round fits is =
       let there = rounds-wait bus most kept small stay free k n d cpu round fits in
@@ -132,13 +132,13 @@ module _ {S : Type 0} (chip : ChipMeaning S) where
       let number : late.made + due ≡ (clock + cycles) / 32 = omega arith in
       λ i. record {
         machine = record {
-          memory = (run chip.sample (is i) (made i) late.chip late.memory).memory;
+          memory = (samples chip.sample (is i) (made i) late.chip late.memory).memory;
           io = after_ticks_of io clock cycles;
-          chip = (run chip.sample (is i) (made i) late.chip late.memory).state;
+          chip = (samples chip.sample (is i) (made i) late.chip late.memory).state;
           mask = late.mask;
           clock = clock + cycles;
-          frames = late.frames ++ (run chip.sample (is i) (made i) late.chip late.memory).frames;
-          records = late.records ++ filter (in_mask late.mask) (run chip.sample (is i) (made i) late.chip late.memory).voices;
+          frames = late.frames ++ (samples chip.sample (is i) (made i) late.chip late.memory).frames;
+          records = late.records ++ filter (in_mask late.mask) (samples chip.sample (is i) (made i) late.chip late.memory).records;
           calls = calls;
         };
         book = record { pending = late.pending + is i; events = late.events; reach = late.reach; counts = counts };

@@ -3,15 +3,15 @@ use Rattle.std.specs.Prelude.{◌≡◌, ℕ, ◌+◌, ◌-◌, ◌^◌, ◌<◌
 use Rattle.std.specs.FinSet as set
 use Rattle.aram_core.specs.Pages.{page_of}
 use Rattle.reach_map.specs.declared.ReachPages.{ReachPages}
-use Rattle.dsp_core.specs.Results.{is_result}
-use Rattle.dsp_core.specs.Run.{counted}
+use Rattle.dsp_form.specs.Results.{is_result}
+use Rattle.dsp_form.specs.Samples.{next_count}
 use Rattle.lock_step.specs.declared.counts.Counts.{Counts}
 use Rattle.lag_bus.specs.declared.cause.Cause.{Cause}
 use Rattle.lag_bus.specs.declared.cause.Cause.TheVariants.{Register, Memory, Echo, Full, Events, End}
 use Rattle.lock_step.specs.ChipMeaning.{ChipMeaning}
 use Rattle.lock_step.specs.Machine.{Machine}
 use Rattle.lock_step.specs.LockStep.{writes_register, writes_port}
-use Rattle.lock_step.specs.Limits.{most_samples_of_batch, event_room}
+use Rattle.dsp_form.specs.Limits.{most_samples_of_batch, event_room}
 
 pub record Book : Type 0 where
   -- the samples that the chip hasn't made yet
@@ -53,12 +53,12 @@ no_counts = record { batches = 0; register = 0; memory = 0; echo = 0; full = 0; 
 
 -- the counts with one more batch, for a cause
 abbrev pub counts_with_batch : Cause → Counts → Counts
-counts_with_batch Register counts = record counts { batches = counted counts.batches; register = counted counts.register }
-counts_with_batch Memory counts = record counts { batches = counted counts.batches; memory = counted counts.memory }
-counts_with_batch Echo counts = record counts { batches = counted counts.batches; echo = counted counts.echo }
-counts_with_batch Full counts = record counts { batches = counted counts.batches; full = counted counts.full }
-counts_with_batch Events counts = record counts { batches = counted counts.batches; events = counted counts.events }
-counts_with_batch End counts = record counts { batches = counted counts.batches; «end» = counted counts.«end» }
+counts_with_batch Register counts = record counts { batches = next_count counts.batches; register = next_count counts.register }
+counts_with_batch Memory counts = record counts { batches = next_count counts.batches; memory = next_count counts.memory }
+counts_with_batch Echo counts = record counts { batches = next_count counts.batches; echo = next_count counts.echo }
+counts_with_batch Full counts = record counts { batches = next_count counts.batches; full = next_count counts.full }
+counts_with_batch Events counts = record counts { batches = next_count counts.batches; events = next_count counts.events }
+counts_with_batch End counts = record counts { batches = next_count counts.batches; «end» = next_count counts.«end» }
 
 -- as long as no count is at the end of 64 bits, the batches are those of the six causes together
 abbrev pub AddsUp : Counts → Type 0

@@ -5,9 +5,9 @@ use Rattle.std.specs.FinSet as set
 use Rattle.num_fix.specs.declared.Frame.{Frame}
 use Rattle.trace_form.specs.declared.record.Record.{Record}
 use Rattle.reach_map.specs.declared.ReachPages.{ReachPages}
-use Rattle.dsp_core.specs.Run.{Run, run, in_mask}
+use Rattle.dsp_form.specs.Samples.{SamplesResult, samples, in_mask}
 use Rattle.lock_step.specs.ChipMeaning.{ChipMeaning}
-use Rattle.lock_step.specs.Limits.{most_samples_of_batch, most_samples_of_chip, frame_room, record_room}
+use Rattle.dsp_form.specs.Limits.{most_samples_of_batch, most_samples_of_chip, frame_room, record_room}
 use Rattle.lag_bus.specs.Each.{Each}
 use Rattle.lag_bus.specs.Merge.{merge}
 use Rattle.lock_step.specs.SampleNumbers.{sample_number}
@@ -28,8 +28,8 @@ pub record Held (S : Type 0) : Type 0 where
   pub pending : ℕ
 
 -- the pending samples
-abbrev pub pending_samples : {S : Type 0} → ChipMeaning S → Held S → Run S
-pending_samples chip h = run chip.sample h.pending h.number h.state h.memory
+abbrev pub pending_samples : {S : Type 0} → ChipMeaning S → Held S → SamplesResult S
+pending_samples chip h = samples chip.sample h.pending h.number h.state h.memory
 
 -- what there is once they are made
 abbrev pub late_of : {S : Type 0} → ChipMeaning S → Held S → Late S
@@ -37,7 +37,7 @@ late_of chip h = record {
   chip = (pending_samples chip h).state;
   memory = (pending_samples chip h).memory;
   frames = h.frames ++ (pending_samples chip h).frames;
-  records = h.records ++ merge (filter (in_mask h.mask) (pending_samples chip h).voices) h.ring;
+  records = h.records ++ merge (filter (in_mask h.mask) (pending_samples chip h).records) h.ring;
   mask = h.mask;
   made = h.number + h.pending;
   pending = h.pending;

@@ -5,9 +5,9 @@ use Rattle.aram_core.specs.Memory.{byte_at}
 use Rattle.num_fix.specs.declared.Frame.{Frame}
 use Rattle.trace_form.specs.declared.record.Record.{Record}
 use Rattle.reach_map.specs.declared.ReachPages.{ReachPages}
-use Rattle.dsp_core.specs.Run.{run, in_mask}
+use Rattle.dsp_form.specs.Samples.{samples, in_mask}
 use Rattle.lock_step.specs.ChipMeaning.{ChipMeaning}
-use Rattle.lock_step.specs.Limits.{most_samples_of_batch}
+use Rattle.dsp_form.specs.Limits.{most_samples_of_batch}
 use Rattle.lag_bus.specs.Book.{may_be_written}
 
 pub record Late (S : Type 0) : Type 0 where
@@ -36,7 +36,7 @@ late_with_sample chip late =
       chip = made.state;
       memory = made.memory;
       frames = late.frames ++ made.frame ∷ [];
-      records = late.records ++ filter (in_mask late.mask) made.voices;
+      records = late.records ++ filter (in_mask late.mask) made.records;
       made = late.made + 1;
       pending = late.pending + 1;
       frames_used = late.frames_used + 1;
@@ -46,12 +46,12 @@ late_with_sample chip late =
 -- and so many of them
 abbrev pub late_with_samples : {S : Type 0} → ChipMeaning S → Late S → (due : ℕ) → Late S
 late_with_samples chip late due =
-    let made = run chip.sample due late.made late.chip late.memory in
+    let made = samples chip.sample due late.made late.chip late.memory in
     record late {
       chip = made.state;
       memory = made.memory;
       frames = late.frames ++ made.frames;
-      records = late.records ++ filter (in_mask late.mask) made.voices;
+      records = late.records ++ filter (in_mask late.mask) made.records;
       made = late.made + due;
       pending = late.pending + due;
       frames_used = late.frames_used + due;
@@ -63,4 +63,4 @@ late_with_samples chip late due =
 abbrev pub AreWritesWithin : {S : Type 0} → ChipMeaning S → ReachPages → (pending made : ℕ) → S → (memory : List ℕ) → Type 0
 AreWritesWithin chip reach pending made state memory =
     (due at : ℕ) → pending + due ≤ most_samples_of_batch → may_be_written reach at ≡ false
-    → byte_at (run chip.sample due made state memory).memory at ≡ byte_at memory at
+    → byte_at (samples chip.sample due made state memory).memory at ≡ byte_at memory at

@@ -4,15 +4,15 @@ use Rattle.std.specs.List.{filter}
 use Rattle.reach_map.specs.declared.ReachPages.{ReachPages}
 use Rattle.ports_timers.specs.declared.io.Io.{Io}
 use Rattle.ports_timers.specs.Io.{after_ticks_of}
-use Rattle.dsp_core.specs.Run.{run, in_mask}
+use Rattle.dsp_form.specs.Samples.{samples, in_mask}
 use Rattle.lock_step.specs.ChipMeaning.{ChipMeaning}
 use Rattle.lock_step.specs.LockStep.{samples_made, bus_answer}
 use Rattle.lag_bus.specs.Book.{may_be_written}
 use Rattle.lag_bus.specs.Lagging.{Lagging, lagging, with_book}
 use Rattle.lag_bus.specs.Late.{AreWritesWithin}
-use Rattle.lock_step.specs.Limits.{most_samples_of_batch}
-use Rattle.idle_rounds.specs.Zeros.{counter_is_0, zeros_stay, AreTimers}
-use Rattle.idle_rounds.specs.Looking.{looked_steps, after_n_steps}
+use Rattle.dsp_form.specs.Limits.{most_samples_of_batch}
+use Rattle.ports_timers.specs.Zeros.{counter_is_0, zeros_stay, AreTimers}
+use Rattle.idle_rounds.specs.Looking.{look_of_steps, after_n_steps}
 use Rattle.spc700_exec.specs.declared.cpu.Cpu.{Cpu}
 
 -- Whether a read only looks, so that it has the same answer while cycles pass: it is of no register of the chip, no sample
@@ -34,7 +34,7 @@ abbrev pub after_wait : {S : Type 0} → ChipMeaning S → Lagging S → (cycles
 after_wait chip bus cycles =
     let m = bus.machine in
     let due = samples_in m.clock cycles in
-    let made = run chip.sample due (samples_made m) m.chip m.memory in
+    let made = samples chip.sample due (samples_made m) m.chip m.memory in
     with_book
     (record m {
       memory = made.memory;
@@ -42,7 +42,7 @@ after_wait chip bus cycles =
       chip = made.state;
       clock = m.clock + cycles;
       frames = m.frames ++ made.frames;
-      records = m.records ++ filter (in_mask m.mask) made.voices;
+      records = m.records ++ filter (in_mask m.mask) made.records;
     })
     (record bus.book { pending = bus.book.pending + due })
 
@@ -65,7 +65,7 @@ LeavesCyclesOfRounds {S} chip =
     → AreTimers bus.machine.io
     → zeros_stay bus.machine.io bus.machine.clock most ≡ true
     → bus.book.pending + samples_in bus.machine.clock most < most_samples_of_batch
-    → looked_steps (byte_seen chip bus) steps cpu ≡ Some (cpu, cycles)
+    → look_of_steps (byte_seen chip bus) steps cpu ≡ Some (cpu, cycles)
     → rounds * cycles ≤ most
     → let there = after_n_steps (lagging chip) (rounds * steps) (cpu, bus) in
     (there.0 ≡ cpu) × (without_calls there.1 ≡ without_calls (after_wait chip bus (rounds * cycles)))

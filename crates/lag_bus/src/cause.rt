@@ -1,6 +1,6 @@
 // Why a bus that lags makes its pending samples, and when.
 ghost use Rattle.std.specs.Prelude.{◌≡◌};
-ghost use Rattle.dsp_core.specs.Results.{is_result};
+ghost use Rattle.dsp_form.specs.Results.{is_result};
 ghost use Rattle.lag_bus.specs.Book.{may_be_read, may_be_written, cause_of_read, cause_of_write};
 
 use aram_core::page_of;

@@ -3,9 +3,9 @@ ghost use Rattle.std.specs.Prelude.{◌≡◌, ◌+◌, ◌*◌, ◌/◌, ◌-�
 ghost use Rattle.std.proofs.Common.{refl};
 ghost use Rattle.aram_core.specs.Memory.{byte_at, with_byte};
 ghost use Rattle.ports_timers.specs.Io.{after_read};
-ghost use Rattle.dsp_core.specs.Results.{is_result};
-ghost use Rattle.dsp_core.specs.Run.{counted};
-ghost use Rattle.lock_step.specs.Limits.{most_samples_of_run, most_samples_of_chip, most_samples_of_batch, record_room, event_room};
+ghost use Rattle.dsp_form.specs.Results.{is_result};
+ghost use Rattle.dsp_form.specs.Samples.{next_count};
+ghost use Rattle.dsp_form.specs.Limits.{most_samples_of_run, most_samples_of_chip, most_samples_of_batch, record_room, event_room};
 ghost use Rattle.lock_step.specs.Machine.{opened_machine};
 ghost use Rattle.lock_step.specs.LockStep.{writes_register, writes_port, write_records, byte_answered};
 ghost use Rattle.lag_bus.specs.Ready.{ready_frames, ready_records};
@@ -13,7 +13,7 @@ ghost use Rattle.lag_bus.specs.Book.{counts_with_batch, AddsUp, may_be_read, may
 ghost use Rattle.lag_bus.specs.Lagging.{lagging, opened_lagging, after_settle};
 ghost use Rattle.lag_bus.specs.LagEmits.{lag_emits, after_drain};
 ghost use Rattle.lag_bus.specs.LagLaws.{emits_frames, emits_records, frame_each};
-ghost use Rattle.idle_rounds.specs.Zeros.{zeros_stay, AreTimers};
+ghost use Rattle.ports_timers.specs.Zeros.{zeros_stay, AreTimers};
 ghost use Rattle.lag_bus.specs.Waiting.{byte_seen, samples_in};
 
 use crate::OutOfMemory;
@@ -21,9 +21,9 @@ use crate::cause::Cause;
 use crate::counting::{counts_with_batch, no_counts};
 use crate::late::LateChip;
 use crate::waiting::{counter_is_0, pend_all};
-use idle_rounds::{Looks, cycles_of_zeros, tick_through, try_round};
+use idle_rounds::{Looks, try_round};
 use lock_step::{Chip, Counts, DrainedBus};
-use ports_timers::Io;
+use ports_timers::{Io, cycles_of_zeros, tick_through};
 use spc_form::OpenState;
 use spc700_exec::{Bus, Cpu};
 use std::alloc::Global;
@@ -69,7 +69,7 @@ fn settle_for<C: Chip>(late: &mut LateChip<C>, counts: &mut Counts, cause: Cause
       pending = 0;
       events = 0;
       reach = C.meaning.reach late.old.chip late.old.memory;
-      batches = counted late.old.batches;
+      batches = next_count late.old.batches;
       records_used = late.new.records_used;
     } }
     ensures room { late.new.records_used ≤ late.old.records_used }

@@ -2,11 +2,11 @@
 ghost use Rattle.std.specs.Prelude.{ℕ, ◌≡◌, ◌&&◌, ◌+◌, ◌-◌, ◌*◌, ◌<◌, ◌≤◌, ◌++◌, ◌∷◌, [], ◌==◌, true, false, length, if◌then◌else◌, ◌||◌, not};
 ghost use Rattle.std.specs.List.{filter};
 ghost use Rattle.aram_core.specs.Memory.{byte_at, with_byte};
-ghost use Rattle.dsp_core.specs.Results.{is_result};
-ghost use Rattle.dsp_core.specs.Run.{run, in_mask, counted};
+ghost use Rattle.dsp_form.specs.Results.{is_result};
+ghost use Rattle.dsp_form.specs.Samples.{samples, in_mask, next_count};
 ghost use Rattle.lag_bus.specs.Book.{may_be_read, may_be_written, cause_of_read, cause_of_write};
 ghost use Rattle.lag_bus.specs.Late.{late_with_sample, AreWritesWithin};
-ghost use Rattle.lock_step.specs.Limits.{most_samples_of_batch, most_samples_of_chip, frame_room, record_room, event_room};
+ghost use Rattle.dsp_form.specs.Limits.{most_samples_of_batch, most_samples_of_chip, frame_room, record_room, event_room};
 ghost use Rattle.lock_step.specs.SampleNumbers.{sample_number};
 ghost use Rattle.lag_bus.specs.Ready.{is_before_sample, ready_frames, waiting_frames, ready_records, waiting_records};
 
@@ -105,13 +105,13 @@ fn make_batch<C: Chip>(
     requires few { n ≤ most_samples_of_batch }
     requires number { C.sample chip.old + n ≤ most_samples_of_chip }
     requires room { length frames.old + n ≤ frame_room }
-    ensures state { C.state chip.new ≡ (run C.meaning.sample n (C.sample chip.old) (C.state chip.old) memory.old).state }
+    ensures state { C.state chip.new ≡ (samples C.meaning.sample n (C.sample chip.old) (C.state chip.old) memory.old).state }
     ensures sample { C.sample chip.new ≡ C.sample chip.old + n }
-    ensures batches { C.batches chip.new ≡ (if n == 0 then C.batches chip.old else counted (C.batches chip.old)) }
-    ensures memory { memory.new ≡ (run C.meaning.sample n (C.sample chip.old) (C.state chip.old) memory.old).memory }
-    ensures frames { frames.new ≡ frames.old ++ (run C.meaning.sample n (C.sample chip.old) (C.state chip.old) memory.old).frames }
-    ensures voice_records { let made = run C.meaning.sample n (C.sample chip.old) (C.state chip.old) memory.old in
-        voice_records.new ≡ filter (in_mask mask) made.voices }
+    ensures batches { C.batches chip.new ≡ (if n == 0 then C.batches chip.old else next_count (C.batches chip.old)) }
+    ensures memory { memory.new ≡ (samples C.meaning.sample n (C.sample chip.old) (C.state chip.old) memory.old).memory }
+    ensures frames { frames.new ≡ frames.old ++ (samples C.meaning.sample n (C.sample chip.old) (C.state chip.old) memory.old).frames }
+    ensures voice_records { let made = samples C.meaning.sample n (C.sample chip.old) (C.state chip.old) memory.old in
+        voice_records.new ≡ filter (in_mask mask) made.records }
 {
     voice_records.clear();
     chip.advance(n, memory, mask, frames, voice_records);
@@ -336,7 +336,7 @@ impl<C: Chip> LateChip<C> {
           pending = 0;
           events = 0;
           reach = C.meaning.reach self.old.chip self.old.memory;
-          batches = if self.old.pending == 0 then self.old.batches else counted self.old.batches;
+          batches = if self.old.pending == 0 then self.old.batches else next_count self.old.batches;
           records_used = length self.old.records;
         } }
         ensures room { length self.old.records ≤ self.old.records_used }

@@ -1,10 +1,10 @@
 // Rounds of a loop that only wait.
 ghost use Rattle.std.specs.Prelude.{◌≡◌, ◌+◌, ◌-◌, ◌*◌, ◌/◌, ◌<◌, ◌≤◌, ◌++◌, ◌^◌, true, if◌then◌else◌, ◌==◌};
 ghost use Rattle.std.specs.List.{filter};
-ghost use Rattle.dsp_core.specs.Run.{run, in_mask};
-ghost use Rattle.idle_rounds.specs.Zeros.{counter_is_0};
+ghost use Rattle.dsp_form.specs.Samples.{samples, in_mask};
+ghost use Rattle.ports_timers.specs.Zeros.{counter_is_0};
 ghost use Rattle.lag_bus.specs.Late.{late_with_samples};
-ghost use Rattle.lock_step.specs.Limits.{most_samples_of_batch, most_samples_of_chip, frame_room, record_room};
+ghost use Rattle.dsp_form.specs.Limits.{most_samples_of_batch, most_samples_of_chip, frame_room, record_room};
 
 use crate::late::LateChip;
 use lock_step::Chip;

@@ -4,7 +4,7 @@ use Rattle.std.specs.Prelude.{if◌then◌else◌}
 use Rattle.std.specs.List.{filter}
 use Rattle.trace_form.specs.declared.record.Record.{Record}
 use Rattle.trace_form.specs.declared.record.Record.TheVariants.{Reg, Port, Voice}
-use Rattle.dsp_core.specs.Run.{Sampled, run, in_mask}
+use Rattle.dsp_form.specs.Samples.{SampleResult, samples, in_mask}
 use Rattle.lock_step.specs.ChipMeaning.{ChipMeaning}
 use Rattle.lock_step.specs.ChipLaws.{IsLawfulChip, are_voice_records}
 
@@ -30,13 +30,13 @@ length-are_voice_records k v (Port sample port value ∷ rest) h = cc
 
 -- a sample from a valid state gives at most 8 records under any mask
 pub sample_record_count : {S : Type 0} (chip : ChipMeaning S) → IsLawfulChip chip → (mask k : ℕ) (s : S) (memory : List ℕ) → chip.is_valid s ≡ true
-    → length (filter (in_mask mask) (chip.sample k s memory).voices) ≤ 8
+    → length (filter (in_mask mask) (chip.sample k s memory).records) ≤ 8
 sample_record_count chip laws mask k s memory valid =
-    let all = length-are_voice_records k 0 (chip.sample k s memory).voices (laws.gives_voice_records k s memory valid) in
-    omega (arith, length-filter-at_most (in_mask mask) (chip.sample k s memory).voices)
+    let all = length-are_voice_records k 0 (chip.sample k s memory).records (laws.gives_voice_records k s memory valid) in
+    omega (arith, length-filter-at_most (in_mask mask) (chip.sample k s memory).records)
 
 -- a run of one sample is that sample
-pub samples_one : {S : Type 0} (sample : ℕ → S → List ℕ → Sampled S) (k : ℕ) (s : S) (memory : List ℕ)
-    → run sample 1 k s memory ≡ (let made = sample k s memory in record { state = made.state; memory = made.memory; frames = made.frame ∷ []; voices = made.voices })
-unfolding run
+pub samples_one : {S : Type 0} (sample : ℕ → S → List ℕ → SampleResult S) (k : ℕ) (s : S) (memory : List ℕ)
+    → samples sample 1 k s memory ≡ (let made = sample k s memory in record { state = made.state; memory = made.memory; frames = made.frame ∷ []; records = made.records })
+unfolding samples
 samples_one sample k s memory = rw (add-zero k) refl

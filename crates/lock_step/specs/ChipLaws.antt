@@ -5,10 +5,10 @@ use Rattle.aram_core.specs.Memory.{byte_at, with_byte}
 use Rattle.aram_core.specs.Pages.{page_of}
 use Rattle.trace_form.specs.declared.record.Record.{Record}
 use Rattle.trace_form.specs.declared.record.Record.TheVariants.{Reg, Port, Voice}
-use Rattle.dsp_core.specs.Results.{is_result}
-use Rattle.dsp_core.specs.Run.{run}
+use Rattle.dsp_form.specs.Results.{is_result}
+use Rattle.dsp_form.specs.Samples.{samples}
 use Rattle.lock_step.specs.ChipMeaning.{ChipMeaning}
-use Rattle.lock_step.specs.Limits.{most_samples_of_batch}
+use Rattle.dsp_form.specs.Limits.{most_samples_of_batch}
 
 -- whether records are those of the voices from v to 7 in order, in the sample of number k
 unfoldable pub are_voice_records : (k v : ℕ) → List Record → Bool
@@ -26,17 +26,17 @@ pub record IsLawfulChip {S : Type 0} (chip : ChipMeaning S) : Type 0 where
   pub sample_keeps_valid : (k : ℕ) (s : S) (memory : List ℕ) → chip.is_valid s ≡ true → chip.is_valid (chip.sample k s memory).state ≡ true
   -- from a valid state, the sample of number k gives the records of the voices 0 to 7 in order, each with the number k
   pub gives_voice_records : (k : ℕ) (s : S) (memory : List ℕ) → chip.is_valid s ≡ true
-      → are_voice_records k 0 (chip.sample k s memory).voices ≡ true
+      → are_voice_records k 0 (chip.sample k s memory).records ≡ true
   -- the samples change memory on write pages alone
   pub writes_inside : (n k : ℕ) (s : S) (memory : List ℕ) (at : ℕ) → n ≤ most_samples_of_batch → chip.is_valid s ≡ true
       → set.contains (chip.reach s memory).write_pages (page_of at) ≡ false
-      → byte_at (run chip.sample n k s memory).memory at ≡ byte_at memory at
+      → byte_at (samples chip.sample n k s memory).memory at ≡ byte_at memory at
   -- where the reach isn't entangled, a byte put outside its read pages changes nothing of what the samples do, nor the reach
   pub reads_inside : (n k : ℕ) (s : S) (memory : List ℕ) (at value : ℕ) → n ≤ most_samples_of_batch → chip.is_valid s ≡ true
       → (chip.reach s memory).entangled ≡ false
       → set.contains (chip.reach s memory).read_pages (page_of at) ≡ false
-      → run chip.sample n k s (with_byte memory at value)
-      ≡ record (run chip.sample n k s memory) { memory = with_byte (run chip.sample n k s memory).memory at value }
+      → samples chip.sample n k s (with_byte memory at value)
+      ≡ record (samples chip.sample n k s memory) { memory = with_byte (samples chip.sample n k s memory).memory at value }
   pub reach_stays : (s : S) (memory : List ℕ) (at value : ℕ) → chip.is_valid s ≡ true
       → (chip.reach s memory).entangled ≡ false
       → set.contains (chip.reach s memory).read_pages (page_of at) ≡ false
@@ -44,4 +44,4 @@ pub record IsLawfulChip {S : Type 0} (chip : ChipMeaning S) : Type 0 where
   -- the samples change no register but those of their results
   pub registers_stay : (n k : ℕ) (s : S) (memory : List ℕ) (address : ℕ) → n ≤ most_samples_of_batch → chip.is_valid s ≡ true
       → is_result address ≡ false
-      → chip.register_read (run chip.sample n k s memory).state address ≡ chip.register_read s address
+      → chip.register_read (samples chip.sample n k s memory).state address ≡ chip.register_read s address

@@ -1,7 +1,7 @@
 -- What contracts see of a chip: functions on its states. S is the type of the states.
 use Rattle.std.specs.Prelude.{ℕ, List, Bool}
 use Rattle.reach_map.specs.declared.ReachPages.{ReachPages}
-use Rattle.dsp_core.specs.Run.{Sampled}
+use Rattle.dsp_form.specs.Samples.{SampleResult}
 
 pub record ChipMeaning (S : Type 0) : Type 0 where
   -- the register at an address
@@ -9,7 +9,7 @@ pub record ChipMeaning (S : Type 0) : Type 0 where
   -- the state after the write of a byte to the register at an address
   pub register_write : S → (address byte : ℕ) → S
   -- the sample of number k over a memory: what it leaves and gives
-  pub sample : (k : ℕ) → S → (memory : List ℕ) → Sampled S
+  pub sample : (k : ℕ) → S → (memory : List ℕ) → SampleResult S
   -- the pages that the next 64 samples over a memory can read and write
   pub reach : S → (memory : List ℕ) → ReachPages
   -- the test of the states that a chip can be in

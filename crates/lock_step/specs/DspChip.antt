@@ -1,9 +1,9 @@
 -- The S-DSP as a chip.
-use Rattle.dsp_core.specs.declared.state.DspState.{DspState}
-use Rattle.dsp_core.specs.Sample.{sample}
-use Rattle.dsp_core.specs.Chip.{register_read, register_write}
-use Rattle.dsp_core.specs.Reach.{chip_reach}
-use Rattle.dsp_core.specs.Sound.{is_sound}
+use Rattle.dsp_form.specs.declared.state.DspState.{DspState}
+use Rattle.dsp_form.specs.Sample.{sample}
+use Rattle.dsp_form.specs.Outside.{register_read, register_write}
+use Rattle.dsp_form.specs.Reach.{chip_reach}
+use Rattle.dsp_form.specs.Valid.{is_valid}
 use Rattle.lock_step.specs.ChipMeaning.{ChipMeaning}
 
 abbrev pub dsp_chip : ChipMeaning DspState
@@ -12,5 +12,5 @@ dsp_chip = record {
   register_write = register_write;
   sample = sample;
   reach = chip_reach;
-  is_valid = is_sound;
+  is_valid = is_valid;
 }

@@ -5,11 +5,11 @@ use Rattle.std.proofs.lemmas.List.{length-map}
 use Rattle.voice_unit.specs.declared.interface.VoiceOut.{VoiceOut}
 use Rattle.voice_unit.specs.Voice.{VoiceState}
 use Rattle.rate_clock.specs.Counter.{counter_at}
-use Rattle.dsp_core.specs.declared.state.DspState.{DspState}
-use Rattle.dsp_core.specs.Sample.{VoiceResult, results_from, records_from, shared_input, after_poll, after_noise, sample}
-use Rattle.dsp_core.specs.Sound.{is_sound}
-use Rattle.dsp_core.proofs.EightVoices.{length-results_from, voices-before_step}
-use Rattle.dsp_core.proofs.Sound.{sound_of, is_sound-sample, is_sound-register_write}
+use Rattle.dsp_form.specs.declared.state.DspState.{DspState}
+use Rattle.dsp_form.specs.Sample.{VoiceResult, results_from, records_from, shared_input, after_poll, after_noise, sample}
+use Rattle.dsp_form.specs.Valid.{is_valid}
+use Rattle.dsp_form.proofs.EightVoices.{length-results_from, voices-before_step}
+use Rattle.dsp_form.proofs.Valid.{valid_of, is_valid-sample, is_valid-register_write}
 use Rattle.dsp_reach.proofs.Registers.{registers_stay}
 use Rattle.dsp_reach.proofs.Starts.{reach_stays}
 use Rattle.dsp_reach.proofs.Within.{writes_inside, reads_inside}
@@ -23,7 +23,7 @@ are_voice_records-records_from k v [] full = eq-eqb v 8 (omega arith)
 are_voice_records-records_from k v (answer ∷ answers) full =
     rw (eq-eqb k k refl, eq-eqb v v refl) (are_voice_records-records_from k (v + 1) answers (omega arith))
 
-are_voice_records-sample : (k : ℕ) (s : DspState) (memory : List ℕ) → is_sound s ≡ true → are_voice_records k 0 (sample k s memory).voices ≡ true
+are_voice_records-sample : (k : ℕ) (s : DspState) (memory : List ℕ) → is_valid s ≡ true → are_voice_records k 0 (sample k s memory).records ≡ true
 unfolding sample
 are_voice_records-sample k s memory valid =
     let now : DspState = after_noise (after_poll s k) (counter_at k) in
@@ -33,13 +33,13 @@ are_voice_records-sample k s memory valid =
     length-map results (λ (result : VoiceResult). result.answer)
     ∙ length-results_from (shared_input now memory k) 0 (pos 0) now.hidden.voices
     ∙ ap (λ (voices : List VoiceState). length voices) (voices-before_step s k) in
-    let eight : length s.hidden.voices ≡ 8 = (sound_of s valid).eight in
+    let eight : length s.hidden.voices ≡ 8 = (valid_of s valid).eight in
     are_voice_records-records_from k 0 answers (omega arith)
 
 pub dsp_is_lawful : IsLawfulChip dsp_chip
 dsp_is_lawful = record {
-  write_keeps_valid = λ s address byte _ _ valid. is_sound-register_write s address byte valid;
-  sample_keeps_valid = is_sound-sample;
+  write_keeps_valid = λ s address byte _ _ valid. is_valid-register_write s address byte valid;
+  sample_keeps_valid = is_valid-sample;
   gives_voice_records = are_voice_records-sample;
   writes_inside = writes_inside;
   reads_inside = reads_inside;

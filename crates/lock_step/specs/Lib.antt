@@ -12,7 +12,6 @@ pub mod Emits
 -- what the machine in lock step emits and counts
 pub mod LockStepEmits
 -- the limits that several clauses need
-pub mod Limits
 -- the sample numbers of records
 pub mod SampleNumbers
 -- the S-DSP as a chip

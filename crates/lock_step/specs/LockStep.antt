@@ -8,7 +8,7 @@ use Rattle.ports_timers.specs.declared.io.Io.{Io}
 use Rattle.spc700_exec.specs.Bus.{BusMeaning}
 use Rattle.trace_form.specs.declared.record.Record.{Record}
 use Rattle.trace_form.specs.declared.record.Record.TheVariants.{Reg, Port}
-use Rattle.dsp_core.specs.Run.{in_mask}
+use Rattle.dsp_form.specs.Samples.{in_mask}
 use Rattle.lock_step.specs.ChipMeaning.{ChipMeaning}
 use Rattle.lock_step.specs.Machine.{Machine}
 
@@ -65,7 +65,7 @@ after_sample chip m =
       chip = made.state;
       memory = made.memory;
       frames = m.frames ++ made.frame ∷ [];
-      records = m.records ++ filter (in_mask m.mask) made.voices;
+      records = m.records ++ filter (in_mask m.mask) made.records;
     }
 
 -- A pass of 1 to 32 cycles: the timers tick, and a sample is made where the clock comes to a multiple of 32.

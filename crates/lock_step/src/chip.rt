@@ -1,10 +1,10 @@
 // The sound chip that a bus is handed.
 ghost use Rattle.std.specs.Prelude.{◌≡◌, ℕ, ◌+◌, ◌*◌, ◌≤◌, ◌++◌, ◌==◌, true, length, if◌then◌else◌};
 ghost use Rattle.std.specs.List.{filter};
-ghost use Rattle.dsp_core.specs.Run.{run, in_mask, counted};
+ghost use Rattle.dsp_form.specs.Samples.{samples, in_mask, next_count};
 ghost use Rattle.lock_step.specs.ChipMeaning.{ChipMeaning};
 ghost use Rattle.lock_step.specs.ChipLaws.{IsLawfulChip};
-ghost use Rattle.lock_step.specs.Limits.{most_samples_of_batch, most_samples_of_chip, frame_room, record_room};
+ghost use Rattle.dsp_form.specs.Limits.{most_samples_of_batch, most_samples_of_chip, frame_room, record_room};
 
 use aram_core::Aram;
 use reach_map::ReachPages;
@@ -52,12 +52,12 @@ pub trait Chip: Drop {
         requires frame_room { length frames.old + n ≤ frame_room }
         requires record_room { length records.old + 8 * n ≤ record_room }
         requires number { sample self.old + n ≤ most_samples_of_chip }
-        ensures state { state self.new ≡ (run meaning.sample n (sample self.old) (state self.old) memory.old).state }
+        ensures state { state self.new ≡ (samples meaning.sample n (sample self.old) (state self.old) memory.old).state }
         ensures sample { sample self.new ≡ sample self.old + n }
-        ensures batches { batches self.new ≡ (if n == 0 then batches self.old else counted (batches self.old)) }
-        ensures memory { memory.new ≡ (run meaning.sample n (sample self.old) (state self.old) memory.old).memory }
-        ensures frames { frames.new ≡ frames.old ++ (run meaning.sample n (sample self.old) (state self.old) memory.old).frames }
-        ensures records { records.new ≡ records.old ++ filter (in_mask mask) (run meaning.sample n (sample self.old) (state self.old) memory.old).voices };
+        ensures batches { batches self.new ≡ (if n == 0 then batches self.old else next_count (batches self.old)) }
+        ensures memory { memory.new ≡ (samples meaning.sample n (sample self.old) (state self.old) memory.old).memory }
+        ensures frames { frames.new ≡ frames.old ++ (samples meaning.sample n (sample self.old) (state self.old) memory.old).frames }
+        ensures records { records.new ≡ records.old ++ filter (in_mask mask) (samples meaning.sample n (sample self.old) (state self.old) memory.old).records };
 
     /// The pages that the next 64 samples can read and write.
     fn reach(&self, memory: &Aram) -> ReachPages

@@ -2,7 +2,7 @@
 ghost use Rattle.std.specs.Prelude.{◌≡◌, ◌<◌, ◌≤◌, ◌++◌, [], nat_le};
 ghost use Rattle.spc700_exec.specs.Emitting.{IsEmitting};
 ghost use Rattle.lock_step.specs.Emits.{Emits, IsFrameEach, AreCountedBeside};
-ghost use Rattle.lock_step.specs.Limits.{most_samples_of_run};
+ghost use Rattle.dsp_form.specs.Limits.{most_samples_of_run};
 ghost use Rattle.lock_step.specs.WaitOfRounds.{IsWaitOf};
 
 use spc700_exec::{Bus, Cpu};

@@ -1,7 +1,7 @@
 // One piece, over any bus that emits.
 ghost use Rattle.std.specs.Prelude.{◌≡◌, ◌+◌, ◌*◌, ◌++◌, ◌<◌, ◌≤◌, [], length, true, false};
 ghost use Rattle.render_core.specs.BetweenSteps.{IsBetweenSteps};
-ghost use Rattle.lock_step.specs.Limits.{most_samples_of_run};
+ghost use Rattle.dsp_form.specs.Limits.{most_samples_of_run};
 ghost use Rattle.render_core.specs.MachineRun.{after_run};
 ghost use Rattle.render_core.specs.Items.{run_frames, run_records, records_before};
 

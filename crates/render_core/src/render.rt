@@ -2,7 +2,7 @@
 ghost use Rattle.std.specs.Prelude.{◌≡◌, ◌+◌, ◌-◌, ◌/◌, ◌<◌, ◌≤◌, [], length, false, IfOk};
 ghost use Rattle.std.specs.Borrow.{sem};
 ghost use Rattle.std.specs.Io.BufRead.{Rests};
-ghost use Rattle.lock_step.specs.Limits.{most_samples_of_run, frame_room, record_room};
+ghost use Rattle.dsp_form.specs.Limits.{most_samples_of_run, frame_room, record_room};
 ghost use Rattle.lock_step.specs.LockStep.{lock_step};
 ghost use Rattle.lock_step.specs.LockStepEmits.{lock_step_emits};
 ghost use Rattle.render_core.specs.Items.{run_frames, run_records};
@@ -33,7 +33,7 @@ pub struct Render<C: Chip> {
 
 impl<C: Chip> Model for Render<C> {
     ghost use Rattle.std.specs.Prelude.{◌≤◌};
-    ghost use Rattle.lock_step.specs.Limits.{most_samples_of_run};
+    ghost use Rattle.dsp_form.specs.Limits.{most_samples_of_run};
     ghost use Rattle.lag_bus.specs.Lagging.{lagging};
     ghost use Rattle.lag_bus.specs.LagEmits.{lag_emits};
     ghost use Rattle.render_core.specs.BetweenSteps.{IsBetweenSteps};

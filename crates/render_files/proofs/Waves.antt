@@ -6,7 +6,7 @@ use Rattle.std.proofs.lemmas.Grind.{flat_map-append}
 use Rattle.num_fix.specs.declared.Frame.{Frame}
 use Rattle.wav_form.specs.Wave.{frame_bytes, header_of, stereo_wave}
 use Rattle.render_core.specs.Fade.{faded_from, faded_frames}
-use Rattle.render_core.proofs.Fading.{faded_from-append, length-faded_from}
+use Rattle.render_core.proofs.FadedFrames.{faded_from-append, length-faded_from}
 
 -- of all frames to come these are given, and the rest is then to come
 pub given_first : (wave now : List ℕ) (all given rest : List Frame) (made next frames fade : ℕ) → all ≡ given ++ rest →

@@ -1,6 +1,6 @@
 -- What a render reports: its samples, and how often the chip ran for them, and why.
 use Rattle.std.specs.Prelude.{ℕ, List, ◌++◌, codes, decimal}
-use Rattle.sound_bus.specs.declared.counts.Counts.{Counts}
+use Rattle.lock_step.specs.declared.counts.Counts.{Counts}
 
 abbrev pub batch_line : Counts → List ℕ
 batch_line counts =

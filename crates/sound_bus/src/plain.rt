@@ -2,8 +2,8 @@
 ghost use Rattle.std.specs.Prelude.{◌≡◌, ◌+◌, ◌*◌, ◌/◌, ◌<◌, ◌≤◌, ◌++◌, ◌∷◌, [], true, length, IfOk};
 ghost use Rattle.std.specs.List.{filter};
 ghost use Rattle.std.proofs.Common.{refl};
-ghost use Rattle.dsp_core.specs.Run.{in_mask};
-ghost use Rattle.lock_step.specs.Limits.{most_samples_of_chip, frame_room, record_room};
+ghost use Rattle.dsp_form.specs.Samples.{in_mask};
+ghost use Rattle.dsp_form.specs.Limits.{most_samples_of_chip, frame_room, record_room};
 ghost use Rattle.lock_step.specs.Machine.{opened_machine};
 ghost use Rattle.lock_step.specs.LockStep.{bus_answer, after_bus_read, after_bus_write, after_bus_pass, lock_step};
 ghost use Rattle.lock_step.specs.LockStepEmits.{drained_machine, lock_step_emits, lock_step_counts};
@@ -34,7 +34,7 @@ pub struct PlainBus<C: Chip> {
 
 impl<C: Chip> Model for PlainBus<C> {
     ghost use Rattle.std.specs.Prelude.{◌≡◌, ◌+◌, ◌*◌, ◌/◌, ◌<◌, ◌≤◌, length};
-    ghost use Rattle.lock_step.specs.Limits.{most_samples_of_chip};
+    ghost use Rattle.dsp_form.specs.Limits.{most_samples_of_chip};
     ghost use Rattle.lock_step.specs.Machine.{Machine};
 
     ghost Value = { Machine C.State };
@@ -75,7 +75,7 @@ fn make_sample<C: Chip>(
     ensures sample { C.sample chip.new ≡ C.sample chip.old + 1 }
     ensures memory { memory.new ≡ (C.meaning.sample (C.sample chip.old) (C.state chip.old) memory.old).memory }
     ensures frames { frames.new ≡ frames.old ++ (C.meaning.sample (C.sample chip.old) (C.state chip.old) memory.old).frame ∷ [] }
-    ensures records { records.new ≡ records.old ++ filter (in_mask mask) (C.meaning.sample (C.sample chip.old) (C.state chip.old) memory.old).voices }
+    ensures records { records.new ≡ records.old ++ filter (in_mask mask) (C.meaning.sample (C.sample chip.old) (C.state chip.old) memory.old).records }
     ensures frame_count { length frames.new ≡ length frames.old + 1 }
     ensures record_count { length records.new ≤ length records.old + 8 }
 {

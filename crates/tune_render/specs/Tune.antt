@@ -3,17 +3,17 @@ use Rattle.std.specs.Prelude.{ℕ, ℤ, List}
 use Rattle.num_fix.specs.declared.Frame.{Frame}
 use Rattle.trace_form.specs.declared.record.Record.{Record}
 use Rattle.spc_form.specs.Layout.{dsp_of}
-use Rattle.dsp_core.specs.declared.state.DspState.{DspState}
-use Rattle.dsp_core.specs.Chip.{opened_state}
-use Rattle.sound_bus.specs.declared.counts.Counts.{Counts}
-use Rattle.sound_bus.specs.DspChip.{dsp_chip}
-use Rattle.sound_bus.specs.Machine.{Machine}
-use Rattle.sound_bus.specs.LockStep.{lock_step}
-use Rattle.sound_bus.specs.PlainBus.{plain_emits}
-use Rattle.render_core.specs.Run.{Whole}
+use Rattle.dsp_form.specs.declared.state.DspState.{DspState}
+use Rattle.dsp_form.specs.Outside.{opened_state}
+use Rattle.lock_step.specs.declared.counts.Counts.{Counts}
+use Rattle.lock_step.specs.DspChip.{dsp_chip}
+use Rattle.lock_step.specs.Machine.{Machine}
+use Rattle.lock_step.specs.LockStep.{lock_step}
+use Rattle.lock_step.specs.LockStepEmits.{lock_step_emits}
+use Rattle.render_core.specs.MachineRun.{Whole}
 use Rattle.render_core.specs.Opening.{opened_whole}
 use Rattle.render_core.specs.Items.{run_frames, run_records}
-use Rattle.render_core.specs.Batches.{with_opened_book, run_counts}
+use Rattle.render_core.specs.RunCounts.{with_opened_book, run_counts}
 
 -- the whole machine that the file opens; bit v of the mask lets it emit the records of voice v
 abbrev pub opened_tune : (file : List ℕ) → (table : List ℤ) → (mask : ℕ) → Whole (Machine DspState)
@@ -21,11 +21,11 @@ opened_tune file table mask = opened_whole file (opened_state (dsp_of file) tabl
 
 -- the frames of its run to so many samples
 abbrev pub tune_frames : (file : List ℕ) → (table : List ℤ) → (mask samples : ℕ) → List Frame
-tune_frames file table mask samples = run_frames (lock_step dsp_chip) plain_emits samples (opened_tune file table mask)
+tune_frames file table mask samples = run_frames (lock_step dsp_chip) lock_step_emits samples (opened_tune file table mask)
 
 -- and the records up to the last of them
 abbrev pub tune_records : (file : List ℕ) → (table : List ℤ) → (mask samples : ℕ) → List Record
-tune_records file table mask samples = run_records (lock_step dsp_chip) plain_emits samples (opened_tune file table mask)
+tune_records file table mask samples = run_records (lock_step dsp_chip) lock_step_emits samples (opened_tune file table mask)
 
 -- and how often the chip ran for them, and why
 abbrev pub tune_counts : (file : List ℕ) → (table : List ℤ) → (mask samples : ℕ) → Counts

@@ -1,6 +1,6 @@
 // The opening of a tune.
 ghost use Rattle.std.specs.Prelude.{◌≡◌, ◌≤◌, length, IfOk};
-ghost use Rattle.sound_bus.specs.DspChip.{dsp_chip};
+ghost use Rattle.lock_step.specs.DspChip.{dsp_chip};
 ghost use Rattle.render_core.specs.RenderState.{frames_to_come, records_to_come, counts_to_come};
 ghost use Rattle.tune_render.specs.Tune.{tune_frames, tune_records, tune_counts};
 

@@ -1,5 +1,5 @@
 use Rattle.std.proofs.Common.{◌≡◌, ◌+◌, ◌*◌, ◌-◌, ◌≤◌, fold, length}
-use Rattle.sound_bus.specs.DspChip.{dsp_chip}
+use Rattle.lock_step.specs.DspChip.{dsp_chip}
 use Rattle.render_core.specs.RenderState.{frames_to_come, counts_to_come}
 use Rattle.command_check.specs.Check.{sums_with, sums_of, AreWithin}
 use Rattle.command_check.proofs.command.sums_of.Given as goal

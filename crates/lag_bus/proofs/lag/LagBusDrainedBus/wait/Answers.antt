@@ -2,9 +2,9 @@ use Rattle.std.proofs.Common.{◌≡◌, ◌+◌, ◌*◌, ◌-◌, ◌/◌, ◌
 use Rattle.std.proofs.Math.Nat.{mod-add-div'}
 use Rattle.aram_core.specs.Memory.{byte_at}
 use Rattle.ports_timers.specs.declared.io.Io.{Io}
-use Rattle.dsp_core.specs.Run.{run}
-use Rattle.idle_rounds.specs.Looking.{looked_steps}
-use Rattle.idle_rounds.specs.Zeros.{AreTimers}
+use Rattle.dsp_form.specs.Samples.{samples}
+use Rattle.idle_rounds.specs.Looking.{look_of_steps}
+use Rattle.ports_timers.specs.Zeros.{AreTimers}
 use Rattle.lock_step.specs.declared.counts.Counts.{Counts}
 use Rattle.lag_bus.specs.Late.{Late}
 use Rattle.lag_bus.specs.Late.{late_with_samples}
@@ -42,14 +42,14 @@ returns g c =
     let kept : IsKept chip (lagging_of late io clock counts calls) = record {
       batches = c.self.invariant.same_batches;
       sample = ap (λ (n : ℕ). n - late.pending) made;
-      writes = λ due at few free. subst (λ (n : ℕ). byte_at (run chip.sample due n late.chip late.memory).memory at ≡ byte_at late.memory at) made (c.ensure_reach.ensures.writes due at few free);
+      writes = λ due at few free. subst (λ (n : ℕ). byte_at (samples chip.sample due n late.chip late.memory).memory at ≡ byte_at late.memory at) made (c.ensure_reach.ensures.writes due at few free);
     } in
     let small : AreTimers io = c.cycles_to_wait.ensures.timers in
     let free : late.pending + samples_in clock most < 64 = subst (λ (l : Late g.row.C-State.Denot). l.pending + samples_in clock most < 64) reached c.cycles_to_wait.ensures.free in
     let tried = c.in-Some.ensures.round in
     let length : c.in-Some.round ≡ d = sym c.from-2.ensures in
-    let round : looked_steps (byte_seen chip (lagging_of late io clock counts calls)) tried.0 c.args.cpu.now ≡ Some (c.args.cpu.now, d) =
-    subst (λ (l : Late g.row.C-State.Denot). looked_steps (byte_seen chip (lagging_of l io clock counts calls)) tried.0 c.args.cpu.now ≡ Some (c.args.cpu.now, d)) reached
+    let round : look_of_steps (byte_seen chip (lagging_of late io clock counts calls)) tried.0 c.args.cpu.now ≡ Some (c.args.cpu.now, d) =
+    subst (λ (l : Late g.row.C-State.Denot). look_of_steps (byte_seen chip (lagging_of l io clock counts calls)) tried.0 c.args.cpu.now ≡ Some (c.args.cpu.now, d)) reached
     (tried.1 ∙ (λ i. Some (c.args.cpu.now, length i))) in
     let same : c.from.result ≡ d = c.from.ensures ∙ sym c.from-2.ensures in
     let parts = mod-add-div' most c.from.result in
