@@ -2,8 +2,8 @@
 ghost use Rattle.std.specs.Prelude.{◌≡◌, ◌+◌, ◌≤◌, ◌++◌, length, decimal};
 ghost use Rattle.render_files.specs.Batches.{batch_line, sound_report};
 
+use lock_step::Counts;
 use report_text::ByteRoom;
-use sound_bus::Counts;
 
 /// Adds a word and a count.
 fn put_count(report: &mut ByteRoom, word: &[u8], count: u64)

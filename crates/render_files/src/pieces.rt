@@ -10,10 +10,10 @@ ghost use Rattle.render_files.specs.RenderFiles.{hour, trace_of, to_come_of, hel
 
 use crate::batches::put_sound_report;
 use command_frame::{OutOfMemory, Pieces};
+use lock_step::Chip;
 use num_fix::Frame;
 use render_core::{Render, faded};
 use report_text::ByteRoom;
-use sound_bus::Chip;
 use std::alloc::Global;
 use std::marker::Model;
 use trace_form::{Record, line};
