@@ -1,5 +1,6 @@
 // The command `brr`: blocks of BRR to a sound file of one channel.
 ghost use Rattle.std.specs.Prelude.{◌≡◌, ◌≤◌, ◌++◌, length, codes, decimal, IfOk, true};
+ghost use Rattle.num_fix.specs.Limits.{most_frames};
 ghost use Rattle.wav_form.specs.Wave.{mono_wave};
 ghost use Rattle.snd_host.specs.Host.{HostState, Files};
 ghost use Rattle.command_frame.specs.Conduct.{Plans, Prepares, Attempts};
@@ -19,7 +20,7 @@ use wav_form::header;
 
 /// The bytes of a sound file of one channel.
 fn wave(alloc: Global, samples: &[i16]) -> Result<Vec<u8>, OutOfMemory>
-    requires { length samples.now ≤ 115200000 }
+    requires { length samples.now ≤ most_frames }
     ensures { IfOk result (λ wave. wave.items ≡ mono_wave samples.now) }
 {
     let mut wave = Vec::with_capacity(alloc, 44 + 2 * samples.len())?;

@@ -2,9 +2,7 @@
 use Rattle.std.proofs.Common.{◌≡◌, ◌+◌, ◌*◌, ◌<◌, ◌≤◌, ◌^◌, ℤ, ◌+ℤ◌, unsigned_abs, FitsSigned, arith, ◌∙◌, to_z, of_z}
 use Rattle.std.specs.Int.{w16, w64}
 use Rattle.std.proofs.lemmas.Int.{to_z-of_z, fits_signed_from_abs, ints}
-
-abs_fits_16 : (z : ℤ) → FitsSigned w16 z → unsigned_abs z ≤ 32768
-abs_fits_16 z h = omega (arith, ints)
+use Rattle.num_fix.proofs.Bounds.{abs_fits_16}
 
 read_back : (z : ℤ) → unsigned_abs z < 2 ^ 62 → to_z w64 (of_z w64 z) ≡ z
 read_back z h = to_z-of_z w64 z (fits_signed_from_abs w64 z (omega arith))

@@ -1,7 +1,7 @@
 -- The options of `render`.
 use Rattle.std.specs.Prelude.{ℕ, ◌≤◌, List, Option, IfSome}
 use Rattle.std.specs.Option.{option_map}
-use Rattle.render_files.specs.RenderFiles.{hour}
+use Rattle.num_fix.specs.Limits.{most_frames}
 use Rattle.command_render.specs.declared.options.RenderOptions.{RenderOptions}
 
 -- each option with its value, where it was given
@@ -23,4 +23,4 @@ options_of options = record {
 
 -- a number of samples that was given is an hour of frames at most
 abbrev pub IsWithinHour : Option ℕ → Type 0
-IsWithinHour samples = IfSome samples (λ samples. samples ≤ hour)
+IsWithinHour samples = IfSome samples (λ samples. samples ≤ most_frames)

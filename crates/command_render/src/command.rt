@@ -8,7 +8,8 @@ ghost use Rattle.command_frame.specs.Conduct.{Plans, Prepares, Attempts};
 ghost use Rattle.command_frame.specs.Delivery.{CanDeliver};
 ghost use Rattle.command_frame.specs.Plan.{stream_makes};
 ghost use Rattle.render_files.specs.Batches.{sound_report};
-ghost use Rattle.render_files.specs.RenderFiles.{hour, trace_of, to_come_of, report_of};
+ghost use Rattle.num_fix.specs.Limits.{most_frames};
+ghost use Rattle.render_files.specs.RenderFiles.{trace_of, to_come_of, report_of};
 ghost use Rattle.tune_render.specs.Tune.{tune_frames, tune_records, tune_counts};
 ghost use Rattle.command_render.specs.Options.{options_of, IsWithinHour};
 ghost use Rattle.command_render.specs.Render.{length_with, traced_voices, rendering_answer, file_answer, render_answer};
@@ -30,7 +31,7 @@ use wav_form::header;
 fn length_with(samples: Option<u32>, file: &SpcFile) -> Length
     requires { IsWithinHour samples }
     ensures length { result ≡ length_with samples file.now }
-    ensures frames { result.frames ≤ hour }
+    ensures frames { result.frames ≤ most_frames }
     ensures fade { result.fade ≤ result.frames }
 {
     match samples {
@@ -58,7 +59,7 @@ fn open_files(
     length: Length,
     voices: Option<u8>,
 ) -> Result<RenderFiles<Dsp>, OutOfMemory>
-    requires limit { length.frames ≤ hour }
+    requires limit { length.frames ≤ most_frames }
     requires within { length.fade ≤ length.frames }
     ensures wave { IfOk result (λ files. header_of 2 length.frames ++ (to_come_of dsp_chip files).first
         ≡ stereo_wave (faded_frames (tune_frames file.now table (unwrap_or voices 0) length.frames) length.fade)) }

@@ -3,7 +3,7 @@ use Rattle.std.proofs.Common.{◌≡◌, ◌∙◌, ℕ, ◌-◌, ◌≤◌, Lis
 use Rattle.std.specs.Prelude.{replicate, fold}
 use Rattle.std.proofs.lemmas.List.{length-take}
 use Rattle.std.proofs.Math.ListN.{length-replicate}
-use Rattle.spc_form.specs.Accepted.{signature, first_difference, padded_to, spc_file}
+use Rattle.spc_form.specs.Accepted.{signature, first_difference, padded_to, kept_length, spc_file}
 use Rattle.spc_form.specs.declared.reading.SpcRefusal.{SpcRefusal}
 use Rattle.spc_form.specs.declared.reading.SpcRefusal.TheVariants.{OutOfMemory}
 use Rattle.spc_form.proofs.Signatures.{first_difference-append, first_difference-padded_to}
@@ -42,13 +42,13 @@ IsSigned-front = record { long = lit≤ tt; signed = first_difference-append sig
 IsSigned-demo_bytes : (number : ℕ) → IsSigned (demo_bytes number)
 unfolding demo_bytes
 IsSigned-demo_bytes number =
-    IsSigned-padded_to 66048 _ (lit≤ tt)
+    IsSigned-padded_to kept_length _ (lit≤ tt)
     (IsSigned-with_part _ _ _ (lit≤ tt) (IsSigned-with_part _ _ _ (lit≤ tt) (IsSigned-with_part _ _ _ (lit≤ tt) (IsSigned-with_part _ _ _ (lit≤ tt)
     (IsSigned-with_part _ _ _ (lit≤ tt) (IsSigned-with_part _ _ _ (lit≤ tt) (IsSigned-with_part _ _ _ (lit≤ tt) (IsSigned-with_part _ _ _ (lit≤ tt) IsSigned-front))))))))
 
-length-demo_bytes : (number : ℕ) → length (demo_bytes number) ≡ 66048
+length-demo_bytes : (number : ℕ) → length (demo_bytes number) ≡ kept_length
 unfolding demo_bytes
-length-demo_bytes number = length-padded_to 66048 (fold (λ file part. with_part file part.0 part.1) [] (parts number))
+length-demo_bytes number = length-padded_to kept_length (fold (λ file part. with_part file part.0 part.1) [] (parts number))
 
 -- what is read of the demo file's bytes is the demo file
 pub demo_is_read : (number : ℕ) → spc_file (demo_bytes number) ≡ Ok (demo_bytes number)

@@ -1,6 +1,6 @@
 -- The file: its parts at their places, and zeros everywhere else (SPC file format text v0.30; which parts is own).
 use Rattle.std.specs.Prelude.{ℕ, List, [], ◌∷◌, ◌++◌, codes, decimal, fold}
-use Rattle.spc_form.specs.Accepted.{signature, padded_to}
+use Rattle.spc_form.specs.Accepted.{signature, padded_to, kept_length}
 use Rattle.demo_gen.specs.Places.{cell, with_part}
 use Rattle.demo_gen.specs.Draws.{state_after}
 use Rattle.demo_gen.specs.Samples.{directory, sample_bytes}
@@ -34,4 +34,4 @@ parts number =
 
 -- the demo file of a number, 66,048 bytes
 unfoldable pub demo_bytes : (number : ℕ) → List ℕ
-demo_bytes number = padded_to 66048 (fold (λ file part. with_part file part.0 part.1) [] (parts number))
+demo_bytes number = padded_to kept_length (fold (λ file part. with_part file part.0 part.1) [] (parts number))

@@ -1,5 +1,6 @@
 // The demo file.
 ghost use Rattle.std.specs.Prelude.{◌≡◌, ◌<◌, IfOk, OnOk, vec_len};
+ghost use Rattle.spc_form.specs.Accepted.{kept_length};
 ghost use Rattle.demo_gen.specs.Places.{cell, with_part};
 ghost use Rattle.demo_gen.specs.Demo.{front, title, demo_bytes};
 

@@ -2,7 +2,8 @@
 
 ghost use Rattle.std.specs.Prelude.{◌≡◌, ◌≤◌, ◌<◌, ◌+◌, ◌*◌, ◌++◌, ◌∷◌, [], ◌==◌, true, length, IfOk, if◌then◌else◌};
 ghost use Rattle.std.specs.List.{filter};
-ghost use Rattle.dsp_form.specs.Limits.{most_samples_of_chip, most_samples_of_batch, frame_room, record_room};
+ghost use Rattle.trace_form.specs.Rooms.{frame_room, record_room};
+ghost use Rattle.dsp_form.specs.Limits.{most_samples_of_chip, most_samples_of_batch};
 ghost use Rattle.dsp_form.specs.Samples.{samples, in_mask, next_count};
 ghost use Rattle.dsp_form.specs.Sample.{sample};
 ghost use Rattle.dsp_form.specs.Settings.{settings_of};

@@ -2,7 +2,7 @@
 
 ghost use Rattle.std.specs.Prelude.{◌≡◌, ◌≤◌, ◌<◌, ◌+◌, ◌++◌, ◌∷◌, [], length};
 ghost use Rattle.std.specs.List.{filter};
-ghost use Rattle.dsp_form.specs.Limits.{record_room};
+ghost use Rattle.trace_form.specs.Rooms.{record_room};
 ghost use Rattle.dsp_form.specs.Samples.{in_mask};
 ghost use Rattle.dsp_form.specs.Sample.{records_from};
 

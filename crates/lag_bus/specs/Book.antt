@@ -11,7 +11,8 @@ use Rattle.lag_bus.specs.declared.cause.Cause.TheVariants.{Register, Memory, Ech
 use Rattle.lock_step.specs.ChipMeaning.{ChipMeaning}
 use Rattle.lock_step.specs.Machine.{Machine}
 use Rattle.lock_step.specs.LockStep.{writes_register, writes_port}
-use Rattle.dsp_form.specs.Limits.{most_samples_of_batch, event_room}
+use Rattle.trace_form.specs.Rooms.{event_room}
+use Rattle.dsp_form.specs.Limits.{most_samples_of_batch}
 
 pub record Book : Type 0 where
   -- the samples that the chip hasn't made yet

@@ -1,9 +1,9 @@
 // Why a bus that lags makes its pending samples, and when.
 ghost use Rattle.std.specs.Prelude.{◌≡◌};
-ghost use Rattle.dsp_form.specs.Results.{is_result};
 ghost use Rattle.lag_bus.specs.Book.{may_be_read, may_be_written, cause_of_read, cause_of_write};
 
 use aram_core::page_of;
+use dsp_form::is_result;
 use reach_map::ReachPages;
 
 /// The most events that wait for pending samples.
@@ -40,14 +40,6 @@ pub fn may_be_written(reach: &ReachPages, at: u16) -> bool
     ensures { result ≡ may_be_written reach.now at }
 {
     reach.write_pages.has(page_of(at))
-}
-
-/// Whether a sample writes the register at an address.
-fn is_result(address: u8) -> bool
-    ensures { result ≡ is_result address }
-{
-    let register = address % 0x80;
-    register % 16 == 0x8 || register % 16 == 0x9 || register == 0x7C
 }
 
 /// The cause for which a read has pending samples made first.

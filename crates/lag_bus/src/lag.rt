@@ -5,7 +5,9 @@ ghost use Rattle.aram_core.specs.Memory.{byte_at, with_byte};
 ghost use Rattle.ports_timers.specs.Io.{after_read};
 ghost use Rattle.dsp_form.specs.Results.{is_result};
 ghost use Rattle.dsp_form.specs.Samples.{next_count};
-ghost use Rattle.dsp_form.specs.Limits.{most_samples_of_run, most_samples_of_chip, most_samples_of_batch, record_room, event_room};
+ghost use Rattle.trace_form.specs.Rooms.{record_room, event_room};
+ghost use Rattle.num_fix.specs.Limits.{most_frames};
+ghost use Rattle.dsp_form.specs.Limits.{most_samples_of_chip, most_samples_of_batch};
 ghost use Rattle.lock_step.specs.Machine.{opened_machine};
 ghost use Rattle.lock_step.specs.LockStep.{writes_register, writes_port, write_records, byte_answered};
 ghost use Rattle.lag_bus.specs.Ready.{ready_frames, ready_records};
@@ -207,7 +209,7 @@ impl<C: Chip> LagBus<C> {
     /// Cycles for which it can be waited before the end of a run to so many samples.
     fn cycles_to_wait(&self, samples: u32) -> u64
         requires more { self.now.machine.clock / 32 < samples }
-        requires few { samples ≤ most_samples_of_run }
+        requires few { samples ≤ most_frames }
         ensures zeros { zeros_stay self.now.machine.io self.now.machine.clock result ≡ true }
         ensures free { self.now.book.pending + samples_in self.now.machine.clock result < most_samples_of_batch }
         ensures below { (self.now.machine.clock + result) / 32 < samples }

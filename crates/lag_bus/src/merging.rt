@@ -1,7 +1,7 @@
 // Brings records of voices and the events that waited for their samples into their order.
 ghost use Rattle.std.specs.Prelude.{◌≡◌, ◌+◌, ◌≤◌, ◌++◌, [], length};
 ghost use Rattle.lag_bus.specs.Merge.{events_up_to, events_after, merge};
-ghost use Rattle.dsp_form.specs.Limits.{record_room};
+ghost use Rattle.trace_form.specs.Rooms.{record_room};
 ghost use Rattle.lock_step.specs.SampleNumbers.{sample_number};
 
 use lock_step::sample_number;

@@ -4,7 +4,8 @@ ghost use Rattle.std.specs.List.{filter};
 ghost use Rattle.dsp_form.specs.Samples.{samples, in_mask, next_count};
 ghost use Rattle.lock_step.specs.ChipMeaning.{ChipMeaning};
 ghost use Rattle.lock_step.specs.ChipLaws.{IsLawfulChip};
-ghost use Rattle.dsp_form.specs.Limits.{most_samples_of_batch, most_samples_of_chip, frame_room, record_room};
+ghost use Rattle.trace_form.specs.Rooms.{frame_room, record_room};
+ghost use Rattle.dsp_form.specs.Limits.{most_samples_of_batch, most_samples_of_chip};
 
 use aram_core::Aram;
 use reach_map::ReachPages;
@@ -57,7 +58,8 @@ pub trait Chip: Drop {
         ensures batches { batches self.new ≡ (if n == 0 then batches self.old else next_count (batches self.old)) }
         ensures memory { memory.new ≡ (samples meaning.sample n (sample self.old) (state self.old) memory.old).memory }
         ensures frames { frames.new ≡ frames.old ++ (samples meaning.sample n (sample self.old) (state self.old) memory.old).frames }
-        ensures records { records.new ≡ records.old ++ filter (in_mask mask) (samples meaning.sample n (sample self.old) (state self.old) memory.old).records };
+        ensures records { let made = samples meaning.sample n (sample self.old) (state self.old) memory.old in
+            records.new ≡ records.old ++ filter (in_mask mask) made.records };
 
     /// The pages that the next 64 samples can read and write.
     fn reach(&self, memory: &Aram) -> ReachPages

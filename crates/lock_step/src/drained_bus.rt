@@ -2,7 +2,7 @@
 ghost use Rattle.std.specs.Prelude.{◌≡◌, ◌<◌, ◌≤◌, ◌++◌, [], nat_le};
 ghost use Rattle.spc700_exec.specs.Emitting.{IsEmitting};
 ghost use Rattle.lock_step.specs.Emits.{Emits, IsFrameEach, AreCountedBeside};
-ghost use Rattle.dsp_form.specs.Limits.{most_samples_of_run};
+ghost use Rattle.num_fix.specs.Limits.{most_frames};
 ghost use Rattle.lock_step.specs.WaitOfRounds.{IsWaitOf};
 
 use spc700_exec::{Bus, Cpu};
@@ -25,7 +25,7 @@ pub trait DrainedBus: Bus {
     /// to the end of a run to so many samples.
     fn wait(&mut self, cpu: &Cpu, samples: u32)
         requires more { Self.means.made self.old < samples }
-        requires few { samples ≤ most_samples_of_run }
+        requires few { samples ≤ most_frames }
         ensures { IsWaitOf Self.means emits samples cpu.now self.old self.new };
 
     /// Makes all samples that are pending.

@@ -14,7 +14,8 @@ pub floor_shift_bound : (z : ℤ) (n m : ℕ) → unsigned_abs z ≤ m * 2 ^ n �
 unfolding floor_shift
 floor_shift_bound z n m h = quotient_bound z (2 ^ n) m (pow_pos n) h
 
-abs_fits_16 : (z : ℤ) → FitsSigned w16 z → unsigned_abs z ≤ 32768
+-- a number of 16 bits with a sign
+pub abs_fits_16 : (z : ℤ) → FitsSigned w16 z → unsigned_abs z ≤ 32768
 abs_fits_16 z h = omega (arith, ints)
 
 -- the product of two 16-bit numbers, shifted right by n

@@ -3,6 +3,7 @@ use Rattle.std.proofs.Common.{◌≡◌, ℕ, zero, suc, ◌+◌, ◌*◌, ◌/�
 use Rattle.std.specs.Int.{w16, w64, cast_signed, cast_unsigned}
 use Rattle.std.proofs.lemmas.Int.{unsigned_abs-mul, to_z-of_z, fits_signed_from_abs, ints}
 use Rattle.std.proofs.lemmas.Nat.{mul-le, div_below}
+use Rattle.num_fix.proofs.Bounds.{abs_fits_16}
 use Rattle.num_fix.specs.declared.Frame.{Frame}
 use Rattle.render_core.specs.Fade.{faded_side, faded_frame, faded_from, faded_frames}
 
@@ -13,9 +14,6 @@ abs-neg_ℤ (suc n) = refl
 abs-int_div : (z : ℤ) (d : ℕ) → unsigned_abs (int_div z (pos d)) ≡ unsigned_abs z / d
 abs-int_div (pos n) d = refl
 abs-int_div (negsuc n) d = abs-neg_ℤ (suc n / d)
-
-abs_fits_16 : (z : ℤ) → FitsSigned w16 z → unsigned_abs z ≤ 32768
-abs_fits_16 z h = omega (arith, ints)
 
 pub faded_side-fits : (side : ℤ) (after fade : ℕ) → FitsSigned w16 side → after < fade → FitsSigned w16 (faded_side side after fade)
 faded_side-fits side after fade fits few =

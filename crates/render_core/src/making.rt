@@ -1,7 +1,7 @@
 // One piece, over any bus that emits.
 ghost use Rattle.std.specs.Prelude.{◌≡◌, ◌+◌, ◌*◌, ◌++◌, ◌<◌, ◌≤◌, [], length, true, false};
 ghost use Rattle.render_core.specs.BetweenSteps.{IsBetweenSteps};
-ghost use Rattle.dsp_form.specs.Limits.{most_samples_of_run};
+ghost use Rattle.num_fix.specs.Limits.{most_frames};
 ghost use Rattle.render_core.specs.MachineRun.{after_run};
 ghost use Rattle.render_core.specs.Items.{run_frames, run_records, records_before};
 
@@ -51,7 +51,7 @@ pub(crate) struct Lists {
 fn step_on<B: DrainedBus>(cpu: &mut Cpu, bus: &mut B, samples: u32)
     requires calls { B.means.calls bus.old ≤ 32 }
     requires more { B.means.made bus.old < samples }
-    requires few { samples ≤ most_samples_of_run }
+    requires few { samples ≤ most_frames }
     ensures run { after_run B.means samples (cpu.old, bus.old) ≡ after_run B.means samples (cpu.new, bus.new) }
     ensures later { B.means.clock bus.old < B.means.clock bus.new }
 {
@@ -61,7 +61,7 @@ fn step_on<B: DrainedBus>(cpu: &mut Cpu, bus: &mut B, samples: u32)
 /// Makes at once whole rounds of the loop at which the processor stands, as far as they only wait.
 fn make_rounds<B: DrainedBus>(cpu: &Cpu, bus: &mut B, samples: u32)
     requires more { B.means.made bus.old < samples }
-    requires few { samples ≤ most_samples_of_run }
+    requires few { samples ≤ most_frames }
     ensures frames { B.emits.frames (after_run B.means samples (cpu.now, bus.old)).1 ≡ B.emits.frames (after_run B.means samples (cpu.now, bus.new)).1 }
     ensures records { B.emits.records (after_run B.means samples (cpu.now, bus.old)).1 ≡ B.emits.records (after_run B.means samples (cpu.now, bus.new)).1 }
     ensures counts { B.emits.counts (after_run B.means samples (cpu.now, bus.old)).1 ≡ B.emits.counts (after_run B.means samples (cpu.now, bus.new)).1 }
@@ -107,7 +107,7 @@ impl TrialPause {
 /// The same, where it is time for a trial.
 fn make_rounds_if_due<B: DrainedBus>(cpu: &Cpu, bus: &mut B, samples: u32, pause: &mut TrialPause)
     requires more { B.means.made bus.old < samples }
-    requires few { samples ≤ most_samples_of_run }
+    requires few { samples ≤ most_frames }
     ensures frames { B.emits.frames (after_run B.means samples (cpu.now, bus.old)).1 ≡ B.emits.frames (after_run B.means samples (cpu.now, bus.new)).1 }
     ensures records { B.emits.records (after_run B.means samples (cpu.now, bus.old)).1 ≡ B.emits.records (after_run B.means samples (cpu.now, bus.new)).1 }
     ensures counts { B.emits.counts (after_run B.means samples (cpu.now, bus.old)).1 ≡ B.emits.counts (after_run B.means samples (cpu.now, bus.new)).1 }
@@ -126,7 +126,7 @@ fn make_rounds_if_due<B: DrainedBus>(cpu: &Cpu, bus: &mut B, samples: u32, pause
 fn take_steps<B: DrainedBus>(cpu: &mut Cpu, bus: &mut B, samples: u32, pause: &mut TrialPause)
     requires calls { B.means.calls bus.old ≡ 0 }
     requires more { B.means.made bus.old < samples }
-    requires few { samples ≤ most_samples_of_run }
+    requires few { samples ≤ most_frames }
     ensures frames { B.emits.frames (after_run B.means samples (cpu.old, bus.old)).1 ≡ B.emits.frames (after_run B.means samples (cpu.new, bus.new)).1 }
     ensures records { B.emits.records (after_run B.means samples (cpu.old, bus.old)).1 ≡ B.emits.records (after_run B.means samples (cpu.new, bus.new)).1 }
     ensures counts { B.emits.counts (after_run B.means samples (cpu.old, bus.old)).1 ≡ B.emits.counts (after_run B.means samples (cpu.new, bus.new)).1 }
@@ -145,7 +145,7 @@ fn take_steps<B: DrainedBus>(cpu: &mut Cpu, bus: &mut B, samples: u32, pause: &m
 fn step_and_drain<B: DrainedBus>(cpu: &mut Cpu, bus: &mut B, samples: u32, lists: &mut Lists)
     requires idle { B.means.calls bus.old ≡ 0 }
     requires more { B.means.made bus.old < samples }
-    requires few { samples ≤ most_samples_of_run }
+    requires few { samples ≤ most_frames }
     ensures frames { run_frames B.means B.emits samples (cpu.old, bus.old) ≡ lists.new.frames ++ run_frames B.means B.emits samples (cpu.new, bus.new) }
     ensures records { run_records B.means B.emits samples (cpu.old, bus.old) ≡ lists.new.records ++ run_records B.means B.emits samples (cpu.new, bus.new) }
     ensures counts { B.emits.counts (after_run B.means samples (cpu.old, bus.old)).1 ≡ B.emits.counts (after_run B.means samples (cpu.new, bus.new)).1 }
@@ -167,7 +167,7 @@ pub(crate) fn make_piece<B: DrainedBus>(
     lists: &mut Lists,
 ) -> bool
     requires idle { IsBetweenSteps B.means B.emits samples bus.old }
-    requires few { samples ≤ most_samples_of_run }
+    requires few { samples ≤ most_frames }
     ensures frames { run_frames B.means B.emits samples (cpu.old, bus.old) ≡ lists.new.frames ++ run_frames B.means B.emits samples (cpu.new, bus.new) }
     ensures records { run_records B.means B.emits samples (cpu.old, bus.old) ≡ lists.new.records ++ run_records B.means B.emits samples (cpu.new, bus.new) }
     ensures idle { IsBetweenSteps B.means B.emits samples bus.new }

@@ -2,7 +2,8 @@
 ghost use Rattle.std.specs.Prelude.{◌≡◌, ◌+◌, ◌-◌, ◌/◌, ◌<◌, ◌≤◌, [], length, false, IfOk};
 ghost use Rattle.std.specs.Borrow.{sem};
 ghost use Rattle.std.specs.Io.BufRead.{Rests};
-ghost use Rattle.dsp_form.specs.Limits.{most_samples_of_run, frame_room, record_room};
+ghost use Rattle.trace_form.specs.Rooms.{frame_room, record_room};
+ghost use Rattle.num_fix.specs.Limits.{most_frames};
 ghost use Rattle.lock_step.specs.LockStep.{lock_step};
 ghost use Rattle.lock_step.specs.LockStepEmits.{lock_step_emits};
 ghost use Rattle.render_core.specs.Items.{run_frames, run_records};
@@ -33,7 +34,7 @@ pub struct Render<C: Chip> {
 
 impl<C: Chip> Model for Render<C> {
     ghost use Rattle.std.specs.Prelude.{◌≤◌};
-    ghost use Rattle.dsp_form.specs.Limits.{most_samples_of_run};
+    ghost use Rattle.num_fix.specs.Limits.{most_frames};
     ghost use Rattle.lag_bus.specs.Lagging.{lagging};
     ghost use Rattle.lag_bus.specs.LagEmits.{lag_emits};
     ghost use Rattle.render_core.specs.BetweenSteps.{IsBetweenSteps};
@@ -53,7 +54,7 @@ impl<C: Chip> Model for Render<C> {
       records = r.lists.records;
     } };
 
-    ghost invariant = { λ r. (r.samples ≤ most_samples_of_run) × IsBetweenSteps (lagging C.meaning) (lag_emits C.meaning) r.samples r.bus };
+    ghost invariant = { λ r. (r.samples ≤ most_frames) × IsBetweenSteps (lagging C.meaning) (lag_emits C.meaning) r.samples r.bus };
 }
 
 /// The registers of a file.
@@ -98,7 +99,7 @@ impl<C: Chip> Render<C> {
         samples: u32,
         mask: u8,
     ) -> Result<Render<C>, OutOfMemory>
-        requires few { samples ≤ most_samples_of_run }
+        requires few { samples ≤ most_frames }
         requires sample { C.sample chip ≡ 0 }
         requires batches { C.batches chip ≡ 0 }
         ensures whole { IfOk result (λ render. (render.cpu, render.bus) ≡ with_opened_book C.meaning (opened_whole file.now (C.state chip) mask)) }

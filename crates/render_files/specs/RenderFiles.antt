@@ -2,6 +2,7 @@
 use Rattle.std.specs.Prelude.{◌≡◌, ℕ, ◌+◌, ◌-◌, ◌*◌, ◌<◌, ◌≤◌, Bool, true, false, List, [], ◌++◌, length, if◌then◌else◌}
 use Rattle.std.specs.List.{flat_map}
 use Rattle.num_fix.specs.declared.Frame.{Frame}
+use Rattle.num_fix.specs.Limits.{most_frames}
 use Rattle.wav_form.specs.Wave.{frame_bytes}
 use Rattle.trace_form.specs.declared.record.Record.{Record}
 use Rattle.trace_form.specs.Line.{lines_of}
@@ -10,10 +11,6 @@ use Rattle.render_core.specs.RenderState.{RenderState, frames_to_come, records_t
 use Rattle.render_core.specs.Fade.{faded_from}
 use Rattle.command_frame.specs.Stream.{Both}
 use Rattle.render_files.specs.Batches.{sound_report}
-
--- the greatest number of frames: an hour
-abbrev pub hour : ℕ
-hour = 115200000
 
 pub record FilesState (S : Type 0) : Type 0 where
   pub render : RenderState S
@@ -56,7 +53,7 @@ work_of files = 32 * files.samples - files.render.bus.machine.clock
 
 -- The frames that were made and those to come are all, of which the last `fade` fade; the report stands once all are made.
 pub record IsComplete {S : Type 0} (chip : ChipMeaning S) (render : RenderState S) (made samples fade : ℕ) (is_done : Bool) (report : List ℕ) : Type 0 where
-  pub limit : samples ≤ hour
+  pub limit : samples ≤ most_frames
   pub within : fade ≤ samples
   pub same : render.samples ≡ samples
   pub all : made + length (frames_to_come chip render) ≡ samples

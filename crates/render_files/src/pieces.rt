@@ -6,7 +6,8 @@ ghost use Rattle.trace_form.specs.Line.{lines_of};
 ghost use Rattle.render_core.specs.Fade.{faded_from, faded_frames};
 ghost use Rattle.render_core.specs.RenderState.{frames_to_come, records_to_come, counts_to_come};
 ghost use Rattle.render_files.specs.Batches.{sound_report};
-ghost use Rattle.render_files.specs.RenderFiles.{hour, trace_of, to_come_of, held_of, report_of, work_of, IsUnmade};
+ghost use Rattle.num_fix.specs.Limits.{most_frames};
+ghost use Rattle.render_files.specs.RenderFiles.{trace_of, to_come_of, held_of, report_of, work_of, IsUnmade};
 
 use crate::batches::put_sound_report;
 use command_frame::{OutOfMemory, Pieces};
@@ -98,7 +99,7 @@ impl<C: Chip> RenderFiles<C> {
         is_traced: bool,
     ) -> Result<RenderFiles<C>, OutOfMemory>
         requires unmade { IsUnmade C.meaning render samples }
-        requires limit { samples ≤ hour }
+        requires limit { samples ≤ most_frames }
         requires within { fade ≤ samples }
         ensures wave { IfOk result (λ files. header_of 2 samples ++ (to_come_of C.meaning files).first
             ≡ stereo_wave (faded_frames (frames_to_come C.meaning render) fade)) }

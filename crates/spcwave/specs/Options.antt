@@ -5,7 +5,7 @@ use Rattle.std.specs.Str.{bytes_eq}
 use Rattle.hex.specs.Hex.{decode_sized}
 use Rattle.hex.specs.declared.error.FromHexError.{FromHexError}
 use Rattle.number_text.specs.Decimals.{decimal_value, is_number}
-use Rattle.render_files.specs.RenderFiles.{hour}
+use Rattle.num_fix.specs.Limits.{most_frames}
 use Rattle.command_render.specs.Options.{Options}
 
 abbrev pub no_options : Options
@@ -22,7 +22,7 @@ greatest_number = 4294967295
 
 -- the number of samples that a word says in 1 to 9 digits: an hour of frames at most
 abbrev pub count_in : List ℕ → Option ℕ
-count_in word = if is_number 9 word && nat_le (decimal_value word) hour then Some (decimal_value word) else None
+count_in word = if is_number 9 word && nat_le (decimal_value word) most_frames then Some (decimal_value word) else None
 
 -- the number of a demo file that a word says in 1 to 10 digits: below 2 ^ 32
 abbrev pub demo_number_in : List ℕ → Option ℕ

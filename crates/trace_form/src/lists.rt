@@ -1,5 +1,6 @@
 // Frames and records with a fixed room, so that adding one takes no memory.
 ghost use Rattle.std.specs.Prelude.{◌≡◌, ◌+◌, ◌<◌, ◌++◌, ◌∷◌, [], length, IfOk};
+ghost use Rattle.trace_form.specs.Rooms.{frame_room, record_room};
 
 use crate::{OutOfMemory, Record};
 use num_fix::Frame;
@@ -15,12 +16,13 @@ pub struct Frames {
 impl Model for Frames {
     ghost use Rattle.std.specs.Prelude.{◌≤◌, List, vec_len, vec_capacity};
     ghost use Rattle.num_fix.specs.declared.Frame.{Frame};
+    ghost use Rattle.trace_form.specs.Rooms.{frame_room};
 
     ghost Value = { List Frame };
 
     ghost view = { λ f. f.items.items };
 
-    ghost invariant = { λ f. (128 ≤ vec_capacity f.items) × (vec_len f.items ≤ 128) };
+    ghost invariant = { λ f. (frame_room ≤ vec_capacity f.items) × (vec_len f.items ≤ frame_room) };
 }
 
 impl Frames {
@@ -34,14 +36,14 @@ impl Frames {
 
     /// How many more there is room for.
     pub fn room(&self) -> usize
-        ensures { result + length self.now ≡ 128 }
+        ensures { result + length self.now ≡ frame_room }
     {
         128 - self.items.len()
     }
 
     /// Adds a frame.
     pub fn push(&mut self, item: Frame)
-        requires { length self.old < 128 }
+        requires { length self.old < frame_room }
         ensures { self.new ≡ self.old ++ item ∷ [] }
     {
         let _ = self.items.push(item);
@@ -71,12 +73,13 @@ pub struct Records {
 impl Model for Records {
     ghost use Rattle.std.specs.Prelude.{◌≤◌, List, vec_len, vec_capacity};
     ghost use Rattle.trace_form.specs.declared.record.Record.{Record};
+    ghost use Rattle.trace_form.specs.Rooms.{record_room};
 
     ghost Value = { List Record };
 
     ghost view = { λ r. r.items.items };
 
-    ghost invariant = { λ r. (1344 ≤ vec_capacity r.items) × (vec_len r.items ≤ 1344) };
+    ghost invariant = { λ r. (record_room ≤ vec_capacity r.items) × (vec_len r.items ≤ record_room) };
 }
 
 impl Records {
@@ -90,14 +93,14 @@ impl Records {
 
     /// How many more there is room for.
     pub fn room(&self) -> usize
-        ensures { result + length self.now ≡ 1344 }
+        ensures { result + length self.now ≡ record_room }
     {
         1344 - self.items.len()
     }
 
     /// Adds a record.
     pub fn push(&mut self, item: Record)
-        requires { length self.old < 1344 }
+        requires { length self.old < record_room }
         ensures { self.new ≡ self.old ++ item ∷ [] }
     {
         let _ = self.items.push(item);

@@ -1,5 +1,6 @@
 // The ring of events that wait for the samples before them.
 ghost use Rattle.std.specs.Prelude.{◌≡◌, ◌≤◌, ◌++◌, ◌∷◌, [], length, IfOk, ◌↔◌, OnOk, OnErr, IsErr, slice_get, drop, IsTrue};
+ghost use Rattle.trace_form.specs.Rooms.{event_room};
 
 use crate::{OutOfMemory, Record};
 use circular_buffer::HeapCircularBuffer;
@@ -19,12 +20,13 @@ pub struct EventRing {
 impl Model for EventRing {
     ghost use Rattle.std.specs.Prelude.{◌≡◌, ◌≤◌, List, length};
     ghost use Rattle.trace_form.specs.declared.record.Record.{Record};
+    ghost use Rattle.trace_form.specs.Rooms.{event_room};
 
     ghost Value = { List Record };
 
     ghost view = { λ r. r.items.items };
 
-    ghost invariant = { λ r. (r.items.capacity ≡ 256) × (length r.items.items ≤ 256) };
+    ghost invariant = { λ r. (r.items.capacity ≡ event_room) × (length r.items.items ≤ event_room) };
 }
 
 impl EventRing {
@@ -38,7 +40,7 @@ impl EventRing {
 
     /// Adds a record at the back, unless the ring is full.
     pub fn try_push(&mut self, item: Record) -> Result<(), Full>
-        ensures full { IsErr result ↔ (length self.old ≡ 256) }
+        ensures full { IsErr result ↔ (length self.old ≡ event_room) }
         ensures ok { OnOk result (self.new ≡ self.old ++ item ∷ []) }
         ensures err { OnErr result (self.new ≡ self.old) }
     {
@@ -66,7 +68,7 @@ impl EventRing {
     /// The number of records.
     pub fn len(&self) -> usize
         ensures len { result ≡ length self.now }
-        ensures within { result ≤ 256 }
+        ensures within { result ≤ event_room }
     {
         self.items.len()
     }

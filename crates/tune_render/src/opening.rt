@@ -1,5 +1,6 @@
 // The opening of a tune.
 ghost use Rattle.std.specs.Prelude.{◌≡◌, ◌≤◌, length, IfOk};
+ghost use Rattle.num_fix.specs.Limits.{most_frames};
 ghost use Rattle.lock_step.specs.DspChip.{dsp_chip};
 ghost use Rattle.render_core.specs.RenderState.{frames_to_come, records_to_come, counts_to_come};
 ghost use Rattle.tune_render.specs.Tune.{tune_frames, tune_records, tune_counts};
@@ -20,7 +21,7 @@ pub fn open_tune(
     samples: u32,
     mask: u8,
 ) -> Result<Render<Dsp>, OutOfMemory>
-    requires { samples ≤ 115200000 }
+    requires { samples ≤ most_frames }
     ensures samples { IfOk result (λ render. render.samples ≡ samples) }
     ensures count { IfOk result (λ render. length (frames_to_come dsp_chip render) ≡ samples) }
     ensures frames { IfOk result (λ render. frames_to_come dsp_chip render ≡ tune_frames file.now table mask samples) }

@@ -1,6 +1,6 @@
 use Rattle.std.proofs.Common.{◌≡◌, ◌+◌, ◌≤◌, ◌++◌, length, drop}
 use Rattle.lag_bus.specs.Merge.{merge}
-use Rattle.dsp_form.specs.Limits.{record_room}
+use Rattle.trace_form.specs.Rooms.{record_room}
 use Rattle.lag_bus.proofs.merging.merge_into.Given as goal
 
 abbrev pub invariant-voices : goal.invariant-voices

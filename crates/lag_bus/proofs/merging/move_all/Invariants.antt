@@ -1,5 +1,5 @@
 use Rattle.std.proofs.Common.{◌≡◌, ◌+◌, ◌≤◌, ◌++◌, length}
-use Rattle.dsp_form.specs.Limits.{record_room}
+use Rattle.trace_form.specs.Rooms.{record_room}
 use Rattle.lag_bus.proofs.merging.move_all.Given as goal
 
 abbrev pub invariant-events : goal.invariant-events

@@ -1,6 +1,6 @@
 use Rattle.std.proofs.Common.{◌≡◌, ◌+◌, ◌≤◌, ◌++◌, length}
 use Rattle.lag_bus.specs.Merge.{events_up_to, events_after}
-use Rattle.dsp_form.specs.Limits.{record_room}
+use Rattle.trace_form.specs.Rooms.{record_room}
 use Rattle.lag_bus.proofs.merging.move_events_up_to.Given as goal
 
 abbrev pub invariant-events : goal.invariant-events
