@@ -14,7 +14,7 @@ const BLOCK_WAV: [u8; 76] =
     \0\x10\0\0\0\0\0\0\0\0\0\0\0\0\0\0\0\0\0\0\0\0\0\0\0\0\0\0\0\0\0\0";
 
 /// Decodes an input, where the calls of these numbers fail.
-fn decoded(alloc: Global, input: &[u8], failing: &[u32]) -> Result<Outcome, Fail> {
+fn decode_file(alloc: Global, input: &[u8], failing: &[u32]) -> Result<Outcome, Fail> {
     let mut host = host_with(alloc, &[("IN", input)], failing, ROOM)?;
     let refusal = brr(alloc, &mut host, "IN", "OUT");
     Ok(Outcome::of(refusal, host))
@@ -22,20 +22,20 @@ fn decoded(alloc: Global, input: &[u8], failing: &[u32]) -> Result<Outcome, Fail
 
 #[test]
 fn one_block_is_decoded(rt: HostRuntime) -> Result<(), Fail> {
-    let outcome = decoded(rt.alloc(), &BLOCK, &[])?;
+    let outcome = decode_file(rt.alloc(), &BLOCK, &[])?;
     assert!(rt; outcome.is_done(&BLOCK_WAV, "blocks 1 samples 16\n"));
     Ok(())
 }
 
 /// Decodes so many zeros.
-fn decoded_zeros(alloc: Global, length: usize) -> Result<Outcome, Fail> {
+fn decode_zeros(alloc: Global, length: usize) -> Result<Outcome, Fail> {
     let input = vec![in alloc; 0u8; length]?;
-    decoded(alloc, input.as_slice(), &[])
+    decode_file(alloc, input.as_slice(), &[])
 }
 
 #[test]
 fn the_greatest_length_is_decoded(rt: HostRuntime) -> Result<(), Fail> {
-    let outcome = decoded_zeros(rt.alloc(), 65529)?;
+    let outcome = decode_zeros(rt.alloc(), 65529)?;
     assert!(rt; outcome.status() == Status::Ok && outcome.first().len() == 233036);
     assert!(rt; outcome.complaint().is_empty() && !outcome.report().is_empty());
     Ok(())
@@ -73,7 +73,7 @@ const LENGTHS: &[(usize, Status, &str)] = &[
 #[test]
 fn other_lengths_are_refused(rt: HostRuntime) -> Result<(), Fail> {
     for (length, wanted, line) in LENGTHS {
-        let outcome = decoded_zeros(rt.alloc(), *length)?;
+        let outcome = decode_zeros(rt.alloc(), *length)?;
         assert!(rt; outcome.is_refused(*wanted, line), "at {length}");
     }
     Ok(())
@@ -82,10 +82,10 @@ fn other_lengths_are_refused(rt: HostRuntime) -> Result<(), Fail> {
 #[test]
 fn each_call_of_the_host_may_fail(rt: HostRuntime) -> Result<(), Fail> {
     // The input is opened and read twice; then the output is created, written and ended, and the report is written.
-    let whole = decoded(rt.alloc(), &BLOCK, &[])?;
+    let whole = decode_file(rt.alloc(), &BLOCK, &[])?;
     assert_eq!(rt; whole.calls(), 7);
     for call in 0..7 {
-        let outcome = decoded(rt.alloc(), &BLOCK, &[call])?;
+        let outcome = decode_file(rt.alloc(), &BLOCK, &[call])?;
         let holds = if call < 3 {
             outcome.is_unread(call)
         } else {

@@ -18,7 +18,7 @@ const STEEP: [u8; 32] =
     *b"\xff\x7f\xff\x7f\xff\x7f\xff\x7f\xff\x7f\xff\x7f\xff\x7f\xff\x7f\0\x80\0\x80\0\x80\0\x80\0\x80\0\x80\0\x80\0\x80";
 
 /// Encodes a file of this front, these samples, and zeros up to this length, where the calls of these numbers fail.
-fn encoded(
+fn encode_file(
     alloc: Global,
     looped: bool,
     front: &[u8],
@@ -79,7 +79,7 @@ const ENCODED: &[Encoded] = &[
 #[test]
 fn each_sound_has_its_blocks(rt: HostRuntime) -> Result<(), Fail> {
     for row in ENCODED {
-        let outcome = encoded(rt.alloc(), row.looped, &MONO, row.samples, row.length, &[])?;
+        let outcome = encode_file(rt.alloc(), row.looped, &MONO, row.samples, row.length, &[])?;
         assert!(rt; outcome.is_done(row.blocks, row.report), "{}", row.report);
     }
     Ok(())
@@ -122,7 +122,7 @@ const REFUSED: &[(&[u8], usize, Status, &str)] = &[
 #[test]
 fn other_sounds_are_refused(rt: HostRuntime) -> Result<(), Fail> {
     for (front, length, wanted, line) in REFUSED {
-        let outcome = encoded(rt.alloc(), false, front, &[], *length, &[])?;
+        let outcome = encode_file(rt.alloc(), false, front, &[], *length, &[])?;
         assert!(rt; outcome.is_refused(*wanted, line), "{line}");
     }
     Ok(())
@@ -131,9 +131,9 @@ fn other_sounds_are_refused(rt: HostRuntime) -> Result<(), Fail> {
 #[test]
 fn each_call_of_the_host_may_fail(rt: HostRuntime) -> Result<(), Fail> {
     // The input is opened and read twice.
-    let whole = encoded(rt.alloc(), false, &MONO, &STEEP, 76, &[])?;
+    let whole = encode_file(rt.alloc(), false, &MONO, &STEEP, 76, &[])?;
     for call in 0..whole.calls() {
-        let outcome = encoded(rt.alloc(), false, &MONO, &STEEP, 76, &[call])?;
+        let outcome = encode_file(rt.alloc(), false, &MONO, &STEEP, 76, &[call])?;
         let holds = if call < 3 {
             outcome.is_unread(call)
         } else {

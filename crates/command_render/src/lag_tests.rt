@@ -1,5 +1,5 @@
 // Renders in which the S-DSP waits while the program goes on: what is made, and in which batches.
-use crate::test_support::{Heard, ONE_BATCH, expected_report, rendered, traced, tune_of};
+use crate::test_support::{Heard, ONE_BATCH, expected_report, render_straight, tune_of, with_trace};
 use command_tests::{DSP, FIVE, MEMORY, Pieces};
 use std::alloc::Global;
 use std::test::Fail;
@@ -90,7 +90,7 @@ fn flood_lines(alloc: Global, samples: u32) -> Result<String, Fail> {
 #[test]
 fn port_writes_past_the_room_of_the_ring_settle(rt: HostRuntime) -> Result<(), Fail> {
     let file = tune_of(rt.alloc(), FIVE, FLOOD)?;
-    let outcome = rendered(rt.alloc(), file.as_slice(), traced(Some(80), None))?;
+    let outcome = render_straight(rt.alloc(), file.as_slice(), with_trace(Some(80), None))?;
     let line = "batches 5 register 0 memory 2 echo 0 full 0 events 2 end 1\n";
     let report = expected_report(rt.alloc(), 80, line)?;
     assert!(rt; outcome.is_done(outcome.first(), report.as_str()));

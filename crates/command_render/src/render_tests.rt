@@ -2,7 +2,7 @@
 use crate::render;
 use crate::test_support::{
     Frames, Heard, NO_BATCH, ONE_BATCH, expected_report, has_frames, no_options, render_failing,
-    rendered, samples, traced, tune_of,
+    render_straight, samples, tune_of, with_trace,
 };
 use command_tests::{DSP, FIVE, MEMORY, Outcome, Pieces, ROOM, host_with, straight_table};
 use status_lines::Status;
@@ -184,7 +184,7 @@ const FADED: &[(usize, i16)] = &[
 #[test]
 fn tags_give_the_length_and_the_fade(rt: HostRuntime) -> Result<(), Fail> {
     let file = tune_of(rt.alloc(), FIVE, TAGS)?;
-    let outcome = rendered(rt.alloc(), file.as_slice(), no_options())?;
+    let outcome = render_straight(rt.alloc(), file.as_slice(), no_options())?;
     let line = "batches 501 register 0 memory 0 echo 0 full 500 events 0 end 1\n";
     let report = expected_report(rt.alloc(), 32032, line)?;
     assert!(rt;
@@ -198,7 +198,7 @@ fn tags_give_the_length_and_the_fade(rt: HostRuntime) -> Result<(), Fail> {
 
 /// Whether a render of this file, over a table of three bytes, is refused with this line.
 fn is_refused(alloc: Global, file: &[u8], wanted: Status, line: &str) -> Result<bool, Fail> {
-    let outcome = render_failing(alloc, file, &[0; 3], traced(None, None), &[])?;
+    let outcome = render_failing(alloc, file, &[0; 3], with_trace(None, None), &[])?;
     Ok(outcome.is_refused(wanted, line))
 }
 
@@ -222,7 +222,7 @@ fn a_table_that_is_not_there_cannot_be_read(rt: HostRuntime) -> Result<(), Fail>
         "SPC",
         "NONE",
         "OUT",
-        traced(None, None),
+        with_trace(None, None),
     );
     let outcome = Outcome::of(refusal, host);
     assert!(rt; outcome.is_refused(Status::ReadFault, "spcwave: input could not be read\n"));
@@ -237,7 +237,7 @@ fn render_over_zeros(alloc: Global, length: usize) -> Result<Outcome, Fail> {
         alloc,
         file.as_slice(),
         table.as_slice(),
-        traced(None, None),
+        with_trace(None, None),
         &[],
     )
 }
@@ -256,8 +256,8 @@ fn tables_of_another_length_are_refused(rt: HostRuntime) -> Result<(), Fail> {
 fn each_call_of_a_render_may_fail(rt: HostRuntime) -> Result<(), Fail> {
     let file = tune_of(rt.alloc(), FIVE, &[])?;
     let table = straight_table(rt.alloc())?;
-    let options = traced(Some(8), Some(1));
-    let whole = rendered(rt.alloc(), file.as_slice(), options)?;
+    let options = with_trace(Some(8), Some(1));
+    let whole = render_straight(rt.alloc(), file.as_slice(), options)?;
     for call in 0..whole.calls() {
         let outcome = render_failing(
             rt.alloc(),

@@ -54,7 +54,7 @@ pub fn samples(count: u32) -> RenderOptions<'static>
 }
 
 /// Maybe a number of samples, and a trace of these voices.
-pub fn traced(samples: Option<u32>, voices: Option<u8>) -> RenderOptions<'static>
+pub fn with_trace(samples: Option<u32>, voices: Option<u8>) -> RenderOptions<'static>
     ensures { result.samples ≡ samples }
 {
     RenderOptions {
@@ -81,7 +81,7 @@ pub fn render_failing(
 }
 
 /// Renders a file over the table of straight lines.
-pub fn rendered(alloc: Global, file: &[u8], options: RenderOptions<'_>) -> Result<Outcome, Fail>
+pub fn render_straight(alloc: Global, file: &[u8], options: RenderOptions<'_>) -> Result<Outcome, Fail>
     requires { IsWithinHour options.samples }
 {
     let table = straight_table(alloc)?;
@@ -132,7 +132,7 @@ impl Heard {
     pub fn holds(&self, alloc: Global) -> Result<bool, Fail> {
         let file = tune_of(alloc, self.sound, self.more)?;
         let count = u32::from(self.samples);
-        let outcome = rendered(alloc, file.as_slice(), samples(count))?;
+        let outcome = render_straight(alloc, file.as_slice(), samples(count))?;
         let report = expected_report(alloc, count, self.batches)?;
         has_frames(alloc, &outcome, self.frames, report.as_str())
     }
@@ -156,17 +156,17 @@ impl Traced {
     pub fn holds(&self, alloc: Global) -> Result<bool, Fail> {
         let count = u32::from(self.samples);
         let file = tune_of(alloc, self.sound, self.more)?;
-        let plain = rendered(alloc, file.as_slice(), samples(count))?;
-        let with_trace = rendered(
+        let plain = render_straight(alloc, file.as_slice(), samples(count))?;
+        let second = render_straight(
             alloc,
             file.as_slice(),
-            traced(Some(count), Some(self.voices)),
+            with_trace(Some(count), Some(self.voices)),
         )?;
         let report = expected_report(alloc, count, self.batches)?;
         Ok(
             has_frames(alloc, &plain, self.frames, report.as_str())?
-                && has_frames(alloc, &with_trace, self.frames, report.as_str())?
-                && with_trace.second() == self.trace.as_bytes(),
+                && has_frames(alloc, &second, self.frames, report.as_str())?
+                && second.second() == self.trace.as_bytes(),
         )
     }
 }

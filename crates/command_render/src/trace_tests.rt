@@ -1,6 +1,6 @@
 // Traces of renders over a host in memory.
 use crate::test_support::{
-    NO_BATCH, ONE_BATCH, Traced, expected_report, has_frames, rendered, traced, tune_of,
+    NO_BATCH, ONE_BATCH, Traced, expected_report, has_frames, render_straight, tune_of, with_trace,
 };
 use command_tests::{DSP, FIVE, MEMORY, Pieces};
 use std::test::Fail;
@@ -153,7 +153,7 @@ const ENVELOPE_LINES: &str =
 #[test]
 fn a_loop_sends_the_envelope_to_a_port(rt: HostRuntime) -> Result<(), Fail> {
     let file = tune_of(rt.alloc(), FIVE, ENVELOPE)?;
-    let outcome = rendered(rt.alloc(), file.as_slice(), traced(Some(8), None))?;
+    let outcome = render_straight(rt.alloc(), file.as_slice(), with_trace(Some(8), None))?;
     let line = "batches 8 register 5 memory 2 echo 0 full 0 events 0 end 1\n";
     let report = expected_report(rt.alloc(), 8, line)?;
     let frames = &[(6, 0), (2, 4000)];

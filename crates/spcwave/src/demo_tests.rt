@@ -1,5 +1,5 @@
 // Demo files, made and checked by the program over a host in memory.
-use crate::test_support::{rendered, run_words};
+use crate::test_support::{render_straight, run_words};
 use command_tests::ROOM;
 use status_lines::Status;
 use std::test::Fail;
@@ -35,7 +35,7 @@ fn sums_of_wave(wave: &[u8]) -> Summed {
 #[test]
 fn the_demo_file_of_seven_is_rendered_whole(rt: HostRuntime) -> Result<(), Fail> {
     let made = run_words(rt.alloc(), &["demo", "7", "OUT"], &[])?;
-    let played = rendered(rt.alloc(), made.first(), &[], 23040044)?;
+    let played = render_straight(rt.alloc(), made.first(), &[], 23040044)?;
     assert!(rt; played.status() == Status::Ok && played.complaint().is_empty());
     assert!(rt; played.report().starts_with(b"samples 5760000\n"));
     assert!(rt; played.first().len() == 23040044);
@@ -56,7 +56,7 @@ fn have_same_batches(played: &[u8], checked: &[u8]) -> bool {
 fn the_check_of_seven_is_that_of_its_frames(rt: HostRuntime) -> Result<(), Fail> {
     let alloc = rt.alloc();
     let made = run_words(alloc, &["demo", "7", "OUT"], &[])?;
-    let played = rendered(alloc, made.first(), &["--samples", "320000"], ROOM)?;
+    let played = render_straight(alloc, made.first(), &["--samples", "320000"], ROOM)?;
     assert!(rt; played.status() == Status::Ok && played.first().len() == 1280044);
     let sums = sums_of_wave(played.first().get(44..).unwrap_or(&[]));
     assert!(rt; sums.left == -179354194 && sums.right == -2380264093);

@@ -9,3 +9,7 @@ pub returns-in-Usage-clause-attempts : goal.returns-in-Usage-clause-attempts
 returns-in-Usage-clause-attempts g c =
     let state = g.H.Host.state c.args.host.now in
     subst (λ (k : Command). Attempts (answer_of k) (names_input k) (Some Usage) state state) c.in-Usage.ensures.meaning (attempts_usage state)
+
+pub returns-in-Check-clause-attempts : goal.returns-in-Check-clause-attempts
+returns-in-Check-clause-attempts g c =
+    subst (λ (k : Command). Attempts (answer_of k) (names_input k) c.check.result (g.H.Host.state c.args.host.now) (g.H.Host.state c.check.new.host)) c.in-Check.ensures.meaning c.check.ensures.attempts
