@@ -1,5 +1,5 @@
 -- The samples that are kept of the digits of blocks.
-use Rattle.std.specs.Prelude.{◌≡◌, ℕ, ◌+◌, ◌/◌, ◌%◌, ◌^◌, ◌<◌, ◌≤◌, ℤ, pos, neg_ℤ, ◌+ℤ◌, ◌-ℤ◌, ◌*ℤ◌, List, [], ◌∷◌, ◌++◌, length, reverse, fold, nat_le, int_lt, ◌==◌, if◌then◌else◌, slice_get, Some}
+use Rattle.std.specs.Prelude.{◌≡◌, ℕ, ◌+◌, ◌/◌, ◌^◌, ℤ, pos, neg_ℤ, ◌+ℤ◌, ◌-ℤ◌, ◌*ℤ◌, List, [], ◌∷◌, ◌++◌, length, reverse, fold, nat_le, int_lt, ◌==◌, if◌then◌else◌, slice_get, Some}
 use Rattle.num_fix.specs.Arithmetic.{floor_shift, scaled, wrap16, clamp16, sign4}
 use Rattle.num_fix.specs.Words.{number_at}
 use Rattle.brr_decode.specs.Header.{shift_of, filter_of}
@@ -34,12 +34,12 @@ pub record Digit : Type 0 where
 abbrev pub sample_from_end : List ℤ → (k : ℕ) → ℤ
 sample_from_end samples k = number_at (reverse samples) k
 
--- samples, and behind them the one that is kept of a digit, by the last two of them
+-- samples, and after them the one that is kept of a digit, by the last two of them
 unfoldable pub with_kept : List ℤ → Digit → List ℤ
 with_kept samples digit =
     samples ++ kept_sample digit.header digit.value (sample_from_end samples 0) (sample_from_end samples 1) ∷ []
 
--- samples, and behind them those of digits in order
+-- samples, and after them those of digits in order
 abbrev pub with_all_kept : List ℤ → List Digit → List ℤ
 with_all_kept samples digits = fold with_kept samples digits
 
@@ -49,7 +49,7 @@ digits_under header [] = []
 digits_under header (byte ∷ bytes) =
     record { header = header; value = sign4 (byte / 0x10) } ∷ record { header = header; value = sign4 byte } ∷ digits_under header bytes
 
--- samples, and behind them the four of a group: two bytes under a header
+-- samples, and after them the four of a group: two bytes under a header
 unfoldable pub with_group : List ℤ → (header b0 b1 : ℕ) → List ℤ
 with_group samples header b0 b1 = with_all_kept samples (digits_under header (b0 ∷ b1 ∷ []))
 
@@ -74,9 +74,3 @@ pub record IsKept (digits : List Digit) (samples : List ℤ) : Type 0 where
 pub record EndsWith (samples : List ℤ) (p2 p1 : ℤ) : Type 0 where
   pub last : sample_from_end samples 0 ≡ p1
   pub before : sample_from_end samples 1 ≡ p2
-
--- a number of bytes that are blocks, of which a stream has 1 to 7,281
-pub record IsBlockLength (n : ℕ) : Type 0 where
-  pub some : 0 < n
-  pub within : n ≤ 65529
-  pub whole : n % 9 ≡ 0

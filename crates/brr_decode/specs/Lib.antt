@@ -1,5 +1,7 @@
 -- What a block of BRR means.
 -- Header: the fields of a block's first byte, and the block that follows.
 -- Kept: the sample that is kept of a digit, and the list of kept samples over all blocks.
+-- Stream: what a stream of bytes is decoded to, or why it isn't.
 pub mod Header
 pub mod Kept
+pub mod Stream

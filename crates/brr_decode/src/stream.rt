@@ -1,6 +1,6 @@
 // A stream of blocks.
-ghost use Rattle.std.specs.Prelude.{◌≡◌, ℕ, ◌*◌, ◌/◌, length, vec_len, IfOk, OnOk};
-ghost use Rattle.brr_decode.specs.Kept.{samples_of, IsBlockLength};
+ghost use Rattle.std.specs.Prelude.{◌≡◌, ◌*◌, ◌/◌, ◌⊎◌, length, vec_len, IfOk, IfErr};
+ghost use Rattle.brr_decode.specs.Stream.{decoded_stream};
 ghost use Rattle.brr_decode.specs.declared.stream.BrrRefusal.TheVariants.{OutOfMemory as MemoryRefusal};
 
 use crate::{OutOfMemory, decode_block};
@@ -25,13 +25,13 @@ impl From<OutOfMemory> for BrrRefusal {
     }
 }
 
-/// Decodes all blocks in order, from two zeros. Loop and end bits have no effect.
+/// Decodes all blocks in order, from two zeros. Loop and end bits have no effect. No memory is taken for a length that is refused.
+#[tactic(auto, unfolding(crate::specs::Stream::decoded_stream))]
 pub fn decode_stream(alloc: Global, bytes: &[u8]) -> Result<Vec<i16>, BrrRefusal>
-    ensures samples { IfOk result (λ samples. samples.items ≡ samples_of bytes.now) }
+    ensures samples { IfOk result (λ samples. decoded_stream bytes.now ≡ Ok samples.items) }
     ensures count { IfOk result (λ samples. vec_len samples ≡ 16 * (length bytes.now / 9)) }
-    ensures blocks { OnOk result (IsBlockLength (length bytes.now)) }
-    ensures refused { ¬ IsBlockLength (length bytes.now) → result ≡ Err (BrrRefusal.Length (length bytes.now)) }
-    ensures refused_only { (n : ℕ) → result ≡ Err (BrrRefusal.Length n) → (n ≡ length bytes.now) × (¬ IsBlockLength n) }
+    ensures refused { IfErr (decoded_stream bytes.now) (λ refusal. result ≡ Err refusal) }
+    ensures causes { IfErr result (λ refusal. (decoded_stream bytes.now ≡ Err refusal) ⊎ (refusal ≡ BrrRefusal.OutOfMemory)) }
 {
     let count = bytes.len();
     if count == 0 || count > 65529 || count % 9 != 0 {

@@ -1,8 +1,10 @@
 -- The encoding of samples: blocks of sixteen, each under the header that costs least.
-use Rattle.std.specs.Prelude.{ℕ, zero, suc, ◌+◌, ◌-◌, ◌*◌, ◌/◌, ◌%◌, List, [], ◌∷◌, ◌++◌, length, take, drop, replicate, Bool, true, false, ◌==◌, ℤ, pos, unsigned_abs, if◌then◌else◌}
+use Rattle.std.specs.Prelude.{ℕ, zero, suc, ◌+◌, ◌-◌, ◌*◌, ◌/◌, ◌%◌, List, [], ◌∷◌, ◌++◌, length, take, drop, replicate, Bool, true, false, ◌==◌, nat_lt, Result, Ok, Err, ℤ, pos, unsigned_abs, if◌then◌else◌}
 use Rattle.std.specs.Int.{int_rem_euclid}
 use Rattle.num_fix.specs.Words.{number_at}
 use Rattle.brr_encode.specs.Least.{least_place}
+use Rattle.brr_encode.specs.declared.encoder.EncodeRefusal.{EncodeRefusal}
+use Rattle.brr_encode.specs.declared.encoder.EncodeRefusal.TheVariants.{Empty, TooLong}
 use Rattle.brr_encode.specs.Greedy.{greedy_digits, greedy_samples, greedy_squares}
 
 -- the headers in the order in which they are tried: filter 0 with the shifts 0 to 12, then filter 1, and so on up to filter 3
@@ -31,7 +33,7 @@ digit_bytes [] = []
 abbrev pub end_bits : (last looped : Bool) → ℕ
 end_bits last looped = if last then (if looped then 3 else 1) else 0
 
--- samples, and behind them as many zeros as make whole blocks
+-- samples, and after them as many zeros as make whole blocks
 abbrev pub padded : List ℤ → List ℤ
 padded samples = samples ++ replicate ((16 - length samples % 16) % 16) (pos 0)
 
@@ -45,7 +47,7 @@ block_of first last looped p1 p2 targets =
 abbrev pub block_samples : (first : Bool) → (p1 p2 : ℤ) → (targets : List ℤ) → List ℤ
 block_samples first p1 p2 targets = greedy_samples (best_header first p1 p2 targets) p1 p2 targets
 
--- so many blocks, behind the kept samples p1 and p2
+-- so many blocks, after the kept samples p1 and p2
 abbrev pub blocks_of : (count : ℕ) → (first looped : Bool) → (p1 p2 : ℤ) → (targets : List ℤ) → List ℕ
 blocks_of zero first looped p1 p2 targets = []
 blocks_of (suc count) first looped p1 p2 targets =
@@ -56,3 +58,14 @@ blocks_of (suc count) first looped p1 p2 targets =
 -- the encoding of samples
 unfoldable pub encoding : (samples : List ℤ) → (looped : Bool) → List ℕ
 encoding samples looped = blocks_of (length (padded samples) / 16) true looped (pos 0) (pos 0) (padded samples)
+
+-- the most samples that are encoded: 7,280 blocks
+abbrev pub most_samples : ℕ
+most_samples = 116480
+
+-- the blocks of samples, or why there are none
+unfoldable pub encoded_samples : (samples : List ℤ) → (looped : Bool) → Result (List ℕ) EncodeRefusal
+encoded_samples samples looped =
+    if length samples == 0 then Err Empty
+    else if nat_lt most_samples (length samples) then Err TooLong
+    else Ok (encoding samples looped)

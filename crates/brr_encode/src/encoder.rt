@@ -1,6 +1,6 @@
 // The blocks of a list of samples.
-ghost use Rattle.std.specs.Prelude.{◌≡◌, ◌+◌, ◌%◌, ◌∷◌, ◌++◌, ◌<◌, ◌≤◌, ◌↔◌, ◌⊎◌, [], length, IfOk, IfErr};
-ghost use Rattle.brr_encode.specs.Encoding.{padded, encoding, best_header, block_of, end_bits};
+ghost use Rattle.std.specs.Prelude.{◌≡◌, ◌+◌, ◌%◌, ◌∷◌, ◌++◌, ◌≤◌, ◌⊎◌, [], length, IfOk, IfErr};
+ghost use Rattle.brr_encode.specs.Encoding.{padded, most_samples, encoded_samples, best_header, block_of, end_bits};
 ghost use Rattle.brr_encode.specs.Report.{reports_of};
 ghost use Rattle.brr_encode.specs.Steps.{after_targets, coder_behind, block_report};
 ghost use Rattle.brr_encode.specs.declared.encoder.EncodeRefusal.TheVariants.{OutOfMemory as NoMemory};
@@ -55,7 +55,7 @@ fn end_bits(place: Place) -> u8
     }
 }
 
-/// Appends the block of sixteen targets and its report, and gives the encoder behind it.
+/// Appends the block of sixteen targets and its report, and gives the encoder after it.
 fn push_block(
     bytes: &mut Vec<u8>,
     reports: &mut Vec<BlockReport>,
@@ -79,9 +79,9 @@ fn push_block(
     Ok(coder)
 }
 
-/// The samples, and behind them as many zeros as make whole blocks.
+/// The samples, and after them as many zeros as make whole blocks.
 fn padded(alloc: Global, samples: &[i16]) -> Result<Vec<i16>, OutOfMemory>
-    requires { length samples.now ≤ 116480 }
+    requires { length samples.now ≤ most_samples }
     ensures targets { IfOk result (λ targets. targets.items ≡ padded samples.now) }
     ensures whole { IfOk result (λ targets. length targets.items % 16 ≡ 0) }
 {
@@ -93,12 +93,13 @@ fn padded(alloc: Global, samples: &[i16]) -> Result<Vec<i16>, OutOfMemory>
 }
 
 /// Encodes samples as blocks; with `looped` the last block has its loop bit beside its end bit.
-/// Each report has the true error of its block, as a decoder gives it against the padded samples.
+/// Each report has the true error of its block, as a decoder gives it against the padded samples. No memory is taken for samples that are refused.
+#[tactic(auto, unfolding(crate::specs::Encoding::encoded_samples))]
 pub fn encode(alloc: Global, samples: &[i16], looped: bool) -> Result<Encoded, EncodeRefusal>
-    ensures bytes { IfOk result (λ encoded. encoded.bytes.items ≡ encoding samples.now looped) }
+    ensures bytes { IfOk result (λ encoded. encoded_samples samples.now looped ≡ Ok encoded.bytes.items) }
     ensures reports { IfOk result (λ encoded. encoded.reports.items ≡ reports_of encoded.bytes.items (padded samples.now)) }
-    ensures empty { (result ≡ Err EncodeRefusal.Empty) ↔ (samples.now ≡ []) }
-    ensures too_long { (result ≡ Err EncodeRefusal.TooLong) ↔ (116480 < length samples.now) }
+    ensures refused { IfErr (encoded_samples samples.now looped) (λ refusal. result ≡ Err refusal) }
+    ensures causes { IfErr result (λ refusal. (encoded_samples samples.now looped ≡ Err refusal) ⊎ (refusal ≡ EncodeRefusal.OutOfMemory)) }
 {
     if samples.is_empty() {
         return Err(EncodeRefusal::Empty);

@@ -1,2 +1,2 @@
--- Lengths: bytes that are no blocks are refused.
+-- Lengths: bytes that are decoded are not too many.
 pub mod Lengths

@@ -1,2 +1,2 @@
--- Encodings: what `encode` answers, case by case.
-pub mod Encodings
+-- BlockLines: the lines of the blocks, one after another.
+pub mod BlockLines

@@ -1,20 +1,25 @@
 -- What `encode` answers.
-use Rattle.std.specs.Prelude.{ℕ, ◌+◌, ◌&&◌, ℤ, Bool, List, [], ◌∷◌, ◌++◌, length, Option, Result, Ok, Err, codes, decimal, nat_lt, nat_le, if◌then◌else◌}
-use Rattle.brr_encode.specs.Encoding.{padded, encoding}
+use Rattle.std.specs.Prelude.{ℕ, ◌+◌, ℤ, Bool, List, [], ◌∷◌, ◌++◌, length, Option, Result, Ok, Err, codes, decimal}
+use Rattle.number_text.specs.Digits.{two_digits}
+use Rattle.brr_encode.specs.Encoding.{padded, encoded_samples}
 use Rattle.brr_encode.specs.Report.{reports_of}
+use Rattle.brr_encode.specs.declared.encoder.EncodeRefusal.{EncodeRefusal}
+use Rattle.brr_encode.specs.declared.encoder.EncodeRefusal.TheVariants as encoder
 use Rattle.brr_encode.specs.declared.report.BlockReport.{BlockReport}
 use Rattle.wav_form.specs.Mono.{mono_samples}
 use Rattle.wav_form.specs.declared.refusal.WavRefusal.{WavRefusal}
 use Rattle.command_frame.specs.Answer.{Answer, done, refused}
-use Rattle.command_frame.specs.declared.refusals.Refusal.TheVariants.{Input}
-use Rattle.number_text.specs.Digits.{two_digits}
-use Rattle.input_files.specs.Reading.{wave_limit, bytes_in, answer_from}
+use Rattle.command_frame.specs.declared.refusals.Refusal.{Refusal}
+use Rattle.command_frame.specs.declared.refusals.Refusal.TheVariants.{Input, OutOfMemory}
+use Rattle.input_files.specs.Reading.{wave_limit, bytes_in, answer_from, refused_by}
 use Rattle.status_lines.specs.declared.cause.Cause.{Cause}
 use Rattle.status_lines.specs.declared.cause.Cause.TheVariants.{WavForm, EncodeSize, InputTooLong}
 
--- a number of samples that make 1 to 7,280 blocks
-abbrev pub is_encodable : ℕ → Bool
-is_encodable n = nat_lt 0 n && nat_le n 116480
+-- the refusal of samples that are not encoded, of which there are so many
+abbrev pub encode_refusal : (count : ℕ) → EncodeRefusal → Refusal Cause
+encode_refusal count encoder.Empty = Input (EncodeSize count)
+encode_refusal count encoder.TooLong = Input (EncodeSize count)
+encode_refusal count encoder.OutOfMemory = OutOfMemory
 
 -- the line of a block, which has this place among the blocks
 abbrev pub block_line : (place : ℕ) → BlockReport → List ℕ
@@ -32,14 +37,12 @@ abbrev pub encode_report : List BlockReport → List ℕ
 encode_report reports = block_lines 0 reports ++ codes "blocks " ++ decimal (length reports) ++ codes "\n"
 
 -- the output of this name with these blocks, and the report on them
-abbrev pub blocks_answer : (output : List ℕ) → (blocks : List ℕ) → (samples : List ℤ) → Answer Cause
-blocks_answer output blocks samples = done (record { name = output; bytes = blocks } ∷ []) (encode_report (reports_of blocks (padded samples)))
+abbrev pub blocks_answer : (output : List ℕ) → (samples : List ℤ) → (blocks : List ℕ) → Answer Cause
+blocks_answer output samples blocks = done (record { name = output; bytes = blocks } ∷ []) (encode_report (reports_of blocks (padded samples)))
 
 -- what the encoding of samples to this name answers
 abbrev pub encoding_answer : (output : List ℕ) → (looped : Bool) → (samples : List ℤ) → Answer Cause
-encoding_answer output looped samples =
-    if is_encodable (length samples) then blocks_answer output (encoding samples looped) samples
-    else refused (Input (EncodeSize (length samples)))
+encoding_answer output looped samples = answer_from (refused_by (encode_refusal (length samples)) (encoded_samples samples looped)) (blocks_answer output samples)
 
 -- the same by what the bytes of the input are: samples, or no file of one channel
 abbrev pub samples_answer : (output : List ℕ) → (looped : Bool) → Result (List ℤ) WavRefusal → Answer Cause

@@ -1,5 +1,7 @@
 // Renders in which the S-DSP waits while the program goes on: what is made, and in which batches.
-use crate::test_support::{Heard, ONE_BATCH, expected_report, render_straight, tune_of, with_trace};
+use crate::test_support::{
+    Heard, ONE_BATCH, expected_report, render_straight, tune_of, with_trace,
+};
 use command_tests::{DSP, FIVE, MEMORY, Pieces};
 use std::alloc::Global;
 use std::test::Fail;

@@ -81,7 +81,11 @@ pub fn render_failing(
 }
 
 /// Renders a file over the table of straight lines.
-pub fn render_straight(alloc: Global, file: &[u8], options: RenderOptions<'_>) -> Result<Outcome, Fail>
+pub fn render_straight(
+    alloc: Global,
+    file: &[u8],
+    options: RenderOptions<'_>,
+) -> Result<Outcome, Fail>
     requires { IsWithinHour options.samples }
 {
     let table = straight_table(alloc)?;

@@ -1,7 +1,8 @@
 -- Numbers that were read one by one, each from its two bytes, are the numbers that the bytes read as.
-use Rattle.std.proofs.Common.{◌≡◌, ℕ, suc, ◌+◌, ◌*◌, List, [], ◌∷◌, length, drop, ℤ, pos, refl, ap, arith, ◌∙◌}
+use Rattle.std.proofs.Common.{◌≡◌, ℕ, suc, ◌+◌, ◌*◌, List, [], ◌∷◌, length, drop, ℤ, pos, Ok, refl, ap, arith, ◌∙◌}
 use Rattle.std.specs.Int.{w16, cast_signed}
 use Rattle.num_fix.specs.Words.{signed_word, signed_words}
+use Rattle.gauss_table.specs.Weights.{table_length, weights_in}
 use Rattle.byteorder.specs.Endian.{little_number, IsReadBy}
 
 -- the number that the first two bytes read as
@@ -21,3 +22,7 @@ read_words (a ∷ b ∷ bytes) (w ∷ words) e h =
     let rest : IsReadBy word_value 2 bytes words =
     λ d k within. (let next : 2 * suc k ≡ suc (suc (2 * k)) = omega arith in rw next at (h d (suc k) (omega arith))) in
     rw (same, read_words bytes words (omega arith) rest) refl
+
+-- bytes of the right length are a table of the numbers that they read as
+pub weights_of_words : (bytes : List ℕ) (words : List ℤ) → length bytes ≡ table_length → words ≡ signed_words bytes → weights_in bytes ≡ Ok words
+weights_of_words bytes words sized same = rw (sized, same) refl

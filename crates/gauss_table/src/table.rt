@@ -1,10 +1,11 @@
 //! The table and the interpolation.
 
-ghost use Rattle.std.specs.Prelude.{◌≡◌, ◌+◌, ◌<◌, ◌≤◌, ◌≢◌, ◌↔◌, ◌⊎◌, length, unsigned_abs, IfOk, IfErr};
+ghost use Rattle.std.specs.Prelude.{◌≡◌, ◌+◌, ◌<◌, ◌≤◌, ◌⊎◌, unsigned_abs, IfOk, IfErr};
 ghost use Rattle.num_fix.specs.Arithmetic.{wrap16};
-ghost use Rattle.num_fix.specs.Words.{number_at, signed_words};
+ghost use Rattle.num_fix.specs.Words.{number_at};
 ghost use Rattle.gauss_table.specs.Interpolation.{mix, older_taps, tap};
 ghost use Rattle.gauss_table.specs.StraightTable.{straight_table, straight_weight};
+ghost use Rattle.gauss_table.specs.Weights.{weights_in};
 
 use crate::{OutOfMemory, TableRefusal};
 use byteorder::{ByteOrder, LittleEndian};
@@ -52,9 +53,9 @@ impl GaussTable {
 
     /// Reads a table of 1,024 bytes: 512 numbers, the low byte of each first.
     pub fn read(alloc: Global, bytes: &[u8]) -> Result<GaussTable, TableRefusal>
-        ensures table { IfOk result (λ table. table ≡ signed_words bytes.now) }
-        ensures refused { (result ≡ Err (TableRefusal.Length (length bytes.now))) ↔ (length bytes.now ≢ 1024) }
-        ensures causes { IfErr result (λ refusal. (refusal ≡ TableRefusal.Length (length bytes.now)) ⊎ (refusal ≡ TableRefusal.OutOfMemory)) }
+        ensures table { IfOk result (λ table. weights_in bytes.now ≡ Ok table) }
+        ensures refused { IfErr (weights_in bytes.now) (λ refusal. result ≡ Err refusal) }
+        ensures causes { IfErr result (λ refusal. (weights_in bytes.now ≡ Err refusal) ⊎ (refusal ≡ TableRefusal.OutOfMemory)) }
     {
         if bytes.len() != 1024 {
             return Err(TableRefusal::Length(bytes.len()));

@@ -1,5 +1,5 @@
 -- What is read of an input, and what commands prepare after it.
-use Rattle.std.proofs.Common.{◌≡◌, ◌⊎◌, inl, inr, ap, subst, ◌∙◌, refl, rules, arith, ℕ, ◌<◌, length, Bool, true, List, Option, Some, None, Result, Ok, Err, IsSome}
+use Rattle.std.proofs.Common.{◌≡◌, ◌⊎◌, inl, inr, ap, sym, subst, ◌∙◌, refl, rules, arith, ℕ, ◌<◌, length, Bool, true, List, Option, Some, None, Result, Ok, Err, IsSome}
 use Rattle.std.specs.Prelude.{IfOk, IfErr, IsSomeAnd, nat_lt, if◌then◌else◌}
 use Rattle.std.proofs.lemmas.Bool.Decides.{nat_tests}
 use Rattle.snd_host.specs.Host.{HostState, Files, IfTold, Rose, KeepsRooms, ChangesInputs}
@@ -7,7 +7,7 @@ use Rattle.command_frame.specs.Answer.{Answer, done, refused}
 use Rattle.command_frame.specs.Conduct.{Delivery, Plans, Prepares}
 use Rattle.command_frame.specs.declared.refusals.Refusal.{Refusal}
 use Rattle.command_frame.specs.declared.refusals.Refusal.TheVariants.{Usage, ReadFault, WriteFault, OutOfMemory, Input}
-use Rattle.input_files.specs.Reading.{bytes_in, value_from, answer_from, Declines, Accepts, DeclinesInput, Reads}
+use Rattle.input_files.specs.Reading.{bytes_in, value_from, refused_by, answer_from, Declines, Accepts, DeclinesInput, Reads}
 
 -- what was refused by itself is refused for the command
 inside : {T C : Type 0} (why other : Refusal C) → ◌≡◌ {A = Result T (Refusal C)} (Err why) (Err other) → why ≡ other
@@ -188,3 +188,21 @@ by_test is_longer too_long bytes = if is_longer then Err (Input too_long) else O
 pub too_long_bytes : {C : Type 0} (limit : ℕ) (too_long : C) (held : Option (List ℕ)) → IsSomeAnd held (λ bytes. limit < length bytes) → bytes_in limit too_long held ≡ Err (Input too_long)
 too_long_bytes limit too_long None long = absurd (search rules)
 too_long_bytes limit too_long (Some bytes) long = ap (λ (b : Bool). by_test b too_long bytes) (lt_true limit (length bytes) long)
+
+-- a reader gave a value
+pub accepts_value : {T E C : Type 0} (refusal : E → Refusal C) (given : Result T E) (value : T) → given ≡ Ok value → Accepts (refused_by refusal given) (Ok value)
+accepts_value refusal given value is = record { ok = ap (λ g. refused_by refusal g) is; err = tt }
+
+-- a reader's error, which is what was given, or that of want of memory
+pub declines_error : {T E C : Type 0} (refusal : E → Refusal C) (given : Result T E) (error none : E) (why : Refusal C) → (given ≡ Err error) ⊎ (error ≡ none) → refusal error ≡ why → refusal none ≡ OutOfMemory →
+    (why ≡ Usage → ⊥) → (why ≡ ReadFault → ⊥) → (why ≡ WriteFault → ⊥) → Declines (refused_by refusal given) why
+declines_error {T = T} {E = E} {C = C} refusal given error none why cause is memory no_usage no_read no_write = record {
+  told = told_of cause;
+  no_usage = no_usage;
+  no_read = no_read;
+  no_write = no_write;
+}
+  where
+    told_of : (given ≡ Err error) ⊎ (error ≡ none) → (refused_by refusal given ≡ Err why) ⊎ (why ≡ OutOfMemory)
+    told_of (inl same) = inl (ap (λ g. refused_by refusal g) same ∙ ap (λ (r : Refusal C). Err r) is)
+    told_of (inr same) = inr (sym is ∙ ap refusal same ∙ memory)

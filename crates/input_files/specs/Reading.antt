@@ -22,6 +22,11 @@ abbrev pub value_from : {T U C : Type 0} → Result T (Refusal C) → (T → Res
 value_from (Ok given) value = value given
 value_from (Err refusal) value = Err refusal
 
+-- what a reader gives, with the refusal that its error stands for
+abbrev pub refused_by : {T E C : Type 0} → (refusal : E → Refusal C) → Result T E → Result T (Refusal C)
+refused_by refusal (Ok value) = Ok value
+refused_by refusal (Err error) = Err (refusal error)
+
 -- the answer by what an input gives, or its refusal
 abbrev pub answer_from : {T C : Type 0} → Result T (Refusal C) → (T → Answer C) → Answer C
 answer_from (Ok given) answer = answer given

@@ -1,34 +1,47 @@
 -- Which bytes are an SPC file (SPC file format text v0.30; that short files are accepted and whatever follows the signature is own).
-use Rattle.std.specs.Prelude.{◌≡◌, ◌≢◌, ℕ, ◌-◌, ◌<◌, ◌≤◌, List, ◌++◌, length, take, replicate, slice_index, codes}
+use Rattle.std.specs.Prelude.{ℕ, ◌+◌, ◌-◌, ◌==◌, ◌&&◌, Bool, List, [], ◌∷◌, ◌++◌, length, take, replicate, codes, Option, Some, None, Result, Ok, Err, nat_le, if◌then◌else◌}
+use Rattle.std.specs.Option.{option_map}
+use Rattle.spc_form.specs.declared.reading.SpcRefusal.{SpcRefusal}
+use Rattle.spc_form.specs.declared.reading.SpcRefusal.TheVariants.{Length, Signature}
+
+-- the least length that is accepted: that of a file whose last 128 bytes are missing
+abbrev pub least_length : ℕ
+least_length = 65920
+
+-- the greatest: 1 MB
+abbrev pub greatest_length : ℕ
+greatest_length = 1048576
+
+-- how many bytes are kept of a file
+abbrev pub kept_length : ℕ
+kept_length = 66048
+
+abbrev pub is_spc_length : ℕ → Bool
+is_spc_length n = nat_le least_length n && nat_le n greatest_length
 
 -- what a file begins with
 abbrev pub signature : List ℕ
 signature = codes "SNES-SPC700 Sound File Data"
 
--- a length that is accepted: that of a file whose last 128 bytes may be missing, up to 1 MB
-pub record IsSpcLength (n : ℕ) : Type 0 where
-  pub least : 65920 ≤ n
-  pub most : n ≤ 1048576
+-- the first place at which bytes differ from those that are wanted
+abbrev pub first_difference : (wanted bytes : List ℕ) → Option ℕ
+first_difference [] bytes = None
+first_difference (w ∷ wanted) [] = Some 0
+first_difference (w ∷ wanted) (byte ∷ bytes) = if w == byte then option_map (λ at. at + 1) (first_difference wanted bytes) else Some 0
 
--- the bytes begin with the signature
-abbrev pub HasSignature : (bytes : List ℕ) → Type 0
-HasSignature bytes = (k : ℕ) → k < 27 → slice_index bytes k ≡ slice_index signature k
-
--- the first place at which the bytes differ from the signature
-pub record IsFirstDifference (bytes : List ℕ) (at : ℕ) : Type 0 where
-  pub inside : at < 27
-  pub differs : slice_index bytes at ≢ slice_index signature at
-  pub before : (k : ℕ) → k < at → slice_index bytes k ≡ slice_index signature k
-
--- bytes that are an SPC file
-pub record IsAccepted (bytes : List ℕ) : Type 0 where
-  pub sized : IsSpcLength (length bytes)
-  pub signed : HasSignature bytes
-
--- the first n bytes, and behind them as many zeros as are missing
+-- the first n bytes, and after them as many zeros as are missing
 abbrev pub padded_to : (n : ℕ) → List ℕ → List ℕ
 padded_to n bytes = take n bytes ++ replicate (n - length bytes) 0
 
--- what is kept of a file: 66,048 bytes
+-- what is kept of a file
 unfoldable pub padded : List ℕ → List ℕ
-padded bytes = padded_to 66048 bytes
+padded bytes = padded_to kept_length bytes
+
+-- the file of bytes, by the first place at which they differ from the signature
+abbrev pub signed_file : (bytes : List ℕ) → Option ℕ → Result (List ℕ) SpcRefusal
+signed_file bytes None = Ok (padded bytes)
+signed_file bytes (Some at) = Err (Signature at)
+
+-- what bytes are, read as an SPC file: what is kept of it, or why they are none
+unfoldable pub spc_file : (bytes : List ℕ) → Result (List ℕ) SpcRefusal
+spc_file bytes = if is_spc_length (length bytes) then signed_file bytes (first_difference signature bytes) else Err (Length (length bytes))

@@ -1,7 +1,8 @@
 -- The ID666 tags in their text form (fields: SPC file format text v0.30; the rule of the length is own).
-use Rattle.std.specs.Prelude.{ℕ, ◌+◌, ◌-◌, ◌*◌, ◌==◌, List, take, drop, fold, slice_index, Bool, ◌&&◌, nat_lt, if◌then◌else◌, Option, Some, None, unwrap_or}
+use Rattle.std.specs.Prelude.{ℕ, ◌+◌, ◌*◌, ◌==◌, List, take, drop, slice_index, Bool, ◌&&◌, nat_lt, if◌then◌else◌, Option, Some, None, unwrap_or}
 use Rattle.std.specs.List.{before_first, list_all, prefix_len}
 use Rattle.std.specs.Char.{is_ascii_digit}
+use Rattle.number_text.specs.Decimals.{decimal_value}
 use Rattle.spc_form.specs.Layout.{part_of}
 use Rattle.spc_form.specs.declared.tags.Tag.{Tag}
 use Rattle.spc_form.specs.declared.tags.Tag.TheVariants.{Title, Game, Dumper, Comments, Date, Seconds, Fade, Artist}
@@ -33,11 +34,7 @@ field_size Artist = 32
 unfoldable pub text_of : (file : List ℕ) → Tag → List ℕ
 text_of file tag = before_first (λ byte. byte == 0) (part_of file (field_start tag) (field_size tag))
 
--- the number that digits write
-abbrev pub decimal_value : (digits : List ℕ) → ℕ
-decimal_value digits = fold (λ value digit. 10 * value + (digit - 0x30)) 0 digits
-
--- the number in a text: one digit or more, with nothing but spaces behind them
+-- the number in a text: one digit or more, with nothing but spaces after them
 unfoldable pub number_in : (text : List ℕ) → Option ℕ
 number_in text =
     let count = prefix_len is_ascii_digit text in

@@ -1,8 +1,8 @@
 // A file and its fields.
-ghost use Rattle.std.specs.Prelude.{◌≡◌, length, slice_index};
+ghost use Rattle.std.specs.Prelude.{◌≡◌, None, length, slice_index};
 ghost use Rattle.spc_form.specs.Layout.{pc_of, memory_of, dsp_of, extra_of};
 ghost use Rattle.spc_form.specs.Tags.{text_of};
-ghost use Rattle.spc_form.specs.Accepted.{HasSignature};
+ghost use Rattle.spc_form.specs.Accepted.{signature, first_difference, kept_length};
 
 use crate::parts::part;
 use byteorder::{ByteOrder, LittleEndian};
@@ -15,22 +15,22 @@ pub struct SpcFile {
 }
 
 impl Model for SpcFile {
-    ghost use Rattle.std.specs.Prelude.{◌≡◌, List, ℕ, vec_len};
-    ghost use Rattle.spc_form.specs.Accepted.{HasSignature};
+    ghost use Rattle.std.specs.Prelude.{◌≡◌, List, ℕ, None, vec_len};
+    ghost use Rattle.spc_form.specs.Accepted.{signature, first_difference, kept_length};
 
     ghost Value = { List ℕ };
 
     ghost view = { λ f. f.bytes.items };
 
-    ghost invariant = { λ f. (vec_len f.bytes ≡ 66048) × HasSignature f.bytes.items };
+    ghost invariant = { λ f. (vec_len f.bytes ≡ kept_length) × (first_difference signature f.bytes.items ≡ None) };
 }
 
 impl SpcFile {
     /// The bytes of the file.
     pub(crate) fn as_slice(&self) -> &[u8]
         ensures bytes { result.now ≡ self.now }
-        ensures len { length result.now ≡ 66048 }
-        ensures signed { HasSignature self.now }
+        ensures len { length result.now ≡ kept_length }
+        ensures signed { first_difference signature self.now ≡ None }
     {
         self.bytes.as_slice()
     }

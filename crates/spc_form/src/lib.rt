@@ -3,7 +3,6 @@
 #![tactic(auto)]
 
 mod file;
-mod laws;
 mod parts;
 mod reading;
 mod state;
@@ -12,7 +11,6 @@ mod tags;
 mod tests;
 
 pub use file::SpcFile;
-pub use laws::a_written_file_is_read_as_itself;
 pub use reading::{SpcRefusal, read_spc, write_spc};
 pub use state::{OpenState, opening};
 pub use std::alloc::AllocError as OutOfMemory;

@@ -1,6 +1,6 @@
 // Reading and writing.
-ghost use Rattle.std.specs.Prelude.{◌≡◌, ◌+◌, ◌≤◌, ◌++◌, ℕ, List, length, replicate, take, vec_len, IfOk, OnOk, MatchOption};
-ghost use Rattle.spc_form.specs.Accepted.{HasSignature, IsSpcLength, IsFirstDifference, IsAccepted, padded_to, padded};
+ghost use Rattle.std.specs.Prelude.{◌≡◌, ◌≤◌, ◌⊎◌, length, vec_len, IfOk, IfErr};
+ghost use Rattle.spc_form.specs.Accepted.{signature, first_difference, padded_to, kept_length, spc_file};
 ghost use Rattle.spc_form.specs.declared.reading.SpcRefusal.TheVariants.{OutOfMemory as MemoryRefusal};
 
 use crate::{OutOfMemory, SpcFile};
@@ -13,7 +13,7 @@ const SIGNATURE: [u8; 27] = *b"SNES-SPC700 Sound File Data";
 /// Why bytes were not read as an SPC file.
 #[derive(Debug, Drop, Error)]
 pub enum SpcRefusal {
-    /// The length is below 65,920 or above 1,048,576.
+    /// The length, where it is below 65,920 or above 1,048,576.
     #[error("{0} bytes are no SPC file")]
     Length(usize),
     /// The first place at which the bytes differ from the signature.
@@ -34,7 +34,7 @@ impl From<OutOfMemory> for SpcRefusal {
 /// The first place at which bytes differ from the signature.
 fn first_difference(bytes: &[u8]) -> Option<usize>
     requires { 27 ≤ length bytes.now }
-    ensures { MatchOption result (HasSignature bytes.now) (IsFirstDifference bytes.now) }
+    ensures { result ≡ first_difference signature bytes.now }
 {
     for i in 0..27 {
         if bytes[i] != SIGNATURE[i] {
@@ -55,16 +55,13 @@ fn padded_to(alloc: Global, bytes: &[u8], size: usize) -> Result<Vec<u8>, OutOfM
     Ok(copy)
 }
 
-/// Reads a file. Nothing but its length and its signature is looked at: the version may be any.
-/// Bytes missing before 66,048 count as 0, and bytes from there on are dropped.
-#[tactic(auto, unfolding(crate::specs::Accepted::padded))]
+/// Reads a file (SPC file format text v0.30). Nothing but its length and its signature is looked at: the version may be any.
+/// Bytes missing before 66,048 count as 0, and bytes from there on are dropped. No memory is taken for bytes that are refused.
+#[tactic(auto, unfolding(crate::specs::Accepted::spc_file, crate::specs::Accepted::padded))]
 pub fn read_spc(alloc: Global, bytes: &[u8]) -> Result<SpcFile, SpcRefusal>
-    ensures file { IfOk result (λ file. file ≡ padded bytes.now) }
-    ensures accepted { OnOk result (IsAccepted bytes.now) }
-    ensures length { ¬ IsSpcLength (length bytes.now) → result ≡ Err (SpcRefusal.Length (length bytes.now)) }
-    ensures length_only { (n : ℕ) → result ≡ Err (SpcRefusal.Length n) → (n ≡ length bytes.now) × (¬ IsSpcLength n) }
-    ensures signature { (at : ℕ) → IsSpcLength (length bytes.now) → IsFirstDifference bytes.now at → result ≡ Err (SpcRefusal.Signature at) }
-    ensures signature_only { (at : ℕ) → result ≡ Err (SpcRefusal.Signature at) → IsSpcLength (length bytes.now) × IsFirstDifference bytes.now at }
+    ensures file { IfOk result (λ file. spc_file bytes.now ≡ Ok file) }
+    ensures refused { IfErr (spc_file bytes.now) (λ refusal. result ≡ Err refusal) }
+    ensures causes { IfErr result (λ refusal. (spc_file bytes.now ≡ Err refusal) ⊎ (refusal ≡ SpcRefusal.OutOfMemory)) }
 {
     if bytes.len() < 65920 || bytes.len() > 1048576 {
         return Err(SpcRefusal::Length(bytes.len()));
@@ -76,11 +73,11 @@ pub fn read_spc(alloc: Global, bytes: &[u8]) -> Result<SpcFile, SpcRefusal>
     Ok(SpcFile { bytes })
 }
 
-/// The bytes of a file, as they are written: 66,048.
+/// The bytes of a file, as they are written: 66,048. What was written is read again as the same file.
 pub fn write_spc(alloc: Global, file: &SpcFile) -> Result<Vec<u8>, OutOfMemory>
     ensures bytes { IfOk result (λ bytes. bytes.items ≡ file.now) }
-    ensures len { IfOk result (λ bytes. vec_len bytes ≡ 66048) }
-    ensures accepted { IfOk result (λ bytes. IsAccepted bytes.items) }
+    ensures len { IfOk result (λ bytes. vec_len bytes ≡ kept_length) }
+    ensures read_again { IfOk result (λ bytes. spc_file bytes.items ≡ Ok file.now) }
 {
     Vec::from_slice(alloc, file.as_slice())
 }

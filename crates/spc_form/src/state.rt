@@ -6,6 +6,7 @@ ghost use Rattle.spc_form.specs.Opening.{shows_rom_of, opening_memory, opening_r
 use crate::parts::{array_at, part};
 use crate::{OutOfMemory, SpcFile};
 use aram_core::Aram;
+use num_fix::has_bit;
 use std::alloc::Global;
 
 /// What the machine begins with: the memory, the cells F0h to FFh, the boot ROM, and the registers of the S-DSP.
@@ -36,7 +37,7 @@ pub fn opening(alloc: Global, file: &SpcFile) -> Result<OpenState, OutOfMemory>
     ensures dsp { IfOk result (λ state. state.dsp ≡ dsp_of file.now) }
 {
     let image = file.memory();
-    let shows_rom = image[0xF1] / 128 % 2 == 1;
+    let shows_rom = has_bit(image[0xF1], 7);
     let memory = if shows_rom {
         with_end(alloc, image, 0xFFC0, file.extra())?
     } else {

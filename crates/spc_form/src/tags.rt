@@ -3,10 +3,11 @@ ghost use Rattle.std.specs.Prelude.{◌≡◌, ◌+◌, ◌*◌, ◌-◌, ◌^�
 ghost use Rattle.std.specs.List.{before_first, list_all, prefix_len};
 ghost use Rattle.std.specs.Option.{ForSome};
 ghost use Rattle.std.specs.Char.{IsAsciiDigit, is_ascii_digit};
-ghost use Rattle.spc_form.specs.Tags.{field_start, field_size, text_of, decimal_value, number_in, length_of, length_of_numbers};
+ghost use Rattle.spc_form.specs.Tags.{field_start, field_size, text_of, number_in, length_of, length_of_numbers};
 
 use crate::SpcFile;
 use crate::parts::part;
+use number_text::decimal_value;
 
 /// The tags of a file.
 #[derive(Clone, Copy, Debug, PartialEq, Eq)]
@@ -95,21 +96,7 @@ fn is_blank(text: &[u8]) -> bool
     text.iter().all(|byte| *byte == b' ')
 }
 
-/// The number that digits write.
-fn decimal_value(digits: &[u8]) -> u32
-    requires few { length digits.now ≤ 5 }
-    requires digits { All IsAsciiDigit digits.now }
-    ensures value { result ≡ decimal_value digits.now }
-    ensures bound { result < 10 ^ length digits.now }
-{
-    let mut value = 0u32;
-    for digit in digits {
-        value = 10 * value + u32::from(*digit - b'0');
-    }
-    value
-}
-
-/// The number in a text: one digit or more, with nothing but spaces behind them.
+/// The number in a text: one digit or more, with nothing but spaces after them.
 #[tactic(auto, unfolding(crate::specs::Tags::number_in))]
 fn number_in(text: &[u8]) -> Option<u32>
     requires { length text.now ≤ 5 }
@@ -119,7 +106,7 @@ fn number_in(text: &[u8]) -> Option<u32>
 {
     let count = digit_count(text);
     if count > 0 && is_blank(&text[count..]) {
-        Some(decimal_value(&text[..count]))
+        Some(decimal_value(&text[..count]) as u32)
     } else {
         None
     }

@@ -112,7 +112,8 @@ fn end_created<F: Write>(created: &mut Vec<Created<F>>, place: usize) -> Result<
 }
 
 impl<'r, R: Files, O: Write + Drop, E: Write + Drop> Host for DiskHost<'r, R, O, E> {
-    ghost state = { λ host. untold_state (option_map (λ _. host.newest) host.input) (flags_of host.created.items) host.in_faults host.note_faults host.out_faults };
+    ghost state = { λ host. let current = option_map (λ _. host.newest) host.input in
+        untold_state current (flags_of host.created.items) host.in_faults host.note_faults host.out_faults };
 
     ghost tells_each = { λ host given told. absurd (Prim.cc) };
 

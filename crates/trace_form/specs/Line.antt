@@ -1,17 +1,9 @@
 -- The line of a record in a trace: text with decimals without leading zeros and hexadecimal numbers in lower case.
-use Rattle.std.specs.Prelude.{ℕ, ◌/◌, ◌%◌, List, [], ◌∷◌, ◌++◌, flat_map, codes, decimal, Bool, if◌then◌else◌}
+use Rattle.std.specs.Prelude.{ℕ, List, ◌++◌, flat_map, codes, decimal, Bool, if◌then◌else◌}
 use Rattle.std.specs.Fmt.{signed_decimal}
-use Rattle.hex.specs.Hex.{encode_lower}
+use Rattle.number_text.specs.Digits.{two_digits, four_digits}
 use Rattle.trace_form.specs.declared.record.Record.{Record}
 use Rattle.trace_form.specs.declared.record.Record.TheVariants.{Reg, Port, Voice}
-
--- a byte as two digits
-abbrev pub two_digits : (byte : ℕ) → List ℕ
-two_digits byte = encode_lower (byte ∷ [])
-
--- a word as four digits
-abbrev pub four_digits : (word : ℕ) → List ℕ
-four_digits word = encode_lower (word / 0x100 ∷ word % 0x100 ∷ [])
 
 -- a letter where something is so, and else a dash
 abbrev pub letter_or_dash : Bool → (letter : List ℕ) → List ℕ

@@ -1,9 +1,11 @@
 // The line of a record in a trace.
 ghost use Rattle.std.specs.Prelude.{◌≡◌, ◌+◌, ◌≤◌, ◌++◌, [], length};
-ghost use Rattle.trace_form.specs.Line.{two_digits, four_digits, letter_or_dash, line_of};
+ghost use Rattle.number_text.specs.Digits.{two_digits, four_digits};
+ghost use Rattle.trace_form.specs.Line.{letter_or_dash, line_of};
 
 use crate::Record;
 use itoa::{Buffer, Integer};
+use number_text::{four_digits, two_digits};
 use std::marker::Model;
 
 /// A line of a trace, with its line feed: at most 48 bytes.
@@ -68,9 +70,7 @@ impl TraceLine {
         ensures text { self.new ≡ self.old ++ two_digits byte }
         ensures len { length self.new ≡ length self.old + 2 }
     {
-        let mut digits = [0u8; 2];
-        hex::encode_to_slice(&[byte], &mut digits).unwrap();
-        self.append(&digits);
+        self.append(&two_digits(byte));
     }
 
     /// Adds a word as four hexadecimal digits.
@@ -79,9 +79,7 @@ impl TraceLine {
         ensures text { self.new ≡ self.old ++ four_digits word }
         ensures len { length self.new ≡ length self.old + 4 }
     {
-        let mut digits = [0u8; 4];
-        hex::encode_to_slice(&word.to_be_bytes(), &mut digits).unwrap();
-        self.append(&digits);
+        self.append(&four_digits(word));
     }
 
     /// Adds a letter where something is so, and else a dash.

@@ -1,7 +1,7 @@
 use Rattle.std.proofs.Common.{◌∙◌, sym, ap, List, ℕ, ◌++◌, get_or}
 use Rattle.brr_encode.specs.declared.report.BlockReport.{BlockReport}
 use Rattle.command_encode.specs.Encode.{block_line}
-use Rattle.command_encode.proofs.Encodings.{block_lines_to}
+use Rattle.command_encode.proofs.BlockLines.{block_lines_to}
 use Rattle.command_encode.proofs.command.report.Goals as goal
 
 pub loop-place-preserved : goal.loop-place-preserved
