@@ -1,4 +1,4 @@
-// The sample that is kept of one digit.
+// The sample that is kept of one digit. It is inlined into the group, where the filter is a constant.
 ghost use Rattle.std.specs.Prelude.{◌≡◌, ◌<◌, ◌≤◌, ◌^◌, ◌+ℤ◌, ◌-ℤ◌, ◌*ℤ◌, neg_ℤ, pos, unsigned_abs};
 ghost use Rattle.num_fix.specs.Arithmetic.{clamp16, scaled, wrap16};
 ghost use Rattle.brr_decode.specs.Header.{filter_of, shift_of};

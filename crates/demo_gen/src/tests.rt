@@ -48,7 +48,11 @@ fn the_parts_stand_at_their_places(rt: HostRuntime) -> Result<(), Fail> {
         assert_eq!(rt; file.text(Tag::Title), title.as_bytes());
         for (place, part) in PARTS {
             for (k, byte) in part.iter().enumerate() {
-                assert_eq!(rt; bytes.get(place.saturating_add(k)), Some(byte), "at {place} + {k}");
+                assert_eq!(rt;
+                    bytes.get(place.saturating_add(k)),
+                    Some(byte),
+                    "at {place} + {k}"
+                );
             }
         }
     }

@@ -1,4 +1,4 @@
-// Why a bus that lags makes its pending samples, and when.
+// Why a bus that lags makes its pending samples, and when. The two tests of a page are inlined into what keeps marks of them.
 ghost use Rattle.std.specs.Prelude.{◌≡◌};
 ghost use Rattle.lag_bus.specs.Book.{may_be_read, may_be_written, cause_of_read, cause_of_write};
 

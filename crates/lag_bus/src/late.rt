@@ -1,4 +1,4 @@
-// A chip with its memory and its output, some samples late.
+// A chip with its memory and its output, some samples late. What each access of the bus asks is inlined into it.
 ghost use Rattle.std.specs.Prelude.{ℕ, ◌≡◌, ◌&&◌, ◌+◌, ◌-◌, ◌*◌, ◌<◌, ◌≤◌, ◌++◌, ◌∷◌, [], ◌==◌, true, false, length, if◌then◌else◌, ◌||◌, not};
 ghost use Rattle.std.specs.List.{filter};
 ghost use Rattle.aram_core.specs.Memory.{byte_at, with_byte};

@@ -1,4 +1,4 @@
-// A reach that was taken, and what was found by it.
+// A reach that was taken, and what was found by it. The tests of marks are inlined into each access of the bus.
 ghost use Rattle.std.specs.Prelude.{◌≡◌, ◌≤◌, ◌<◌, Some, None, true, false, IsSome, IfSome};
 ghost use Rattle.lag_bus.specs.Book.{may_be_written};
 

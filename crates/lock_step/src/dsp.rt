@@ -1,4 +1,4 @@
-// The S-DSP as the chip of a bus.
+// The S-DSP as the chip of a bus. Each call only passes on its own, so that it is inlined.
 ghost use Rattle.std.specs.Prelude.{◌==◌};
 ghost use Rattle.lock_step.specs.DspChip.{dsp_chip};
 ghost use Rattle.lock_step.specs.DspLaws.{dsp_is_lawful};

@@ -1,4 +1,6 @@
 //! The operations on one bit of a byte and the carry.
+//!
+//! Each operation is inlined into the arm of its opcode, where its kind is a constant.
 
 ghost use Rattle.std.specs.Prelude.{◌≡◌, ◌<◌};
 ghost use Rattle.spc700_alu.specs.Bits.{bitop_of};

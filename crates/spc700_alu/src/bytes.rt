@@ -1,4 +1,6 @@
 //! Sums, comparisons, logic and shifts of bytes.
+//!
+//! Each operation is inlined into the arm of its opcode, where its kind is a constant.
 
 ghost use Rattle.std.specs.Prelude.{◌≡◌, ◌≤◌};
 ghost use Rattle.spc700_alu.specs.Bytes.{byte_sum, adc_of, sbc_of, cmp_of, logic_of, shift_of, bump_of, nz_result};

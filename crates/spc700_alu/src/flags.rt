@@ -1,4 +1,6 @@
 //! The status byte PSW (Anomie's SPC700 Doc, the processor's flags).
+//!
+//! Each operation is inlined into the arm of its opcode, where its kind is a constant.
 
 ghost use Rattle.std.specs.Prelude.{◌≡◌};
 ghost use Rattle.spc700_alu.specs.Flags.{flag, carry_in, with_flag, with_nz, with_nz16};

@@ -1,4 +1,6 @@
 //! Sums, comparisons, products and quotients of words.
+//!
+//! Each operation is inlined into the arm of its opcode, where its kind is a constant.
 
 ghost use Rattle.std.specs.Prelude.{◌≡◌, ◌≤◌};
 ghost use Rattle.spc700_alu.specs.Words.{word_sum, addw_of, subw_of, cmpw_of, mul_of, div_of};

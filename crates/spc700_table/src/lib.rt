@@ -222,6 +222,7 @@ pub struct OpRow {
 }
 
 /// The row of an opcode.
+// In line, so that of a constant opcode it is a constant.
 #[inline]
 pub fn row(op: u8) -> OpRow
     ensures { result ≡ row_of op }
