@@ -10,9 +10,11 @@ use Rattle.command_encode.specs.Encode.{encode_answer}
 use Rattle.command_check.specs.Check.{check_answer}
 use Rattle.command_demo.specs.Demo.{demo_answer}
 use Rattle.command_render.specs.Options.{Options}
-use Rattle.spcwave.specs.Options.{is_name, options_in, demo_number_in}
+use Rattle.spcwave.specs.Options.{is_name, options_in, demo_number_in, origin_in}
 use Rattle.command_render.specs.Render.{render_answer}
 use Rattle.command_info.specs.Info.{info_answer}
+use Rattle.command_asm.specs.Asm.{asm_answer}
+use Rattle.command_dis.specs.Dis.{dis_answer}
 
 -- a command with its names
 pub data Command : Type 0 where
@@ -29,6 +31,10 @@ pub data Command : Type 0 where
   demo : (number : ℕ) → (output : List ℕ) → Command
   -- tells sums over the frames of the demo file of a number
   check : (number : ℕ) → Command
+  -- assembles the source of the first name from an origin on to code under the second
+  asm : (input : List ℕ) → (origin : ℕ) → (output : List ℕ) → Command
+  -- lists the code of the first name from an origin on under the second
+  dis : (input : List ℕ) → (origin : ℕ) → (output : List ℕ) → Command
 
 -- the words after `brr`
 abbrev pub brr_command : List (List ℕ) → Command
@@ -82,6 +88,24 @@ abbrev pub check_command : List (List ℕ) → Command
 check_command (number ∷ []) = check_with (demo_number_in number)
 check_command words = usage
 
+-- `asm` and `dis` with these names
+abbrev pub asm_with : (input : List ℕ) → (origin : Option ℕ) → (output : List ℕ) → Command
+asm_with input None output = usage
+asm_with input (Some origin) output = asm input origin output
+
+abbrev pub dis_with : (input : List ℕ) → (origin : Option ℕ) → (output : List ℕ) → Command
+dis_with input None output = usage
+dis_with input (Some origin) output = dis input origin output
+
+-- the words after `asm` and after `dis`
+abbrev pub asm_command : List (List ℕ) → Command
+asm_command (input ∷ origin ∷ output ∷ []) = if is_name input && is_name output then asm_with input (origin_in origin) output else usage
+asm_command words = usage
+
+abbrev pub dis_command : List (List ℕ) → Command
+dis_command (input ∷ origin ∷ output ∷ []) = if is_name input && is_name output then dis_with input (origin_in origin) output else usage
+dis_command words = usage
+
 -- the command that the words say
 abbrev pub command_of : List (List ℕ) → Command
 command_of [] = usage
@@ -92,6 +116,8 @@ command_of (name ∷ words) =
     else if bytes_eq name (codes "render") then render_command words
     else if bytes_eq name (codes "demo") then demo_command words
     else if bytes_eq name (codes "check") then check_command words
+    else if bytes_eq name (codes "asm") then asm_command words
+    else if bytes_eq name (codes "dis") then dis_command words
     else usage
 
 -- whether a command names an input
@@ -103,6 +129,8 @@ names_input (encode input output looped) = true
 names_input (render file table wave options) = true
 names_input (demo number output) = false
 names_input (check number) = false
+names_input (asm input origin output) = true
+names_input (dis input origin output) = true
 
 -- what a command answers, by what the names hold
 abbrev pub answer_of : Command → Files → Answer Cause
@@ -113,3 +141,5 @@ answer_of (encode input output looped) files = encode_answer output looped (file
 answer_of (render file table wave options) files = render_answer wave options (files file) (files table)
 answer_of (demo number output) files = demo_answer number output
 answer_of (check number) files = check_answer number
+answer_of (asm input origin output) files = asm_answer origin output (files input)
+answer_of (dis input origin output) files = dis_answer origin output (files input)

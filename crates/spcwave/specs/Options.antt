@@ -1,5 +1,5 @@
--- The options of `render`, as words say them.
-use Rattle.std.specs.Prelude.{ℕ, ◌==◌, ◌&&◌, not, Bool, false, List, [], ◌∷◌, slice_index, Option, Some, None, Result, Ok, Err, codes, nat_le, if◌then◌else◌}
+-- The options of `render`, and numbers and addresses, as words say them.
+use Rattle.std.specs.Prelude.{ℕ, ◌+◌, ◌*◌, ◌==◌, ◌&&◌, not, Bool, false, List, [], ◌∷◌, slice_index, Option, Some, None, Result, Ok, Err, codes, nat_le, if◌then◌else◌}
 use Rattle.std.specs.Option.{option_map}
 use Rattle.std.specs.Str.{bytes_eq}
 use Rattle.hex.specs.Hex.{decode_sized}
@@ -40,6 +40,15 @@ first_byte (Err error) = None
 -- the voices that a word says: two hexadecimal digits of either case
 abbrev pub voices_in : List ℕ → Option ℕ
 voices_in word = first_byte (decode_sized word 1)
+
+-- the word that was decoded, its high byte first
+abbrev pub first_word : Result (List ℕ) FromHexError → Option ℕ
+first_word (Ok bytes) = Some (0x100 * slice_index bytes 0 + slice_index bytes 1)
+first_word (Err error) = None
+
+-- the address that a word says: four hexadecimal digits of either case
+abbrev pub origin_in : List ℕ → Option ℕ
+origin_in word = first_word (decode_sized word 2)
 
 -- what an option is set to, unless it was set before
 abbrev pub once : {T : Type 0} → (before value : Option T) → Option T

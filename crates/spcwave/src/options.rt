@@ -1,7 +1,7 @@
-// The options of `render`.
+// The options of `render`, and numbers and addresses.
 ghost use Rattle.std.specs.Prelude.{◌≡◌, map, string_bytes, option_map, true, IfSome};
 ghost use Rattle.command_render.specs.Options.{options_of, IsWithinHour};
-ghost use Rattle.spcwave.specs.Options.{is_name, count_in, demo_number_in, name_in, voices_in, options_with, options_in};
+ghost use Rattle.spcwave.specs.Options.{is_name, count_in, demo_number_in, name_in, voices_in, origin_in, options_with, options_in};
 
 use command_render::RenderOptions;
 use number_text::{decimal_value, is_number};
@@ -67,6 +67,20 @@ fn voices_in(word: &[u8]) -> Option<u8>
     let mut voices = [0u8; 1];
     match hex::decode_to_slice(word, &mut voices) {
         Ok(()) => Some(voices[0]),
+        Err(_) => None,
+    }
+}
+
+/// The address that a word says: four hexadecimal digits of either case.
+pub fn origin_in(word: &[u8]) -> Option<u16>
+    ensures { result ≡ origin_in word.now }
+{
+    let mut origin = [0u8; 2];
+    match hex::decode_to_slice(word, &mut origin) {
+        Ok(()) => {
+            let [high, low] = origin;
+            Some(0x100 * u16::from(high) + u16::from(low))
+        }
         Err(_) => None,
     }
 }

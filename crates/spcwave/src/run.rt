@@ -6,9 +6,11 @@ ghost use Rattle.spcwave.specs.Command.{command_of, usage, names_input, answer_o
 ghost use Rattle.spcwave.specs.Run.{HasFewOutputs, Content, ReadFault, WriteFault, Memory, IsTruthful, CompletesCalmly, CompletesInputs, CompletesOutputs, CompletesComplaint, Untold};
 
 use crate::words::{Command, read_words};
+use command_asm::asm;
 use command_brr::brr;
 use command_check::check;
 use command_demo::demo;
+use command_dis::dis;
 use command_encode::encode;
 use command_frame::{Refusal, complain};
 use command_info::info;
@@ -41,6 +43,16 @@ fn attempt<H: Host>(alloc: Global, words: &[String], host: &mut H) -> Option<Ref
         } => render(alloc, host, file, table, wave, options),
         Command::Demo { number, output } => demo(alloc, host, number, output),
         Command::Check { number } => check(alloc, host, number),
+        Command::Asm {
+            input,
+            origin,
+            output,
+        } => asm(alloc, host, input, origin, output),
+        Command::Dis {
+            input,
+            origin,
+            output,
+        } => dis(alloc, host, input, origin, output),
     }
 }
 

@@ -50,6 +50,18 @@ const WORDS: &[&[&str]] = &[
     &["check", ""],
     &["check", "-1"],
     &["check", "00000000007"],
+    &["asm", "IN", "0400"],
+    &["asm", "IN", "400", "OUT"],
+    &["asm", "IN", "00400", "OUT"],
+    &["asm", "IN", "$400", "OUT"],
+    &["asm", "IN", "0x40", "OUT"],
+    &["asm", "IN", "OUT", "0400"],
+    &["asm", "-A", "0400", "OUT"],
+    &["asm", "IN", "0400", "OUT", "OUT"],
+    &["dis", "IN", "0400"],
+    &["dis", "IN", "040g", "OUT"],
+    &["dis", "IN", "", "OUT"],
+    &["dis", "IN", "0400", "-B"],
 ];
 
 #[test]
@@ -68,6 +80,9 @@ const COMMANDS: &[(&[&str], Status, &str)] = &[
     (&["encode", "IN", "OUT", "--loop"], Status::WavForm, ""),
     (&["render", "IN", "IN", "OUT"], Status::SpcLength, ""),
     (&["demo", "0000000007", "OUT"], Status::Ok, "bytes 66048\n"),
+    (&["asm", "IN", "0400", "OUT"], Status::AsmLine, ""),
+    (&["dis", "IN", "fFf7", "OUT"], Status::Ok, "lines 8\n"),
+    (&["dis", "IN", "FfF8", "OUT"], Status::CodeLength, ""),
 ];
 
 #[test]

@@ -1,10 +1,10 @@
 // The words of the command line.
 ghost use Rattle.std.specs.Prelude.{◌≡◌, map, string_bytes, option_map, IfSome};
-ghost use Rattle.spcwave.specs.Command.{command_of, brr_command, info_command, encode_command, have_same_name, render_with, render_command, demo_command, check_command};
+ghost use Rattle.spcwave.specs.Command.{command_of, brr_command, info_command, encode_command, have_same_name, render_with, render_command, demo_command, check_command, asm_command, dis_command};
 ghost use Rattle.command_render.specs.Options.{options_of, IsWithinHour};
 ghost use Rattle.spcwave.specs.Words.{meaning_of, AreWithinHour};
 
-use crate::options::{demo_number_in, is_name, read_options};
+use crate::options::{demo_number_in, is_name, origin_in, read_options};
 use command_render::RenderOptions;
 
 /// A command with its names.
@@ -35,6 +35,16 @@ pub enum Command<'a> {
     },
     Check {
         number: u32,
+    },
+    Asm {
+        input: &'a str,
+        origin: u16,
+        output: &'a str,
+    },
+    Dis {
+        input: &'a str,
+        origin: u16,
+        output: &'a str,
     },
 }
 
@@ -173,6 +183,46 @@ fn read_check(words: &[String]) -> Command<'_>
     }
 }
 
+/// Reads the words after `asm`.
+fn read_asm(words: &[String]) -> Command<'_>
+    ensures meaning { meaning_of result ≡ asm_command (map string_bytes words.now) }
+    ensures within_hour { AreWithinHour result }
+{
+    match words {
+        [input, origin, output] if is_name(input.as_str()) && is_name(output.as_str()) => {
+            match origin_in(origin.as_bytes()) {
+                Some(origin) => Command::Asm {
+                    input: input.as_str(),
+                    origin,
+                    output: output.as_str(),
+                },
+                None => Command::Usage,
+            }
+        }
+        _ => Command::Usage,
+    }
+}
+
+/// Reads the words after `dis`.
+fn read_dis(words: &[String]) -> Command<'_>
+    ensures meaning { meaning_of result ≡ dis_command (map string_bytes words.now) }
+    ensures within_hour { AreWithinHour result }
+{
+    match words {
+        [input, origin, output] if is_name(input.as_str()) && is_name(output.as_str()) => {
+            match origin_in(origin.as_bytes()) {
+                Some(origin) => Command::Dis {
+                    input: input.as_str(),
+                    origin,
+                    output: output.as_str(),
+                },
+                None => Command::Usage,
+            }
+        }
+        _ => Command::Usage,
+    }
+}
+
 /// Reads the words of the command line.
 pub fn read_words(words: &[String]) -> Command<'_>
     ensures meaning { meaning_of result ≡ command_of (map string_bytes words.now) }
@@ -187,6 +237,8 @@ pub fn read_words(words: &[String]) -> Command<'_>
             "render" => read_render(rest),
             "demo" => read_demo(rest),
             "check" => read_check(rest),
+            "asm" => read_asm(rest),
+            "dis" => read_dis(rest),
             _ => Command::Usage,
         },
     }

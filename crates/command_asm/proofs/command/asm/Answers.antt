@@ -1,0 +1,15 @@
+use Rattle.snd_host.specs.Host.{Files}
+use Rattle.command_frame.specs.Plan.{plan_makes}
+use Rattle.command_frame.proofs.Obeying.{attempts, attempts_no_usage}
+use Rattle.command_asm.specs.Asm.{asm_answer}
+use Rattle.command_asm.proofs.command.asm.Goals as goal
+
+pub returns-clause-attempts : goal.returns-clause-attempts
+returns-clause-attempts g c =
+    attempts plan_makes (λ (files : Files). asm_answer c.args.origin c.args.output.now (files c.args.input.now)) (g.H.Host.state c.args.host.now) (g.H.Host.state c.prepare-prepared.new.host) (g.H.Host.state c.carry_out.new.host)
+    c.prepare-prepared.result c.carry_out.result c.prepare-prepared.ensures c.carry_out.ensures
+
+pub returns-clause-not_usage : goal.returns-clause-not_usage
+returns-clause-not_usage g c =
+    attempts_no_usage plan_makes (λ (files : Files). asm_answer c.args.origin c.args.output.now (files c.args.input.now)) (g.H.Host.state c.args.host.now) (g.H.Host.state c.prepare-prepared.new.host) (g.H.Host.state c.carry_out.new.host)
+    c.prepare-prepared.result c.carry_out.result c.prepare-prepared.ensures c.carry_out.ensures

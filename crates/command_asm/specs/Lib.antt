@@ -1,0 +1,2 @@
+-- what `asm` answers
+pub mod Asm

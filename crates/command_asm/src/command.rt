@@ -1,0 +1,121 @@
+// The command `asm`: a source to code.
+ghost use Rattle.std.specs.Prelude.{◌≡◌, ◌≤◌, Some, length, IfOk, true};
+ghost use Rattle.snd_host.specs.Host.{HostState, Files};
+ghost use Rattle.command_frame.specs.Conduct.{Plans, Prepares, Attempts};
+ghost use Rattle.command_frame.specs.Delivery.{CanDeliver};
+ghost use Rattle.command_frame.specs.Plan.{plan_makes};
+ghost use Rattle.command_asm.specs.Asm.{fault_told, asm_report, source_answer, asm_answer};
+
+use command_frame::{OutOfMemory, Plan, PlannedOutput, Refusal, carry_out};
+use input_files::{INPUT_LIMIT, read_input};
+use report_text::put_named;
+use snd_host::Host;
+use spc700_asm::{AsmRefusal, LineFault, assemble};
+use status_lines::Cause;
+use std::alloc::Global;
+
+/// What is wrong with a line, as the complaint tells it.
+fn fault_told(fault: LineFault) -> status_lines::LineFault
+    ensures { result ≡ fault_told fault }
+{
+    match fault {
+        LineFault::Form => status_lines::LineFault::Form,
+        LineFault::Number => status_lines::LineFault::Number,
+        LineFault::Twice => status_lines::LineFault::Twice,
+        LineFault::Long => status_lines::LineFault::Long,
+        LineFault::Name => status_lines::LineFault::Name,
+        LineFault::Far => status_lines::LineFault::Far,
+    }
+}
+
+/// The line that tells how much code was made.
+fn report(alloc: Global, code: &[u8]) -> Result<Vec<u8>, OutOfMemory>
+    ensures { IfOk result (λ report. report.items ≡ asm_report code.now) }
+{
+    let mut report = Vec::new(alloc);
+    put_named(&mut report, b"bytes ", code.len() as u64)?;
+    report.extend_from_slice(b"\n")?;
+    Ok(report)
+}
+
+/// Makes the plan for a source of a length that is assembled.
+fn plan_source<'a>(
+    alloc: Global,
+    source: &[u8],
+    origin: u16,
+    output: &'a str,
+) -> Result<Plan<'a>, Refusal<Cause>>
+    requires { length source.now ≤ 1048576 }
+    ensures { Plans plan_makes (source_answer origin output.now source.now) result }
+{
+    let code = match assemble(alloc, source, origin) {
+        Ok(code) => code,
+        Err(AsmRefusal::Line { number, fault }) => {
+            return Err(Refusal::Input(Cause::AsmLine {
+                line: number as usize,
+                fault: fault_told(fault),
+            }));
+        }
+        Err(AsmRefusal::OutOfMemory) => return Err(Refusal::OutOfMemory),
+    };
+    let Ok(report) = report(alloc, code.as_slice()) else {
+        return Err(Refusal::OutOfMemory);
+    };
+    Ok(Plan {
+        output: Some(PlannedOutput {
+            name: output,
+            bytes: code,
+        }),
+        report,
+    })
+}
+
+/// Makes the plan for an input that was read.
+fn plan<'a>(
+    alloc: Global,
+    source: &[u8],
+    origin: u16,
+    output: &'a str,
+) -> Result<Plan<'a>, Refusal<Cause>>
+    ensures { Plans plan_makes (asm_answer origin output.now (Some source.now)) result }
+{
+    if source.len() > INPUT_LIMIT {
+        return Err(Refusal::Input(Cause::InputTooLong));
+    }
+    plan_source(alloc, source, origin, output)
+}
+
+/// Reads the input and makes the plan for it.
+fn prepare<'a, H: Host>(
+    alloc: Global,
+    host: &mut H,
+    input: &str,
+    origin: u16,
+    output: &'a str,
+) -> Result<Plan<'a>, Refusal<Cause>>
+    ensures { let answer = λ (files : Files). asm_answer origin output.now (files input.now) in
+        Prepares plan_makes answer (H.state host.old) (H.state host.new) result }
+{
+    match read_input(alloc, host, input, INPUT_LIMIT, Cause::InputTooLong) {
+        Ok(bytes) => plan(alloc, bytes.as_slice(), origin, output),
+        Err(refusal) => Err(refusal),
+    }
+}
+
+/// Assembles the source that the input holds, its first line at the origin, to code, the output, and reports how many
+/// bytes there are.
+pub fn asm<H: Host>(
+    alloc: Global,
+    host: &mut H,
+    input: &str,
+    origin: u16,
+    output: &str,
+) -> Option<Refusal<Cause>>
+    requires { CanDeliver (H.state host.old) }
+    ensures attempts { let answer = λ (files : Files). asm_answer origin output.now (files input.now) in
+        Attempts answer true result (H.state host.old) (H.state host.new) }
+    ensures not_usage { result ≡ Some Refusal.Usage → ⊥ }
+{
+    let prepared = prepare(alloc, host, input, origin, output);
+    carry_out(host, prepared)
+}

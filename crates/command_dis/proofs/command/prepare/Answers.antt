@@ -1,0 +1,20 @@
+use Rattle.std.proofs.Common.{List, ℕ, subst}
+use Rattle.snd_host.specs.Host.{Files}
+use Rattle.command_frame.specs.Conduct.{Plans}
+use Rattle.command_frame.specs.Plan.{plan_makes}
+use Rattle.status_lines.specs.declared.cause.Cause.TheVariants.{InputTooLong}
+use Rattle.input_files.specs.Reading.{input_limit, bytes_in}
+use Rattle.input_files.proofs.Readings.{reads_plan, reads_declined}
+use Rattle.command_dis.specs.Dis.{code_answer}
+use Rattle.command_dis.proofs.command.prepare.Goals as goal
+
+pub returns-in-Ok : goal.returns-in-Ok
+returns-in-Ok g c =
+    reads_plan plan_makes (λ (files : Files). bytes_in input_limit InputTooLong (files c.args.input.now)) (code_answer c.args.origin c.args.output.now)
+    (g.H.Host.state c.args.host.now) (g.H.Host.state c.read_input.new.host) c.in-Ok.bytes c.plan.result c.in-Ok.ensures
+    (subst (λ (l : List ℕ). Plans plan_makes (code_answer c.args.origin c.args.output.now l) c.plan.result) c.as_slice.ensures c.plan.ensures)
+
+pub returns-in-Err : goal.returns-in-Err
+returns-in-Err g c =
+    reads_declined plan_makes (λ (files : Files). bytes_in input_limit InputTooLong (files c.args.input.now)) (λ (files : Files). code_answer c.args.origin c.args.output.now)
+    (g.H.Host.state c.args.host.now) (g.H.Host.state c.read_input.new.host) c.in-Err.refusal c.in-Err.ensures

@@ -1,0 +1,2 @@
+-- what `dis` answers
+pub mod Dis

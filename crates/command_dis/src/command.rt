@@ -1,0 +1,99 @@
+// The command `dis`: the listing of code.
+ghost use Rattle.std.specs.Prelude.{◌≡◌, IfOk, true};
+ghost use Rattle.snd_host.specs.Host.{HostState, Files};
+ghost use Rattle.command_frame.specs.Conduct.{Plans, Prepares, Attempts};
+ghost use Rattle.command_frame.specs.Delivery.{CanDeliver};
+ghost use Rattle.command_frame.specs.Plan.{plan_makes};
+ghost use Rattle.command_dis.specs.Dis.{line_count, dis_report, code_answer, dis_answer};
+
+use command_frame::{OutOfMemory, Plan, PlannedOutput, Refusal, carry_out};
+use input_files::{INPUT_LIMIT, read_input};
+use report_text::put_named;
+use snd_host::Host;
+use spc700_asm::disassemble;
+use status_lines::Cause;
+use std::alloc::Global;
+
+/// The size of the memory.
+const MEMORY: usize = 0x1_0000;
+
+/// How many lines a text has, each ended by a line feed.
+fn line_count(text: &[u8]) -> usize
+    ensures { result ≡ line_count text.now }
+{
+    text.iter().filter(|byte| **byte == b'\n').count()
+}
+
+/// The line that tells how long the listing is.
+fn report(alloc: Global, text: &[u8]) -> Result<Vec<u8>, OutOfMemory>
+    ensures { IfOk result (λ report. report.items ≡ dis_report text.now) }
+{
+    let mut report = Vec::new(alloc);
+    put_named(&mut report, b"lines ", line_count(text) as u64)?;
+    report.extend_from_slice(b"\n")?;
+    Ok(report)
+}
+
+/// Makes the plan for an input that was read.
+fn plan<'a>(
+    alloc: Global,
+    bytes: &[u8],
+    origin: u16,
+    output: &'a str,
+) -> Result<Plan<'a>, Refusal<Cause>>
+    ensures { Plans plan_makes (code_answer origin output.now bytes.now) result }
+{
+    if bytes.len() > MEMORY - usize::from(origin) {
+        return Err(Refusal::Input(Cause::CodeLength {
+            length: bytes.len(),
+            origin,
+        }));
+    }
+    let Ok(text) = disassemble(alloc, bytes, origin) else {
+        return Err(Refusal::OutOfMemory);
+    };
+    let Ok(report) = report(alloc, text.as_slice()) else {
+        return Err(Refusal::OutOfMemory);
+    };
+    Ok(Plan {
+        output: Some(PlannedOutput {
+            name: output,
+            bytes: text,
+        }),
+        report,
+    })
+}
+
+/// Reads the input and makes the plan for it.
+fn prepare<'a, H: Host>(
+    alloc: Global,
+    host: &mut H,
+    input: &str,
+    origin: u16,
+    output: &'a str,
+) -> Result<Plan<'a>, Refusal<Cause>>
+    ensures { let answer = λ (files : Files). dis_answer origin output.now (files input.now) in
+        Prepares plan_makes answer (H.state host.old) (H.state host.new) result }
+{
+    match read_input(alloc, host, input, INPUT_LIMIT, Cause::InputTooLong) {
+        Ok(bytes) => plan(alloc, bytes.as_slice(), origin, output),
+        Err(refusal) => Err(refusal),
+    }
+}
+
+/// Lists the code that the input holds, its first byte at the origin, to the output, and reports how many lines there are.
+pub fn dis<H: Host>(
+    alloc: Global,
+    host: &mut H,
+    input: &str,
+    origin: u16,
+    output: &str,
+) -> Option<Refusal<Cause>>
+    requires { CanDeliver (H.state host.old) }
+    ensures attempts { let answer = λ (files : Files). dis_answer origin output.now (files input.now) in
+        Attempts answer true result (H.state host.old) (H.state host.new) }
+    ensures not_usage { result ≡ Some Refusal.Usage → ⊥ }
+{
+    let prepared = prepare(alloc, host, input, origin, output);
+    carry_out(host, prepared)
+}
