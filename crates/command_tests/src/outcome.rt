@@ -25,7 +25,7 @@ pub fn host_with(
         let name = String::from_str(alloc, name)?;
         files.push((name, Vec::from_slice(alloc, bytes)?))?;
     }
-    let rooms = vec![in alloc; 400, 100, room, 10000]?;
+    let rooms = vec![in alloc; 2000, 100, room, 10000]?;
     MemHost::new(alloc, files, failing.to_vec(alloc)?, rooms)
 }
 

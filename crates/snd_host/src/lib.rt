@@ -1,12 +1,14 @@
-//! The one trait of the outside, its host in memory, and the two loops over it.
+//! The one trait of the outside, its hosts in memory, and the two loops over it.
 #![tactic(auto)]
 
 mod calls;
+mod drip;
 mod files;
 mod host;
 mod memory;
 
 pub use calls::{ReadRefusal, read_whole, write_all};
+pub use drip::DripHost;
 pub use host::{Failed, Host, InFile, OutFile};
 pub use memory::MemHost;
 pub use std::alloc::AllocError as OutOfMemory;

@@ -2,7 +2,7 @@
 ghost use Rattle.std.specs.Prelude.{◌≡◌, ◌<◌, [], ◌∷◌, length, true, None, is_err, IfOk};
 ghost use Rattle.snd_host.specs.Memory.{memory_state, calls_of, failing_of};
 
-use crate::{Failed, Host, MemHost, OutFile, ReadRefusal, read_whole, write_all};
+use crate::{DripHost, Failed, Host, MemHost, OutFile, ReadRefusal, read_whole, write_all};
 use std::alloc::Global;
 use std::test::Fail;
 
@@ -87,5 +87,19 @@ fn a_call_whose_number_is_listed_fails(rt: HostRuntime) -> Result<(), Fail> {
     assert_eq!(rt; second_write(&mut host), Err(Failed));
     assert_eq!(rt; host.calls(), 2);
     assert_eq!(rt; host.output(REPORT), b"ab".as_slice());
+    Ok(())
+}
+
+#[test]
+fn a_host_may_give_and_take_one_byte_at_a_time(rt: HostRuntime) -> Result<(), Fail> {
+    let alloc = rt.alloc();
+    let mut host = DripHost::new(five_bytes(alloc, &[], &[3])?);
+    match read_whole(alloc, &mut host, "IN", 5) {
+        Ok(bytes) => assert_eq!(rt; bytes.as_slice(), b"12345".as_slice()),
+        Err(refusal) => assert_eq!(rt; Err(refusal), Ok(())),
+    }
+    assert_eq!(rt; write_all(&mut host, REPORT, b"abcd"), Err(Failed));
+    assert_eq!(rt; host.inner().output(REPORT), b"abc".as_slice());
+    assert_eq!(rt; host.inner().calls(), 11);
     Ok(())
 }

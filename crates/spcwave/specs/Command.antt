@@ -1,5 +1,5 @@
 -- The commands of the program, as its words say them, and what they answer.
-use Rattle.std.specs.Prelude.{ℕ, ◌&&◌, Bool, true, false, List, [], ◌∷◌, Option, Some, None, codes, if◌then◌else◌}
+use Rattle.std.specs.Prelude.{ℕ, ◌&&◌, ◌||◌, Bool, true, false, List, [], ◌∷◌, Option, Some, None, codes, if◌then◌else◌}
 use Rattle.std.specs.Str.{bytes_eq}
 use Rattle.snd_host.specs.Host.{Files}
 use Rattle.command_frame.specs.Answer.{Answer, refused}
@@ -9,6 +9,7 @@ use Rattle.command_brr.specs.Brr.{brr_answer}
 use Rattle.command_encode.specs.Encode.{encode_answer}
 use Rattle.command_check.specs.Check.{check_answer}
 use Rattle.command_demo.specs.Demo.{demo_answer}
+use Rattle.command_help.specs.Help.{help_answer, version_answer}
 use Rattle.command_render.specs.Options.{Options}
 use Rattle.spcwave.specs.Options.{is_name, options_in, demo_number_in, origin_in}
 use Rattle.command_render.specs.Render.{render_answer}
@@ -19,6 +20,10 @@ use Rattle.command_dis.specs.Dis.{dis_answer}
 -- a command with its names
 pub data Command : Type 0 where
   usage : Command
+  -- tells the commands
+  help : Command
+  -- tells the program's name and number
+  version : Command
   -- decodes the blocks of the first name to the second
   brr : (input output : List ℕ) → Command
   -- tells the fields of an SPC file
@@ -35,6 +40,11 @@ pub data Command : Type 0 where
   asm : (input : List ℕ) → (origin : ℕ) → (output : List ℕ) → Command
   -- lists the code of the first name from an origin on under the second
   dis : (input : List ℕ) → (origin : ℕ) → (output : List ℕ) → Command
+
+-- a command that stands alone: no word comes after it
+abbrev pub alone : Command → List (List ℕ) → Command
+alone command [] = command
+alone command (word ∷ words) = usage
 
 -- the words after `brr`
 abbrev pub brr_command : List (List ℕ) → Command
@@ -110,7 +120,9 @@ dis_command words = usage
 abbrev pub command_of : List (List ℕ) → Command
 command_of [] = usage
 command_of (name ∷ words) =
-    if bytes_eq name (codes "brr") then brr_command words
+    if bytes_eq name (codes "help") || bytes_eq name (codes "--help") then alone help words
+    else if bytes_eq name (codes "version") || bytes_eq name (codes "--version") then alone version words
+    else if bytes_eq name (codes "brr") then brr_command words
     else if bytes_eq name (codes "info") then info_command words
     else if bytes_eq name (codes "encode") then encode_command words
     else if bytes_eq name (codes "render") then render_command words
@@ -123,6 +135,8 @@ command_of (name ∷ words) =
 -- whether a command names an input
 abbrev pub names_input : Command → Bool
 names_input usage = false
+names_input help = false
+names_input version = false
 names_input (brr input output) = true
 names_input (info input) = true
 names_input (encode input output looped) = true
@@ -135,6 +149,8 @@ names_input (dis input origin output) = true
 -- what a command answers, by what the names hold
 abbrev pub answer_of : Command → Files → Answer Cause
 answer_of usage files = refused Usage
+answer_of help files = help_answer
+answer_of version files = version_answer
 answer_of (brr input output) files = brr_answer output (files input)
 answer_of (info input) files = info_answer (files input)
 answer_of (encode input output looped) files = encode_answer output looped (files input)

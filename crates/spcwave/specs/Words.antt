@@ -2,11 +2,13 @@
 use Rattle.spcwave.specs.Command as command
 use Rattle.command_render.specs.Options.{options_of, IsWithinHour}
 use Rattle.spcwave.specs.declared.words.Command.{Command}
-use Rattle.spcwave.specs.declared.words.Command.TheVariants.{Usage, Brr, Info, Encode, Render, Demo, Check, Asm, Dis}
+use Rattle.spcwave.specs.declared.words.Command.TheVariants.{Usage, Help, Version, Brr, Info, Encode, Render, Demo, Check, Asm, Dis}
 
 -- an hour of frames at most, where a number of samples is given
 abbrev pub AreWithinHour : Command → Type 0
 AreWithinHour Usage = Unit {0}
+AreWithinHour Help = Unit {0}
+AreWithinHour Version = Unit {0}
 AreWithinHour (Brr input output) = Unit {0}
 AreWithinHour (Info input) = Unit {0}
 AreWithinHour (Encode input output looped) = Unit {0}
@@ -18,6 +20,8 @@ AreWithinHour (Dis input origin output) = Unit {0}
 
 abbrev pub meaning_of : Command → command.Command
 meaning_of Usage = command.usage
+meaning_of Help = command.help
+meaning_of Version = command.version
 meaning_of (Brr input output) = command.brr input.now output.now
 meaning_of (Info input) = command.info input.now
 meaning_of (Encode input output looped) = command.encode input.now output.now looped

@@ -140,9 +140,12 @@ impl<'r, R: Files, O: Write + Drop, E: Write + Drop> Host for DiskHost<'r, R, O,
 
     fn create(&mut self, name: &str) -> Result<OutFile, Failed> {
         let number = self.created.len() as u32 + 2;
-        if let Ok(file) = fs::create(self.files, name) {
-            if self.created.push(Created { file, ended: false }).is_ok() {
-                return Ok(OutFile(number));
+        // The room for an output is taken first: where there is none, no file is made.
+        if self.created.reserve(1).is_ok() {
+            if let Ok(file) = fs::create(self.files, name) {
+                if self.created.push(Created { file, ended: false }).is_ok() {
+                    return Ok(OutFile(number));
+                }
             }
         }
         self.out_faults = self.out_faults.saturating_add(1);

@@ -19,7 +19,10 @@ use snd_host::Host;
 use status_lines::{Cause, Status, status_for};
 use std::alloc::Global;
 use std::process::ExitCode;
-use std::{env, io};
+use std::{env, fs, io};
+
+/// A file that is always there, and empty.
+const NOTHING: &str = "/dev/null";
 
 /// The words after the program's name.
 fn words_of(alloc: Global, rt: &(impl std::rt::Env + AllocGlobal)) -> io::Result<Vec<String>> {
@@ -41,6 +44,12 @@ fn refuse_words<H: Host>(host: &mut H, error: io::Error) -> Status {
 }
 
 fn main(rt: HostRuntime) -> ExitCode {
+    // A standard stream that is closed gets an empty file in its place, so that no input or output gets it.
+    let _places = (
+        fs::open(&rt, NOTHING),
+        fs::open(&rt, NOTHING),
+        fs::open(&rt, NOTHING),
+    );
     let mut host = DiskHost::new(rt.alloc(), &rt, rt.stdout(), rt.stderr());
     let status = match words_of(rt.alloc(), &rt) {
         Ok(words) => run(rt.alloc(), words.as_slice(), &mut host),

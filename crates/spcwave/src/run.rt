@@ -13,6 +13,7 @@ use command_demo::demo;
 use command_dis::dis;
 use command_encode::encode;
 use command_frame::{Refusal, complain};
+use command_help::{help, version};
 use command_info::info;
 use command_render::render;
 use snd_host::Host;
@@ -28,6 +29,8 @@ fn attempt<H: Host>(alloc: Global, words: &[String], host: &mut H) -> Option<Ref
 {
     match read_words(words) {
         Command::Usage => Some(Refusal::Usage),
+        Command::Help => help(alloc, host),
+        Command::Version => version(alloc, host),
         Command::Brr { input, output } => brr(alloc, host, input, output),
         Command::Info { input } => info(alloc, host, input),
         Command::Encode {

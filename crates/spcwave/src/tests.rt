@@ -41,7 +41,10 @@ const WORDS: &[&[&str]] = &[
     &["render", "A", "B", "C", "--voices", "1"],
     &["render", "A", "B", "C", "--voices", "0g"],
     &["render", "A", "B", "C", "--loop", "1"],
-    &["--help"],
+    &["--Help"],
+    &["help", "render"],
+    &["--version", "--help"],
+    &["-h"],
     &["demo", "7"],
     &["demo", "7", "-x"],
     &["demo", "OUT", "7"],
@@ -75,6 +78,8 @@ fn other_words_are_not_understood(rt: HostRuntime) -> Result<(), Fail> {
 
 /// Words of commands on one block, and how each ends with its report.
 const COMMANDS: &[(&[&str], Status, &str)] = &[
+    (&["version"], Status::Ok, "spcwave 1.0.0\n"),
+    (&["--version"], Status::Ok, "spcwave 1.0.0\n"),
     (&["brr", "IN", "OUT"], Status::Ok, "blocks 1 samples 16\n"),
     (&["info", "IN"], Status::SpcLength, ""),
     (&["encode", "IN", "OUT", "--loop"], Status::WavForm, ""),

@@ -1,6 +1,6 @@
 // The words of the command line.
 ghost use Rattle.std.specs.Prelude.{◌≡◌, map, string_bytes, option_map, IfSome};
-ghost use Rattle.spcwave.specs.Command.{command_of, brr_command, info_command, encode_command, have_same_name, render_with, render_command, demo_command, check_command, asm_command, dis_command};
+ghost use Rattle.spcwave.specs.Command.{command_of, alone, brr_command, info_command, encode_command, have_same_name, render_with, render_command, demo_command, check_command, asm_command, dis_command};
 ghost use Rattle.command_render.specs.Options.{options_of, IsWithinHour};
 ghost use Rattle.spcwave.specs.Words.{meaning_of, AreWithinHour};
 
@@ -11,6 +11,8 @@ use command_render::RenderOptions;
 #[derive(Clone, Copy)]
 pub enum Command<'a> {
     Usage,
+    Help,
+    Version,
     Brr {
         input: &'a str,
         output: &'a str,
@@ -46,6 +48,19 @@ pub enum Command<'a> {
         origin: u16,
         output: &'a str,
     },
+}
+
+/// Reads the words after a command that stands alone.
+fn read_alone<'a>(command: Command<'a>, words: &[String]) -> Command<'a>
+    requires { AreWithinHour command }
+    ensures meaning { meaning_of result ≡ alone (meaning_of command.entry) (map string_bytes words.now) }
+    ensures within_hour { AreWithinHour result }
+{
+    if words.is_empty() {
+        command
+    } else {
+        Command::Usage
+    }
 }
 
 /// Reads the words after `brr`.
@@ -231,6 +246,8 @@ pub fn read_words(words: &[String]) -> Command<'_>
     match words {
         [] => Command::Usage,
         [name, rest @ ..] => match name.as_str() {
+            "help" | "--help" => read_alone(Command::Help, rest),
+            "version" | "--version" => read_alone(Command::Version, rest),
             "brr" => read_brr(rest),
             "info" => read_info(rest),
             "encode" => read_encode(rest),

@@ -13,3 +13,11 @@ returns-in-Usage-clause-attempts g c =
 pub returns-in-Check-clause-attempts : goal.returns-in-Check-clause-attempts
 returns-in-Check-clause-attempts g c =
     subst (λ (k : Command). Attempts (answer_of k) (names_input k) c.check.result (g.H.Host.state c.args.host.now) (g.H.Host.state c.check.new.host)) c.in-Check.ensures.meaning c.check.ensures.attempts
+
+pub returns-in-Help-clause-attempts : goal.returns-in-Help-clause-attempts
+returns-in-Help-clause-attempts g c =
+    subst (λ (k : Command). Attempts (answer_of k) (names_input k) c.help.result (g.H.Host.state c.args.host.now) (g.H.Host.state c.help.new.host)) c.in-Help.ensures.meaning c.help.ensures.attempts
+
+pub returns-in-Version-clause-attempts : goal.returns-in-Version-clause-attempts
+returns-in-Version-clause-attempts g c =
+    subst (λ (k : Command). Attempts (answer_of k) (names_input k) c.version.result (g.H.Host.state c.args.host.now) (g.H.Host.state c.version.new.host)) c.in-Version.ensures.meaning c.version.ensures.attempts

@@ -1,0 +1,33 @@
+-- What `help` and `version` answer.
+use Rattle.std.specs.Prelude.{ℕ, List, [], ◌++◌, codes}
+use Rattle.command_frame.specs.Answer.{Answer, done}
+use Rattle.status_lines.specs.declared.cause.Cause.{Cause}
+
+-- the commands with their words, a line each, and where the formats are described
+abbrev pub help_text : List ℕ
+help_text =
+    codes "spcwave renders SPC music, as the Super Nintendo plays it, to WAV files. Its commands:\n" ++
+    codes "\n" ++
+    codes "  spcwave render SPC TABLE WAV [--samples N] [--trace FILE] [--voices HH]: render a tune, and trace it on request\n" ++
+    codes "  spcwave info SPC: show the tags and the registers of a tune\n" ++
+    codes "  spcwave brr IN OUT: decode BRR blocks to a WAV file\n" ++
+    codes "  spcwave encode WAV BRR [--loop]: encode a WAV file to BRR blocks\n" ++
+    codes "  spcwave demo NUMBER OUT: make a tune from a number\n" ++
+    codes "  spcwave check NUMBER: render that tune for ten seconds, and tell sums over its frames\n" ++
+    codes "  spcwave asm IN ORIGIN OUT: assemble a program of the SPC700\n" ++
+    codes "  spcwave dis IN ORIGIN OUT: list a program of the SPC700\n" ++
+    codes "  spcwave rip SPC PREFIX [--range AABB]: write the samples of a tune to WAV files\n" ++
+    codes "  spcwave help: tell this; --help does so too\n" ++
+    codes "  spcwave version: tell the number of the version; --version does so too\n" ++
+    codes "\n" ++
+    codes "The manual page spcwave(1) and docs/FORMATS.md describe files, texts and exit statuses.\n"
+
+-- the program's name and number
+abbrev pub version_text : List ℕ
+version_text = codes "spcwave 1.0.0\n"
+
+abbrev pub help_answer : Answer Cause
+help_answer = done [] help_text
+
+abbrev pub version_answer : Answer Cause
+version_answer = done [] version_text

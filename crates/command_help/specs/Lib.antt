@@ -1,0 +1,2 @@
+-- what `help` and `version` answer
+pub mod Help

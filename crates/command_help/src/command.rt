@@ -1,0 +1,70 @@
+// The commands `help` and `version`: texts that need no input.
+ghost use Rattle.std.specs.Prelude.{◌≡◌, [], false};
+ghost use Rattle.snd_host.specs.Host.{HostState, Files};
+ghost use Rattle.command_frame.specs.Conduct.{Plans, Attempts};
+ghost use Rattle.command_frame.specs.Delivery.{CanDeliver};
+ghost use Rattle.command_frame.specs.Plan.{plan_makes};
+ghost use Rattle.command_help.specs.Help.{help_text, version_text, help_answer, version_answer};
+ghost use Rattle.command_frame.specs.Answer.{done};
+
+use command_frame::{Plan, Refusal, carry_out};
+use snd_host::Host;
+use status_lines::Cause;
+use std::alloc::Global;
+
+/// The commands with their words, a line each, and where the formats are described.
+const HELP: &[u8] = b"\
+spcwave renders SPC music, as the Super Nintendo plays it, to WAV files. Its commands:\n\
+\n\
+\x20 spcwave render SPC TABLE WAV [--samples N] [--trace FILE] [--voices HH]: render a tune, and trace it on request\n\
+\x20 spcwave info SPC: show the tags and the registers of a tune\n\
+\x20 spcwave brr IN OUT: decode BRR blocks to a WAV file\n\
+\x20 spcwave encode WAV BRR [--loop]: encode a WAV file to BRR blocks\n\
+\x20 spcwave demo NUMBER OUT: make a tune from a number\n\
+\x20 spcwave check NUMBER: render that tune for ten seconds, and tell sums over its frames\n\
+\x20 spcwave asm IN ORIGIN OUT: assemble a program of the SPC700\n\
+\x20 spcwave dis IN ORIGIN OUT: list a program of the SPC700\n\
+\x20 spcwave rip SPC PREFIX [--range AABB]: write the samples of a tune to WAV files\n\
+\x20 spcwave help: tell this; --help does so too\n\
+\x20 spcwave version: tell the number of the version; --version does so too\n\
+\n\
+The manual page spcwave(1) and docs/FORMATS.md describe files, texts and exit statuses.\n\
+";
+
+/// The program's name and number.
+const VERSION: &[u8] = b"spcwave 1.0.0\n";
+
+/// The plan for a text.
+fn plan<'a>(alloc: Global, text: &[u8]) -> Result<Plan<'a>, Refusal<Cause>>
+    ensures { Plans plan_makes (done [] text.now) result }
+{
+    match Vec::from_slice(alloc, text) {
+        Ok(report) => Ok(Plan {
+            output: None,
+            report,
+        }),
+        Err(_) => Err(Refusal::OutOfMemory),
+    }
+}
+
+/// Reports the commands with their words, and where the formats are described.
+pub fn help<H: Host>(alloc: Global, host: &mut H) -> Option<Refusal<Cause>>
+    requires { CanDeliver (H.state host.old) }
+    ensures attempts { let answer = λ (files : Files). help_answer in
+        Attempts answer false result (H.state host.old) (H.state host.new) }
+    ensures not_usage { result ≡ Some Refusal.Usage → ⊥ }
+{
+    let prepared = plan(alloc, HELP);
+    carry_out(host, prepared)
+}
+
+/// Reports the program's name and number.
+pub fn version<H: Host>(alloc: Global, host: &mut H) -> Option<Refusal<Cause>>
+    requires { CanDeliver (H.state host.old) }
+    ensures attempts { let answer = λ (files : Files). version_answer in
+        Attempts answer false result (H.state host.old) (H.state host.new) }
+    ensures not_usage { result ≡ Some Refusal.Usage → ⊥ }
+{
+    let prepared = plan(alloc, VERSION);
+    carry_out(host, prepared)
+}

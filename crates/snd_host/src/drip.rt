@@ -1,0 +1,89 @@
+// A host in memory that gives and takes one byte at a time.
+ghost use Rattle.std.specs.Prelude.{◌≡◌, ◌≤◌};
+ghost use Rattle.snd_host.specs.Memory.{memory_state};
+ghost use Rattle.snd_host.specs.Drip.{drip_state, inside};
+
+use crate::{Failed, Host, InFile, MemHost, OutFile};
+
+/// A host in memory whose reads give at most one byte, and whose writes take at most one.
+///
+/// It tells all that the host inside tells, and counts faults as that host does.
+#[derive(Drop)]
+pub struct DripHost {
+    host: MemHost,
+}
+
+impl DripHost {
+    /// This host, one byte at a time.
+    pub fn new(host: MemHost) -> DripHost
+        ensures state { drip_state result ≡ memory_state host }
+        ensures inside { inside result ≡ host }
+    {
+        DripHost { host }
+    }
+
+    /// The host inside.
+    pub fn inner(&self) -> &MemHost
+        ensures { result.now ≡ inside self.now }
+    {
+        &self.host
+    }
+}
+
+// The clauses of `read` and `write` are the trait's, and then that they move at most one byte.
+impl Host for DripHost {
+    ghost use Rattle.std.specs.Prelude.{◌-◌, ◌<◌, [], length, take, drop, Some, IsSome, IsOk, IfOk, OnErr, slice_index};
+    ghost use Rattle.snd_host.specs.Host.{IfTold, HasCause, CountsWrite, IsOpen, ChangesInputs, Writes};
+    ghost use Rattle.snd_host.specs.Memory.{tells_each_lem};
+
+    ghost state = { drip_state };
+
+    ghost tells_each = { λ host. tells_each_lem (inside host) };
+
+    fn open_in(&mut self, name: &str) -> Result<InFile, Failed> {
+        self.host.open_in(name)
+    }
+
+    fn read(&mut self, file: InFile, buf: &mut [u8]) -> Result<usize, Failed>
+        requires { (drip_state self.old).current ≡ Some file.0 }
+        ensures within { IfOk result (λ count. count ≤ length buf.old) }
+        ensures behind { IfOk result (λ count. drop count buf.new ≡ drop count buf.old) }
+        ensures front { IfOk result (λ count.
+            IfTold (drip_state self.old).left (λ rest. take count buf.new ≡ take count rest)) }
+        ensures left { IfOk result (λ count.
+            IfTold (drip_state self.old).left (λ rest. (drip_state self.new).left ≡ Some (drop count rest))) }
+        ensures available { IfOk result (λ count. IfTold (drip_state self.old).left (λ rest. count ≤ length rest)) }
+        ensures end { result ≡ Ok 0 → 0 < length buf.old → IfTold (drip_state self.old).left (λ rest. rest ≡ []) }
+        ensures unread { OnErr result ((drip_state self.new).left ≡ (drip_state self.old).left) }
+        ensures current { (drip_state self.new).current ≡ (drip_state self.old).current }
+        ensures others { ChangesInputs (drip_state self.old) (drip_state self.new) }
+        ensures cause { HasCause (drip_state self.old).faults.inputs (drip_state self.new).faults.inputs result }
+        ensures steady { IsSome (drip_state self.old).steady → IsOk result }
+        ensures at_most_one { IfOk result (λ count. count ≤ 1) }
+    {
+        let most = buf.len().min(1);
+        self.host.read(file, &mut buf[..most])
+    }
+
+    fn create(&mut self, name: &str) -> Result<OutFile, Failed> {
+        self.host.create(name)
+    }
+
+    fn write(&mut self, file: OutFile, piece: &[u8]) -> Result<usize, Failed>
+        requires { IsOpen (drip_state self.old).ended file.0 }
+        ensures within { IfOk result (λ count. count ≤ length piece.now) }
+        ensures progress { IfOk result (λ count. 0 < length piece.now → 0 < count) }
+        ensures wrote { IfOk result (λ count. Writes file.0 (take count piece.now) (drip_state self.old) (drip_state self.new)) }
+        ensures unwritten { OnErr result (Writes file.0 [] (drip_state self.old) (drip_state self.new)) }
+        ensures cause { CountsWrite file.0 (drip_state self.old).faults (drip_state self.new).faults result }
+        ensures steady { IfTold (drip_state self.old).steady (λ rooms. length piece.now ≤ slice_index rooms file.0 → IsOk result) }
+        ensures at_most_one { IfOk result (λ count. count ≤ 1) }
+    {
+        let most = piece.len().min(1);
+        self.host.write(file, &piece[..most])
+    }
+
+    fn finish(&mut self, file: OutFile) -> Result<(), Failed> {
+        self.host.finish(file)
+    }
+}
