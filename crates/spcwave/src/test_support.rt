@@ -32,6 +32,21 @@ pub fn run_words(alloc: Global, words: &[&str], input: &[u8]) -> Result<Outcome,
     run_over(alloc, given.as_slice(), &[("IN", input)], ROOM)
 }
 
+/// Renders a file over a table to `OUT`, which has this room, with these words more.
+fn render_over(
+    alloc: Global,
+    file: &[u8],
+    table: &[u8],
+    words: &[&str],
+    room: usize,
+) -> Result<Outcome, Fail> {
+    let mut given = Vec::new(alloc);
+    add_words(alloc, &mut given, &["render", "SPC", "TABLE", "OUT"])?;
+    add_words(alloc, &mut given, words)?;
+    let inputs = [("SPC", file), ("TABLE", table)];
+    run_over(alloc, given.as_slice(), &inputs, room)
+}
+
 /// Renders a file over the table of straight lines to `OUT`, which has this room, with these words more.
 pub fn render_straight(
     alloc: Global,
@@ -40,9 +55,5 @@ pub fn render_straight(
     room: usize,
 ) -> Result<Outcome, Fail> {
     let table = straight_table(alloc)?;
-    let mut given = Vec::new(alloc);
-    add_words(alloc, &mut given, &["render", "SPC", "TABLE", "OUT"])?;
-    add_words(alloc, &mut given, words)?;
-    let inputs = [("SPC", file), ("TABLE", table.as_slice())];
-    run_over(alloc, given.as_slice(), &inputs, room)
+    render_over(alloc, file, table.as_slice(), words, room)
 }
