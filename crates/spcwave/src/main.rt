@@ -4,6 +4,8 @@
 #[cfg(test)]
 mod demo_tests;
 mod disk;
+#[cfg(test)]
+mod hostile_tests;
 mod options;
 mod run;
 #[cfg(test)]

@@ -1,6 +1,8 @@
-// Runs of the program over a host in memory.
+// Runs of the program over hosts in memory.
 use crate::run::run;
 use command_tests::{Outcome, ROOM, host_with, straight_table};
+use snd_host::{DripHost, OutFile};
+use status_lines::Status;
 use std::alloc::Global;
 use std::test::Fail;
 
@@ -12,9 +14,16 @@ fn add_words(alloc: Global, given: &mut Vec<String>, words: &[&str]) -> Result<(
     Ok(())
 }
 
+/// These words.
+pub fn list_words(alloc: Global, words: &[&str]) -> Result<Vec<String>, Fail> {
+    let mut given = Vec::new(alloc);
+    add_words(alloc, &mut given, words)?;
+    Ok(given)
+}
+
 /// Runs these words over a host with these inputs, whose first output has this room. Its contract says nothing, so that
 /// each test is proved without the promises of a run.
-fn run_over(
+pub fn run_over(
     alloc: Global,
     words: &[String],
     inputs: &[(&str, &[u8])],
@@ -25,10 +34,64 @@ fn run_over(
     Ok(Outcome::of_run(status, host))
 }
 
+/// Runs these words over a host with these inputs, whose calls of these numbers fail.
+pub fn run_failing(
+    alloc: Global,
+    words: &[String],
+    inputs: &[(&str, &[u8])],
+    failing: &[u32],
+) -> Result<Outcome, Fail> {
+    let mut host = host_with(alloc, inputs, failing, ROOM)?;
+    let status = run(alloc, words, &mut host);
+    Ok(Outcome::of_run(status, host))
+}
+
+/// How a run ended over a host that gives and takes one byte at a time.
+#[derive(Drop)]
+pub struct Dripped {
+    pub status: Status,
+    host: DripHost,
+}
+
+impl Dripped {
+    /// What the output of this number was given.
+    pub fn output(&self, number: u32) -> &[u8] {
+        self.host.inner().output(OutFile(number))
+    }
+}
+
+/// Runs these words over such a host with these inputs, whose first output has this room.
+pub fn run_dripping(
+    alloc: Global,
+    words: &[String],
+    inputs: &[(&str, &[u8])],
+    room: usize,
+) -> Result<Dripped, Fail> {
+    let mut host = DripHost::new(host_with(alloc, inputs, &[], room)?);
+    let status = run(alloc, words, &mut host);
+    Ok(Dripped { status, host })
+}
+
+/// Whether these words end over such a host as they did over the host in memory.
+pub fn drips_alike(
+    alloc: Global,
+    words: &[String],
+    inputs: &[(&str, &[u8])],
+    outcome: &Outcome,
+) -> Result<bool, Fail> {
+    let dripped = run_dripping(alloc, words, inputs, ROOM)?;
+    Ok(
+        dripped.status == outcome.status()
+            && dripped.output(0) == outcome.report()
+            && dripped.output(1) == outcome.complaint()
+            && dripped.output(2) == outcome.first()
+            && dripped.output(3) == outcome.second(),
+    )
+}
+
 /// Runs these words over a host that has the input `IN`.
 pub fn run_words(alloc: Global, words: &[&str], input: &[u8]) -> Result<Outcome, Fail> {
-    let mut given = Vec::new(alloc);
-    add_words(alloc, &mut given, words)?;
+    let given = list_words(alloc, words)?;
     run_over(alloc, given.as_slice(), &[("IN", input)], ROOM)
 }
 

@@ -1,0 +1,430 @@
+// Damaged files, failing hosts and awkward programs: each run over a host in memory, and over one that gives and takes
+// one byte at a time.
+use crate::test_support::{drips_alike, list_words, run_dripping, run_failing, run_over};
+use command_tests::{DSP, FIVE, MEMORY, Outcome, Pieces, ROOM, file_of, straight_table};
+use status_lines::Status;
+use std::alloc::Global;
+use std::test::Fail;
+
+/// Frames that are the same on both sides: how many there are of each, one after another.
+type Frames = &'static [(u32, i16)];
+
+/// A run over an SPC file `SPC` and a table `TABLE`, and how it ends.
+#[derive(Drop)]
+struct Hostile {
+    shows: &'static str,
+    words: &'static [&'static str],
+    /// The length of the SPC file, and what it has over the base file.
+    length: usize,
+    sound: Pieces,
+    more: Pieces,
+    /// The length of the table, of zeros: none is the table of straight lines.
+    table: Option<usize>,
+    status: Status,
+    report: &'static str,
+    complaint: &'static str,
+    frames: Frames,
+    trace: &'static str,
+}
+
+/// The bytes of these frames.
+fn bytes_of(alloc: Global, frames: Frames) -> Result<Vec<u8>, Fail> {
+    let mut bytes = Vec::new(alloc);
+    for (count, side) in frames {
+        for _ in 0..*count {
+            bytes.extend_from_slice(&side.to_le_bytes())?;
+            bytes.extend_from_slice(&side.to_le_bytes())?;
+        }
+    }
+    Ok(bytes)
+}
+
+impl Hostile {
+    /// The table of this row.
+    fn table(&self, alloc: Global) -> Result<Vec<u8>, Fail> {
+        match self.table {
+            Some(length) => Ok(vec![in alloc; 0u8; length]?),
+            None => Ok(straight_table(alloc)?),
+        }
+    }
+
+    /// Whether a run ended as this row says, with these frames behind the header of the sound file.
+    fn is_ended_so(&self, outcome: &Outcome, frames: &[u8]) -> bool {
+        outcome.status() == self.status
+            && outcome.report() == self.report.as_bytes()
+            && outcome.complaint() == self.complaint.as_bytes()
+            && outcome.first().get(44..).unwrap_or(&[]) == frames
+            && outcome.second() == self.trace.as_bytes()
+    }
+
+    /// Whether it ends so over both hosts.
+    fn holds(&self, alloc: Global) -> Result<bool, Fail> {
+        let words = list_words(alloc, self.words)?;
+        let file = file_of(alloc, self.length, self.sound, self.more)?;
+        let table = self.table(alloc)?;
+        let inputs = [("SPC", file.as_slice()), ("TABLE", table.as_slice())];
+        let outcome = run_over(alloc, words.as_slice(), &inputs, ROOM)?;
+        let frames = bytes_of(alloc, self.frames)?;
+        Ok(
+            self.is_ended_so(&outcome, frames.as_slice())
+                && drips_alike(alloc, words.as_slice(), &inputs, &outcome)?,
+        )
+    }
+}
+
+/// A render of no length of its own.
+const RENDER: &[&str] = &["render", "SPC", "TABLE", "OUT"];
+
+/// Files that are refused.
+const REFUSED: &[Hostile] = &[
+    Hostile {
+        shows: "a file and a table that are both too short",
+        words: RENDER,
+        length: 100,
+        sound: &[],
+        more: &[],
+        table: Some(3),
+        status: Status::SpcLength,
+        report: "",
+        complaint: "spcwave: length 100 is not that of an SPC file\n",
+        frames: &[],
+        trace: "",
+    },
+    Hostile {
+        shows: "a file that is not there",
+        words: &["render", "NONE", "TABLE", "OUT"],
+        length: 66048,
+        sound: &[],
+        more: &[],
+        table: Some(3),
+        status: Status::ReadFault,
+        report: "",
+        complaint: "spcwave: input could not be read\n",
+        frames: &[],
+        trace: "",
+    },
+    Hostile {
+        shows: "a table that is not there",
+        words: &["render", "SPC", "NONE", "OUT"],
+        length: 66048,
+        sound: &[],
+        more: &[],
+        table: None,
+        status: Status::ReadFault,
+        report: "",
+        complaint: "spcwave: input could not be read\n",
+        frames: &[],
+        trace: "",
+    },
+    Hostile {
+        shows: "a table that is too long",
+        words: RENDER,
+        length: 66048,
+        sound: &[],
+        more: &[],
+        table: Some(1048577),
+        status: Status::InputTooLong,
+        report: "",
+        complaint: "spcwave: input is too long\n",
+        frames: &[],
+        trace: "",
+    },
+    Hostile {
+        shows: "a signature that differs, and a table that is too short",
+        words: RENDER,
+        length: 66048,
+        sound: &[],
+        more: &[(3, b"\0")],
+        table: Some(3),
+        status: Status::SpcSignature,
+        report: "",
+        complaint: "spcwave: signature differs at 3\n",
+        frames: &[],
+        trace: "",
+    },
+];
+
+#[test]
+fn damaged_files_are_refused(rt: HostRuntime) -> Result<(), Fail> {
+    for row in REFUSED {
+        assert!(rt; row.holds(rt.alloc())?, "{}", row.shows);
+    }
+    Ok(())
+}
+
+/// Awkward sounds and programs.
+const AWKWARD: &[Hostile] = &[
+    Hostile {
+        shows: "a block that repeats itself",
+        words: &["render", "SPC", "TABLE", "OUT", "--samples", "200"],
+        length: 66048,
+        sound: FIVE,
+        more: &[(MEMORY + 0x0200, b"\x00\x05\x00\x05")],
+        table: None,
+        status: Status::Ok,
+        report: "samples 200\nbatches 4 register 0 memory 0 echo 0 full 3 events 0 end 1\n",
+        complaint: "",
+        frames: &[(6, 0), (194, 4000)],
+        trace: "",
+    },
+    Hostile {
+        shows: "a program that wraps round the end of memory",
+        words: &["render", "SPC", "TABLE", "OUT", "--samples", "2"],
+        length: 66048,
+        sound: &[],
+        more: &[
+            (0x25, b"\xff\xff"),
+            (MEMORY, b"\xfe"),
+            (MEMORY + 0xffff, b"\x2f"),
+        ],
+        table: None,
+        status: Status::Ok,
+        report: "samples 2\nbatches 1 register 0 memory 0 echo 0 full 0 events 0 end 1\n",
+        complaint: "",
+        frames: &[(2, 0)],
+        trace: "",
+    },
+    Hostile {
+        shows: "a program that sleeps",
+        words: &["render", "SPC", "TABLE", "OUT", "--samples", "200"],
+        length: 66048,
+        sound: FIVE,
+        more: &[(MEMORY + 0x0400, b"\xef")],
+        table: None,
+        status: Status::Ok,
+        report: "samples 200\nbatches 4 register 0 memory 0 echo 0 full 3 events 0 end 1\n",
+        complaint: "",
+        frames: &[(6, 0), (194, 4000)],
+        trace: "",
+    },
+];
+
+#[test]
+fn awkward_programs_are_rendered(rt: HostRuntime) -> Result<(), Fail> {
+    for row in AWKWARD {
+        assert!(rt; row.holds(rt.alloc())?, "{}", row.shows);
+    }
+    Ok(())
+}
+
+/// The echo overwrites the program; the echo lies in the directory's page; the program ends a block that is played.
+const WAITING: &[Hostile] = &[
+    Hostile {
+        shows: "an echo over the program",
+        words: &[
+            "render",
+            "SPC",
+            "TABLE",
+            "OUT",
+            "--samples",
+            "3",
+            "--trace",
+            "TRACE",
+        ],
+        length: 66048,
+        sound: &[],
+        more: &[
+            (DSP + 0x6c, b"\x00\x04"),
+            (MEMORY + 0x0404, b"\x8f\x5a\xf4\x2f\xfe"),
+        ],
+        table: None,
+        status: Status::Ok,
+        report: "samples 3\nbatches 3 register 0 memory 0 echo 2 full 0 events 0 end 1\n",
+        complaint: "",
+        frames: &[(3, 0)],
+        trace: "P 1 0 5a\n",
+    },
+    Hostile {
+        shows: "an echo in the page of the directory",
+        words: &["render", "SPC", "TABLE", "OUT", "--samples", "3"],
+        length: 66048,
+        sound: &[],
+        more: &[
+            (DSP + 0x5d, b"\x03"),
+            (DSP + 0x6c, b"\x00\x03"),
+            (MEMORY + 0x0400, b"\xc5\x00\x07\x2f\xfb"),
+        ],
+        table: None,
+        status: Status::Ok,
+        report: "samples 3\nbatches 3 register 0 memory 2 echo 0 full 0 events 0 end 1\n",
+        complaint: "",
+        frames: &[(3, 0)],
+        trace: "",
+    },
+    Hostile {
+        shows: "a header that is written while it is played",
+        words: &["render", "SPC", "TABLE", "OUT", "--samples", "70"],
+        length: 66048,
+        sound: FIVE,
+        more: &[(
+            MEMORY + 0x0400,
+            b"\xcd\xcb\x1d\x00\x00\xd0\xfb\xe8\xc1\xc5\x00\x06\x2f\xfe",
+        )],
+        table: None,
+        status: Status::Ok,
+        report: "samples 70\nbatches 2 register 0 memory 1 echo 0 full 0 events 0 end 1\n",
+        complaint: "",
+        frames: &[(6, 0), (58, 4000), (6, 0)],
+        trace: "",
+    },
+    Hostile {
+        shows: "a register that is written",
+        words: &[
+            "render",
+            "SPC",
+            "TABLE",
+            "OUT",
+            "--samples",
+            "1",
+            "--trace",
+            "TRACE",
+        ],
+        length: 66048,
+        sound: &[],
+        more: &[(MEMORY + 0x0400, b"\x8f\x6c\xf2\x8f\x20\xf3\x2f\xfe")],
+        table: None,
+        status: Status::Ok,
+        report: "samples 1\nbatches 1 register 0 memory 0 echo 0 full 0 events 0 end 1\n",
+        complaint: "",
+        frames: &[(1, 0)],
+        trace: "R 0 6c 20\n",
+    },
+];
+
+#[test]
+fn programs_that_meet_their_own_sound_are_heard_in_time(rt: HostRuntime) -> Result<(), Fail> {
+    for row in WAITING {
+        assert!(rt; row.holds(rt.alloc())?, "{}", row.shows);
+    }
+    Ok(())
+}
+
+/// What a file of one channel begins with, whose samples go on to its end.
+const MONO: &[u8] =
+    b"RIFF\xff\xff\xff\xffWAVEfmt \x10\0\0\0\x01\0\x01\0\0\x7d\0\0\0\xfa\0\0\x02\0\x10\0data\xff\xff\xff\xff";
+
+/// Whether a sound file of this front and of zeros up to this length is refused so, over both hosts.
+fn sound_is_refused(
+    alloc: Global,
+    length: usize,
+    status: Status,
+    complaint: &str,
+) -> Result<bool, Fail> {
+    let words = list_words(alloc, &["encode", "IN", "OUT"])?;
+    let mut bytes = Vec::from_slice(alloc, MONO)?;
+    bytes.resize(length, 0)?;
+    let inputs = [("IN", bytes.as_slice())];
+    let outcome = run_over(alloc, words.as_slice(), &inputs, ROOM)?;
+    Ok(
+        outcome.is_refused(status, complaint)
+            && drips_alike(alloc, words.as_slice(), &inputs, &outcome)?,
+    )
+}
+
+#[test]
+fn sounds_of_no_length_and_of_too_great_a_length_are_refused(rt: HostRuntime) -> Result<(), Fail> {
+    let alloc = rt.alloc();
+    let long = "spcwave: input is too long\n";
+    assert!(rt; sound_is_refused(alloc, 16777217, Status::InputTooLong, long)?);
+    let empty = "spcwave: 0 samples cannot be encoded\n";
+    assert!(rt; sound_is_refused(alloc, 44, Status::EncodeSize, empty)?);
+    Ok(())
+}
+
+/// A command over the inputs `SPC`, `TABLE`, `BRR` and `WAV`, and how many of its calls are on inputs.
+const COMMANDS: &[(&[&str], u32)] = &[
+    (&["help"], 0),
+    (&["version"], 0),
+    (&["brr", "BRR", "OUT"], 3),
+    (&["info", "SPC"], 19),
+    (&["encode", "WAV", "OUT"], 3),
+    (&["demo", "7", "OUT"], 0),
+    (&["check", "7"], 0),
+    (
+        &[
+            "render",
+            "SPC",
+            "TABLE",
+            "OUT",
+            "--samples",
+            "8",
+            "--trace",
+            "TRACE",
+        ],
+        22,
+    ),
+];
+
+/// Runs a command over these inputs, where the calls of these numbers fail.
+fn run_on_all(alloc: Global, words: &[&str], failing: &[u32]) -> Result<Outcome, Fail> {
+    let words = list_words(alloc, words)?;
+    let file = file_of(alloc, 66048, FIVE, &[])?;
+    let table = straight_table(alloc)?;
+    let mut sound = Vec::from_slice(alloc, MONO)?;
+    sound.resize(76, 0)?;
+    let blocks = vec![in alloc; 0u8; 9]?;
+    let inputs = [
+        ("SPC", file.as_slice()),
+        ("TABLE", table.as_slice()),
+        ("WAV", sound.as_slice()),
+        ("BRR", blocks.as_slice()),
+    ];
+    run_failing(alloc, words.as_slice(), &inputs, failing)
+}
+
+/// Whether each call of a command may fail: those on inputs, which come first, leave nothing, the others prefixes.
+fn each_call_may_fail(alloc: Global, words: &[&str], reads: u32) -> Result<bool, Fail> {
+    let whole = run_on_all(alloc, words, &[])?;
+    let mut holds = whole.status() == Status::Ok && whole.calls() > reads;
+    for call in 0..whole.calls() {
+        let outcome = run_on_all(alloc, words, &[call])?;
+        holds = holds
+            && if call < reads {
+                outcome.is_unread(call)
+            } else {
+                outcome.is_cut_off(&whole)
+            };
+    }
+    let after = run_on_all(alloc, words, &[whole.calls()])?;
+    Ok(holds && after.status() == Status::Ok && after.report() == whole.report())
+}
+
+#[test]
+fn each_call_of_each_command_may_fail(rt: HostRuntime) -> Result<(), Fail> {
+    for (words, reads) in COMMANDS {
+        assert!(rt; each_call_may_fail(rt.alloc(), words, *reads)?, "{words:?}");
+    }
+    Ok(())
+}
+
+/// Four frames of silence.
+const SILENCE: &[&str] = &["render", "SPC", "TABLE", "OUT", "--samples", "4"];
+
+/// Renders silence to an output of this room, over the host in memory.
+fn render_into(alloc: Global, room: usize) -> Result<Outcome, Fail> {
+    let words = list_words(alloc, SILENCE)?;
+    let file = file_of(alloc, 66048, &[], &[])?;
+    let table = straight_table(alloc)?;
+    let inputs = [("SPC", file.as_slice()), ("TABLE", table.as_slice())];
+    run_over(alloc, words.as_slice(), &inputs, room)
+}
+
+/// Whether the same to an output of 50 bytes, one byte at a time, fills it with the beginning of this sound file.
+fn fills_drop_by_drop(alloc: Global, wave: &[u8]) -> Result<bool, Fail> {
+    let words = list_words(alloc, SILENCE)?;
+    let file = file_of(alloc, 66048, &[], &[])?;
+    let table = straight_table(alloc)?;
+    let inputs = [("SPC", file.as_slice()), ("TABLE", table.as_slice())];
+    let dripped = run_dripping(alloc, words.as_slice(), &inputs, 50)?;
+    Ok(dripped.status == Status::WriteFault && wave.get(..50) == Some(dripped.output(2)))
+}
+
+#[test]
+fn an_output_without_room_is_cut_off(rt: HostRuntime) -> Result<(), Fail> {
+    let whole = render_into(rt.alloc(), ROOM)?;
+    let cut = render_into(rt.alloc(), 50)?;
+    assert!(rt; whole.status() == Status::Ok && whole.first().len() == 60);
+    assert!(rt; cut.is_cut_off(&whole) && cut.report().is_empty());
+    assert!(rt; fills_drop_by_drop(rt.alloc(), whole.first())?);
+    Ok(())
+}
