@@ -1,5 +1,6 @@
 pub mod Delivering
 pub mod Leaving
+pub mod Listing
 pub mod Obeying
 pub mod Places
 pub mod Standing

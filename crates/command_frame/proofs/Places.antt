@@ -54,6 +54,12 @@ length-outputs_with [] i bytes = refl
 length-outputs_with (o ∷ outputs) zero bytes = refl
 length-outputs_with (o ∷ outputs) (suc i) bytes = ap suc (length-outputs_with outputs i bytes)
 
+-- past the outputs there are no bytes
+pub bytes_of-past : (outputs : List Output) (place : ℕ) → length outputs ≤ place → bytes_of outputs place ≡ []
+bytes_of-past [] place past = refl
+bytes_of-past (o ∷ outputs) zero past = absurd (omega arith)
+bytes_of-past (o ∷ outputs) (suc place) past = bytes_of-past outputs place (omega arith)
+
 pub bytes_of-given_with : (outputs : List Output) (i : ℕ) (bytes : List ℕ) → i < length outputs → bytes_of (outputs_with outputs i bytes) i ≡ bytes_of outputs i ++ bytes
 bytes_of-given_with [] i bytes below = absurd (omega arith)
 bytes_of-given_with (o ∷ outputs) zero bytes below = refl

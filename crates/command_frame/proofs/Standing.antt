@@ -3,9 +3,9 @@ use Rattle.std.proofs.Common.{◌≡◌, ◌≢◌, Ok, Err, IsOk, ℕ, ◌+◌,
 use Rattle.std.specs.Prelude.{slice_get}
 use Rattle.std.proofs.lemmas.List.{append-nil, length-set}
 use Rattle.snd_host.specs.Host.{HostState, Given, Output, HasCause, Rose, ChangesOutputs, KeepsRooms, IsOpen, Writes, WritesAll, outputs_with, rooms_less}
-use Rattle.command_frame.specs.Delivery.{Gains, IsBegun, EndedAreWhole, HaveRooms, Delivers}
-use Rattle.command_frame.specs.Stream.{bytes_of, RoomsAfter, Stands, Stops}
-use Rattle.command_frame.proofs.Places.{grown_since, open_since, ended_since, length-outputs_with, bytes_of-end, rooms_lowered, begun_at, have_at, begun_less, prefix_short, bytes_of-given_with, ended_are_whole, NoneEnded, none_ended}
+use Rattle.command_frame.specs.Delivery.{Gains, IsBegun, EndedAreWhole, HaveRooms, Delivers, all_ended}
+use Rattle.command_frame.specs.Stream.{bytes_of, RoomsAfter, Stands, Stops, AreDone}
+use Rattle.command_frame.proofs.Places.{grown_since, open_since, ended_since, length-outputs_with, bytes_of-end, bytes_of-past, rooms_lowered, begun_at, have_at, begun_less, prefix_short, bytes_of-given_with, ended_are_whole, NoneEnded, none_ended}
 
 -- nothing was created yet
 pub stands_at_first : (a : HostState) → ((given : Given) → a.given ≡ Some given → length given.created ≡ length a.ended) → Stands [] [] [] a a
@@ -154,19 +154,44 @@ stops_unwritten outputs flags a c d e total report s given ended others notes ca
 }
 
 -- all outputs stand, and are ended
-pub delivered : {T E : Type 0} (outputs : List Output) (flags : List Bool) (a c : HostState) (x : T) → Stands outputs flags [] a c → flags ≡ map (λ _. true) outputs → Delivers {T = T} {E = E} outputs [] a c (Ok x)
-delivered outputs flags a c x s all = record {
+pub are_done : (outputs : List Output) (flags : List Bool) (a c : HostState) → Stands outputs flags [] a c → flags ≡ map (λ _. true) outputs → AreDone outputs a c
+are_done outputs flags a c s all = record {
+  made = subst (λ (l : List Bool). Gains [] [] outputs l a c) all s.made;
+  inputs = s.inputs;
+  notes = s.notes;
+  faults = s.faults;
+  rooms = λ rooms told. let before = s.rooms rooms told in (
+    before.0,
+    before.1,
+    record {
+      count = before.2.count;
+      report_room = omega (arith, before.2.report_room);
+      complaint_room = before.2.complaint_room;
+      later = λ place.
+          let many = next_number outputs flags a c (length c.ended + 2) s refl in
+          let same : length c.ended + 2 + place ≡ length a.ended + 2 + (length outputs + place) = omega arith in
+          let none : length (bytes_of outputs (length outputs + place)) ≡ 0 = ap (length {A = ℕ}) (bytes_of-past outputs (length outputs + place) (omega arith)) in
+          let left = before.2.each (length outputs + place) in
+          let kept : get_or before.0 (length a.ended + 2 + (length outputs + place)) 0 ≡ get_or rooms (length a.ended + 2 + (length outputs + place)) 0 = omega arith in
+          subst (λ (k : ℕ). get_or before.0 k 0 ≡ get_or rooms k 0) (sym same) kept;
+    },
+  );
+}
+
+-- all outputs are done, and no report follows yet
+pub delivered : {T E : Type 0} (outputs : List Output) (a c : HostState) (x : T) → AreDone outputs a c → Delivers {T = T} {E = E} outputs [] a c (Ok x)
+delivered outputs a c x s = record {
   reported = [];
   begun = outputs;
-  ended = flags;
+  ended = all_ended outputs;
   made = s.made;
-  ok = (refl, refl, all);
+  ok = (refl, refl, refl);
   part = tt;
-  ended_whole = ended_are_whole outputs flags;
+  ended_whole = ended_are_whole outputs (all_ended outputs);
   report_last = λ some. absurd (some refl);
   inputs = s.inputs;
   notes = s.notes;
   cause = record { later = omega (arith, s.faults); failed = tt; same = s.faults };
   enough = λ rooms told have fits. search rules;
-  rooms = λ rooms told. let before = s.rooms rooms told in (before.0, before.1, before.2.report_room, before.2.complaint_room);
+  rooms = λ rooms told. let after = s.rooms rooms told in (after.0, after.1, omega (arith, after.2.report_room), after.2.complaint_room);
 }

@@ -6,10 +6,10 @@ use Rattle.snd_host.specs.Host.{HostState, Given, Output, HasCause, ChangesOutpu
 use Rattle.snd_host.specs.declared.host.Failed.{Failed}
 use Rattle.snd_host.specs.declared.host.OutFile.{OutFile}
 use Rattle.command_frame.specs.declared.streaming.Targets.{Targets}
-use Rattle.command_frame.specs.Delivery.{IsBegun, Delivers}
-use Rattle.command_frame.specs.Stream.{Both, Stands, Stops, pair, flags_of, IsSecond, AreTargets, IsOpenBehind, AreOpen, Begins, Puts, Ends, Pumps}
+use Rattle.command_frame.specs.Delivery.{IsBegun}
+use Rattle.command_frame.specs.Stream.{Both, Stands, Stops, Fills, pair, flags_of, IsSecond, AreTargets, IsOpenBehind, AreOpen, Begins, Puts, Ends, Pumps}
 use Rattle.command_frame.proofs.Places.{ended_are_whole, none_ended, prefix_front, open_of, get_set_other, unended_since}
-use Rattle.command_frame.proofs.Standing.{stands_at_first, stands_created, next_number, stands_written, stops_written, stands_ended, stops_unwritten, delivered}
+use Rattle.command_frame.proofs.Standing.{stands_at_first, stands_created, next_number, stands_written, stops_written, stands_ended, stops_unwritten, are_done}
 
 pub open_first : (ended : List Bool) (targets : Targets) → AreOpen ended targets → IsOpen ended targets.first.0
 open_first ended targets o = open_of ended targets.first.0 o.low o.first_open
@@ -285,11 +285,13 @@ module _ (first : List ℕ) (second : Option (List ℕ)) (head xs ys : List ℕ)
   filled : (c d : HostState) (x y : Unit {0}) → Puts targets head [] b c (Ok x) → Puts targets xs ys c d (Ok y) → Stands (pair first second (head ++ xs) ys) (flags_of second false) [] a d
   filled c d x y p q = q.ok first second head [] a begun.0 (headed c x p)
 
-  pub end_fails : (c d f : HostState) (x y : Unit {0}) (e : Failed) (report : List ℕ) → Puts targets head [] b c (Ok x) → Puts targets xs ys c d (Ok y) → Ends targets d f (Err e) → Stops (pair first second (head ++ xs) ys) report a f
-  end_fails c d f x y e report p q ends = ends.err first second (head ++ xs) ys report a begun.0 (filled c d x y p q)
-
-  pub all_stands : (c d f : HostState) (x y z : Unit {0}) → Puts targets head [] b c (Ok x) → Puts targets xs ys c d (Ok y) → Ends targets d f (Ok z) → Delivers {T = Unit {0}} {E = Failed} (pair first second (head ++ xs) ys) [] a f (Ok (tt {0}))
-  all_stands c d f x y z p q ends = delivered {T = Unit {0}} {E = Failed} (pair first second (head ++ xs) ys) (flags_of second true) a f (tt {0}) (ends.ok first second (head ++ xs) ys a begun.0 (filled c d x y p q)) (all_ended first second (head ++ xs) ys)
+  -- and the outputs are ended, or one could not be
+  pub all_filled : (c d f : HostState) (x y : Unit {0}) → Puts targets head [] b c (Ok x) → Puts targets xs ys c d (Ok y) → (r : Result (Unit {0}) Failed) → Ends targets d f r → Fills (pair first second (head ++ xs) ys) a f r
+  all_filled c d f x y p q (Ok z) ends = record {
+    ok = are_done (pair first second (head ++ xs) ys) (flags_of second true) a f (ends.ok first second (head ++ xs) ys a begun.0 (filled c d x y p q)) (all_ended first second (head ++ xs) ys);
+    err = tt;
+  }
+  all_filled c d f x y p q (Err e) ends = record { ok = tt; err = λ report. ends.err first second (head ++ xs) ys report a begun.0 (filled c d x y p q) }
 
   pub head_open : AreOpen b.ended targets
   head_open = targets_open first second [] [] targets a b begun.0 begun.1

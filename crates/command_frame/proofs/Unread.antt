@@ -1,12 +1,12 @@
 -- Commands that read no input.
-use Rattle.std.proofs.Common.{◌≡◌, ◌⊎◌, ap, sym, ◌∙◌, refl, inl, inr, rules, Some, None, false}
+use Rattle.std.proofs.Common.{◌≡◌, ◌⊎◌, sym, ◌∙◌, refl, inl, inr, rules, Some, false}
 use Rattle.std.specs.Prelude.{Option, Result, Ok, Err}
 use Rattle.snd_host.specs.Host.{HostState, Files}
 use Rattle.snd_host.specs.declared.host.Failed.{Failed}
 use Rattle.command_frame.specs.Answer.{Answer, refused, delivery_refusal}
 use Rattle.command_frame.specs.Conduct.{Delivery, Plans, Prepares, CarriesOut, Attempts}
 use Rattle.command_frame.specs.declared.refusals.Refusal.{Refusal}
-use Rattle.command_frame.specs.declared.refusals.Refusal.TheVariants.{Usage, ReadFault, WriteFault, OutOfMemory}
+use Rattle.command_frame.specs.declared.refusals.Refusal.TheVariants.{Usage, ReadFault, OutOfMemory}
 use Rattle.command_frame.proofs.Obeying.{attempts, attempts_no_usage}
 
 module _ {P C : Type 0} (makes : P → Delivery) (answer : Answer C) where

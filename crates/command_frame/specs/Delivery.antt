@@ -6,6 +6,10 @@ use Rattle.snd_host.specs.Host.{HostState, Output, IfTold, Rose, IsPrefix}
 abbrev pub CanDeliver : HostState → Type 0
 CanDeliver state = length state.ended < 4294966999
 
+-- So many outputs more have numbers below 2 ^ 32.
+abbrev pub CanDeliverAll : (count : ℕ) → HostState → Type 0
+CanDeliverAll count state = length state.ended + count < 4294967000
+
 -- Since the old state the report and the complaint grew by these bytes, and these outputs were created, each with a flag that it was ended.
 pub record Gains (report complaint : List ℕ) (outputs : List Output) (flags : List Bool) (old new : HostState) : Type 0 where
   pub given : IfTold old.given (λ given. new.given ≡ Some (record { report = given.report ++ report; complaint = given.complaint ++ complaint; created = given.created ++ outputs }))

@@ -4,6 +4,8 @@ pub mod Answer
 pub mod Conduct
 -- what a delivery makes on a host
 pub mod Delivery
+-- what a plan of a list of outputs makes
+pub mod Listed
 -- what a run leaves on a host that tells it
 pub mod Leaves
 -- what a plan makes

@@ -1,5 +1,5 @@
 -- The outputs and the report that a plan makes.
-use Rattle.std.specs.Prelude.{ℕ, List, [], ◌∷◌, ◌++◌, Option, Some, None}
+use Rattle.std.specs.Prelude.{ℕ, List, [], ◌∷◌, Option, Some, None}
 use Rattle.std.specs.Option.{option_map}
 use Rattle.snd_host.specs.Host.{Output}
 use Rattle.command_frame.specs.Conduct.{Delivery}

@@ -1,10 +1,10 @@
 -- Two outputs that are written at once.
-use Rattle.std.specs.Prelude.{◌≡◌, ℕ, zero, suc, ◌+◌, ◌-◌, Bool, true, false, List, [], ◌∷◌, ◌++◌, length, Option, Some, None, Result, Ok, Err, IfOk, IfErr, OnOk, slice_index, slice_get, ◌≤◌, ◌<◌}
-use Rattle.snd_host.specs.Host.{HostState, Given, Output, IsPrefix}
+use Rattle.std.specs.Prelude.{◌≡◌, ℕ, zero, suc, ◌+◌, ◌-◌, Bool, true, false, List, [], ◌∷◌, ◌++◌, length, Option, Some, None, Result, Ok, Err, IfOk, IfErr, OnOk, OnErr, slice_index, slice_get, ◌≤◌, ◌<◌}
+use Rattle.snd_host.specs.Host.{HostState, Given, Output, IfTold, IsPrefix}
 use Rattle.snd_host.specs.declared.host.Failed.{Failed}
 use Rattle.snd_host.specs.declared.host.OutFile.{OutFile}
 use Rattle.command_frame.specs.declared.streaming.Targets.{Targets}
-use Rattle.command_frame.specs.Delivery.{Gains, Delivers}
+use Rattle.command_frame.specs.Delivery.{Gains, Delivers, all_ended}
 
 -- bytes of a first and of a second output
 pub record Both : Type 0 where
@@ -37,6 +37,26 @@ pub record Stands (outputs : List Output) (flags : List Bool) (report : List ℕ
 -- A call failed: of these outputs and this report a part stands.
 abbrev pub Stops : List Output → List ℕ → HostState → HostState → Type 0
 Stops outputs report old new = (e : Failed) → Delivers {T = Unit {0}} {E = Failed} outputs report old new (Err e)
+
+-- the rooms of the outputs from the number `next` on, of the report and of the complaint are what they were
+pub record LeavesRooms (next : ℕ) (rooms after : List ℕ) : Type 0 where
+  pub count : length after ≡ length rooms
+  pub report_room : slice_index after 0 ≡ slice_index rooms 0
+  pub complaint_room : slice_index after 1 ≡ slice_index rooms 1
+  pub later : (place : ℕ) → slice_index after (next + place) ≡ slice_index rooms (next + place)
+
+-- Since the state a these outputs were created, written and ended, and no call failed.
+pub record AreDone (outputs : List Output) (a c : HostState) : Type 0 where
+  pub made : Gains [] [] outputs (all_ended outputs) a c
+  pub inputs : c.faults.inputs ≡ a.faults.inputs
+  pub notes : c.faults.notes ≡ a.faults.notes
+  pub faults : c.faults.outputs ≡ a.faults.outputs
+  pub rooms : IfTold a.steady (λ rooms. (after : List ℕ) × (c.steady ≡ Some after) × LeavesRooms (length c.ended + 2) rooms after)
+
+-- These outputs were created, written and ended, or a call failed and a part of them stands.
+pub record Fills {T E : Type 0} (outputs : List Output) (old new : HostState) (result : Result T E) : Type 0 where
+  pub ok : OnOk result (AreDone outputs old new)
+  pub err : OnErr result ((report : List ℕ) → Stops outputs report old new)
 
 -- the outputs of a stream: the second one only where it has a name
 abbrev pub pair : (first : List ℕ) (second : Option (List ℕ)) → List ℕ → List ℕ → List Output

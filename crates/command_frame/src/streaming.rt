@@ -2,7 +2,7 @@
 ghost use Rattle.std.specs.Prelude.{◌≡◌, ◌<◌, ◌++◌, [], length, true, Option, option_map, OnOk};
 ghost use Rattle.snd_host.specs.Host.{HostState};
 ghost use Rattle.command_frame.specs.Delivery.{CanDeliver, Delivers};
-ghost use Rattle.command_frame.specs.Stream.{Begins, Puts, Ends, AreOpen, stream_outputs};
+ghost use Rattle.command_frame.specs.Stream.{Begins, Puts, Ends, Fills, AreOpen, stream_outputs};
 
 use crate::Pieces;
 use snd_host::{Failed, Host, OutFile, write_all};
@@ -78,6 +78,26 @@ fn end<H: Host>(host: &mut H, targets: Targets) -> Result<(), Failed>
     }
 }
 
+/// Creates the outputs, writes the head and all pieces to them, and ends them.
+pub(crate) fn fill<H: Host, P: Pieces>(
+    host: &mut H,
+    first: &str,
+    second: Option<&str>,
+    head: &[u8],
+    source: &mut P,
+) -> Result<(), Failed>
+    requires { CanDeliver (H.state host.old) }
+    ensures fills { let outputs = stream_outputs first.now (option_map (λ name. name.now) second.entry) head.now (P.to_come source.old) in
+        Fills outputs (H.state host.old) (H.state host.new) result }
+    ensures report { OnOk result (P.report source.new ≡ P.report source.old) }
+    ensures is_done { OnOk result (P.is_done source.new ≡ true) }
+{
+    let targets = begin(host, first, second)?;
+    put(host, targets, head, &[])?;
+    pump(host, targets, source)?;
+    end(host, targets)
+}
+
 /// Writes the head and all pieces to the outputs, and then the report of the source.
 pub fn stream<H: Host, P: Pieces>(
     host: &mut H,
@@ -90,9 +110,6 @@ pub fn stream<H: Host, P: Pieces>(
     ensures { let outputs = stream_outputs first.now (option_map (λ name. name.now) second.entry) head.now (P.to_come source.old) in
         Delivers outputs (P.report source.old) (H.state host.old) (H.state host.new) result }
 {
-    let targets = begin(host, first, second)?;
-    put(host, targets, head, &[])?;
-    pump(host, targets, source)?;
-    end(host, targets)?;
+    fill(host, first, second, head, source)?;
     write_all(host, REPORT, source.report())
 }

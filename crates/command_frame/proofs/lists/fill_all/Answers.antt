@@ -1,0 +1,41 @@
+use Rattle.std.proofs.Common.{◌≡◌, ◌∙◌, sym, ap, subst, List, [], ◌∷◌, ◌++◌, length, map, arith, append_assoc}
+use Rattle.std.specs.Vec.Iter.{into_iter_items}
+use Rattle.std.proofs.lemmas.List.{map-append}
+use Rattle.std.proofs.lemmas.Result.{err_from_is_err_and}
+use Rattle.snd_host.specs.Host.{Output}
+use Rattle.command_frame.specs.Listed.{listed_output}
+use Rattle.command_frame.specs.Stream.{AreDone, Stops}
+use Rattle.command_frame.proofs.Listing.{done_then, stops_then}
+use Rattle.command_frame.proofs.lists.fill_all.Goals as goal
+
+pub loop-output-preserved : goal.loop-output-preserved
+loop-output-preserved g c =
+    let at = c.loop-output in
+    let output = c.in-Some.output in
+    let makes = listed_output g.P.Pieces.to_come in
+    let steps : into_iter_items at.output-iterator ≡ output ∷ into_iter_items c.next.new.self = c.in-Some.ensures.steps.0 in
+    record {
+      split = append_assoc at.yielded (output ∷ []) _ ∙ rw (← steps) at.invariant.split;
+      count = let was = at.invariant.count in
+          let gone = c.in-Some.ensures.steps.1 in
+          let short = ap length steps in
+          omega arith;
+      are_done = subst (λ (l : List Output). AreDone l (g.H.Host.state c.args.host.now) (g.H.Host.state c.fill_one.new.host)) (sym (map-append makes at.yielded (output ∷ [])))
+          (done_then (map makes at.yielded) (makes output ∷ []) _ _ _ at.invariant.are_done c.in_ok-fill_one.ensures.ok);
+    }
+
+pub returns-in_err-fill_one : goal.returns-in_err-fill_one
+returns-in_err-fill_one g c =
+    let at = c.loop-output in
+    let output = c.in-Some.output in
+    let makes = listed_output g.P.Pieces.to_come in
+    let rest = into_iter_items c.next.new.self in
+    let steps : into_iter_items at.output-iterator ≡ output ∷ rest = c.in-Some.ensures.steps.0 in
+    let all : map makes at.yielded ++ (makes output ∷ [] ++ map makes rest) ≡ map makes c.args.outputs.items =
+    sym (map-append makes at.yielded (output ∷ rest)) ∙ ap (λ l. map makes (at.yielded ++ l)) (sym steps) ∙ ap (map makes) at.invariant.split in
+    let p = err_from_is_err_and c.from_residual.result c.from_residual.ensures.1 in
+    rw (p.1) (record {
+      ok = tt;
+      err = λ report. subst (λ (l : List Output). Stops l report (g.H.Host.state c.args.host.now) (g.H.Host.state c.fill_one.new.host)) all
+          (stops_then (map makes at.yielded) (makes output ∷ []) (map makes rest) _ _ _ report at.invariant.are_done (c.in_err-fill_one.ensures.err []));
+    })

@@ -1,0 +1,13 @@
+use Rattle.std.proofs.Common.{◌≡◌, ◌++◌, length, map}
+use Rattle.std.specs.Vec.Iter.{into_iter_items, into_iter_len}
+use Rattle.command_frame.specs.Listed.{listed_output}
+use Rattle.command_frame.specs.Stream.{AreDone}
+use Rattle.command_frame.proofs.lists.fill_all.Given as goal
+
+-- the outputs so far are done, and these are left
+abbrev pub invariant-loop-output : goal.invariant-loop-output
+invariant-loop-output g l = record {
+  split : l.yielded ++ into_iter_items l.output-iterator ≡ l.fn.outputs.items;
+  count : into_iter_len l.output-iterator ≡ length (into_iter_items l.output-iterator);
+  are_done : AreDone (map (listed_output g.P.Pieces.to_come) l.yielded) (g.H.Host.state l.fn.host) (g.H.Host.state l.host);
+}

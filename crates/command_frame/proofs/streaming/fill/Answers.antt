@@ -1,0 +1,23 @@
+use Rattle.std.proofs.Common.{◌∙◌, sym, Bool, List, subst}
+use Rattle.std.specs.Prelude.{option_map}
+use Rattle.std.proofs.lemmas.Result.{err_from_is_err_and}
+use Rattle.command_frame.specs.Stream.{AreOpen}
+use Rattle.command_frame.proofs.Streams.{pieces_failed, all_filled, head_open}
+use Rattle.command_frame.proofs.streaming.fill.Goals as goal
+
+pub returns-in_err-pump-clause-fills : goal.returns-in_err-pump-clause-fills
+returns-in_err-pump-clause-fills g c =
+    let p = err_from_is_err_and c.from_residual-in_err-pump.result c.from_residual-in_err-pump.ensures.1 in
+    rw (p.1) (record {
+      ok = tt;
+      err = λ report. pieces_failed c.args.first.now _ c.args.head.now _ _ _ _ _ c.in_ok-targets.ensures.ok _ _ _ _ report c.in_ok-put.ensures c.in_err-pump.ensures.puts;
+    })
+
+pub end-requires : goal.end-requires
+end-requires g c =
+    subst (λ (l : List Bool). AreOpen l c.in_ok-targets.targets) (sym (c.in_ok-pump.ensures.puts.ended ∙ c.in_ok-put.ensures.ended))
+    (head_open c.args.first.now (option_map (λ name. name.now) c.args.second) c.args.head.now c.args.head.now c.args.head.now _ _ _ c.in_ok-targets.ensures.ok)
+
+pub returns-clause-fills : goal.returns-clause-fills
+returns-clause-fills g c =
+    all_filled c.args.first.now _ c.args.head.now _ _ _ _ _ c.in_ok-targets.ensures.ok _ _ _ _ _ c.in_ok-put.ensures c.in_ok-pump.ensures.puts c.end.result c.end.ensures

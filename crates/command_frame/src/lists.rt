@@ -1,0 +1,81 @@
+// Outputs of a list, which are created, written and ended one after another, and then the report.
+ghost use Rattle.std.specs.Prelude.{◌≡◌, ◌+◌, ◌<◌, [], ◌∷◌, length, map, IfOk};
+ghost use Rattle.snd_host.specs.Host.{HostState};
+ghost use Rattle.command_frame.specs.Conduct.{CarriesOut};
+ghost use Rattle.command_frame.specs.Delivery.{CanDeliverAll, Delivers};
+ghost use Rattle.command_frame.specs.Listed.{listed_output, list_makes};
+ghost use Rattle.command_frame.specs.Stream.{Fills};
+
+use crate::streaming::{REPORT, fill};
+use crate::{Pieces, Refusal};
+use snd_host::{Failed, Host, write_all};
+
+/// An output that is made in pieces, after its head.
+#[derive(Drop)]
+pub struct ListedOutput<P: Pieces + Drop> {
+    pub name: String,
+    pub head: Vec<u8>,
+    pub source: P,
+}
+
+/// The outputs of a command that are made one after another, and its report.
+#[derive(Drop)]
+pub struct ListPlan<P: Pieces + Drop> {
+    pub outputs: Vec<ListedOutput<P>>,
+    pub report: Vec<u8>,
+}
+
+/// Creates an output, writes it and ends it.
+fn fill_one<H: Host, P: Pieces + Drop>(host: &mut H, output: ListedOutput<P>) -> Result<(), Failed>
+    requires { length (H.state host.old).ended + 1 < 4294967000 }
+    ensures { Fills (listed_output P.to_come output ∷ []) (H.state host.old) (H.state host.new) result }
+{
+    let ListedOutput {
+        name,
+        head,
+        mut source,
+    } = output;
+    fill(host, name.as_str(), None, head.as_slice(), &mut source)
+}
+
+/// Creates the outputs, writes them and ends them, one after another.
+fn fill_all<H: Host, P: Pieces + Drop>(
+    host: &mut H,
+    outputs: Vec<ListedOutput<P>>,
+) -> Result<(), Failed>
+    requires { CanDeliverAll (length outputs.items) (H.state host.old) }
+    ensures { Fills (map (listed_output P.to_come) outputs.items) (H.state host.old) (H.state host.new) result }
+{
+    for output in outputs {
+        fill_one(host, output)?;
+    }
+    Ok(())
+}
+
+/// Writes the outputs and then the report.
+fn deliver_all<H: Host, P: Pieces + Drop>(host: &mut H, plan: ListPlan<P>) -> Result<(), Failed>
+    requires { CanDeliverAll (length plan.outputs.items) (H.state host.old) }
+    ensures { let makes = list_makes P.to_come plan in
+        Delivers makes.outputs makes.report (H.state host.old) (H.state host.new) result }
+{
+    let ListPlan { outputs, report } = plan;
+    fill_all(host, outputs)?;
+    write_all(host, REPORT, report.as_slice())
+}
+
+/// Carries out a plan of a list of outputs, if there is one.
+pub fn carry_all<H: Host, P: Pieces + Drop, C: Drop>(
+    host: &mut H,
+    prepared: Result<ListPlan<P>, Refusal<C>>,
+) -> Option<Refusal<C>>
+    requires { IfOk prepared (λ plan. CanDeliverAll (length plan.outputs.items) (H.state host.old)) }
+    ensures { CarriesOut (list_makes P.to_come) prepared (H.state host.old) (H.state host.new) result }
+{
+    match prepared {
+        Ok(plan) => match deliver_all(host, plan) {
+            Ok(()) => None,
+            Err(_) => Some(Refusal::WriteFault),
+        },
+        Err(refusal) => Some(refusal),
+    }
+}
