@@ -338,6 +338,9 @@ const COMMANDS: &[(&[&str], u32)] = &[
     (&["brr", "BRR", "OUT"], 3),
     (&["info", "SPC"], 19),
     (&["encode", "WAV", "OUT"], 3),
+    (&["asm", "SOURCE", "0400", "OUT"], 3),
+    (&["dis", "BRR", "0400", "OUT"], 3),
+    (&["rip", "SPC", "OUT"], 19),
     (&["demo", "7", "OUT"], 0),
     (&["check", "7"], 0),
     (
@@ -368,6 +371,7 @@ fn run_on_all(alloc: Global, words: &[&str], failing: &[u32]) -> Result<Outcome,
         ("TABLE", table.as_slice()),
         ("WAV", sound.as_slice()),
         ("BRR", blocks.as_slice()),
+        ("SOURCE", b"NOP\n".as_slice()),
     ];
     run_failing(alloc, words.as_slice(), &inputs, failing)
 }
