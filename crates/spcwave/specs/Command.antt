@@ -10,9 +10,10 @@ use Rattle.command_encode.specs.Encode.{encode_answer}
 use Rattle.command_check.specs.Check.{check_answer}
 use Rattle.command_demo.specs.Demo.{demo_answer}
 use Rattle.command_render.specs.Options.{Options}
-use Rattle.spcwave.specs.Options.{is_name, options_in, demo_number_in}
+use Rattle.spcwave.specs.Options.{is_name, options_in, demo_number_in, range_in}
 use Rattle.command_render.specs.Render.{render_answer}
 use Rattle.command_info.specs.Info.{info_answer}
+use Rattle.command_rip.specs.Rip.{rip_answer}
 
 -- a command with its names
 pub data Command : Type 0 where
@@ -29,6 +30,8 @@ pub data Command : Type 0 where
   demo : (number : ℕ) → (output : List ℕ) → Command
   -- tells sums over the frames of the demo file of a number
   check : (number : ℕ) → Command
+  -- writes wanted samples of an SPC file under names that begin with the prefix: those of the voices, and those of a range
+  rip : (file prefix : List ℕ) → (range : Option (ℕ × ℕ)) → Command
 
 -- the words after `brr`
 abbrev pub brr_command : List (List ℕ) → Command
@@ -82,6 +85,22 @@ abbrev pub check_command : List (List ℕ) → Command
 check_command (number ∷ []) = check_with (demo_number_in number)
 check_command words = usage
 
+-- `rip` with a range, which its word has to say
+abbrev pub rip_with : (file prefix : List ℕ) → (range : Option (ℕ × ℕ)) → Command
+rip_with file prefix None = usage
+rip_with file prefix (Some range) = rip file prefix (Some range)
+
+-- `rip` with these names and the words after them: none, or a range
+abbrev pub rip_over : (file prefix : List ℕ) → (words : List (List ℕ)) → Command
+rip_over file prefix [] = rip file prefix None
+rip_over file prefix (option ∷ range ∷ []) = if bytes_eq option (codes "--range") then rip_with file prefix (range_in range) else usage
+rip_over file prefix words = usage
+
+-- the words after `rip`
+abbrev pub rip_command : List (List ℕ) → Command
+rip_command (file ∷ prefix ∷ words) = if is_name file && is_name prefix then rip_over file prefix words else usage
+rip_command words = usage
+
 -- the command that the words say
 abbrev pub command_of : List (List ℕ) → Command
 command_of [] = usage
@@ -92,6 +111,7 @@ command_of (name ∷ words) =
     else if bytes_eq name (codes "render") then render_command words
     else if bytes_eq name (codes "demo") then demo_command words
     else if bytes_eq name (codes "check") then check_command words
+    else if bytes_eq name (codes "rip") then rip_command words
     else usage
 
 -- whether a command names an input
@@ -103,6 +123,7 @@ names_input (encode input output looped) = true
 names_input (render file table wave options) = true
 names_input (demo number output) = false
 names_input (check number) = false
+names_input (rip file prefix range) = true
 
 -- what a command answers, by what the names hold
 abbrev pub answer_of : Command → Files → Answer Cause
@@ -113,3 +134,4 @@ answer_of (encode input output looped) files = encode_answer output looped (file
 answer_of (render file table wave options) files = render_answer wave options (files file) (files table)
 answer_of (demo number output) files = demo_answer number output
 answer_of (check number) files = check_answer number
+answer_of (rip file prefix range) files = rip_answer prefix range (files file)

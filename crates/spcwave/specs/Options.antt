@@ -1,4 +1,4 @@
--- The options of `render`, as words say them.
+-- The options of commands, as words say them.
 use Rattle.std.specs.Prelude.{ℕ, ◌==◌, ◌&&◌, not, Bool, false, List, [], ◌∷◌, slice_index, Option, Some, None, Result, Ok, Err, codes, nat_le, if◌then◌else◌}
 use Rattle.std.specs.Option.{option_map}
 use Rattle.std.specs.Str.{bytes_eq}
@@ -40,6 +40,15 @@ first_byte (Err error) = None
 -- the voices that a word says: two hexadecimal digits of either case
 abbrev pub voices_in : List ℕ → Option ℕ
 voices_in word = first_byte (decode_sized word 1)
+
+-- a range from a first to a last entry, which doesn't stand before the first
+abbrev pub range_of : Result (List ℕ) FromHexError → Option (ℕ × ℕ)
+range_of (Ok ends) = if nat_le (slice_index ends 0) (slice_index ends 1) then Some (slice_index ends 0, slice_index ends 1) else None
+range_of (Err error) = None
+
+-- the range that a word says: four hexadecimal digits of either case, two for the first entry and two for the last
+abbrev pub range_in : List ℕ → Option (ℕ × ℕ)
+range_in word = range_of (decode_sized word 2)
 
 -- what an option is set to, unless it was set before
 abbrev pub once : {T : Type 0} → (before value : Option T) → Option T

@@ -2,7 +2,7 @@
 use Rattle.spcwave.specs.Command as command
 use Rattle.command_render.specs.Options.{options_of, IsWithinHour}
 use Rattle.spcwave.specs.declared.words.Command.{Command}
-use Rattle.spcwave.specs.declared.words.Command.TheVariants.{Usage, Brr, Info, Encode, Render, Demo, Check}
+use Rattle.spcwave.specs.declared.words.Command.TheVariants.{Usage, Brr, Info, Encode, Render, Demo, Check, Rip}
 
 -- an hour of frames at most, where a number of samples is given
 abbrev pub AreWithinHour : Command → Type 0
@@ -13,6 +13,7 @@ AreWithinHour (Encode input output looped) = Unit {0}
 AreWithinHour (Render file table wave options) = IsWithinHour options.samples
 AreWithinHour (Demo number output) = Unit {0}
 AreWithinHour (Check number) = Unit {0}
+AreWithinHour (Rip file prefix range) = Unit {0}
 
 abbrev pub meaning_of : Command → command.Command
 meaning_of Usage = command.usage
@@ -22,3 +23,4 @@ meaning_of (Encode input output looped) = command.encode input.now output.now lo
 meaning_of (Render file table wave options) = command.render file.now table.now wave.now (options_of options)
 meaning_of (Demo number output) = command.demo number output.now
 meaning_of (Check number) = command.check number
+meaning_of (Rip file prefix range) = command.rip file.now prefix.now range

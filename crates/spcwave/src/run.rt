@@ -13,6 +13,7 @@ use command_encode::encode;
 use command_frame::{Refusal, complain};
 use command_info::info;
 use command_render::render;
+use command_rip::rip;
 use snd_host::Host;
 use status_lines::{Cause, Status, status_for};
 use std::alloc::Global;
@@ -41,6 +42,11 @@ fn attempt<H: Host>(alloc: Global, words: &[String], host: &mut H) -> Option<Ref
         } => render(alloc, host, file, table, wave, options),
         Command::Demo { number, output } => demo(alloc, host, number, output),
         Command::Check { number } => check(alloc, host, number),
+        Command::Rip {
+            file,
+            prefix,
+            range,
+        } => rip(alloc, host, file, prefix, range),
     }
 }
 

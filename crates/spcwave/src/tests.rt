@@ -50,6 +50,15 @@ const WORDS: &[&[&str]] = &[
     &["check", ""],
     &["check", "-1"],
     &["check", "00000000007"],
+    &["rip", "A"],
+    &["rip", "A", ""],
+    &["rip", "A", "-B"],
+    &["rip", "A", "B", "--range"],
+    &["rip", "A", "B", "--range", "0201"],
+    &["rip", "A", "B", "--range", "0g10"],
+    &["rip", "A", "B", "--range", "00010"],
+    &["rip", "A", "B", "--loop", "0001"],
+    &["rip", "A", "B", "--range", "0001", "--range", "0001"],
 ];
 
 #[test]
@@ -68,6 +77,12 @@ const COMMANDS: &[(&[&str], Status, &str)] = &[
     (&["encode", "IN", "OUT", "--loop"], Status::WavForm, ""),
     (&["render", "IN", "IN", "OUT"], Status::SpcLength, ""),
     (&["demo", "0000000007", "OUT"], Status::Ok, "bytes 66048\n"),
+    (&["rip", "IN", "OUT"], Status::SpcLength, ""),
+    (
+        &["rip", "IN", "OUT", "--range", "0AfF"],
+        Status::SpcLength,
+        "",
+    ),
 ];
 
 #[test]
