@@ -11,11 +11,12 @@ use Rattle.command_check.specs.Check.{check_answer}
 use Rattle.command_demo.specs.Demo.{demo_answer}
 use Rattle.command_help.specs.Help.{help_answer, version_answer}
 use Rattle.command_render.specs.Options.{Options}
-use Rattle.spcwave.specs.Options.{is_name, options_in, demo_number_in, origin_in}
+use Rattle.spcwave.specs.Options.{is_name, options_in, demo_number_in, origin_in, range_in}
 use Rattle.command_render.specs.Render.{render_answer}
 use Rattle.command_info.specs.Info.{info_answer}
 use Rattle.command_asm.specs.Asm.{asm_answer}
 use Rattle.command_dis.specs.Dis.{dis_answer}
+use Rattle.command_rip.specs.Rip.{rip_answer}
 
 -- a command with its names
 pub data Command : Type 0 where
@@ -40,6 +41,8 @@ pub data Command : Type 0 where
   asm : (input : List ℕ) → (origin : ℕ) → (output : List ℕ) → Command
   -- lists the code of the first name from an origin on under the second
   dis : (input : List ℕ) → (origin : ℕ) → (output : List ℕ) → Command
+  -- writes wanted samples of an SPC file under names that begin with the prefix: those of the voices, and those of a range
+  rip : (file prefix : List ℕ) → (range : Option (ℕ × ℕ)) → Command
 
 -- a command that stands alone: no word comes after it
 abbrev pub alone : Command → List (List ℕ) → Command
@@ -116,6 +119,22 @@ abbrev pub dis_command : List (List ℕ) → Command
 dis_command (input ∷ origin ∷ output ∷ []) = if is_name input && is_name output then dis_with input (origin_in origin) output else usage
 dis_command words = usage
 
+-- `rip` with a range, which its word has to say
+abbrev pub rip_with : (file prefix : List ℕ) → (range : Option (ℕ × ℕ)) → Command
+rip_with file prefix None = usage
+rip_with file prefix (Some range) = rip file prefix (Some range)
+
+-- `rip` with these names and the words after them: none, or a range
+abbrev pub rip_over : (file prefix : List ℕ) → (words : List (List ℕ)) → Command
+rip_over file prefix [] = rip file prefix None
+rip_over file prefix (option ∷ range ∷ []) = if bytes_eq option (codes "--range") then rip_with file prefix (range_in range) else usage
+rip_over file prefix words = usage
+
+-- the words after `rip`
+abbrev pub rip_command : List (List ℕ) → Command
+rip_command (file ∷ prefix ∷ words) = if is_name file && is_name prefix then rip_over file prefix words else usage
+rip_command words = usage
+
 -- the command that the words say
 abbrev pub command_of : List (List ℕ) → Command
 command_of [] = usage
@@ -130,6 +149,7 @@ command_of (name ∷ words) =
     else if bytes_eq name (codes "check") then check_command words
     else if bytes_eq name (codes "asm") then asm_command words
     else if bytes_eq name (codes "dis") then dis_command words
+    else if bytes_eq name (codes "rip") then rip_command words
     else usage
 
 -- whether a command names an input
@@ -145,6 +165,7 @@ names_input (demo number output) = false
 names_input (check number) = false
 names_input (asm input origin output) = true
 names_input (dis input origin output) = true
+names_input (rip file prefix range) = true
 
 -- what a command answers, by what the names hold
 abbrev pub answer_of : Command → Files → Answer Cause
@@ -159,3 +180,4 @@ answer_of (demo number output) files = demo_answer number output
 answer_of (check number) files = check_answer number
 answer_of (asm input origin output) files = asm_answer origin output (files input)
 answer_of (dis input origin output) files = dis_answer origin output (files input)
+answer_of (rip file prefix range) files = rip_answer prefix range (files file)

@@ -50,6 +50,15 @@ first_word (Err error) = None
 abbrev pub origin_in : List ℕ → Option ℕ
 origin_in word = first_word (decode_sized word 2)
 
+-- a range from a first to a last entry, which doesn't stand before the first
+abbrev pub range_of : Result (List ℕ) FromHexError → Option (ℕ × ℕ)
+range_of (Ok ends) = if nat_le (slice_index ends 0) (slice_index ends 1) then Some (slice_index ends 0, slice_index ends 1) else None
+range_of (Err error) = None
+
+-- the range that a word says: four hexadecimal digits of either case, two for the first entry and two for the last
+abbrev pub range_in : List ℕ → Option (ℕ × ℕ)
+range_in word = range_of (decode_sized word 2)
+
 -- what an option is set to, unless it was set before
 abbrev pub once : {T : Type 0} → (before value : Option T) → Option T
 once None value = value

@@ -2,7 +2,7 @@
 use Rattle.spcwave.specs.Command as command
 use Rattle.command_render.specs.Options.{options_of, IsWithinHour}
 use Rattle.spcwave.specs.declared.words.Command.{Command}
-use Rattle.spcwave.specs.declared.words.Command.TheVariants.{Usage, Help, Version, Brr, Info, Encode, Render, Demo, Check, Asm, Dis}
+use Rattle.spcwave.specs.declared.words.Command.TheVariants.{Usage, Help, Version, Brr, Info, Encode, Render, Demo, Check, Asm, Dis, Rip}
 
 -- an hour of frames at most, where a number of samples is given
 abbrev pub AreWithinHour : Command → Type 0
@@ -17,6 +17,7 @@ AreWithinHour (Demo number output) = Unit {0}
 AreWithinHour (Check number) = Unit {0}
 AreWithinHour (Asm input origin output) = Unit {0}
 AreWithinHour (Dis input origin output) = Unit {0}
+AreWithinHour (Rip file prefix range) = Unit {0}
 
 abbrev pub meaning_of : Command → command.Command
 meaning_of Usage = command.usage
@@ -30,3 +31,4 @@ meaning_of (Demo number output) = command.demo number output.now
 meaning_of (Check number) = command.check number
 meaning_of (Asm input origin output) = command.asm input.now origin output.now
 meaning_of (Dis input origin output) = command.dis input.now origin output.now
+meaning_of (Rip file prefix range) = command.rip file.now prefix.now range

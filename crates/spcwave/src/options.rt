@@ -1,7 +1,7 @@
 // The options of `render`, and numbers and addresses.
 ghost use Rattle.std.specs.Prelude.{◌≡◌, map, string_bytes, option_map, true, IfSome};
 ghost use Rattle.command_render.specs.Options.{options_of, IsWithinHour};
-ghost use Rattle.spcwave.specs.Options.{is_name, count_in, demo_number_in, name_in, voices_in, origin_in, options_with, options_in};
+ghost use Rattle.spcwave.specs.Options.{is_name, count_in, demo_number_in, name_in, voices_in, origin_in, range_in, options_with, options_in};
 
 use command_render::RenderOptions;
 use number_text::{decimal_value, is_number};
@@ -82,6 +82,17 @@ pub fn origin_in(word: &[u8]) -> Option<u16>
             Some(0x100 * u16::from(high) + u16::from(low))
         }
         Err(_) => None,
+    }
+}
+
+/// The range of entries that a word says, from a first to a last.
+pub fn range_in(word: &[u8]) -> Option<(u8, u8)>
+    ensures { result ≡ range_in word.now }
+{
+    let mut ends = [0u8; 2];
+    match hex::decode_to_slice(word, &mut ends) {
+        Ok(()) if ends[0] <= ends[1] => Some((ends[0], ends[1])),
+        _ => None,
     }
 }
 

@@ -16,6 +16,7 @@ use command_frame::{Refusal, complain};
 use command_help::{help, version};
 use command_info::info;
 use command_render::render;
+use command_rip::rip;
 use snd_host::Host;
 use status_lines::{Cause, Status, status_for};
 use std::alloc::Global;
@@ -56,6 +57,11 @@ fn attempt<H: Host>(alloc: Global, words: &[String], host: &mut H) -> Option<Ref
             origin,
             output,
         } => dis(alloc, host, input, origin, output),
+        Command::Rip {
+            file,
+            prefix,
+            range,
+        } => rip(alloc, host, file, prefix, range),
     }
 }
 

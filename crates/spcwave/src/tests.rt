@@ -65,6 +65,15 @@ const WORDS: &[&[&str]] = &[
     &["dis", "IN", "040g", "OUT"],
     &["dis", "IN", "", "OUT"],
     &["dis", "IN", "0400", "-B"],
+    &["rip", "A"],
+    &["rip", "A", ""],
+    &["rip", "A", "-B"],
+    &["rip", "A", "B", "--range"],
+    &["rip", "A", "B", "--range", "0201"],
+    &["rip", "A", "B", "--range", "0g10"],
+    &["rip", "A", "B", "--range", "00010"],
+    &["rip", "A", "B", "--loop", "0001"],
+    &["rip", "A", "B", "--range", "0001", "--range", "0001"],
 ];
 
 #[test]
@@ -88,6 +97,12 @@ const COMMANDS: &[(&[&str], Status, &str)] = &[
     (&["asm", "IN", "0400", "OUT"], Status::AsmLine, ""),
     (&["dis", "IN", "fFf7", "OUT"], Status::Ok, "lines 8\n"),
     (&["dis", "IN", "FfF8", "OUT"], Status::CodeLength, ""),
+    (&["rip", "IN", "OUT"], Status::SpcLength, ""),
+    (
+        &["rip", "IN", "OUT", "--range", "0AfF"],
+        Status::SpcLength,
+        "",
+    ),
 ];
 
 #[test]

@@ -1,10 +1,10 @@
 // The words of the command line.
 ghost use Rattle.std.specs.Prelude.{◌≡◌, map, string_bytes, option_map, IfSome};
-ghost use Rattle.spcwave.specs.Command.{command_of, alone, brr_command, info_command, encode_command, have_same_name, render_with, render_command, demo_command, check_command, asm_command, dis_command};
+ghost use Rattle.spcwave.specs.Command.{command_of, alone, brr_command, info_command, encode_command, have_same_name, render_with, render_command, demo_command, check_command, asm_command, dis_command, rip_with, rip_over, rip_command};
 ghost use Rattle.command_render.specs.Options.{options_of, IsWithinHour};
 ghost use Rattle.spcwave.specs.Words.{meaning_of, AreWithinHour};
 
-use crate::options::{demo_number_in, is_name, origin_in, read_options};
+use crate::options::{demo_number_in, is_name, origin_in, range_in, read_options};
 use command_render::RenderOptions;
 
 /// A command with its names.
@@ -47,6 +47,11 @@ pub enum Command<'a> {
         input: &'a str,
         origin: u16,
         output: &'a str,
+    },
+    Rip {
+        file: &'a str,
+        prefix: &'a str,
+        range: Option<(u8, u8)>,
     },
 }
 
@@ -218,6 +223,39 @@ fn read_asm(words: &[String]) -> Command<'_>
     }
 }
 
+/// The command `rip` with these names and a range, which its word has to say.
+fn rip_with<'a>(file: &'a str, prefix: &'a str, range: Option<(u8, u8)>) -> Command<'a>
+    ensures meaning { meaning_of result ≡ rip_with file.now prefix.now range }
+    ensures within_hour { AreWithinHour result }
+{
+    match range {
+        Some(range) => Command::Rip {
+            file,
+            prefix,
+            range: Some(range),
+        },
+        None => Command::Usage,
+    }
+}
+
+/// Reads the words after the names of `rip`.
+fn rip_over<'a>(file: &'a str, prefix: &'a str, words: &[String]) -> Command<'a>
+    ensures meaning { meaning_of result ≡ rip_over file.now prefix.now (map string_bytes words.now) }
+    ensures within_hour { AreWithinHour result }
+{
+    match words {
+        [] => Command::Rip {
+            file,
+            prefix,
+            range: None,
+        },
+        [option, range] if option.as_str() == "--range" => {
+            rip_with(file, prefix, range_in(range.as_bytes()))
+        }
+        _ => Command::Usage,
+    }
+}
+
 /// Reads the words after `dis`.
 fn read_dis(words: &[String]) -> Command<'_>
     ensures meaning { meaning_of result ≡ dis_command (map string_bytes words.now) }
@@ -233,6 +271,19 @@ fn read_dis(words: &[String]) -> Command<'_>
                 },
                 None => Command::Usage,
             }
+        }
+        _ => Command::Usage,
+    }
+}
+
+/// Reads the words after `rip`.
+fn read_rip(words: &[String]) -> Command<'_>
+    ensures meaning { meaning_of result ≡ rip_command (map string_bytes words.now) }
+    ensures within_hour { AreWithinHour result }
+{
+    match words {
+        [file, prefix, options @ ..] if is_name(file.as_str()) && is_name(prefix.as_str()) => {
+            rip_over(file.as_str(), prefix.as_str(), options)
         }
         _ => Command::Usage,
     }
@@ -256,6 +307,7 @@ pub fn read_words(words: &[String]) -> Command<'_>
             "check" => read_check(rest),
             "asm" => read_asm(rest),
             "dis" => read_dis(rest),
+            "rip" => read_rip(rest),
             _ => Command::Usage,
         },
     }

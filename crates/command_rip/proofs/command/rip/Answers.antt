@@ -1,0 +1,43 @@
+use Rattle.std.proofs.Common.{Some, Err}
+use Rattle.snd_host.specs.Host.{Files}
+use Rattle.command_frame.specs.Listed.{list_makes}
+use Rattle.command_frame.specs.declared.refusals.Refusal.TheVariants.{OutOfMemory}
+use Rattle.command_frame.proofs.Obeying.{attempts, attempts_no_usage}
+use Rattle.input_files.specs.Inputs.{file_in}
+use Rattle.input_files.proofs.Readings.{reads_declined, reads_plan}
+use Rattle.command_rip.specs.Source.{to_come_of}
+use Rattle.command_rip.specs.Rip.{file_answer, rip_answer}
+use Rattle.command_rip.proofs.Planless.{not_carried, plans_nothing}
+use Rattle.command_rip.proofs.command.rip.Goals as goal
+
+pub returns-in-Err-clause-attempts : goal.returns-in-Err-clause-attempts
+returns-in-Err-clause-attempts g c =
+    let x = g.H.Host.state c.args.host.now in
+    let y = g.H.Host.state c.read_file.new.host in
+    attempts (list_makes to_come_of) (λ (files : Files). rip_answer c.args.prefix.now c.args.range (files c.args.input.now)) x y y (Err c.in-Err.refusal) (Some c.in-Err.refusal)
+    (reads_declined (list_makes to_come_of) (λ (files : Files). file_in (files c.args.input.now)) (λ (files : Files). file_answer c.args.prefix.now c.args.range) x y c.in-Err.refusal c.in-Err.ensures)
+    (not_carried c.in-Err.refusal y)
+
+pub returns-in_default-clause-attempts : goal.returns-in_default-clause-attempts
+returns-in_default-clause-attempts g c =
+    let x = g.H.Host.state c.args.host.now in
+    let y = g.H.Host.state c.read_file.new.host in
+    attempts (list_makes to_come_of) (λ (files : Files). rip_answer c.args.prefix.now c.args.range (files c.args.input.now)) x y y (Err OutOfMemory) (Some OutOfMemory)
+    (reads_plan (list_makes to_come_of) (λ (files : Files). file_in (files c.args.input.now)) (file_answer c.args.prefix.now c.args.range) x y c.in-Ok.file (Err OutOfMemory) c.in-Ok.ensures (plans_nothing (file_answer c.args.prefix.now c.args.range c.in-Ok.file)))
+    (not_carried OutOfMemory y)
+
+pub returns-clause-attempts : goal.returns-clause-attempts
+returns-clause-attempts g c =
+    let x = g.H.Host.state c.args.host.now in
+    let y = g.H.Host.state c.read_file.new.host in
+    attempts (list_makes to_come_of) (λ (files : Files). rip_answer c.args.prefix.now c.args.range (files c.args.input.now)) x y (g.H.Host.state c.carry_all.new.host) c.plan_file-planned.result c.carry_all.result
+    (reads_plan (list_makes to_come_of) (λ (files : Files). file_in (files c.args.input.now)) (file_answer c.args.prefix.now c.args.range) x y c.in-Ok.file c.plan_file-planned.result c.in-Ok.ensures c.plan_file-planned.ensures.plans)
+    c.carry_all.ensures
+
+pub returns-clause-not_usage : goal.returns-clause-not_usage
+returns-clause-not_usage g c =
+    let x = g.H.Host.state c.args.host.now in
+    let y = g.H.Host.state c.read_file.new.host in
+    attempts_no_usage (list_makes to_come_of) (λ (files : Files). rip_answer c.args.prefix.now c.args.range (files c.args.input.now)) x y (g.H.Host.state c.carry_all.new.host) c.plan_file-planned.result c.carry_all.result
+    (reads_plan (list_makes to_come_of) (λ (files : Files). file_in (files c.args.input.now)) (file_answer c.args.prefix.now c.args.range) x y c.in-Ok.file c.plan_file-planned.result c.in-Ok.ensures c.plan_file-planned.ensures.plans)
+    c.carry_all.ensures

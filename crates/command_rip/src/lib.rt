@@ -1,0 +1,10 @@
+//! The command `rip`: it writes samples of a tune as sound files of one channel, and reports on each.
+#![tactic(auto)]
+
+mod command;
+mod reports;
+mod source;
+#[cfg(test)]
+mod tests;
+
+pub use command::rip;

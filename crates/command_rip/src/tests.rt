@@ -1,0 +1,106 @@
+// Runs of `rip` over a host in memory.
+use crate::rip;
+use command_tests::{DSP, FIVE, MEMORY, Outcome, Pieces, file_of};
+use snd_host::MemHost;
+use status_lines::Status;
+use std::alloc::Global;
+use std::test::Fail;
+
+/// Rips a file of the base file and these pieces, where the calls of these numbers fail and so many outputs have this room.
+fn rip_file(
+    alloc: Global,
+    pieces: (Pieces, Pieces),
+    range: Option<(u8, u8)>,
+    failing: &[u32],
+    outputs: (usize, usize),
+) -> Result<Outcome, Fail> {
+    let file = file_of(alloc, 66048, pieces.0, pieces.1)?;
+    let files = vec![in alloc; (String::from_str(alloc, "SPC")?, file)]?;
+    let mut rooms = vec![in alloc; 20000, 100]?;
+    for _ in 0..outputs.0 {
+        rooms.push(outputs.1)?;
+    }
+    let mut host = MemHost::new(alloc, files, failing.to_vec(alloc)?, rooms)?;
+    let refusal = rip(alloc, &mut host, "SPC", "S", range);
+    Ok(Outcome::of(refusal, host))
+}
+
+/// Sixteen samples of 4096.
+const STEADY_WAV: [u8; 76] =
+    *b"RIFF\x44\0\0\0WAVEfmt \x10\0\0\0\x01\0\x01\0\0\x7d\0\0\0\xfa\0\0\x02\0\x10\0data\x20\0\0\0\
+    \0\x10\0\x10\0\x10\0\x10\0\x10\0\x10\0\x10\0\x10\0\x10\0\x10\0\x10\0\x10\0\x10\0\x10\0\x10\0\x10";
+
+/// The loop word of the first entry is its start.
+const LOOPED: Pieces = &[(MEMORY + 0x0202, b"\x00\x05")];
+
+#[test]
+fn a_block_that_loops_outside_or_to_itself(rt: HostRuntime) -> Result<(), Fail> {
+    for (more, report) in [
+        (
+            &[] as Pieces,
+            "entry 00 start 0500 blocks 1 loop outside worst 0 squares 0\nentries 1\n",
+        ),
+        (
+            LOOPED,
+            "entry 00 start 0500 blocks 1 loop 0 worst 0 squares 0\nentries 1\n",
+        ),
+    ] {
+        let outcome = rip_file(rt.alloc(), (FIVE, more), None, &[], (1, 76))?;
+        assert!(rt; outcome.is_done(&STEADY_WAV, report));
+    }
+    Ok(())
+}
+
+#[test]
+fn a_sample_without_an_end(rt: HostRuntime) -> Result<(), Fail> {
+    let outcome = rip_file(rt.alloc(), (&[], &[]), None, &[], (1, 233004))?;
+    let line = b"entry 00 start 0000 blocks 7280 loop open worst 0 squares 0\nentries 1\n";
+    assert!(rt; outcome.report() == line.as_slice() && outcome.first().len() == 233004);
+    // Block 113 holds the two bytes of the program: its last four samples are 2, -2, -2 and -2.
+    let at = 44 + 2 * (16 * 113 + 12);
+    assert_eq!(rt;
+        outcome.first().get(at..at + 8),
+        Some(b"\x02\0\xfe\xff\xfe\xff\xfe\xff".as_slice())
+    );
+    Ok(())
+}
+
+/// Three entries of one block.
+const THREE: Pieces = &[(MEMORY + 0x0204, b"\x00\x05\x00\x05\x00\x05\x00\x05")];
+
+#[test]
+fn each_call_of_the_host_may_fail(rt: HostRuntime) -> Result<(), Fail> {
+    let alloc = rt.alloc();
+    let one = rip_file(alloc, (FIVE, THREE), None, &[], (3, 76))?.calls();
+    let whole = rip_file(alloc, (FIVE, THREE), Some((1, 2)), &[], (3, 76))?;
+    assert!(rt; whole.status() == Status::Ok);
+    for call in 0..whole.calls() {
+        let outcome = rip_file(alloc, (FIVE, THREE), Some((1, 2)), &[call], (3, 76))?;
+        assert!(rt;
+            outcome.is_unread(call) || outcome.is_cut_off(&whole),
+            "at {call}"
+        );
+    }
+    // An output takes as many calls as the next, so the third is created by this one.
+    let third = one
+        .wrapping_add(whole.calls().wrapping_sub(one) / 2)
+        .wrapping_sub(1);
+    let outcome = rip_file(alloc, (FIVE, THREE), Some((1, 2)), &[third], (3, 76))?;
+    assert!(rt;
+        outcome.first() == STEADY_WAV.as_slice() && outcome.second() == STEADY_WAV.as_slice()
+    );
+    assert!(rt; outcome.report().is_empty() && outcome.calls() == third.wrapping_add(2));
+    Ok(())
+}
+
+/// All entries of the directory start at a block with its end bit alone.
+const SHORT: Pieces = &[(MEMORY, b"\x01"), (DSP + 0x5d, b"\x10")];
+
+#[test]
+fn all_entries_of_the_directory(rt: HostRuntime) -> Result<(), Fail> {
+    let outcome = rip_file(rt.alloc(), (SHORT, &[]), Some((0, 255)), &[], (256, 76))?;
+    assert!(rt; outcome.status() == Status::Ok && outcome.first().len() == 76);
+    let last = b"\nentry ff start 0000 blocks 1 loop - worst 0 squares 0\nentries 256\n";
+    assert!(rt; outcome.report().ends_with(last.as_slice()));
+    Ok(())
+}
