@@ -1,7 +1,10 @@
 pub mod Driven
 pub mod ByClock
 pub mod Lists
+pub mod Steady
 pub mod Table
+pub mod Beyond
+pub mod OperandReads
 pub mod Makes
 pub mod Short
 pub mod Bounds

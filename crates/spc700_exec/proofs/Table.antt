@@ -10,6 +10,7 @@ use Rattle.spc700_table.specs.Opcodes.{row_of, columns}
 use Rattle.spc700_table.proofs.Below.{list_all_below}
 use Rattle.spc700_exec.specs.Accesses.{row_accesses}
 use Rattle.spc700_exec.specs.Forms.{row_suits}
+use Rattle.spc700_exec.proofs.Steady.{is_steady}
 use Rattle.spc700_exec.specs.Pieces.{FormFits, IsRow, IsTime, halts}
 use Rattle.spc700_alu.proofs.Apart.{and_left, and_right}
 use Rattle.spc700_exec.proofs.Lists.{or_right, le_from_test}
@@ -29,8 +30,11 @@ row_is_few row = nat_le (length (row_accesses row) + 1) 6
 abbrev row_is_below : OpRow → Bool
 row_is_below row = halts row.kind || nat_le (length (row_accesses row) + 1) row.cycles
 
+abbrev row_is_listed : OpRow → Bool
+row_is_listed row = row_suits row && is_steady row
+
 abbrev row_passes : OpRow → Bool
-row_passes row = row_fits row && (row_is_few row && (row_is_below row && row_suits row))
+row_passes row = row_fits row && (row_is_few row && (row_is_below row && row_is_listed row))
 
 -- the test of the whole list
 all_pass : list_all (λ op. row_passes (row_of op)) (range_with_len 0 256) ≡ true
@@ -42,7 +46,7 @@ record Passes (row : OpRow) : Type 0 where
   fits : row_fits row ≡ true
   few : row_is_few row ≡ true
   below : row_is_below row ≡ true
-  suits : row_suits row ≡ true
+  listed : row_is_listed row ≡ true
 
 four : (a b c d : Bool) → (a && (b && (c && d))) ≡ true → (a ≡ true) × (b ≡ true) × (c ≡ true) × (d ≡ true)
 four a b c d h =
@@ -53,8 +57,8 @@ four a b c d h =
 passes : (op : ℕ) → op < 256 → Passes (row_of op)
 passes op below =
     let row = row_of op in
-    let tests = four (row_fits row) (row_is_few row) (row_is_below row) (row_suits row) (list_all_below (λ op. row_passes (row_of op)) 256 op all_pass below) in
-    record { fits = tests.0; few = tests.1; below = tests.2; suits = tests.3 }
+    let tests = four (row_fits row) (row_is_few row) (row_is_below row) (row_is_listed row) (list_all_below (λ op. row_passes (row_of op)) 256 op all_pass below) in
+    record { fits = tests.0; few = tests.1; below = tests.2; listed = tests.3 }
 
 pub row_accesses-few : (op : ℕ) → op < 256 → length (row_accesses (row_of op)) + 1 ≤ 6
 row_accesses-few op below = le_from_test _ _ (passes op below).few
@@ -63,7 +67,10 @@ pub row_accesses-below : (op : ℕ) → op < 256 → halts (row_of op).kind ≡ 
 row_accesses-below op below runs = le_from_test _ _ (or_right _ _ (passes op below).below runs)
 
 pub rows_suit : (op : ℕ) → op < 256 → row_suits (row_of op) ≡ true
-rows_suit op below = (passes op below).suits
+rows_suit op below = and_left _ _ (passes op below).listed
+
+pub rows_are_steady : (op : ℕ) → op < 256 → is_steady (row_of op) ≡ true
+rows_are_steady op below = and_right (row_suits (row_of op)) _ (passes op below).listed
 
 form_from_test : (form : Form) → form_fits form ≡ true → FormFits form
 form_from_test (F.Table n) h = grind (arith, nat_tests)

@@ -5,7 +5,7 @@ ghost use Rattle.spc700_table.specs.Opcodes.{row_of};
 ghost use Rattle.spc700_exec.specs.declared.cpu.Cpu.{Cpu};
 ghost use Rattle.spc700_exec.specs.Instruction.{instruction, script, step_outcome};
 ghost use Rattle.spc700_exec.specs.Next.{next_action, driven_outcome};
-ghost use Rattle.spc700_exec.specs.Accesses.{Makes, row_accesses};
+ghost use Rattle.spc700_exec.specs.Accesses.{Makes, begun, row_accesses};
 ghost use Rattle.spc700_exec.specs.Forms.{row_suits};
 ghost use Rattle.spc700_exec.specs.Length.{IsShort};
 ghost use Rattle.spc700_exec.specs.Pieces.{halts};
@@ -20,7 +20,7 @@ pub fn asking_makes_the_step<B: Bus>(_bus: &B)
 /// After its opcode an instruction makes the reads and writes of the table of accesses, in order, whatever the bytes: with
 /// the opcode at most 6, and at most as many as the least count of its cycles. Its cycles are one of the two counts.
 pub fn accesses_are_those_of_the_table()
-    ensures order { (op : ℕ) (cpu : Cpu) → Makes (row_of op) (row_accesses (row_of op)) (instruction (row_of op) cpu) }
+    ensures order { (op : ℕ) (cpu : Cpu) → Makes (row_of op) cpu (begun cpu) (row_accesses (row_of op)) (instruction (row_of op) cpu) }
     ensures few { (op : ℕ) → op < 256 → length (row_accesses (row_of op)) + 1 ≤ 6 }
     ensures below { (op : ℕ) → op < 256 → halts (row_of op).kind ≡ false → length (row_accesses (row_of op)) + 1 ≤ (row_of op).cycles }
 {}
