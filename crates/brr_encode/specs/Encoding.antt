@@ -7,9 +7,13 @@ use Rattle.brr_encode.specs.declared.encoder.EncodeRefusal.{EncodeRefusal}
 use Rattle.brr_encode.specs.declared.encoder.EncodeRefusal.TheVariants.{Empty, TooLong}
 use Rattle.brr_encode.specs.Greedy.{greedy_digits, greedy_samples, greedy_squares}
 
+-- the header of a filter and a shift
+abbrev pub header_of : (filter shift : ℕ) → ℕ
+header_of filter shift = shift * 0x10 + filter * 4
+
 -- the headers in the order in which they are tried: filter 0 with the shifts 0 to 12, then filter 1, and so on up to filter 3
 abbrev pub header_at : (place : ℕ) → ℕ
-header_at place = place % 13 * 0x10 + place / 13 * 4
+header_at place = header_of (place / 13) (place % 13)
 
 -- how many of them a block tries: the first block filter 0 alone, as nothing stands before it
 abbrev pub header_count : (first : Bool) → ℕ

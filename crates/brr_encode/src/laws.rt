@@ -1,16 +1,17 @@
 // What the definitions come to.
 ghost use Rattle.std.specs.Prelude.{ℕ, ◌<◌, ◌≤◌, ℤ, List, Bool};
 ghost use Rattle.brr_encode.specs.Least.{least_place, IsFirstLeast};
-ghost use Rattle.brr_encode.specs.Greedy.{greedy_squares};
-ghost use Rattle.brr_encode.specs.Encoding.{header_at, header_count, best_header};
+ghost use Rattle.brr_encode.specs.Encoding.{header_of, best_header};
+ghost use Rattle.brr_encode.specs.Triples.{IsUpTo, filter_count, triple_of};
 
 /// The place at which a number is least is the first such place.
 pub fn least_place_is_first()
     ensures { (f : ℕ → ℕ) (n : ℕ) → 0 < n → IsFirstLeast f n (least_place f n) }
 {}
 
-/// No header that is tried costs less than the one that is chosen.
-pub fn best_header_costs_least()
-    ensures { (first : Bool) (p1 p2 : ℤ) (targets : List ℤ) (place : ℕ) → place < header_count first →
-        greedy_squares (best_header first p1 p2 targets) p1 p2 targets ≤ greedy_squares (header_at place) p1 p2 targets }
+/// The header that is chosen is the one of the least triple of squares, filter and shift: among headers that cost the same the
+/// lesser filter decides, and then the lesser shift.
+pub fn best_header_has_the_least_triple()
+    ensures { (first : Bool) (p1 p2 : ℤ) (targets : List ℤ) (filter shift : ℕ) → filter < filter_count first → shift ≤ 12 →
+        IsUpTo (triple_of (best_header first p1 p2 targets) p1 p2 targets) (triple_of (header_of filter shift) p1 p2 targets) }
 {}

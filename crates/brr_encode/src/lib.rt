@@ -11,6 +11,6 @@ mod search;
 mod tests;
 
 pub use encoder::{EncodeRefusal, Encoded, encode};
-pub use laws::{best_header_costs_least, least_place_is_first};
+pub use laws::{best_header_has_the_least_triple, least_place_is_first};
 pub use report::BlockReport;
 pub use std::alloc::AllocError as OutOfMemory;
