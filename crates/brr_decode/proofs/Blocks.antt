@@ -10,7 +10,7 @@ use Rattle.std.proofs.Math.ListN.{drop_of_length-le}
 use Rattle.num_fix.specs.Arithmetic.{wrap16}
 use Rattle.num_fix.specs.Words.{number_at}
 use Rattle.brr_decode.specs.Kept.{kept_sample, Digit, with_kept, with_all_kept, digits_under, digits_of, EndsWith, samples_of}
-use Rattle.brr_decode.proofs.Samples.{kept_behind, length-kept_behind, with_all_kept-is, EndsWith-append, IsKept-samples_of}
+use Rattle.brr_decode.proofs.Samples.{kept_after, length-kept_after, with_all_kept-is, EndsWith-append, IsKept-samples_of}
 
 -- a number that is stored in 16 bits and read again
 abbrev pub read_again : ℤ → ℤ
@@ -32,26 +32,26 @@ pub read_again-kept_sample : (h : ℕ) (d p1 p2 : ℤ) → read_again (kept_samp
 unfolding kept_sample
 read_again-kept_sample h d p1 p2 = read_again-wrap16 _
 
-stored_kept_behind : (ds : List Digit) (p1 p2 : ℤ) (i : ℕ) → stored_at (kept_behind ds p1 p2) i ≡ number_at (kept_behind ds p1 p2) i
-stored_kept_behind [] p1 p2 i = refl
-stored_kept_behind (d ∷ ds) p1 p2 zero = read_again-kept_sample d.header d.value p1 p2
-stored_kept_behind (d ∷ ds) p1 p2 (suc i) = stored_kept_behind ds (kept_sample d.header d.value p1 p2) p1 i
+stored_kept_after : (ds : List Digit) (p1 p2 : ℤ) (i : ℕ) → stored_at (kept_after ds p1 p2) i ≡ number_at (kept_after ds p1 p2) i
+stored_kept_after [] p1 p2 i = refl
+stored_kept_after (d ∷ ds) p1 p2 zero = read_again-kept_sample d.header d.value p1 p2
+stored_kept_after (d ∷ ds) p1 p2 (suc i) = stored_kept_after ds (kept_sample d.header d.value p1 p2) p1 i
 
--- digits give these samples behind any that end with p2 and p1
+-- digits give these samples after any that end with p2 and p1
 abbrev pub Gives : (ds : List Digit) → (p1 p2 : ℤ) → (given : List ℤ) → Type 0
 Gives ds p1 p2 given = (samples : List ℤ) → EndsWith samples p2 p1 → with_all_kept samples ds ≡ samples ++ given
 
-pub Gives-is : (ds : List Digit) (p1 p2 : ℤ) (given : List ℤ) → Gives ds p1 p2 given → given ≡ kept_behind ds p1 p2
+pub Gives-is : (ds : List Digit) (p1 p2 : ℤ) (given : List ℤ) → Gives ds p1 p2 given → given ≡ kept_after ds p1 p2
 Gives-is ds p1 p2 given gives =
     let two = p2 ∷ p1 ∷ [] in
     let ends : EndsWith two p2 p1 = record { last = refl; before = refl } in
-    let same : p2 ∷ p1 ∷ given ≡ p2 ∷ p1 ∷ kept_behind ds p1 p2 = sym (gives two ends) ∙ with_all_kept-is ds two p2 p1 ends in
+    let same : p2 ∷ p1 ∷ given ≡ p2 ∷ p1 ∷ kept_after ds p1 p2 = sym (gives two ends) ∙ with_all_kept-is ds two p2 p1 ends in
     cc
 
 pub stored-given : (ds : List Digit) (p1 p2 : ℤ) (given : List ℤ) (i : ℕ) → Gives ds p1 p2 given → stored_at given i ≡ number_at given i
 stored-given ds p1 p2 given i gives =
     let is = Gives-is ds p1 p2 given gives in
-    ap (λ (l : List ℤ). stored_at l i) is ∙ stored_kept_behind ds p1 p2 i ∙ ap (λ (l : List ℤ). number_at l i) (sym is)
+    ap (λ (l : List ℤ). stored_at l i) is ∙ stored_kept_after ds p1 p2 i ∙ ap (λ (l : List ℤ). number_at l i) (sym is)
 
 -- the digits of a group
 abbrev pub group : (h x y : ℕ) → List Digit
@@ -64,10 +64,10 @@ four xs = stored_at xs 0 ∷ stored_at xs 1 ∷ stored_at xs 2 ∷ stored_at xs 
 four-given : (h x y : ℕ) (p1 p2 : ℤ) (given : List ℤ) → Gives (group h x y) p1 p2 given → four given ≡ given
 four-given h x y p1 p2 given gives =
     let is = Gives-is (group h x y) p1 p2 given gives in
-    let stored = λ (i : ℕ). stored_kept_behind (group h x y) p1 p2 i in
+    let stored = λ (i : ℕ). stored_kept_after (group h x y) p1 p2 i in
     ap four is ∙ (λ i. stored 0 i ∷ stored 1 i ∷ stored 2 i ∷ stored 3 i ∷ []) ∙ sym is
 
--- behind a group the next one stands on its last two samples
+-- after a group the next one stands on its last two samples
 after_group : (h x y : ℕ) (p1 p2 : ℤ) (given samples : List ℤ) → Gives (group h x y) p1 p2 given → EndsWith samples p2 p1 →
     with_all_kept samples (group h x y) ≡ samples ++ four given
 after_group h x y p1 p2 given samples gives ends =
@@ -133,7 +133,7 @@ pub EndsWith-block : (block : List ℕ) (samples given : List ℤ) (p1 p2 : ℤ)
     EndsWith (samples ++ given) (stored_at given 14) (stored_at given 15)
 EndsWith-block block samples given p1 p2 sized gives =
     let is = Gives-is (digits_of block) p1 p2 given gives in
-    let sixteen : length given ≡ 16 = ap (λ (l : List ℤ). length l) is ∙ length-kept_behind (digits_of block) p1 p2 ∙ ap (λ (l : List ℕ). length (digits_of l)) (nine block sized) in
+    let sixteen : length given ≡ 16 = ap (λ (l : List ℤ). length l) is ∙ length-kept_after (digits_of block) p1 p2 ∙ ap (λ (l : List ℕ). length (digits_of l)) (nine block sized) in
     let ends = EndsWith-append samples given (omega arith) in
     record {
       last = ends.last ∙ ap (λ (n : ℕ). number_at given (n - 1 - 0)) sixteen ∙ sym (stored-given (digits_of block) p1 p2 given 15 gives);

@@ -2,7 +2,7 @@
 use Rattle.std.proofs.Common.{◌≡◌, ℕ, zero, suc, ◌+◌, ◌*◌, ◌/◌, ◌%◌, ◌<◌, ℤ, List, [], ◌∷◌, ◌++◌, length, drop, get_or, refl, sym, ap, ◌∙◌, subst, arith, lit≤}
 use Rattle.num_fix.specs.Arithmetic.{sign4}
 use Rattle.brr_decode.specs.Kept.{kept_sample, digits_under, digits_of}
-use Rattle.brr_decode.proofs.Samples.{kept_behind}
+use Rattle.brr_decode.proofs.Samples.{kept_after}
 use Rattle.brr_decode.proofs.Blocks.{nine}
 use Rattle.brr_encode.specs.Least.{least_place}
 use Rattle.brr_encode.specs.Greedy.{digit_at, digit_distance, nearest_digit, nearest_sample, greedy_digits, greedy_samples}
@@ -103,7 +103,7 @@ decoded_low h e a p1 p2 b q1 q2 whole few =
 
 -- the digits of an even number of targets, decoded under their header with end and loop bits
 pub decoded_digits : (h e : ℕ) (p1 p2 : ℤ) (targets : List ℤ) → h % 4 ≡ 0 → e < 4 → length targets % 2 ≡ 0
-    → kept_behind (digits_under (h + e) (digit_bytes (greedy_digits h p1 p2 targets))) p1 p2 ≡ greedy_samples h p1 p2 targets
+    → kept_after (digits_under (h + e) (digit_bytes (greedy_digits h p1 p2 targets))) p1 p2 ≡ greedy_samples h p1 p2 targets
 decoded_digits h e p1 p2 [] whole few even = refl
 decoded_digits h e p1 p2 (a ∷ []) whole few even = absurd (omega arith)
 decoded_digits h e p1 p2 (a ∷ b ∷ targets) whole few even =
@@ -112,6 +112,6 @@ decoded_digits h e p1 p2 (a ∷ b ∷ targets) whole few even =
     rw (decoded_high h e a p1 p2 b kept p1 whole few, decoded_low h e a p1 p2 b kept p1 whole few)
     (ap (λ (l : List ℤ). kept ∷ next ∷ l) (decoded_digits h e next kept targets whole few (omega arith)))
 
--- the digits of nine bytes and those behind them
+-- the digits of nine bytes and those after them
 pub digits_of-block : (block rest : List ℕ) → length block ≡ 9 → digits_of (block ++ rest) ≡ digits_under (get_or block 0 0) (drop 1 block) ++ digits_of rest
 digits_of-block block rest sized = subst (λ (b : List ℕ). digits_of (b ++ rest) ≡ digits_under (get_or b 0 0) (drop 1 b) ++ digits_of rest) (sym (nine block sized)) refl

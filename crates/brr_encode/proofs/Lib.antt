@@ -4,7 +4,7 @@
 -- Costs: what a header costs, target by target.
 -- Cheapests: the cheapest of the headers that were tried.
 -- Pairs: two targets more of a block.
--- Coders: what an encoder holds behind targets.
+-- Coders: what an encoder holds after targets.
 -- Digits: the bytes of a block, read as its digits again.
 -- Streams: the blocks of an encoding, one by one and decoded, and their reports.
 pub mod Leasts

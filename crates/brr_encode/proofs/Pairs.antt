@@ -12,7 +12,7 @@ two_and_rest [] pair tail p t h = absurd (omega arith)
 two_and_rest (x ∷ []) pair tail p t h = absurd (omega arith)
 two_and_rest (x ∷ y ∷ rest) pair tail p t h = rw (p, t) refl
 
--- the byte of two digits, and the bytes behind it
+-- the byte of two digits, and the bytes after it
 pub bytes_next : (h : ℕ) (items : List ℕ) (byte : ℕ) (high low : ℤ) (coder first second : Coder) (a b : ℤ) (rest tail : List ℤ)
     → rest ≡ a ∷ b ∷ tail
     → high ≡ nearest_digit h a coder.last coder.before → first ≡ after_target h coder a

@@ -4,26 +4,26 @@ use Rattle.std.proofs.Math.Seq.{drop-append_seam, take-append_seam}
 use Rattle.std.proofs.lemmas.List.{length-take-le, length-drop}
 use Rattle.num_fix.specs.Words.{number_at}
 use Rattle.brr_decode.specs.Kept.{Digit, kept_sample, digits_of, digits_under, samples_of}
-use Rattle.brr_decode.proofs.Samples.{kept_behind, length-kept_behind, samples_of-is}
+use Rattle.brr_decode.proofs.Samples.{kept_after, length-kept_after, samples_of-is}
 use Rattle.brr_encode.specs.Greedy.{nearest_sample, greedy_digits, greedy_samples, squares}
 use Rattle.brr_encode.specs.Encoding.{header_at, best_header, end_bits, digit_bytes, block_of, block_samples, blocks_of, padded, encoding}
 use Rattle.brr_encode.specs.Report.{worst, reports_from, reports_of}
-use Rattle.brr_encode.specs.Steps.{after_targets, coder_behind, block_report, block_reports, all_reports}
+use Rattle.brr_encode.specs.Steps.{after_targets, coder_after, block_report, block_reports, all_reports}
 use Rattle.brr_encode.specs.declared.block.Coder.{Coder}
 use Rattle.brr_encode.specs.declared.report.BlockReport.{BlockReport}
-use Rattle.brr_encode.proofs.Coders.{behind_sixteen}
+use Rattle.brr_encode.proofs.Coders.{after_sixteen}
 use Rattle.brr_encode.proofs.Digits.{decoded_digits, digits_of-block}
 
--- one block more, and the blocks behind it
+-- one block more, and the blocks after it
 pub blocks_next : (items : List ℕ) (first last looped : Bool) (p1 p2 : ℤ) (rest block tail : List ℤ) (new : Coder) (whole : List ℕ)
     → block ≡ take 16 rest → tail ≡ drop 16 rest → length tail + 16 ≡ length rest → last ≡ (length tail / 16 == 0)
-    → new ≡ after_targets (best_header first p1 p2 block) (coder_behind p1 p2) block
+    → new ≡ after_targets (best_header first p1 p2 block) (coder_after p1 p2) block
     → items ++ blocks_of (length rest / 16) first looped p1 p2 rest ≡ whole
     → (items ++ block_of first last looped p1 p2 block) ++ blocks_of (length tail / 16) false looped new.last new.before tail ≡ whole
 blocks_next items first last looped p1 p2 rest block tail new whole is_block is_tail sized last_is new_is all =
     let count : length rest / 16 ≡ suc (length tail / 16) = omega (arith, sized) in
     let sixteen : length block ≡ 16 = ap (λ (l : List ℤ). length l) is_block ∙ length-take-le 16 rest (omega (arith, sized)) in
-    let kept = behind_sixteen (best_header first p1 p2 block) p1 p2 block sixteen in
+    let kept = after_sixteen (best_header first p1 p2 block) p1 p2 block sixteen in
     let last_kept : new.last ≡ number_at (block_samples first p1 p2 (take 16 rest)) 15 =
     ap (λ (c : Coder). c.last) new_is ∙ kept.0 ∙ ap (λ (l : List ℤ). number_at (block_samples first p1 p2 l) 15) is_block in
     let kept_before : new.before ≡ number_at (block_samples first p1 p2 (take 16 rest)) 14 =
@@ -34,13 +34,13 @@ blocks_next items first last looped p1 p2 rest block tail new whole is_block is_
 
 pub reports_next : (items : List BlockReport) (first last looped : Bool) (p1 p2 : ℤ) (rest block tail : List ℤ) (new : Coder) (whole : List BlockReport)
     → block ≡ take 16 rest → tail ≡ drop 16 rest → length tail + 16 ≡ length rest → last ≡ (length tail / 16 == 0)
-    → new ≡ after_targets (best_header first p1 p2 block) (coder_behind p1 p2) block
+    → new ≡ after_targets (best_header first p1 p2 block) (coder_after p1 p2) block
     → items ++ block_reports (length rest / 16) first looped p1 p2 rest ≡ whole
     → (items ++ block_report first last looped p1 p2 block ∷ []) ++ block_reports (length tail / 16) false looped new.last new.before tail ≡ whole
 reports_next items first last looped p1 p2 rest block tail new whole is_block is_tail sized last_is new_is all =
     let count : length rest / 16 ≡ suc (length tail / 16) = omega (arith, sized) in
     let sixteen : length block ≡ 16 = ap (λ (l : List ℤ). length l) is_block ∙ length-take-le 16 rest (omega (arith, sized)) in
-    let kept = behind_sixteen (best_header first p1 p2 block) p1 p2 block sixteen in
+    let kept = after_sixteen (best_header first p1 p2 block) p1 p2 block sixteen in
     let last_kept : new.last ≡ number_at (block_samples first p1 p2 (take 16 rest)) 15 =
     ap (λ (c : Coder). c.last) new_is ∙ kept.0 ∙ ap (λ (l : List ℤ). number_at (block_samples first p1 p2 l) 15) is_block in
     let kept_before : new.before ≡ number_at (block_samples first p1 p2 (take 16 rest)) 14 =
@@ -84,17 +84,17 @@ kept_of (suc count) first p1 p2 targets =
     let kept = block_samples first p1 p2 (take 16 targets) in
     kept ++ kept_of count false (number_at kept 15) (number_at kept 14) (drop 16 targets)
 
--- digits behind others go on from the last two samples
-kept_behind-append : (xs ys : List Digit) (p1 p2 : ℤ)
-    → kept_behind (xs ++ ys) p1 p2 ≡ kept_behind xs p1 p2 ++ kept_behind ys (number_at (p2 ∷ p1 ∷ kept_behind xs p1 p2) (suc (length xs))) (number_at (p2 ∷ p1 ∷ kept_behind xs p1 p2) (length xs))
-kept_behind-append [] ys p1 p2 = refl
-kept_behind-append (x ∷ xs) ys p1 p2 =
-    let kept = kept_sample x.header x.value p1 p2 in ap (λ (l : List ℤ). kept ∷ l) (kept_behind-append xs ys kept p1)
+-- digits after others go on from the last two samples
+kept_after-append : (xs ys : List Digit) (p1 p2 : ℤ)
+    → kept_after (xs ++ ys) p1 p2 ≡ kept_after xs p1 p2 ++ kept_after ys (number_at (p2 ∷ p1 ∷ kept_after xs p1 p2) (suc (length xs))) (number_at (p2 ∷ p1 ∷ kept_after xs p1 p2) (length xs))
+kept_after-append [] ys p1 p2 = refl
+kept_after-append (x ∷ xs) ys p1 p2 =
+    let kept = kept_sample x.header x.value p1 p2 in ap (λ (l : List ℤ). kept ∷ l) (kept_after-append xs ys kept p1)
 
--- a block behind p1 and p2, decoded, and what follows it
+-- a block after p1 and p2, decoded, and what follows it
 decoded_block : (first last looped : Bool) (p1 p2 : ℤ) (targets : List ℤ) (rest : List ℕ) → length targets ≡ 16
     → let kept = block_samples first p1 p2 targets in
-    kept_behind (digits_of (block_of first last looped p1 p2 targets ++ rest)) p1 p2 ≡ kept ++ kept_behind (digits_of rest) (number_at kept 15) (number_at kept 14)
+    kept_after (digits_of (block_of first last looped p1 p2 targets ++ rest)) p1 p2 ≡ kept ++ kept_after (digits_of rest) (number_at kept 15) (number_at kept 14)
 decoded_block first last looped p1 p2 targets rest sixteen =
     let h = best_header first p1 p2 targets in
     let e = end_bits last looped in
@@ -102,14 +102,14 @@ decoded_block first last looped p1 p2 targets rest sixteen =
     let block = block_of first last looped p1 p2 targets in
     let digits = digits_under (h + e) (digit_bytes (greedy_digits h p1 p2 targets)) in
     let split : digits_of (block ++ rest) ≡ digits ++ digits_of rest = digits_of-block block rest (length-block_of first last looped p1 p2 targets sixteen) in
-    let decoded : kept_behind digits p1 p2 ≡ kept = decoded_digits h e p1 p2 targets (best_header-whole first p1 p2 targets) (end_bits-few last looped) (omega (arith, sixteen)) in
-    let long : length digits ≡ 16 = sym (length-kept_behind digits p1 p2) ∙ ap (λ (l : List ℤ). length l) decoded ∙ length-greedy_samples h p1 p2 targets ∙ sixteen in
-    ap (λ (ds : List Digit). kept_behind ds p1 p2) split ∙ kept_behind-append digits (digits_of rest) p1 p2
-    ∙ (λ i. decoded i ++ kept_behind (digits_of rest) (number_at (p2 ∷ p1 ∷ decoded i) (suc (long i))) (number_at (p2 ∷ p1 ∷ decoded i) (long i)))
+    let decoded : kept_after digits p1 p2 ≡ kept = decoded_digits h e p1 p2 targets (best_header-whole first p1 p2 targets) (end_bits-few last looped) (omega (arith, sixteen)) in
+    let long : length digits ≡ 16 = sym (length-kept_after digits p1 p2) ∙ ap (λ (l : List ℤ). length l) decoded ∙ length-greedy_samples h p1 p2 targets ∙ sixteen in
+    ap (λ (ds : List Digit). kept_after ds p1 p2) split ∙ kept_after-append digits (digits_of rest) p1 p2
+    ∙ (λ i. decoded i ++ kept_after (digits_of rest) (number_at (p2 ∷ p1 ∷ decoded i) (suc (long i))) (number_at (p2 ∷ p1 ∷ decoded i) (long i)))
 
 -- all blocks, decoded
 decoded_blocks : (count : ℕ) (first looped : Bool) (p1 p2 : ℤ) (targets : List ℤ) → length targets ≡ 16 * count
-    → kept_behind (digits_of (blocks_of count first looped p1 p2 targets)) p1 p2 ≡ kept_of count first p1 p2 targets
+    → kept_after (digits_of (blocks_of count first looped p1 p2 targets)) p1 p2 ≡ kept_of count first p1 p2 targets
 decoded_blocks zero first looped p1 p2 targets sized = refl
 decoded_blocks (suc count) first looped p1 p2 targets sized =
     let kept = block_samples first p1 p2 (take 16 targets) in
@@ -150,11 +150,11 @@ reports_of_kept (suc count) first looped p1 p2 targets sized =
     let sixteen : length block ≡ 16 = length-take-le 16 targets (omega (arith, sized)) in
     let left : length (drop 16 targets) ≡ 16 * count = length-drop 16 targets ∙ omega (arith, sized) in
     let here = take_first 16 kept others (length-greedy_samples h p1 p2 block ∙ sixteen) in
-    let behind = drop_first 16 kept others (length-greedy_samples h p1 p2 block ∙ sixteen) in
-    let bytes_behind = drop_first 9 bytes rest (length-block_of first (count == 0) looped p1 p2 block sixteen) in
+    let after = drop_first 16 kept others (length-greedy_samples h p1 p2 block ∙ sixteen) in
+    let bytes_after = drop_first 9 bytes rest (length-block_of first (count == 0) looped p1 p2 block sixteen) in
     ap (λ (l : List BlockReport). record { header = h + e; worst = worst kept block; squares = squares kept block } ∷ l)
     (reports_of_kept count false looped (number_at kept 15) (number_at kept 14) (drop 16 targets) left)
-    ∙ (λ i. record { header = h + e; worst = worst (sym here i) block; squares = squares (sym here i) block } ∷ reports_from count (sym bytes_behind i) (sym behind i) (drop 16 targets))
+    ∙ (λ i. record { header = h + e; worst = worst (sym here i) block; squares = squares (sym here i) block } ∷ reports_from count (sym bytes_after i) (sym after i) (drop 16 targets))
 
 -- the reports that are made are those that are read off the encoding
 pub reports_are_true : (samples : List ℤ) (looped : Bool) → length (padded samples) % 16 ≡ 0 → all_reports samples looped ≡ reports_of (encoding samples looped) (padded samples)

@@ -24,7 +24,7 @@ pub record IsCheapest (costs : ℕ → ℕ) (n : ℕ) (cheapest : Cheapest) : Ty
   pub none : cheapest.squares ≡ None → n ≡ 0
   pub some : IfSome cheapest.squares (λ squares. (0 < n) × (squares ≡ costs cheapest.place))
 
--- the encoder behind one target more
+-- the encoder after one target more
 abbrev pub after_target : (header : ℕ) → Coder → (target : ℤ) → Coder
 after_target header coder target =
     let sample = nearest_sample header target coder.last coder.before in
@@ -35,14 +35,14 @@ after_target header coder target =
       squares = coder.squares + distance sample target * distance sample target;
     }
 
--- the encoder behind targets
+-- the encoder after targets
 abbrev pub after_targets : (header : ℕ) → Coder → (targets : List ℤ) → Coder
 after_targets header coder [] = coder
 after_targets header coder (target ∷ targets) = after_targets header (after_target header coder target) targets
 
--- the encoder at the start of a block, behind two kept samples
-abbrev pub coder_behind : (p1 p2 : ℤ) → Coder
-coder_behind p1 p2 = record { last = p1; before = p2; worst = 0; squares = 0 }
+-- the encoder at the start of a block, after two kept samples
+abbrev pub coder_after : (p1 p2 : ℤ) → Coder
+coder_after p1 p2 = record { last = p1; before = p2; worst = 0; squares = 0 }
 
 -- the report of a block of sixteen targets
 abbrev pub block_report : (first last looped : Bool) → (p1 p2 : ℤ) → (targets : List ℤ) → BlockReport

@@ -3,7 +3,7 @@ ghost use Rattle.std.specs.Prelude.{◌≡◌, ◌+◌, ◌*◌, ◌%◌, ◌^�
 ghost use Rattle.brr_encode.specs.Encoding.{digit_bits, digit_bytes};
 ghost use Rattle.brr_encode.specs.Greedy.{greedy_digits, nearest_digit};
 ghost use Rattle.brr_encode.specs.Report.{most_squares};
-ghost use Rattle.brr_encode.specs.Steps.{after_target, after_targets, coder_behind};
+ghost use Rattle.brr_encode.specs.Steps.{after_target, after_targets, coder_after};
 
 use crate::OutOfMemory;
 use crate::nearest::nearest;
@@ -20,7 +20,7 @@ pub struct Coder {
 impl Coder {
     /// An encoder before the first block.
     pub fn start() -> Coder
-        ensures { result ≡ coder_behind (pos 0) (pos 0) }
+        ensures { result ≡ coder_after (pos 0) (pos 0) }
     {
         Coder {
             last: 0,
@@ -31,7 +31,7 @@ impl Coder {
     }
 }
 
-/// A digit, and the encoder behind it.
+/// A digit, and the encoder after it.
 #[derive(Clone, Copy)]
 struct Coded {
     digit: i16,
@@ -65,7 +65,7 @@ fn digit_byte(high: Coded, low: Coded) -> u8
     high.digit.rem_euclid(16) as u8 * 0x10 + low.digit.rem_euclid(16) as u8
 }
 
-/// Appends the digits of targets under a header, and gives the encoder behind them.
+/// Appends the digits of targets under a header, and gives the encoder after them.
 pub fn push_digits(
     bytes: &mut Vec<u8>,
     header: u8,
@@ -76,7 +76,7 @@ pub fn push_digits(
     requires pairs { length targets.now % 2 ≡ 0 }
     requires few { length targets.now ≤ 16 }
     ensures bytes { IfOk result (λ _. bytes.new.items ≡ bytes.old.items ++ digit_bytes (greedy_digits header p1 p2 targets.now)) }
-    ensures coder { IfOk result (λ coder. coder ≡ after_targets header (coder_behind p1 p2) targets.now) }
+    ensures coder { IfOk result (λ coder. coder ≡ after_targets header (coder_after p1 p2) targets.now) }
     ensures squares { IfOk result (λ coder. coder.squares ≤ most_squares) }
 {
     let mut coder = Coder {

@@ -2,7 +2,7 @@
 ghost use Rattle.std.specs.Prelude.{◌≡◌, ◌+◌, ◌%◌, ◌∷◌, ◌++◌, ◌≤◌, ◌⊎◌, [], All, length, IfOk, IfErr};
 ghost use Rattle.brr_encode.specs.Encoding.{padded, most_samples, most_blocks, encoded_samples, best_header, block_of, end_bits};
 ghost use Rattle.brr_encode.specs.Report.{reports_of, IsWithin};
-ghost use Rattle.brr_encode.specs.Steps.{after_targets, coder_behind, block_report};
+ghost use Rattle.brr_encode.specs.Steps.{after_targets, coder_after, block_report};
 ghost use Rattle.brr_encode.specs.declared.encoder.EncodeRefusal.TheVariants.{OutOfMemory as NoMemory};
 
 use crate::block::{Coder, push_digits};
@@ -63,9 +63,11 @@ fn push_block(
     place: Place,
     coder: Coder,
 ) -> Result<Coder, OutOfMemory>
-    ensures bytes { IfOk result (λ _. bytes.new.items ≡ bytes.old.items ++ block_of place.first place.last place.looped coder.last coder.before targets.now) }
-    ensures reports { IfOk result (λ _. reports.new.items ≡ reports.old.items ++ block_report place.first place.last place.looped coder.last coder.before targets.now ∷ []) }
-    ensures coder { IfOk result (λ new. new ≡ after_targets (best_header place.first coder.last coder.before targets.now) (coder_behind coder.last coder.before) targets.now) }
+    ensures bytes { let block = block_of place.first place.last place.looped coder.last coder.before targets.now in
+        IfOk result (λ _. bytes.new.items ≡ bytes.old.items ++ block) }
+    ensures reports { let report = block_report place.first place.last place.looped coder.last coder.before targets.now in
+        IfOk result (λ _. reports.new.items ≡ reports.old.items ++ report ∷ []) }
+    ensures coder { IfOk result (λ new. new ≡ after_targets (best_header place.first coder.last coder.before targets.now) (coder_after coder.last coder.before) targets.now) }
     ensures within { IfOk result (λ _. All IsWithin reports.old.items → All IsWithin reports.new.items) }
 {
     let header = best_header(place.first, targets, coder.last, coder.before);

@@ -1,4 +1,4 @@
--- The report behind the outputs.
+-- The report after the outputs.
 use Rattle.std.proofs.Common.{◌≡◌, Result, Ok, Err, ℕ, ◌-◌, List, [], ◌∷◌, ◌++◌, length, get_or, Some, refl, sym, ◌∙◌, ap, subst, arith, rules, append_assoc}
 use Rattle.std.proofs.lemmas.List.{append-nil}
 use Rattle.snd_host.specs.Host.{HostState, Output, Rose, Writes, WritesAll, rooms_less}
@@ -17,10 +17,10 @@ pub begun_all : (outputs : List Output) → IsBegun outputs outputs
 begun_all [] = tt
 begun_all (o ∷ outputs) = (refl, record { rest = []; split = append-nil o.bytes }, begun_all outputs)
 
--- the report behind the outputs
+-- the report after the outputs
 module _ {T E : Type 0} (outputs : List Output) (a b c : HostState) (x : T) (d : Delivers {T = T} {E = E} outputs [] a b (Ok x)) (part : List ℕ) (wrote : Writes 0 part b c) where
-  behind : Gains part [] d.begun d.ended a c
-  behind = record {
+  after : Gains part [] d.begun d.ended a c
+  after = record {
     given = λ g told. wrote.given _ (d.made.given g told) ∙ (λ i. Some (record { report = (append_assoc g.report d.reported part ∙ ap (λ (l : List ℕ). g.report ++ (l ++ part)) d.ok.0) i; complaint = g.complaint ++ []; created = g.created ++ d.begun }));
     ended = wrote.ended ∙ d.made.ended;
     holds = wrote.others.holds ∙ d.made.holds;
@@ -42,7 +42,7 @@ then_report {T = T} {U = U} {E = E} outputs report a b c x (Ok y) d w =
       reported = report;
       begun = d.begun;
       ended = d.ended;
-      made = behind {T = T} {E = E} outputs a b c x d report w.wrote;
+      made = after {T = T} {E = E} outputs a b c x d report w.wrote;
       ok = (refl, d.ok.1, d.ok.2);
       part = tt;
       ended_whole = ended_are_whole_as d.begun outputs d.ended d.ok.1;
@@ -59,7 +59,7 @@ then_report {T = T} {U = U} {E = E} outputs report a b c x (Err e) d w =
       reported = w.part.part;
       begun = d.begun;
       ended = d.ended;
-      made = behind {T = T} {E = E} outputs a b c x d w.part.part w.part.wrote;
+      made = after {T = T} {E = E} outputs a b c x d w.part.part w.part.wrote;
       ok = tt;
       part = (w.part.prefix, subst (λ (l : List Output). IsBegun l outputs) (sym d.ok.1) (begun_all outputs));
       ended_whole = ended_are_whole_as d.begun outputs d.ended d.ok.1;

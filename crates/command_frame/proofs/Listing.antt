@@ -118,8 +118,8 @@ stops_then xs ys more a b c report one two e =
           let mid = one.rooms rooms told in
           let many = many_since xs a b one in
           let next : length b.ended + 2 ≡ length a.ended + 2 + length xs = omega arith in
-          let behind = have_front ys more rooms (length b.ended + 2) (have_after xs (ys ++ more) rooms (length a.ended + 2) (length b.ended + 2) next have) in
-          d.enough mid.0 mid.1 (have_left ys rooms mid.0 (length b.ended + 2) mid.2.count mid.2.later behind) (omega arith);
+          let after = have_front ys more rooms (length b.ended + 2) (have_after xs (ys ++ more) rooms (length a.ended + 2) (length b.ended + 2) next have) in
+          d.enough mid.0 mid.1 (have_left ys rooms mid.0 (length b.ended + 2) mid.2.count mid.2.later after) (omega arith);
       rooms = λ rooms told.
           let mid = one.rooms rooms told in
           let after = d.rooms mid.0 mid.1 in

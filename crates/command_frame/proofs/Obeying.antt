@@ -11,8 +11,8 @@ use Rattle.command_frame.specs.Conduct.{Delivery, NoneRose, EndsAs, Attempts, Wr
 use Rattle.command_frame.proofs.Delivering.{gains_nothing}
 
 -- reading changes nothing that was made
-made_behind : (r c : List ℕ) (o : List Output) (e : List Bool) (x y z : HostState) → ChangesInputs x y → Gains r c o e y z → Gains r c o e x z
-made_behind r c o e x y z reads made = record {
+made_after : (r c : List ℕ) (o : List Output) (e : List Bool) (x y z : HostState) → ChangesInputs x y → Gains r c o e y z → Gains r c o e x z
+made_after r c o e x y z reads made = record {
   given = λ g told. made.given g (reads.given ∙ told);
   ended = made.ended ∙ ap (λ (l : List Bool). l ++ e) reads.ended;
   holds = made.holds ∙ reads.holds;
@@ -111,7 +111,7 @@ module _ {P C : Type 0} (makes : P → Delivery) (answer : Files → Answer C) (
     report = d.reported;
     outputs = d.begun;
     ended = d.ended;
-    made = made_behind d.reported [] d.begun d.ended x y z p.others d.made;
+    made = made_after d.reported [] d.begun d.ended x y z p.others d.made;
     calm_inputs = λ _. d.inputs ∙ calm;
     calm_outputs = λ _. d.cause.same ∙ p.others.outputs;
     notes = d.notes ∙ p.others.notes;
@@ -128,7 +128,7 @@ module _ {P C : Type 0} (makes : P → Delivery) (answer : Files → Answer C) (
     report = d.reported;
     outputs = d.begun;
     ended = d.ended;
-    made = made_behind d.reported [] d.begun d.ended x y z p.others d.made;
+    made = made_after d.reported [] d.begun d.ended x y z p.others d.made;
     calm_inputs = λ _. d.inputs ∙ calm;
     calm_outputs = λ other. absurd (other refl);
     notes = d.notes ∙ p.others.notes;

@@ -8,23 +8,23 @@ use Rattle.snd_host.proofs.Writes.{index-rooms_less}
 use Rattle.command_frame.specs.Delivery.{IsBegun, EndedAreWhole, HaveRooms}
 use Rattle.command_frame.specs.Stream.{bytes_of, RoomsAfter}
 
-pub grown_behind : (created outputs : List Output) (i : ℕ) (bytes : List ℕ) → outputs_with (created ++ outputs) (length created + i) bytes ≡ created ++ outputs_with outputs i bytes
-grown_behind [] outputs i bytes = let same : zero + i ≡ i = omega arith in ap (λ (k : ℕ). outputs_with outputs k bytes) same
-grown_behind (p ∷ created) outputs i bytes =
+pub grown_after : (created outputs : List Output) (i : ℕ) (bytes : List ℕ) → outputs_with (created ++ outputs) (length created + i) bytes ≡ created ++ outputs_with outputs i bytes
+grown_after [] outputs i bytes = let same : zero + i ≡ i = omega arith in ap (λ (k : ℕ). outputs_with outputs k bytes) same
+grown_after (p ∷ created) outputs i bytes =
     let same : length (p ∷ created) + i ≡ suc (length created + i) = omega arith in
-    ap (λ (k : ℕ). outputs_with (p ∷ (created ++ outputs)) k bytes) same ∙ ap (λ (l : List Output). p ∷ l) (grown_behind created outputs i bytes)
+    ap (λ (k : ℕ). outputs_with (p ∷ (created ++ outputs)) k bytes) same ∙ ap (λ (l : List Output). p ∷ l) (grown_after created outputs i bytes)
 
-pub get_behind : (flags more : List Bool) (i : ℕ) → slice_get (flags ++ more) (length flags + i) ≡ slice_get more i
-get_behind [] more i = let same : zero + i ≡ i = omega arith in ap (λ (k : ℕ). slice_get more k) same
-get_behind (f ∷ flags) more i =
+pub get_after : (flags more : List Bool) (i : ℕ) → slice_get (flags ++ more) (length flags + i) ≡ slice_get more i
+get_after [] more i = let same : zero + i ≡ i = omega arith in ap (λ (k : ℕ). slice_get more k) same
+get_after (f ∷ flags) more i =
     let same : length (f ∷ flags) + i ≡ suc (length flags + i) = omega arith in
-    ap (λ (k : ℕ). slice_get (f ∷ (flags ++ more)) k) same ∙ get_behind flags more i
+    ap (λ (k : ℕ). slice_get (f ∷ (flags ++ more)) k) same ∙ get_after flags more i
 
-pub set_behind : (flags more : List Bool) (i : ℕ) (b : Bool) → set (flags ++ more) (length flags + i) b ≡ flags ++ set more i b
-set_behind [] more i b = let same : zero + i ≡ i = omega arith in ap (λ (k : ℕ). set more k b) same
-set_behind (f ∷ flags) more i b =
+pub set_after : (flags more : List Bool) (i : ℕ) (b : Bool) → set (flags ++ more) (length flags + i) b ≡ flags ++ set more i b
+set_after [] more i b = let same : zero + i ≡ i = omega arith in ap (λ (k : ℕ). set more k b) same
+set_after (f ∷ flags) more i b =
     let same : length (f ∷ flags) + i ≡ suc (length flags + i) = omega arith in
-    ap (λ (k : ℕ). set (f ∷ (flags ++ more)) k b) same ∙ ap (λ (l : List Bool). f ∷ l) (set_behind flags more i b)
+    ap (λ (k : ℕ). set (f ∷ (flags ++ more)) k b) same ∙ ap (λ (l : List Bool). f ∷ l) (set_after flags more i b)
 
 pub number_is : (n k : ℕ) → n ≡ k + 2 → n ≡ suc (suc k)
 number_is n k is = omega arith
@@ -35,19 +35,19 @@ pub grown_since : (g : Given) (report complaint : List ℕ) (outputs : List Outp
 grown_since g report complaint outputs n k i bytes many is =
     let place : n ≡ suc (suc (length g.created + i)) = omega arith in
     ap (λ (m : ℕ). given_with (record { report = report; complaint = complaint; created = g.created ++ outputs }) m bytes) place
-    ∙ ap (λ (l : List Output). record { report = report; complaint = complaint; created = l }) (grown_behind g.created outputs i bytes)
+    ∙ ap (λ (l : List Output). record { report = report; complaint = complaint; created = l }) (grown_after g.created outputs i bytes)
 
 -- an output that was created since, and not ended, is open
 pub open_since : (old flags : List Bool) (n i : ℕ) → n ≡ length old + 2 + i → slice_get flags i ≡ Some false → IsOpen (old ++ flags) n
 open_since old flags n i is unended =
     let place : n ≡ suc (suc (length old + i)) = omega arith in
-    subst (λ (m : ℕ). IsOpen (old ++ flags) m) (sym place) (get_behind old flags i ∙ unended)
+    subst (λ (m : ℕ). IsOpen (old ++ flags) m) (sym place) (get_after old flags i ∙ unended)
 
 pub unended_since : (old flags : List Bool) (n i : ℕ) → n ≡ length old + 2 + i → slice_get flags i ≡ Some false → slice_get (old ++ flags) (n - 2) ≡ Some false
-unended_since old flags n i is unended = let place : n - 2 ≡ length old + i = omega arith in ap (λ (m : ℕ). slice_get (old ++ flags) m) place ∙ get_behind old flags i ∙ unended
+unended_since old flags n i is unended = let place : n - 2 ≡ length old + i = omega arith in ap (λ (m : ℕ). slice_get (old ++ flags) m) place ∙ get_after old flags i ∙ unended
 
 pub ended_since : (old flags : List Bool) (n i : ℕ) → n ≡ length old + 2 + i → set (old ++ flags) (n - 2) true ≡ old ++ set flags i true
-ended_since old flags n i is = let place : n - 2 ≡ length old + i = omega arith in ap (λ (m : ℕ). set (old ++ flags) m true) place ∙ set_behind old flags i true
+ended_since old flags n i is = let place : n - 2 ≡ length old + i = omega arith in ap (λ (m : ℕ). set (old ++ flags) m true) place ∙ set_after old flags i true
 
 pub length-outputs_with : (outputs : List Output) (i : ℕ) (bytes : List ℕ) → length (outputs_with outputs i bytes) ≡ length outputs
 length-outputs_with [] i bytes = refl
@@ -128,15 +128,15 @@ have_at (p ∷ total) rooms place (suc i) o have at =
 pub prefix_then : (xs ys zs : List ℕ) → IsPrefix xs ys → IsPrefix ys zs → IsPrefix xs zs
 prefix_then xs ys zs first second = record { rest = first.rest ++ second.rest; split = sym (append_assoc xs first.rest second.rest) ∙ ap (λ (l : List ℕ). l ++ second.rest) first.split ∙ second.split }
 
-pub prefix_behind : (us xs ys : List ℕ) → IsPrefix xs ys → IsPrefix (us ++ xs) (us ++ ys)
-prefix_behind us xs ys p = record { rest = p.rest; split = append_assoc us xs p.rest ∙ ap (λ (l : List ℕ). us ++ l) p.split }
+pub prefix_after : (us xs ys : List ℕ) → IsPrefix xs ys → IsPrefix (us ++ xs) (us ++ ys)
+prefix_after us xs ys p = record { rest = p.rest; split = append_assoc us xs p.rest ∙ ap (λ (l : List ℕ). us ++ l) p.split }
 
 -- what was begun with a prefix of bytes
 pub begun_less : (begun total : List Output) (i : ℕ) (part bytes : List ℕ) → IsPrefix part bytes → IsBegun (outputs_with begun i bytes) total → IsBegun (outputs_with begun i part) total
 begun_less [] total i part bytes p is = is
 begun_less (b ∷ begun) [] zero part bytes p is = is
 begun_less (b ∷ begun) [] (suc i) part bytes p is = is
-begun_less (b ∷ begun) (o ∷ total) zero part bytes p is = (is.0, prefix_then (b.bytes ++ part) (b.bytes ++ bytes) o.bytes (prefix_behind b.bytes part bytes p) is.1, is.2)
+begun_less (b ∷ begun) (o ∷ total) zero part bytes p is = (is.0, prefix_then (b.bytes ++ part) (b.bytes ++ bytes) o.bytes (prefix_after b.bytes part bytes p) is.1, is.2)
 begun_less (b ∷ begun) (o ∷ total) (suc i) part bytes p is = (is.0, is.1, begun_less begun total i part bytes p is.2)
 
 -- a prefix is no longer than the whole

@@ -7,7 +7,7 @@ use Rattle.snd_host.specs.declared.host.Failed.{Failed}
 use Rattle.snd_host.specs.declared.host.OutFile.{OutFile}
 use Rattle.command_frame.specs.declared.streaming.Targets.{Targets}
 use Rattle.command_frame.specs.Delivery.{IsBegun}
-use Rattle.command_frame.specs.Stream.{Both, Stands, Stops, Fills, pair, flags_of, IsSecond, AreTargets, IsOpenBehind, AreOpen, Begins, Puts, Ends, Pumps}
+use Rattle.command_frame.specs.Stream.{Both, Stands, Stops, Fills, pair, flags_of, IsSecond, AreTargets, IsOpenAfter, AreOpen, Begins, Puts, Ends, Pumps}
 use Rattle.command_frame.proofs.Places.{ended_are_whole, none_ended, prefix_front, open_of, get_set_other, unended_since}
 use Rattle.command_frame.proofs.Standing.{stands_at_first, stands_created, next_number, stands_written, stops_written, stands_ended, stops_unwritten, are_done}
 
@@ -16,8 +16,8 @@ open_first ended targets o = open_of ended targets.first.0 o.low o.first_open
 
 pub open_second : (ended : List Bool) (targets : Targets) (file : OutFile) → targets.second ≡ Some file → AreOpen ended targets → IsOpen ended file.0
 open_second ended targets file is o =
-    let behind : IsOpenBehind ended targets.first.0 (Some file) = subst (λ (f : Option OutFile). IsOpenBehind ended targets.first.0 f) is o.second_open in
-    open_of ended file.0 (let low = o.low in let less = behind.0 in omega arith) behind.1
+    let after : IsOpenAfter ended targets.first.0 (Some file) = subst (λ (f : Option OutFile). IsOpenAfter ended targets.first.0 f) is o.second_open in
+    open_of ended file.0 (let low = o.low in let less = after.0 in omega arith) after.1
 
 first_place : (second : Option (List ℕ)) (a : HostState) (targets : Targets) → AreTargets second a targets → targets.first.0 ≡ length a.ended + 2 + 0
 first_place second a targets are = let is = are.first in omega arith
@@ -110,21 +110,21 @@ pub targets_open : (first : List ℕ) (second : Option (List ℕ)) (us vs : List
 targets_open first None us vs targets a c are s = let is = are.first in record {
   low = omega arith;
   first_open = rw s.made.ended (unended_since a.ended (flags_of None false) targets.first.0 0 (first_place None a targets are) refl);
-  second_open = behind targets.second are.second_number;
+  second_open = after targets.second are.second_number;
 }
   where
-    behind : (o : Option OutFile) → IsSecond None o (length a.ended + 2) → IsOpenBehind c.ended targets.first.0 o
-    behind None is = tt
-    behind (Some file) is = absurd is
+    after : (o : Option OutFile) → IsSecond None o (length a.ended + 2) → IsOpenAfter c.ended targets.first.0 o
+    after None is = tt
+    after (Some file) is = absurd is
 targets_open first (Some name) us vs targets a c are s = let is = are.first in record {
   low = omega arith;
   first_open = rw s.made.ended (unended_since a.ended (flags_of (Some name) false) targets.first.0 0 (first_place (Some name) a targets are) refl);
-  second_open = behind targets.second are.second_number;
+  second_open = after targets.second are.second_number;
 }
   where
-    behind : (o : Option OutFile) → IsSecond (Some name) o (length a.ended + 2) → IsOpenBehind c.ended targets.first.0 o
-    behind None is = absurd is
-    behind (Some file) is = (let at = are.first in omega arith, rw s.made.ended (unended_since a.ended (flags_of (Some name) false) file.0 1 is refl))
+    after : (o : Option OutFile) → IsSecond (Some name) o (length a.ended + 2) → IsOpenAfter c.ended targets.first.0 o
+    after None is = absurd is
+    after (Some file) is = (let at = are.first in omega arith, rw s.made.ended (unended_since a.ended (flags_of (Some name) false) file.0 1 is refl))
 
 -- the loop begins
 pub pumps_first : (targets : Targets) (all : Both) (old : HostState) → Pumps targets all all old old
@@ -194,11 +194,11 @@ begin_failed_second first name a b d e s given ended others notes cause keeps st
 pub begins_both : (first name : List ℕ) (a b d : HostState) (targets : Targets) (file : OutFile) → targets.second ≡ Some file → targets.first.0 ≡ length a.ended + 2 → file.0 ≡ length b.ended + 2 → Stands (pair first None [] []) (flags_of None false) [] a b →
     d.ended ≡ b.ended ++ false ∷ [] → ((given : Given) → b.given ≡ Some given → d.given ≡ Some (record given { created = given.created ++ record { name = name; bytes = [] } ∷ [] })) →
     ChangesOutputs b d → d.faults.notes ≡ b.faults.notes → d.faults.outputs ≡ b.faults.outputs → KeepsRooms b d → Begins first (Some name) a d (Ok targets)
-begins_both first name a b d targets file is number behind s ended created others notes faults keeps = record {
+begins_both first name a b d targets file is number after s ended created others notes faults keeps = record {
   ok = (
     record {
       first = number;
-      second_number = subst (λ (o : Option OutFile). IsSecond (Some name) o (length a.ended + 2)) (sym is) (next_number (pair first None [] []) (flags_of None false) a b file.0 s behind);
+      second_number = subst (λ (o : Option OutFile). IsSecond (Some name) o (length a.ended + 2)) (sym is) (next_number (pair first None [] []) (flags_of None false) a b file.0 s after);
     },
     stands_created (pair first None [] []) (flags_of None false) a b d name s ended created others notes faults keeps,
   );
@@ -233,16 +233,16 @@ ends_one targets old new x none given ended others notes cause keeps = record { 
 -- the second output is still open when the first one is ended
 pub still_open : (targets : Targets) (file : OutFile) (old new : List Bool) → targets.second ≡ Some file → AreOpen old targets → new ≡ set old (targets.first.0 - 2) true → slice_get new (file.0 - 2) ≡ Some false
 still_open targets file old new is o ended =
-    let behind : IsOpenBehind old targets.first.0 (Some file) = subst (λ (f : Option OutFile). IsOpenBehind old targets.first.0 f) is o.second_open in
+    let after : IsOpenAfter old targets.first.0 (Some file) = subst (λ (f : Option OutFile). IsOpenAfter old targets.first.0 f) is o.second_open in
     let low = o.low in
-    let less = behind.0 in
-    rw ended (get_set_other old (targets.first.0 - 2) (file.0 - 2) true (λ same. absurd (omega arith)) ∙ behind.1)
+    let less = after.0 in
+    rw ended (get_set_other old (targets.first.0 - 2) (file.0 - 2) true (λ same. absurd (omega arith)) ∙ after.1)
 
 pub second_low : (targets : Targets) (file : OutFile) (old : List Bool) → targets.second ≡ Some file → AreOpen old targets → 2 ≤ file.0
 second_low targets file old is o =
-    let behind : IsOpenBehind old targets.first.0 (Some file) = subst (λ (f : Option OutFile). IsOpenBehind old targets.first.0 f) is o.second_open in
+    let after : IsOpenAfter old targets.first.0 (Some file) = subst (λ (f : Option OutFile). IsOpenAfter old targets.first.0 f) is o.second_open in
     let low = o.low in
-    let less = behind.0 in
+    let less = after.0 in
     omega arith
 
 module _ (targets : Targets) (file : OutFile) (old mid new : HostState) (x : Unit {0}) (is : targets.second ≡ Some file) (given : mid.given ≡ old.given) (ended : mid.ended ≡ set old.ended (targets.first.0 - 2) true) (others : ChangesOutputs old mid)

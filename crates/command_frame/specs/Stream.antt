@@ -84,15 +84,15 @@ pub record AreTargets (second : Option (List ℕ)) (a : HostState) (targets : Ta
   pub first : targets.first.0 ≡ length a.ended + 2
   pub second_number : IsSecond second targets.second (length a.ended + 2)
 
-abbrev pub IsOpenBehind : List Bool → ℕ → Option OutFile → Type 0
-IsOpenBehind ended n None = Unit {0}
-IsOpenBehind ended n (Some file) = (n < file.0) × (slice_get ended (file.0 - 2) ≡ Some false)
+abbrev pub IsOpenAfter : List Bool → ℕ → Option OutFile → Type 0
+IsOpenAfter ended n None = Unit {0}
+IsOpenAfter ended n (Some file) = (n < file.0) × (slice_get ended (file.0 - 2) ≡ Some false)
 
 -- The outputs of a stream were created and not ended.
 pub record AreOpen (ended : List Bool) (targets : Targets) : Type 0 where
   pub low : 2 ≤ targets.first.0
   pub first_open : slice_get ended (targets.first.0 - 2) ≡ Some false
-  pub second_open : IsOpenBehind ended targets.first.0 targets.second
+  pub second_open : IsOpenAfter ended targets.first.0 targets.second
 
 -- The outputs of a stream were begun.
 pub record Begins (first : List ℕ) (second : Option (List ℕ)) (old new : HostState) (result : Result Targets Failed) : Type 0 where

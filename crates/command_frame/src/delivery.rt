@@ -24,7 +24,7 @@ pub struct PlannedOutput<'a> {
     pub bytes: Vec<u8>,
 }
 
-/// The outputs of a command that are made in pieces, behind the head of the first, by a source that then has the report.
+/// The outputs of a command that are made in pieces, after the head of the first, by a source that then has the report.
 #[derive(Drop)]
 pub struct StreamedPlan<'a, P: Pieces + Drop> {
     pub first: &'a str,

@@ -7,7 +7,7 @@ pub trait Pieces {
     /// The piece that was made last.
     ghost held: { Self → Both };
 
-    /// What is still to come behind it.
+    /// What is still to come after it.
     ghost to_come: { Self → Both };
 
     /// The report that stands once all pieces are made.
@@ -19,7 +19,7 @@ pub trait Pieces {
     /// How much work is left, at most.
     ghost work: { Self → ℕ };
 
-    /// Makes the next piece, and answers whether nothing is left behind it.
+    /// Makes the next piece, and answers whether nothing is left after it.
     fn make_next(&mut self) -> bool
         ensures first { (to_come self.old).first ≡ (held self.new).first ++ (to_come self.new).first }
         ensures second { (to_come self.old).second ≡ (held self.new).second ++ (to_come self.new).second }

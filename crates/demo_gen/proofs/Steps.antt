@@ -1,4 +1,4 @@
--- Lists that are joined, and the state behind draws, one step on.
+-- Lists that are joined, and the state after draws, one step on.
 use Rattle.std.proofs.Common.{◌≡◌, ◌∙◌, ℕ, suc, ◌+◌, List, ◌++◌, refl, sym, ap, append_assoc, add-one}
 use Rattle.std.proofs.lemmas.List.{append-nil}
 use Rattle.demo_gen.specs.Draws.{next_state, state_after, draw, drawn_byte, joined}
@@ -11,7 +11,7 @@ state_after-suc : (n s : ℕ) → state_after (suc n) s ≡ next_state (state_af
 unfolding state_after
 state_after-suc n s = refl
 
--- behind one more draw
+-- after one more draw
 pub state_after-next : (n s now next : ℕ) → now ≡ state_after n s → next ≡ next_state now → next ≡ state_after (suc n) s
 state_after-next n s now next is step = step ∙ ap next_state is ∙ sym (state_after-suc n s)
 

@@ -7,7 +7,7 @@ use Rattle.demo_gen.specs.Samples.{directory, sample_bytes}
 use Rattle.demo_gen.specs.Writes.{registers, values}
 use Rattle.demo_gen.specs.Driver.{driver, dsp_registers}
 
--- behind the signature: version 0.30 with tags, PC 0400h, A, X, Y and PSW 0, and SP EFh
+-- after the signature: version 0.30 with tags, PC 0400h, A, X, Y and PSW 0, and SP EFh
 abbrev pub fields : List ℕ
 fields = codes " v0.30" ++ 0x1A ∷ 0x1A ∷ 0x1A ∷ 30 ∷ 0x00 ∷ 0x04 ∷ 0 ∷ 0 ∷ 0 ∷ 0 ∷ 0xEF ∷ []
 

@@ -6,6 +6,6 @@ use Rattle.spc_form.specs.Accepted.{padded_to}
 abbrev pub cell : (address : ℕ) → ℕ
 cell address = 0x100 + address
 
--- a file's first bytes, and behind them a part from its place on, with zeros between
+-- a file's first bytes, and after them a part from its place on, with zeros between
 unfoldable pub with_part : (file : List ℕ) → (place : ℕ) → (part : List ℕ) → List ℕ
 with_part file place part = padded_to place file ++ part

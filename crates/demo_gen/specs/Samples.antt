@@ -1,4 +1,4 @@
--- Eight samples of sixteen BRR blocks, one behind the other from 1000h on, and the directory of them (the choice of the bytes is own;
+-- Eight samples of sixteen BRR blocks, one after another from 1000h on, and the directory of them (the choice of the bytes is own;
 -- the header's bits: Anomie's S-DSP Doc, BRR samples).
 use Rattle.std.specs.Prelude.{ℕ, ◌+◌, ◌*◌, ◌/◌, ◌%◌, ◌==◌, List, [], ◌∷◌, ◌++◌, if◌then◌else◌}
 use Rattle.demo_gen.specs.Draws.{draw, joined}

@@ -2,7 +2,7 @@
 ghost use Rattle.std.specs.Prelude.{◌≡◌};
 ghost use Rattle.demo_gen.specs.Draws.{next_state, drawn_byte};
 
-/// The state behind one more draw.
+/// The state after one more draw.
 pub fn next_state(state: u32) -> u32
     ensures { result ≡ next_state state }
 {

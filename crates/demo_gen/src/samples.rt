@@ -41,7 +41,7 @@ fn sample_byte(place: usize, byte: u8) -> u8
     }
 }
 
-/// Puts bytes of the samples, of which the first has a place there, into the file, and gives the state behind their draws.
+/// Puts bytes of the samples, of which the first has a place there, into the file, and gives the state after their draws.
 #[tactic(auto, unfolding(crate::specs::Places::with_part))]
 pub fn put_sample_bytes(
     file: &mut Vec<u8>,
@@ -52,15 +52,15 @@ pub fn put_sample_bytes(
 ) -> Result<u32, OutOfMemory>
     requires { first + count < 0x10000 }
     ensures bytes { OnOk result (file.new.items ≡ with_part file.old.items place (sample_bytes first count state)) }
-    ensures state { IfOk result (λ behind. behind ≡ state_after count state) }
+    ensures state { IfOk result (λ after. after ≡ state_after count state) }
 {
     file.resize(place, 0)?;
-    let mut behind = state;
+    let mut after = state;
     for k in 0..count {
-        behind = next_state(behind);
-        file.push(sample_byte(first + k, drawn_byte(behind)))?;
+        after = next_state(after);
+        file.push(sample_byte(first + k, drawn_byte(after)))?;
     }
-    Ok(behind)
+    Ok(after)
 }
 
 /// The entry of a sample in the directory: its start twice.

@@ -61,7 +61,7 @@ fn the_parts_stand_at_their_places(rt: HostRuntime) -> Result<(), Fail> {
 
 /// The first two draws of the number 7 are 61 and 233; 61 leaves 5 over 7, so that the first block's shift is 9.
 /// Then the headers of the second and the sixteenth block, the last byte of the samples, the first writes and the last ones,
-/// and of the bytes that go into the samples the first, three headers, a byte behind one of them, and the last.
+/// and of the bytes that go into the samples the first, three headers, a byte after one of them, and the last.
 #[test]
 fn the_draws_of_seven(rt: HostRuntime) -> Result<(), Fail> {
     let file = demo(rt.alloc(), 7)?;

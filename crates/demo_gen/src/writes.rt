@@ -28,26 +28,26 @@ pub fn put_registers(file: &mut Vec<u8>, place: usize, state: u32) -> Result<(),
     ensures { OnOk result (file.new.items ≡ with_part file.old.items place (registers state)) }
 {
     file.resize(place, 0)?;
-    let mut behind = state;
+    let mut after = state;
     for turn in 0..256 {
-        let first = next_state(behind);
+        let first = next_state(after);
         file.push(register(turn, drawn_byte(first)))?;
-        behind = next_state(first);
+        after = next_state(first);
     }
     Ok(())
 }
 
-/// Puts the values into the file: of each two draws the second one says which. Gives the state behind all of them.
+/// Puts the values into the file: of each two draws the second one says which. Gives the state after all of them.
 #[tactic(auto, unfolding(crate::specs::Places::with_part))]
 pub fn put_values(file: &mut Vec<u8>, place: usize, state: u32) -> Result<u32, OutOfMemory>
     ensures bytes { OnOk result (file.new.items ≡ with_part file.old.items place (values state)) }
-    ensures state { IfOk result (λ behind. behind ≡ state_after 512 state) }
+    ensures state { IfOk result (λ after. after ≡ state_after 512 state) }
 {
     file.resize(place, 0)?;
-    let mut behind = state;
+    let mut after = state;
     for turn in 0..256 {
-        behind = next_state(next_state(behind));
-        file.push(value(turn, drawn_byte(behind)))?;
+        after = next_state(next_state(after));
+        file.push(value(turn, drawn_byte(after)))?;
     }
-    Ok(behind)
+    Ok(after)
 }

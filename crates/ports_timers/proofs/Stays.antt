@@ -14,7 +14,7 @@ if_same : {A : Type 0} (b : Bool) (x y x' y' : A) → (b ≡ true → x ≡ x') 
 if_same true x y x' y' first second = first refl
 if_same false x y x' y' first second = second
 
--- the test behind a test that fails
+-- the test after a test that fails
 or_holds : (a b : Bool) → (not a || b) ≡ true → a ≡ true → b ≡ true
 or_holds true b h is = h
 or_holds false b h is = absurd (cc)

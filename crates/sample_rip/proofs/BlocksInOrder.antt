@@ -4,7 +4,7 @@ use Rattle.std.proofs.lemmas.List.{append-nil}
 use Rattle.std.proofs.lemmas.List.Sums.{fold-append}
 use Rattle.std.proofs.Math.Seq.{drop-append_seam}
 use Rattle.brr_decode.specs.Kept.{Digit, EndsWith, digits_of, digits_under, samples_of, with_kept, with_all_kept, sample_from_end}
-use Rattle.brr_decode.proofs.Samples.{kept_behind, with_all_kept-is}
+use Rattle.brr_decode.proofs.Samples.{kept_after, with_all_kept-is}
 use Rattle.brr_decode.proofs.Blocks.{Gives, EndsWith-block, stored_at, length-samples_of}
 use Rattle.sample_rip.specs.Blocks.{block_bytes, stream_of}
 
@@ -54,7 +54,7 @@ samples_begin memory start n (suc k) =
     let shorter = samples_begin memory start n k in
     let samples = samples_of (stream_of memory start (n + k)) in
     let ds = digits_of (block_bytes memory start (n + k)) in
-    let more = kept_behind ds (sample_from_end samples 0) (sample_from_end samples 1) in
+    let more = kept_after ds (sample_from_end samples 0) (sample_from_end samples 1) in
     let one : n + suc k ≡ suc (n + k) = omega arith in (
       shorter.0 ++ more,
       rw one (samples_of-more memory start (n + k) ∙ with_all_kept-is ds samples (sample_from_end samples 1) (sample_from_end samples 0) (record { last = refl; before = refl })

@@ -36,7 +36,7 @@ pub record HostState : Type 0 where
   -- for each created output, whether it was ended: so its length is how many were created
   pub ended : List Bool
   pub faults : Faults
-  -- Of a steady host, how many bytes more each output takes, by its number. Those behind the created ones are not yet taken.
+  -- Of a steady host, how many bytes more each output takes, by its number. Those after the created ones are not yet taken.
   pub steady : Option (List ℕ)
 
 -- where it is told, it has this property
@@ -61,13 +61,13 @@ pub record CountsWrite {T E : Type 0} (file : ℕ) (old new : Faults) (result : 
   pub outputs : file ≢ 1 → HasCause old.outputs new.outputs result
   pub outputs_kept : file ≡ 1 → new.outputs ≡ old.outputs
 
--- the created outputs, with these bytes behind those of the output at this place
+-- the created outputs, with these bytes after those of the output at this place
 abbrev pub outputs_with : List Output → ℕ → List ℕ → List Output
 outputs_with [] place bytes = []
 outputs_with (output ∷ outputs) zero bytes = record output { bytes = output.bytes ++ bytes } ∷ outputs
 outputs_with (output ∷ outputs) (suc place) bytes = output ∷ outputs_with outputs place bytes
 
--- what was given, with these bytes behind those of the output of this number: 0 is the report, 1 the complaint
+-- what was given, with these bytes after those of the output of this number: 0 is the report, 1 the complaint
 abbrev pub given_with : Given → ℕ → List ℕ → Given
 given_with given zero bytes = record given { report = given.report ++ bytes }
 given_with given (suc zero) bytes = record given { complaint = given.complaint ++ bytes }

@@ -21,7 +21,7 @@ output_of slot = record { name = string_bytes slot.name; bytes = slot.sink.bytes
 abbrev pub fails_later : List ℕ → ℕ → Bool
 fails_later failing calls = list_any (λ number. nat_le calls number) failing
 
--- how many bytes more each output takes, by its number, and behind the created ones each that can still be created
+-- how many bytes more each output takes, by its number, and after the created ones each that can still be created
 abbrev pub rooms_of : MemHost → List ℕ
 rooms_of host = host.report.room ∷ host.complaint.room ∷ (map (λ slot. slot.sink.room) host.created.items ++ map (λ spare. spare.room) host.spare.items)
 

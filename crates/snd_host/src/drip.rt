@@ -47,7 +47,7 @@ impl Host for DripHost {
     fn read(&mut self, file: InFile, buf: &mut [u8]) -> Result<usize, Failed>
         requires { (drip_state self.old).current ≡ Some file.0 }
         ensures within { IfOk result (λ count. count ≤ length buf.old) }
-        ensures behind { IfOk result (λ count. drop count buf.new ≡ drop count buf.old) }
+        ensures after { IfOk result (λ count. drop count buf.new ≡ drop count buf.old) }
         ensures front { IfOk result (λ count.
             IfTold (drip_state self.old).left (λ rest. take count buf.new ≡ take count rest)) }
         ensures left { IfOk result (λ count.

@@ -40,7 +40,7 @@ pub trait Host {
     fn read(&mut self, file: InFile, buf: &mut [u8]) -> Result<usize, Failed>
         requires { (state self.old).current ≡ Some file.0 }
         ensures within { IfOk result (λ count. count ≤ length buf.old) }
-        ensures behind { IfOk result (λ count. drop count buf.new ≡ drop count buf.old) }
+        ensures after { IfOk result (λ count. drop count buf.new ≡ drop count buf.old) }
         ensures front { IfOk result (λ count.
             IfTold (state self.old).left (λ rest. take count buf.new ≡ take count rest)) }
         ensures left { IfOk result (λ count.

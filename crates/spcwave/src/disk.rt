@@ -69,7 +69,7 @@ fn write_some<W: Write>(writer: &mut W, piece: &[u8]) -> Result<usize, Failed>
 /// One read into the front of the buffer.
 fn read_some<F: Read>(file: &mut F, buf: &mut [u8]) -> Result<usize, Failed>
     ensures within { IfOk result (λ count. count ≤ length buf.old) }
-    ensures behind { IfOk result (λ count. drop count buf.new ≡ drop count buf.old) }
+    ensures after { IfOk result (λ count. drop count buf.new ≡ drop count buf.old) }
 {
     let mut chunk = [0u8; 4096];
     let most = buf.len().min(4096);

@@ -48,7 +48,7 @@ impl Hostile {
         }
     }
 
-    /// Whether a run ended as this row says, with these frames behind the header of the sound file.
+    /// Whether a run ended as this row says, with these frames after the header of the sound file.
     fn is_ended_so(&self, outcome: &Outcome, frames: &[u8]) -> bool {
         outcome.status() == self.status
             && outcome.report() == self.report.as_bytes()

@@ -23,7 +23,7 @@ enough (suc m) (suc n) place bytes hm hn =
     ap (λ (rest : List Chunk). if nat_lt (length bytes) 8 then [] else chunk ∷ (if is_named (codes "data") chunk then [] else rest))
     (enough m n (place + chunk_length chunk) (drop (chunk_length chunk) bytes) here there)
 
--- the first chunk, and those behind it
+-- the first chunk, and those after it
 pub chunks_from-front : (place : ℕ) (bytes : List ℕ) → 8 ≤ length bytes
     → chunks_from place bytes ≡ first_chunk place bytes
     ∷ (if is_named (codes "data") (first_chunk place bytes) then [] else chunks_from (place + chunk_length (first_chunk place bytes)) (drop (chunk_length (first_chunk place bytes)) bytes))
@@ -55,10 +55,10 @@ walk_data false place rest chunk is long named =
     let is_data : is_named (codes "data") (first_chunk place rest) ≡ true = ap (λ (c : Chunk). is_named (codes "data") c) (sym is) ∙ named in
     ap (λ (cs : List Chunk). samples_of_chunks false cs) (chunks_from-front place rest long) ∙ rw is_data refl
 
--- any other chunk is followed by those behind it
-behind_other : (place : ℕ) (rest : List ℕ) (chunk : Chunk) → chunk ≡ first_chunk place rest → 8 ≤ length rest → is_named (codes "data") chunk ≡ false
+-- any other chunk is followed by those after it
+after_other : (place : ℕ) (rest : List ℕ) (chunk : Chunk) → chunk ≡ first_chunk place rest → 8 ≤ length rest → is_named (codes "data") chunk ≡ false
     → chunks_from place rest ≡ chunk ∷ chunks_from (place + chunk_length chunk) (drop (chunk_length chunk) rest)
-behind_other place rest chunk is long named =
+after_other place rest chunk is long named =
     let other : is_named (codes "data") (first_chunk place rest) ≡ false = ap (λ (c : Chunk). is_named (codes "data") c) (sym is) ∙ named in
     chunks_from-front place rest long
     ∙ ap (λ (b : Bool). first_chunk place rest ∷ (if b then [] else chunks_from (place + chunk_length (first_chunk place rest)) (drop (chunk_length (first_chunk place rest)) rest))) other
@@ -68,20 +68,20 @@ pub walk_on : (has seen : Bool) (place : ℕ) (rest : List ℕ) (chunk : Chunk) 
     → PassesOver has chunk (Ok seen)
     → samples_of_chunks has (chunks_from place rest) ≡ samples_of_chunks seen (chunks_from (place + chunk_length chunk) (drop (chunk_length chunk) rest))
 walk_on has seen place rest chunk is long named passes =
-    ap (λ (cs : List Chunk). samples_of_chunks has cs) (behind_other place rest chunk is long named)
+    ap (λ (cs : List Chunk). samples_of_chunks has cs) (after_other place rest chunk is long named)
     ∙ passes (chunks_from (place + chunk_length chunk) (drop (chunk_length chunk) rest))
 
 pub walk_refused : (has : Bool) (refusal : WavRefusal) (place : ℕ) (rest : List ℕ) (chunk : Chunk) → chunk ≡ first_chunk place rest → 8 ≤ length rest → is_named (codes "data") chunk ≡ false
     → PassesOver has chunk (Err refusal) → samples_of_chunks has (chunks_from place rest) ≡ Err refusal
 walk_refused has refusal place rest chunk is long named passes =
-    ap (λ (cs : List Chunk). samples_of_chunks has cs) (behind_other place rest chunk is long named)
+    ap (λ (cs : List Chunk). samples_of_chunks has cs) (after_other place rest chunk is long named)
     ∙ passes (chunks_from (place + chunk_length chunk) (drop (chunk_length chunk) rest))
 
 pub walk_end : (has : Bool) (place : ℕ) (rest : List ℕ) → length rest < 8 → samples_of_chunks has (chunks_from place rest) ≡ Err (if has then NoData else NoFormat)
 walk_end true place rest short = ap (λ (cs : List Chunk). samples_of_chunks true cs) (chunks_from-end place rest short)
 walk_end false place rest short = ap (λ (cs : List Chunk). samples_of_chunks false cs) (chunks_from-end place rest short)
 
--- a chunk that isn't cut ends with the bytes, or with the byte behind an odd body
+-- a chunk that isn't cut ends with the bytes, or with the byte after an odd body
 pub whole_chunk : (place : ℕ) (rest : List ℕ) (chunk : Chunk) → chunk ≡ first_chunk place rest → 8 ≤ length rest → is_cut chunk ≡ false
     → chunk_length chunk ≤ length rest + 1
 whole_chunk place rest chunk is long whole =

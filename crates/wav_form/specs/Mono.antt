@@ -24,7 +24,7 @@ samples_of_chunks has_format (chunk ∷ chunks) =
     else if is_named (codes "fmt ") chunk then (if is_mono_format chunk.body then samples_of_chunks true chunks else Err Format)
     else samples_of_chunks false chunks
 
--- the bytes begin as a WAV file; the size behind `RIFF` is not looked at
+-- the bytes begin as a WAV file; the size after `RIFF` is not looked at
 abbrev pub is_wave : (bytes : List ℕ) → Bool
 is_wave bytes = nat_le 12 (length bytes) && (bytes_eq (take 4 bytes) (codes "RIFF") && bytes_eq (take 4 (drop 8 bytes)) (codes "WAVE"))
 

@@ -49,7 +49,7 @@ impl<'a> Chunk<'a> {
         self.body.len() < self.size as usize
     }
 
-    /// How many bytes the chunk takes, with the byte behind an odd body.
+    /// How many bytes the chunk takes, with the byte after an odd body.
     pub fn length(self) -> usize
         ensures { result ≡ chunk_length (chunk_of self.entry) }
     {
@@ -58,8 +58,8 @@ impl<'a> Chunk<'a> {
     }
 }
 
-/// The bytes behind the first ones; there may be fewer.
-pub fn behind(bytes: &[u8], count: usize) -> &[u8]
+/// The bytes after the first ones; there may be fewer.
+pub fn after(bytes: &[u8], count: usize) -> &[u8]
     ensures { result.now ≡ drop count bytes.now }
 {
     &bytes[count.min(bytes.len())..]

@@ -5,7 +5,7 @@ ghost use Rattle.wav_form.specs.Seen.{chunk_of, PassesOver};
 ghost use Rattle.num_fix.specs.Words.{signed_words};
 ghost use Rattle.wav_form.specs.Mono.{is_mono_format, is_wave, samples_of_chunks, mono_samples};
 
-use crate::chunk::{Chunk, behind};
+use crate::chunk::{Chunk, after};
 use crate::{OutOfMemory, WavRefusal};
 use byteorder::{ByteOrder, LittleEndian};
 use std::alloc::Global;
@@ -73,7 +73,7 @@ fn refusal_at_end(has_format: bool) -> WavRefusal
     }
 }
 
-/// The samples of the chunks behind the first twelve bytes.
+/// The samples of the chunks after the first twelve bytes.
 fn walk(alloc: Global, bytes: &[u8]) -> Result<Vec<i16>, WavRefusal>
     ensures samples { IfOk result (λ samples. samples_of_chunks false (chunks_from 12 bytes.now) ≡ Ok samples.items) }
     ensures refused { IfErr result (λ refusal. (samples_of_chunks false (chunks_from 12 bytes.now) ≡ Err refusal) ⊎ (refusal ≡ WavRefusal.OutOfMemory)) }
@@ -91,7 +91,7 @@ fn walk(alloc: Global, bytes: &[u8]) -> Result<Vec<i16>, WavRefusal>
         has_format = pass_over(chunk, has_format)?;
         let length = chunk.length();
         place += length;
-        rest = behind(rest, length);
+        rest = after(rest, length);
     }
     Err(refusal_at_end(has_format))
 }

@@ -5,7 +5,7 @@ use Rattle.brr_encode.specs.Encoding.{encoding, blocks_of, most_samples}
 use Rattle.brr_encode.specs.Steps.{block_reports, all_reports}
 use Rattle.brr_encode.proofs.encoder.encode.Given as goal
 
--- the blocks so far, and behind them those of the targets that are left, are all blocks
+-- the blocks so far, and after them those of the targets that are left, are all blocks
 abbrev pub invariant-each : goal.invariant-each
 invariant-each l = record {
   bytes : l.bytes.items ++ blocks_of (length l.rest / 16) l.first l.looped l.coder.last l.coder.before l.rest ≡ encoding l.samples l.looped;

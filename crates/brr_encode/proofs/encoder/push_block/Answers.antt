@@ -1,5 +1,5 @@
 use Rattle.std.proofs.Common.{rules, ◌≡◌, ◌∙◌, to_z, of_z, w16, append_assoc, refl}
-use Rattle.brr_encode.proofs.Coders.{errors_behind}
+use Rattle.brr_encode.proofs.Coders.{errors_after}
 use Rattle.brr_encode.proofs.encoder.push_block.Goals as goal
 
 pub returns-clause-bytes : goal.returns-clause-bytes
@@ -16,5 +16,5 @@ returns-clause-reports c =
     let b : to_z w16 (of_z w16 c.args.coder.before) ≡ c.args.coder.before = search rules in
     let best = rw (a, b) at c.best_header-header.ensures.best in
     let coder = rw (a, b, best) at c.in_ok-coder.ensures.coder in
-    let errors = errors_behind c.args.place.first c.args.coder.last c.args.coder.before c.args.targets.now c.in_ok-coder.coder coder in
+    let errors = errors_after c.args.place.first c.args.coder.last c.args.coder.before c.args.targets.now c.in_ok-coder.coder coder in
     c.in_ok-push-2.ensures.items ∙ rw (best, c.end_bits.ensures.value, errors.0, errors.1) refl

@@ -6,5 +6,5 @@ use Rattle.demo_gen.proofs.writes.put_registers.Given as goal
 abbrev pub invariant-loop-turn : goal.invariant-loop-turn
 invariant-loop-turn l = record {
   bytes : l.file.items ≡ l.initial.file.items ++ joined l.turn (λ turn. register turn (draw l.state (2 * turn)) ∷ []);
-  state : l.behind ≡ state_after (2 * l.turn) l.state;
+  state : l.after ≡ state_after (2 * l.turn) l.state;
 }

@@ -6,5 +6,5 @@ use Rattle.demo_gen.proofs.writes.put_values.Given as goal
 abbrev pub invariant-loop-turn : goal.invariant-loop-turn
 invariant-loop-turn l = record {
   bytes : l.file.items ≡ l.initial.file.items ++ joined l.turn (λ turn. value turn (draw l.state (suc (2 * turn))) ∷ []);
-  state : l.behind ≡ state_after (2 * l.turn) l.state;
+  state : l.after ≡ state_after (2 * l.turn) l.state;
 }

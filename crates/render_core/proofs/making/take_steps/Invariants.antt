@@ -2,7 +2,7 @@ use Rattle.std.proofs.Common.{◌≡◌, ◌*◌, ◌-◌, ◌<◌, ◌≤◌}
 use Rattle.render_core.specs.MachineRun.{after_run}
 use Rattle.render_core.proofs.making.take_steps.Given as goal
 
--- the run goes on from here, with room for a step that isn't behind its end
+-- the run goes on from here, with room for a step that isn't after its end
 abbrev pub invariant-steps : goal.invariant-steps
 invariant-steps g l = record {
   run : after_run g.B.Bus.means l.samples (l.initial.cpu, l.initial.bus) ≡ after_run g.B.Bus.means l.samples (l.cpu, l.bus);

@@ -30,9 +30,9 @@ pub chunks-preserved : goal.chunks-preserved
 chunks-preserved c =
     let named = sym c.is_named.ensures ∙ c.if-is_named.false in
     let next = walk_on c.chunks.has_format c.in_ok-has_format.has_format c.chunks.place c.chunks.rest.now (chunk_of c.in-Some.chunk) c.in-Some.ensures.chunk c.in-Some.ensures.whole named c.in_ok-has_format.ensures.passes in
-    let gone = c.behind-rest.ensures in
+    let gone = c.after-rest.ensures in
     let taken : chunk_length (chunk_of c.in-Some.chunk) ≡ c.length-length.result = sym c.length-length.ensures in
-    let short : length c.behind-rest.result.now ≡ length c.chunks.rest.now - c.length-length.result = ap (λ (l : List ℕ). length l) gone ∙ length-drop c.length-length.result c.chunks.rest.now in
+    let short : length c.after-rest.result.now ≡ length c.chunks.rest.now - c.length-length.result = ap (λ (l : List ℕ). length l) gone ∙ length-drop c.length-length.result c.chunks.rest.now in
     let fits = whole_chunk c.chunks.place c.chunks.rest.now (chunk_of c.in-Some.chunk) c.in-Some.ensures.chunk c.in-Some.ensures.whole c.in_ok-has_format.ensures.whole in
     let inside = c.chunks.invariant.inside (omega (arith, c.in-Some.ensures.whole)) in
     record {
