@@ -1,35 +1,32 @@
 -- Each operation makes the accesses of the table of accesses, each at its address.
 use Rattle.std.proofs.Common.{◌≡◌, ℕ, ◌+◌, ◌-◌, ◌%◌, ◌^◌, ◌==◌, List, [], ◌∷◌, ◌++◌, Bool, true, false, refl, sym, ap, ◌∙◌, subst, inl, inr}
-use Rattle.std.specs.Prelude.{if◌then◌else◌, not}
+use Rattle.std.specs.Prelude.{if◌then◌else◌, not, ◌&&◌}
 use Rattle.std.proofs.lemmas.List.{append-nil, append_assoc}
 use Rattle.spc700_table.specs.declared.Form.{Form}
 use Rattle.spc700_table.specs.declared.Form.TheVariants as F
 use Rattle.spc700_table.specs.declared.OpRow.{OpRow}
-use Rattle.spc700_table.specs.Opcodes.{is_distance}
+use Rattle.spc700_table.specs.Opcodes.{is_in_text_order, is_distance}
 use Rattle.spc700_alu.specs.Flags.{with_nz, with_nz16}
 use Rattle.spc700_alu.specs.Bytes.{cmp_of}
 use Rattle.spc700_alu.specs.Bits.{bitop_of}
-use Rattle.spc700_alu.proofs.Apart.{and_right}
+use Rattle.spc700_alu.proofs.Apart.{and_left, and_right}
 use Rattle.spc700_exec.specs.declared.cpu.Cpu.{Cpu}
 use Rattle.spc700_exec.specs.declared.operand.Operand.{Operand}
+use Rattle.spc700_exec.specs.declared.operand.Both.{Both}
 use Rattle.spc700_exec.specs.declared.operand.Operand.TheVariants as P
 use Rattle.spc700_exec.specs.Script.{Script}
-use Rattle.spc700_exec.specs.Operands.{with_next_pc, next_in_page, call_entry, fetched, addressed, loaded, stored, address_of, bit_of, loaded_word, stored_word, pushed, popped, pushed_word}
+use Rattle.spc700_exec.specs.Operands.{with_next_pc, next_in_page, call_entry, addressed, both_addressed, loaded, stored, address_of, bit_of, loaded_word, stored_word, pushed, popped, pushed_word}
 use Rattle.spc700_exec.specs.Operations.{Operation, ya, flag_is, OnStatus, OnA, OnYa, Branch, BitBranch, CompareBranch, CountBranch, Move, Calculate, Compare, Modify, BitToCarry, BitInPlace, BitTest, WordOnYa, WordStore, WordModify, Push, Pop, Jump, Call, TableCall, Break, Return, InterruptReturn, Halt}
-use Rattle.spc700_exec.specs.Forms.{is_none, is_register, is_bit, is_address, is_target, is_source, is_entry}
+use Rattle.spc700_exec.specs.Forms.{is_none, is_register, is_source, is_entry}
 use Rattle.spc700_exec.specs.Lines.{branched, done, with_nz_of_move, with_ya}
 use Rattle.spc700_exec.specs.Instruction.{line_of}
-use Rattle.spc700_exec.proofs.Steady.{changes_x, looks_at_x, not_both, IsListed}
+use Rattle.spc700_exec.proofs.Steady.{changes_x, looks_at_x, is_steady, not_both, IsListed}
 use Rattle.spc700_exec.proofs.OperandReads.{at_memory, IsFound, Follows, after_addressed}
 use Rattle.spc700_exec.specs.Accesses.{after_access, Side, First, Second, Access, OperandRead, SourceRead, SourceReadHigh, DestinationWrite, DestinationWriteHigh, StackWrite, StackRead, VectorRead, VectorReadHigh, Progress, begun, bytes_of, byte_address, form_of, Makes, operand_reads, both_reads, if_in_memory, source, destination, entry_number, accesses_of}
 
 form_of_distance : (form : Form) → is_distance form ≡ true → form ≡ F.Rel
 form_of_distance F.Rel h = refl
 form_of_distance _ h = absurd (cc)
-
-sources_are_no_distances : (form : Form) → is_source form ≡ true → is_distance form ≡ false
-sources_are_no_distances F.Rel h = absurd (cc)
-sources_are_no_distances _ h = refl
 
 no_entry : (form : Form) → is_none form ≡ true → entry_number form ≡ 0
 no_entry F.None h = refl
@@ -100,21 +97,6 @@ module _ (row : OpRow) (start : Cpu) where
   after_branched p true r cpu = inr refl
   after_branched p false r cpu = inl refl
 
-  -- X is still that of the start where the first operand is addressed after the second
-  same_x : (op : Operation) (y : ℕ) → IsListed row op → (changes_x row.second ≡ false → y ≡ start.x) → looks_at_x row.first ≡ true → y ≡ start.x
-  same_x op y listed stays looks = stays (not_both (changes_x row.second) (looks_at_x row.first) listed.steady looks)
-
-  -- the reads of both operands: the first's, then a distance; or the second's, then the first's
-  distance_last : (n : List Access) → is_distance row.second ≡ true → both_reads row ++ n ≡ operand_reads First row.first ++ (OperandRead Second ∷ n)
-  distance_last n h =
-      let reads : Bool → Form → List Access = λ b form. if b then operand_reads First row.first ++ operand_reads Second form else operand_reads Second form ++ operand_reads First row.first in
-      ap (λ b. reads b row.second ++ n) h ∙ (ap (λ form. reads true form ++ n) (form_of_distance row.second h) ∙ append_assoc (operand_reads First row.first) (OperandRead Second ∷ []) n)
-
-  second_before_first : (n : List Access) → is_source row.second ≡ true → both_reads row ++ n ≡ operand_reads Second row.second ++ (operand_reads First row.first ++ n)
-  second_before_first n h =
-      let reads : Bool → List Access = λ b. if b then operand_reads First row.first ++ operand_reads Second row.second else operand_reads Second row.second ++ operand_reads First row.first in
-      ap (λ b. reads b ++ n) (sources_are_no_distances row.second h) ∙ append_assoc (operand_reads Second row.second) (operand_reads First row.first) n
-
   -- the first operand alone, from the start
   first_operand : (n : List Access) (next : Operand → Cpu → Script) → Follows row start First row.first (begun start) start.x n next → Makes row start (begun start) (operand_reads First row.first ++ n) (addressed row.first start next)
   first_operand n next h = after_addressed row start First row.first (begun start) start.x n next refl (λ _. refl) h
@@ -122,28 +104,43 @@ module _ (row : OpRow) (start : Cpu) where
   second_operand : (n : List Access) (next : Operand → Cpu → Script) → Follows row start Second row.second (begun start) start.x n next → Makes row start (begun start) (operand_reads Second row.second ++ n) (addressed row.second start next)
   second_operand n next h = after_addressed row start Second row.second (begun start) start.x n next refl (λ _. refl) h
 
-  -- the first operand and then a distance
-  abbrev with_distance : List Access → (Operand → ℕ → Cpu → Script) → Type 0
-  with_distance n next =
-      (operand : Operand) (p : Progress) (r : ℕ) (cpu : Cpu) → IsFound row start row.first p.first operand → Makes row start p n (next operand r cpu)
+  -- both operands, in the order of their bytes
+  abbrev AfterBoth : List Access → (Both → Cpu → Script) → Type 0
+  AfterBoth n next =
+      (both : Both) (p : Progress) (cpu : Cpu) → IsFound row start row.first p.first both.first → IsFound row start row.second p.second both.second → Makes row start p n (next both cpu)
 
-  distance_after_first : (n : List Access) (next : Operand → ℕ → Cpu → Script) → is_distance row.second ≡ true → with_distance n next → Makes row start (begun start) (both_reads row ++ n) (addressed row.first start (λ operand cpu. fetched cpu (λ r cpu. next operand r cpu)))
-  distance_after_first n next h follows =
-      let t = addressed row.first start (λ operand cpu. fetched cpu (λ r cpu. next operand r cpu)) in
-      subst (λ (l : List Access). Makes row start (begun start) l t) (sym (distance_last n h))
-      (first_operand (OperandRead Second ∷ n) (λ operand cpu. fetched cpu (λ r cpu. next operand r cpu)) (λ operand bytes pc y f stays. ((refl, refl), λ r. follows operand _ r _ f)))
+  abbrev pair : (first second : Operand) → Both
+  pair first second = record { first = first; second = second }
 
-  -- the second operand, the source, and then the first
-  abbrev with_both : List Access → (Operand → Operand → Cpu → Script) → Type 0
-  with_both n next =
-      (from to : Operand) (p : Progress) (cpu : Cpu) → IsFound row start row.second p.second from → IsFound row start row.first p.first to → Makes row start p n (next from to cpu)
+  first_then_second : (n : List Access) (next : Both → Cpu → Script) → is_steady row ≡ true → AfterBoth n next → Makes row start (begun start) ((operand_reads First row.first ++ operand_reads Second row.second) ++ n) (addressed row.first start (λ first cpu. addressed row.second cpu (λ second cpu. next (pair first second) cpu)))
+  first_then_second n next steady h =
+      let t = addressed row.first start (λ first cpu. addressed row.second cpu (λ second cpu. next (pair first second) cpu)) in
+      let apart = not_both (changes_x row.first) (looks_at_x row.second) (and_right (not (changes_x row.second && looks_at_x row.first)) _ steady) in
+      subst (λ (l : List Access). Makes row start (begun start) l t) (sym (append_assoc (operand_reads First row.first) (operand_reads Second row.second) n))
+      (first_operand (operand_reads Second row.second ++ n) (λ first cpu. addressed row.second cpu (λ second cpu. next (pair first second) cpu)) (λ first bytes pc y f stays.
+      after_addressed row start Second row.second (record { pc = pc; sp = start.sp; first = bytes; second = [] }) y n (λ second cpu. next (pair first second) cpu) refl (λ looks. stays (apart looks)) (λ second more pc z g _. h (pair first second) _ _ f g)))
 
-  first_after_second : (op : Operation) (n : List Access) (next : Operand → Operand → Cpu → Script) → IsListed row op → is_source row.second ≡ true → with_both n next → Makes row start (begun start) (both_reads row ++ n) (addressed row.second start (λ from cpu. addressed row.first cpu (λ to cpu. next from to cpu)))
-  first_after_second op n next listed h follows =
-      let t = addressed row.second start (λ from cpu. addressed row.first cpu (λ to cpu. next from to cpu)) in
-      subst (λ (l : List Access). Makes row start (begun start) l t) (sym (second_before_first n h))
-      (second_operand (operand_reads First row.first ++ n) (λ from cpu. addressed row.first cpu (λ to cpu. next from to cpu)) (λ from second pc y f stays.
-      after_addressed row start First row.first (record { pc = pc; sp = start.sp; first = []; second = second }) y n (λ to cpu. next from to cpu) refl (same_x op y listed stays) (λ to first pc z g _. follows from to _ _ f g)))
+  second_then_first : (n : List Access) (next : Both → Cpu → Script) → is_steady row ≡ true → AfterBoth n next → Makes row start (begun start) ((operand_reads Second row.second ++ operand_reads First row.first) ++ n) (addressed row.second start (λ second cpu. addressed row.first cpu (λ first cpu. next (pair first second) cpu)))
+  second_then_first n next steady h =
+      let t = addressed row.second start (λ second cpu. addressed row.first cpu (λ first cpu. next (pair first second) cpu)) in
+      let apart = not_both (changes_x row.second) (looks_at_x row.first) (and_left (not (changes_x row.second && looks_at_x row.first)) _ steady) in
+      subst (λ (l : List Access). Makes row start (begun start) l t) (sym (append_assoc (operand_reads Second row.second) (operand_reads First row.first) n))
+      (second_operand (operand_reads First row.first ++ n) (λ second cpu. addressed row.first cpu (λ first cpu. next (pair first second) cpu)) (λ second bytes pc y g stays.
+      after_addressed row start First row.first (record { pc = pc; sp = start.sp; first = []; second = bytes }) y n (λ first cpu. next (pair first second) cpu) refl (λ looks. stays (apart looks)) (λ first more pc z f _. h (pair first second) _ _ f g)))
+
+  after_both : (op : Operation) (n : List Access) (next : Both → Cpu → Script) → IsListed row op → AfterBoth n next → Makes row start (begun start) (both_reads row ++ n) (both_addressed row start next)
+  unfolding both_addressed
+  after_both op n next listed h = by (is_in_text_order row)
+    where
+      in_order : Script
+      in_order = addressed row.first start (λ first cpu. addressed row.second cpu (λ second cpu. next (pair first second) cpu))
+
+      second_first : Script
+      second_first = addressed row.second start (λ second cpu. addressed row.first cpu (λ first cpu. next (pair first second) cpu))
+
+      by : (b : Bool) → Makes row start (begun start) ((if b then operand_reads First row.first ++ operand_reads Second row.second else operand_reads Second row.second ++ operand_reads First row.first) ++ n) (if b then in_order else second_first)
+      by true = first_then_second n next listed.steady h
+      by false = second_then_first n next listed.steady h
 
   -- the first operand read, changed and written
   changed_in_place : (next : Operand → Cpu → Script) → ((operand : Operand) (p : Progress) (cpu : Cpu) → IsFound row start row.first p.first operand → Makes row start p (source First row ++ destination row) (next operand cpu)) → Makes row start (begun start) (operand_reads First row.first ++ (source First row ++ destination row)) (addressed row.first start next)
@@ -163,24 +160,24 @@ module _ (row : OpRow) (start : Cpu) where
       subst (λ (form : Form). Makes row start (begun start) (operand_reads First form) t) (sym (form_of_distance row.first listed.suits))
       ((refl, refl), λ r. after_branched (after_access (OperandRead First) r (begun start)) (condition start.psw) r (with_next_pc start))
   Makes-line_of (BitBranch on) listed =
-      let next : Operand → ℕ → Cpu → Script = λ o r cpu. loaded o cpu (λ byte. branched (flag_is (2 ^ bit_of o) on byte) r row cpu) in
-      distance_after_first (source First row) next (and_right (is_bit row.first) _ listed.suits) (λ o p r cpu f. last_loaded First p o _ _ f (λ v. after_branched p _ r _))
+      let next : Both → Cpu → Script = λ both cpu. loaded both.first cpu (λ byte. loaded both.second cpu (λ r. branched (flag_is (2 ^ bit_of both.first) on byte) r row cpu)) in
+      after_both (BitBranch on) (source First row ++ source Second row) next listed (λ both p cpu f g. after_loaded First p both.first (source Second row) _ _ f (λ v. last_loaded Second p both.second _ _ g (λ r. after_branched p _ r _)))
   Makes-line_of CompareBranch listed =
-      let next : Operand → ℕ → Cpu → Script = λ o r cpu. loaded o cpu (λ byte. branched (not (cpu.a == byte)) r row cpu) in
-      distance_after_first (source First row) next (and_right (is_address row.first) _ listed.suits) (λ o p r cpu f. last_loaded First p o _ _ f (λ v. after_branched p _ r _))
+      let next : Both → Cpu → Script = λ both cpu. loaded both.first cpu (λ byte. loaded both.second cpu (λ r. branched (not (cpu.a == byte)) r row cpu)) in
+      after_both CompareBranch (source First row ++ source Second row) next listed (λ both p cpu f g. after_loaded First p both.first (source Second row) _ _ f (λ v. last_loaded Second p both.second _ _ g (λ r. after_branched p _ r _)))
   Makes-line_of CountBranch listed =
       let less : ℕ → ℕ = λ byte. (byte + 0x100 - 1) % 0x100 in
-      let next : Operand → ℕ → Cpu → Script = λ o r cpu. loaded o cpu (λ byte. stored o (less byte) cpu (λ cpu. branched (not (less byte == 0)) r row cpu)) in
-      distance_after_first (source First row ++ destination row) next (and_right (is_target row.first) _ listed.suits) (λ o p r cpu f. after_loaded First p o (destination row) _ _ f (λ v. last_stored p o _ _ _ f (λ cpu. after_branched p _ r cpu)))
+      let next : Both → Cpu → Script = λ both cpu. loaded both.first cpu (λ byte. loaded both.second cpu (λ r. stored both.first (less byte) cpu (λ cpu. branched (not (less byte == 0)) r row cpu))) in
+      after_both CountBranch (source First row ++ (source Second row ++ destination row)) next listed (λ both p cpu f g. after_loaded First p both.first (source Second row ++ destination row) _ _ f (λ v. after_loaded Second p both.second (destination row) _ _ g (λ r. last_stored p both.first _ _ _ f (λ cpu. after_branched p _ r cpu))))
   Makes-line_of Move listed =
-      let next : Operand → Operand → Cpu → Script = λ from to cpu. loaded from cpu (λ v. stored to v cpu (λ cpu. done row (with_nz_of_move to v cpu))) in
-      first_after_second Move (source Second row ++ destination row) next listed (and_right (is_target row.first) _ listed.suits) (λ from to p cpu f g. after_loaded Second p from (destination row) _ _ f (λ v. last_stored p to v _ _ g (λ cpu. inl refl)))
+      let next : Both → Cpu → Script = λ both cpu. loaded both.second cpu (λ v. stored both.first v cpu (λ cpu. done row (with_nz_of_move both.first v cpu))) in
+      after_both Move (source Second row ++ destination row) next listed (λ both p cpu f g. after_loaded Second p both.second (destination row) _ _ g (λ v. last_stored p both.first v _ _ f (λ cpu. inl refl)))
   Makes-line_of (Calculate calculate) listed =
-      let next : Operand → Operand → Cpu → Script = λ from to cpu. loaded from cpu (λ b. loaded to cpu (λ a. let out = calculate a b cpu.psw in stored to out.value (record cpu { psw = out.psw }) (λ cpu. done row cpu))) in
-      first_after_second (Calculate calculate) (source Second row ++ (source First row ++ destination row)) next listed (and_right (is_target row.first) _ listed.suits) (λ from to p cpu f g. after_loaded Second p from (source First row ++ destination row) _ _ f (λ b. after_loaded First p to (destination row) _ _ g (λ a. last_stored p to _ _ _ g (λ cpu. inl refl))))
+      let next : Both → Cpu → Script = λ both cpu. loaded both.second cpu (λ b. loaded both.first cpu (λ a. let out = calculate a b cpu.psw in stored both.first out.value (record cpu { psw = out.psw }) (λ cpu. done row cpu))) in
+      after_both (Calculate calculate) (source Second row ++ (source First row ++ destination row)) next listed (λ both p cpu f g. after_loaded Second p both.second (source First row ++ destination row) _ _ g (λ b. after_loaded First p both.first (destination row) _ _ f (λ a. last_stored p both.first _ _ _ f (λ cpu. inl refl))))
   Makes-line_of Compare listed =
-      let next : Operand → Operand → Cpu → Script = λ from to cpu. loaded from cpu (λ b. loaded to cpu (λ a. done row (record cpu { psw = cmp_of a b cpu.psw }))) in
-      first_after_second Compare (source Second row ++ source First row) next listed (and_right (is_target row.first) _ listed.suits) (λ from to p cpu f g. after_loaded Second p from (source First row) _ _ f (λ b. last_loaded First p to _ _ g (λ a. inl refl)))
+      let next : Both → Cpu → Script = λ both cpu. loaded both.second cpu (λ b. loaded both.first cpu (λ a. done row (record cpu { psw = cmp_of a b cpu.psw }))) in
+      after_both Compare (source Second row ++ source First row) next listed (λ both p cpu f g. after_loaded Second p both.second (source First row) _ _ g (λ b. last_loaded First p both.first _ _ f (λ a. inl refl)))
   Makes-line_of (Modify change) listed =
       let next : Operand → Cpu → Script = λ o cpu. loaded o cpu (λ byte. let out = change byte cpu.psw in stored o out.value (record cpu { psw = out.psw }) (λ cpu. done row cpu)) in
       changed_in_place next (λ o p cpu f. after_loaded First p o (destination row) _ _ f (λ v. last_stored p o _ _ _ f (λ cpu. inl refl)))

@@ -22,9 +22,9 @@ abbrev pub changes_x : Form → Bool
 changes_x F.PtrXInc = true
 changes_x _ = false
 
--- no row looks at X for its first operand after its second, (X)+, has changed it
+-- no row looks at X for one operand after the other one, (X)+, has changed it
 abbrev pub is_steady : OpRow → Bool
-is_steady row = not (changes_x row.second && looks_at_x row.first)
+is_steady row = not (changes_x row.second && looks_at_x row.first) && not (changes_x row.first && looks_at_x row.second)
 
 pub not_both : (a b : Bool) → not (a && b) ≡ true → b ≡ true → a ≡ false
 not_both false b h hb = refl

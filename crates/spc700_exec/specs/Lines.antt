@@ -12,7 +12,7 @@ use Rattle.spc700_exec.specs.declared.cpu.Cpu.{Cpu}
 use Rattle.spc700_exec.specs.declared.operand.Operand.{Operand}
 use Rattle.spc700_exec.specs.declared.operand.Operand.TheVariants.{A, X, Y, At}
 use Rattle.spc700_exec.specs.Script.{Script, End, Cycles, ToSample}
-use Rattle.spc700_exec.specs.Operands.{fetched, addressed, loaded, stored, address_of, bit_of, loaded_word, stored_word, pushed, popped, pushed_word, popped_word, call_entry}
+use Rattle.spc700_exec.specs.Operands.{fetched, addressed, both_addressed, loaded, stored, address_of, bit_of, loaded_word, stored_word, pushed, popped, pushed_word, popped_word, call_entry}
 use Rattle.spc700_exec.specs.Operations.{ya, flag_is}
 
 -- the end of an instruction
@@ -53,23 +53,23 @@ branch_line condition row cpu = fetched cpu (λ r cpu. branched (condition cpu.p
 -- BBS, BBC
 abbrev pub bit_branch_line : Bool → OpRow → Cpu → Script
 bit_branch_line on row cpu =
-    addressed row.first cpu (λ operand cpu. fetched cpu (λ r cpu.
-    loaded operand cpu (λ byte.
-    branched (flag_is (2 ^ bit_of operand) on byte) r row cpu)))
+    both_addressed row cpu (λ both cpu.
+    loaded both.first cpu (λ byte. loaded both.second cpu (λ r.
+    branched (flag_is (2 ^ bit_of both.first) on byte) r row cpu)))
 
 -- CBNE
 abbrev pub compare_branch_line : OpRow → Cpu → Script
 compare_branch_line row cpu =
-    addressed row.first cpu (λ operand cpu. fetched cpu (λ r cpu.
-    loaded operand cpu (λ byte.
+    both_addressed row cpu (λ both cpu.
+    loaded both.first cpu (λ byte. loaded both.second cpu (λ r.
     branched (not (cpu.a == byte)) r row cpu)))
 
 -- DBNZ: the byte less 1 is written, and the branch taken where that isn't 0
 abbrev pub count_branch_line : OpRow → Cpu → Script
 count_branch_line row cpu =
-    addressed row.first cpu (λ operand cpu. fetched cpu (λ r cpu.
-    loaded operand cpu (λ byte. let less = (byte + 0x100 - 1) % 0x100 in
-    stored operand less cpu (λ cpu.
+    both_addressed row cpu (λ both cpu.
+    loaded both.first cpu (λ byte. loaded both.second cpu (λ r. let less = (byte + 0x100 - 1) % 0x100 in
+    stored both.first less cpu (λ cpu.
     branched (not (less == 0)) r row cpu))))
 
 -- a byte that was moved to A, X or Y shows in N and Z
@@ -79,27 +79,27 @@ with_nz_of_move X value cpu = record cpu { psw = with_nz value cpu.psw }
 with_nz_of_move Y value cpu = record cpu { psw = with_nz value cpu.psw }
 with_nz_of_move _ value cpu = cpu
 
--- MOV: the source is addressed and read before the target is written
+-- MOV: the source is read before the target is written
 abbrev pub move_line : OpRow → Cpu → Script
 move_line row cpu =
-    addressed row.second cpu (λ source cpu. addressed row.first cpu (λ target cpu.
-    loaded source cpu (λ value. stored target value cpu (λ cpu.
-    done row (with_nz_of_move target value cpu)))))
+    both_addressed row cpu (λ both cpu.
+    loaded both.second cpu (λ value. stored both.first value cpu (λ cpu.
+    done row (with_nz_of_move both.first value cpu))))
 
 -- OR, AND, EOR, ADC, SBC
 abbrev pub calculate_line : (ℕ → ℕ → ℕ → Out8) → OpRow → Cpu → Script
 calculate_line calculate row cpu =
-    addressed row.second cpu (λ source cpu. addressed row.first cpu (λ target cpu.
-    loaded source cpu (λ b. loaded target cpu (λ a. let out = calculate a b cpu.psw in
-    stored target out.value (record cpu { psw = out.psw }) (λ cpu.
-    done row cpu)))))
+    both_addressed row cpu (λ both cpu.
+    loaded both.second cpu (λ b. loaded both.first cpu (λ a. let out = calculate a b cpu.psw in
+    stored both.first out.value (record cpu { psw = out.psw }) (λ cpu.
+    done row cpu))))
 
 -- CMP
 abbrev pub compare_line : OpRow → Cpu → Script
 compare_line row cpu =
-    addressed row.second cpu (λ source cpu. addressed row.first cpu (λ target cpu.
-    loaded source cpu (λ b. loaded target cpu (λ a.
-    done row (record cpu { psw = cmp_of a b cpu.psw })))))
+    both_addressed row cpu (λ both cpu.
+    loaded both.second cpu (λ b. loaded both.first cpu (λ a.
+    done row (record cpu { psw = cmp_of a b cpu.psw }))))
 
 -- ASL, ROL, LSR, ROR, INC, DEC
 abbrev pub modify_line : (ℕ → ℕ → Out8) → OpRow → Cpu → Script

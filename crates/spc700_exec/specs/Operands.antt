@@ -4,7 +4,10 @@ use Rattle.std.specs.Prelude.{ℕ, ◌+◌, ◌-◌, ◌*◌, ◌/◌, ◌%◌, 
 use Rattle.spc700_alu.specs.Flags.{P, flag}
 use Rattle.spc700_table.specs.declared.Form.{Form}
 use Rattle.spc700_table.specs.declared.Form.TheVariants as F
+use Rattle.spc700_table.specs.declared.OpRow.{OpRow}
+use Rattle.spc700_table.specs.Opcodes.{is_in_text_order}
 use Rattle.spc700_exec.specs.declared.cpu.Cpu.{Cpu}
+use Rattle.spc700_exec.specs.declared.operand.Both.{Both}
 use Rattle.spc700_exec.specs.declared.operand.Operand.{Operand}
 use Rattle.spc700_exec.specs.declared.operand.Operand.TheVariants.{A, X, Y, Sp, Psw, Value, At, BitAt, Implied}
 use Rattle.spc700_exec.specs.Script.{Script, Read, Write}
@@ -71,6 +74,13 @@ addressed F.NotBit cpu next = fetched_word cpu (λ m cpu. next (BitAt (m % 0x200
 addressed (F.DirectBit bit) cpu next = fetched cpu (λ d cpu. next (BitAt (direct cpu d) bit) cpu)
 addressed F.Upper cpu next = fetched cpu (λ u cpu. next (At (0xff00 + u)) cpu)
 addressed (F.Table n) cpu next = next (At (call_entry n)) cpu
+
+-- both operands of an instruction, in the order in which their bytes stand
+unfoldable pub both_addressed : OpRow → Cpu → (Both → Cpu → Script) → Script
+both_addressed row cpu next =
+    if is_in_text_order row
+    then addressed row.first cpu (λ first cpu. addressed row.second cpu (λ second cpu. next (record { first = first; second = second }) cpu))
+    else addressed row.second cpu (λ second cpu. addressed row.first cpu (λ first cpu. next (record { first = first; second = second }) cpu))
 
 -- the byte of an operand
 abbrev pub loaded : Operand → Cpu → (ℕ → Script) → Script

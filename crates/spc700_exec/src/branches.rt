@@ -10,7 +10,7 @@ ghost use Rattle.spc700_exec.specs.Pieces.{HasRoom, IsWithin, Does, IsRow, IsTim
 
 use crate::bus::Bus;
 use crate::cpu::Cpu;
-use crate::operand::{address, bit_number, fetch, load, store};
+use crate::operand::{address_both, bit_number, fetch, load, store};
 use spc700_alu::flags::is_set;
 use spc700_table::OpRow;
 
@@ -78,10 +78,10 @@ pub fn branch_on_bit<B: Bus>(cpu: &mut Cpu, bus: &mut B, row: OpRow, on: bool) -
     ensures time { IsTime row result }
     ensures within { IsWithin 11 B.means bus.old bus.new }
 {
-    let operand = address(cpu, bus, row.first);
-    let r = fetch(cpu, bus);
-    let byte = load(cpu, bus, operand);
-    let taken = is_set(byte, 1 << bit_number(operand)) == on;
+    let both = address_both(cpu, bus, row);
+    let byte = load(cpu, bus, both.first);
+    let r = load(cpu, bus, both.second);
+    let taken = is_set(byte, 1 << bit_number(both.first)) == on;
     branch_if(cpu, row, taken, r)
 }
 
@@ -94,9 +94,9 @@ pub fn branch_if_different<B: Bus>(cpu: &mut Cpu, bus: &mut B, row: OpRow) -> u8
     ensures time { IsTime row result }
     ensures within { IsWithin 11 B.means bus.old bus.new }
 {
-    let operand = address(cpu, bus, row.first);
-    let r = fetch(cpu, bus);
-    let byte = load(cpu, bus, operand);
+    let both = address_both(cpu, bus, row);
+    let byte = load(cpu, bus, both.first);
+    let r = load(cpu, bus, both.second);
     branch_if(cpu, row, cpu.a != byte, r)
 }
 
@@ -109,9 +109,10 @@ pub fn count_down<B: Bus>(cpu: &mut Cpu, bus: &mut B, row: OpRow) -> u8
     ensures time { IsTime row result }
     ensures within { IsWithin 11 B.means bus.old bus.new }
 {
-    let operand = address(cpu, bus, row.first);
-    let r = fetch(cpu, bus);
-    let less = load(cpu, bus, operand).wrapping_sub(1);
-    store(cpu, bus, operand, less);
+    let both = address_both(cpu, bus, row);
+    let byte = load(cpu, bus, both.first);
+    let r = load(cpu, bus, both.second);
+    let less = byte.wrapping_sub(1);
+    store(cpu, bus, both.first, less);
     branch_if(cpu, row, less != 0, r)
 }

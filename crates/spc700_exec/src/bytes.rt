@@ -10,7 +10,7 @@ ghost use Rattle.spc700_exec.specs.Pieces.{HasRoom, IsWithin, Does, IsRow, IsTim
 
 use crate::bus::Bus;
 use crate::cpu::Cpu;
-use crate::operand::{Operand, address, load, store};
+use crate::operand::{Operand, address, address_both, load, store};
 use spc700_alu::flags::put_nz;
 use spc700_alu::{LogicKind, Out8, ShiftKind, adc, bump, cmp, logic, sbc, shift};
 use spc700_table::OpRow;
@@ -93,11 +93,10 @@ pub fn mov<B: Bus>(cpu: &mut Cpu, bus: &mut B, row: OpRow) -> u8
     ensures time { IsTime row result }
     ensures within { IsWithin 11 B.means bus.old bus.new }
 {
-    let source = address(cpu, bus, row.second);
-    let target = address(cpu, bus, row.first);
-    let value = load(cpu, bus, source);
-    store(cpu, bus, target, value);
-    show_move(cpu, target, value);
+    let both = address_both(cpu, bus, row);
+    let value = load(cpu, bus, both.second);
+    store(cpu, bus, both.first, value);
+    show_move(cpu, both.first, value);
     row.cycles
 }
 
@@ -110,13 +109,12 @@ pub fn calculate<B: Bus>(cpu: &mut Cpu, bus: &mut B, row: OpRow, kind: Calculati
     ensures time { IsTime row result }
     ensures within { IsWithin 11 B.means bus.old bus.new }
 {
-    let source = address(cpu, bus, row.second);
-    let target = address(cpu, bus, row.first);
-    let b = load(cpu, bus, source);
-    let a = load(cpu, bus, target);
+    let both = address_both(cpu, bus, row);
+    let b = load(cpu, bus, both.second);
+    let a = load(cpu, bus, both.first);
     let out = byte_result(kind, a, b, cpu.psw);
     cpu.psw = out.psw;
-    store(cpu, bus, target, out.value);
+    store(cpu, bus, both.first, out.value);
     row.cycles
 }
 
@@ -129,10 +127,9 @@ pub fn compare<B: Bus>(cpu: &mut Cpu, bus: &mut B, row: OpRow) -> u8
     ensures time { IsTime row result }
     ensures within { IsWithin 11 B.means bus.old bus.new }
 {
-    let source = address(cpu, bus, row.second);
-    let target = address(cpu, bus, row.first);
-    let b = load(cpu, bus, source);
-    let a = load(cpu, bus, target);
+    let both = address_both(cpu, bus, row);
+    let b = load(cpu, bus, both.second);
+    let a = load(cpu, bus, both.first);
     cpu.psw = cmp(a, b, cpu.psw);
     row.cycles
 }

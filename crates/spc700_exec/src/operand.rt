@@ -4,14 +4,14 @@
 
 ghost use Rattle.std.specs.Prelude.{◌≡◌, ◌+◌, ◌/◌, ◌%◌, ◌<◌};
 ghost use Rattle.spc700_exec.specs.Bus.{byte_read, after_read};
-ghost use Rattle.spc700_exec.specs.Operands.{with_next_pc, direct, next_in_page, addressed, loaded, stored, address_of, bit_of};
+ghost use Rattle.spc700_exec.specs.Operands.{with_next_pc, direct, next_in_page, addressed, both_addressed, loaded, stored, address_of, bit_of};
 ghost use Rattle.spc700_exec.specs.Pieces.{HasRoom, IsWithin, Gives, GivesValue, GivesCpu, word_read, after_word, after_word_write, FormFits, OperandFits};
 
 use crate::access::{read, write};
 use crate::bus::Bus;
 use crate::cpu::Cpu;
 use spc700_alu::flags::{PAGE, is_set};
-use spc700_table::Form;
+use spc700_table::{Form, OpRow, is_in_text_order};
 
 /// An operand, once the bytes that name it were read.
 #[derive(Clone, Copy, Debug, PartialEq, Eq)]
@@ -34,6 +34,13 @@ pub enum Operand {
     BitAt(u16, u8),
     /// What the instruction alone says: none, YA or C.
     Implied,
+}
+
+/// The two operands of an instruction.
+#[derive(Clone, Copy, Debug, PartialEq, Eq)]
+pub struct Both {
+    pub first: Operand,
+    pub second: Operand,
 }
 
 /// The byte at PC, and PC goes on.
@@ -201,6 +208,28 @@ pub fn address<B: Bus>(cpu: &mut Cpu, bus: &mut B, form: Form) -> Operand
             Operand::At(read_word(bus, pointer, pointer.wrapping_add(1)))
         }
         Form::Table(n) => Operand::At(0xffde - 2 * u16::from(n)),
+    }
+}
+
+/// Reads the bytes of both operands in the order in which they stand, and gives the operands.
+#[inline(always)]
+#[tactic(auto, unfolding(crate::specs::Operands::both_addressed))]
+pub fn address_both<B: Bus>(cpu: &mut Cpu, bus: &mut B, row: OpRow) -> Both
+    requires room { HasRoom 8 B.means bus.old }
+    requires first { FormFits row.first }
+    requires second { FormFits row.second }
+    ensures gives { Gives B.means (both_addressed row cpu.old) bus.old result cpu.new bus.new }
+    ensures fits { OperandFits result.first }
+    ensures within { IsWithin 8 B.means bus.old bus.new }
+{
+    if is_in_text_order(&row) {
+        let first = address(cpu, bus, row.first);
+        let second = address(cpu, bus, row.second);
+        Both { first, second }
+    } else {
+        let second = address(cpu, bus, row.second);
+        let first = address(cpu, bus, row.first);
+        Both { first, second }
     }
 }
 

@@ -232,6 +232,8 @@ pub fn row(op: u8) -> OpRow
 
 /// Whether the bytes of an instruction's operands stand in the order of its text, the first operand's before the second's.
 /// They do where the second is the distance of a branch; elsewhere the second's stand before the first's.
+// In line, so that of a constant row it is a constant.
+#[inline]
 pub fn is_in_text_order(row: &OpRow) -> bool
     ensures { result ≡ is_in_text_order row.now }
 {
