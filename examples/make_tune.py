@@ -5,7 +5,8 @@
 
 SPCWAVE is the built program, crates/spcwave/out/spcwave where none is given: its `encode` makes the sample blocks, and
 its `asm` the driver with the score. The samples, as WAV files to listen to and as blocks, go to DIR, or where no DIR is
-given to a place that is removed at the end. tune.spc goes beside this file: the same bytes in each run.
+given to a place that is removed at the end. tune.spc goes beside this file, and to the data of the test that plays it: the
+same bytes in each run.
 """
 import math
 import os
@@ -226,7 +227,8 @@ def main():
             print('sample %d %-8s %5d bytes from %04xh, loop at %04xh'
                   % (number, instrument.__name__, len(data), at, at + loop))
             at += len(data)
-        write(f'{here}/tune.spc', spc_file(memory))
+        for folder in (here, f'{here}/../crates/example_tune/data'):
+            write(f'{folder}/tune.spc', spc_file(memory))
         print('tune.spc: %d seconds and a fade of %d ms' % (SECONDS, FADE))
 
 

@@ -184,37 +184,81 @@ impl<'r, R: Files, O: Write + Drop, E: Write + Drop> Host for DiskHost<'r, R, O,
 mod tests {
     use super::DiskHost;
     use crate::run::run;
+    use crate::test_support::{list_words, run_over};
+    use command_tests::{ROOM, straight_table};
     use status_lines::Status;
+    use std::alloc::Global;
+    use std::rt::Files;
     use std::test::Fail;
     use std::{env, fs};
 
+    /// How a run over real files ended, with its report and its complaint.
+    #[derive(Drop)]
+    struct Ended {
+        status: Status,
+        report: Vec<u8>,
+        complaint: Vec<u8>,
+    }
+
+    fn run_on_disk<R: Files>(alloc: Global, files: &R, words: &[&str]) -> Result<Ended, Fail> {
+        let words = list_words(alloc, words)?;
+        let mut host = DiskHost::new(alloc, files, Vec::new(alloc), Vec::new(alloc));
+        let status = run(alloc, words.as_slice(), &mut host);
+        Ok(Ended {
+            status,
+            report: host.report,
+            complaint: host.complaint,
+        })
+    }
+
+    /// A render of many pieces with a trace, from a file that was written over real files too.
     #[test]
-    fn real_files_are_read_and_written(rt: HostRuntime) -> Result<(), Fail> {
+    fn a_render_over_real_files_is_that_in_memory(rt: HostRuntime) -> Result<(), Fail> {
         let alloc = rt.alloc();
         let id = std::process::id(rt.process());
         let folder = env::temp_dir(&rt)?;
-        let input = format!(in alloc; "{}/spcwave-{id}.brr", folder.display())?;
-        let output = format!(in alloc; "{}/spcwave-{id}.wav", folder.display())?;
-        fs::write(
-            &rt,
-            input.as_str(),
-            [0xc1, 0x10, 0, 0, 0, 0, 0, 0, 0].as_slice(),
-        )?;
-        let words = vec![in alloc;
-            String::from_str(alloc, "brr")?,
-            input.clone()?,
-            output.clone()?,
-        ]?;
-        let mut host = DiskHost::new(alloc, &rt, Vec::new(alloc), Vec::new(alloc));
-        let status = run(alloc, words.as_slice(), &mut host);
-        let written = fs::read(&rt, output.as_str())?;
-        fs::remove_file(&rt, input.as_str())?;
-        fs::remove_file(&rt, output.as_str())?;
-        assert_eq!(rt; status, Status::Ok);
-        assert_eq!(rt; host.report.as_slice(), b"blocks 1 samples 16\n".as_slice());
-        assert_eq!(rt; host.complaint.len(), 0);
-        assert_eq!(rt; written.len(), 76);
-        assert_eq!(rt; &written[44..48], [0x00, 0x10, 0, 0].as_slice());
+        let name = format!(in alloc; "{}/spcwave-{id}", folder.display())?;
+        let tune = format!(in alloc; "{name}.spc")?;
+        let table = format!(in alloc; "{name}.table")?;
+        let wave = format!(in alloc; "{name}.wav")?;
+        let trace = format!(in alloc; "{name}.txt")?;
+        fs::write(&rt, table.as_str(), straight_table(alloc)?.as_slice())?;
+        let made = run_on_disk(alloc, &rt, &["demo", "7", tune.as_str()])?;
+        let words = [
+            "render",
+            tune.as_str(),
+            table.as_str(),
+            wave.as_str(),
+            "--samples",
+            "1000",
+            "--trace",
+            trace.as_str(),
+            "--voices",
+            "00",
+        ];
+        let ended = run_on_disk(alloc, &rt, &words)?;
+        let file = fs::read(&rt, tune.as_str())?;
+        let weights = fs::read(&rt, table.as_str())?;
+        let frames = fs::read(&rt, wave.as_str())?;
+        let lines = fs::read(&rt, trace.as_str())?;
+        for name in [&tune, &table, &wave, &trace] {
+            fs::remove_file(&rt, name.as_str())?;
+        }
+
+        let given = list_words(alloc, &words)?;
+        let inputs = [
+            (tune.as_str(), file.as_slice()),
+            (table.as_str(), weights.as_slice()),
+        ];
+        let inside = run_over(alloc, given.as_slice(), &inputs, ROOM)?;
+        assert_eq!(rt; made.status, Status::Ok);
+        assert_eq!(rt; ended.status, Status::Ok);
+        assert_eq!(rt; ended.complaint.len(), 0);
+        assert_eq!(rt; frames.len(), 44 + 4 * 1000);
+        assert!(rt; !lines.is_empty());
+        assert!(rt; frames.as_slice() == inside.first());
+        assert!(rt; lines.as_slice() == inside.second());
+        assert!(rt; ended.report.as_slice() == inside.report());
         Ok(())
     }
 }

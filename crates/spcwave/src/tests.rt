@@ -1,6 +1,6 @@
 // Words, and one run of each command that they say.
-use crate::test_support::run_words;
-use command_tests::Outcome;
+use crate::test_support::{list_words, run_failing, run_words};
+use command_tests::{HELP, Outcome};
 use status_lines::Status;
 use std::test::Fail;
 
@@ -87,6 +87,8 @@ fn other_words_are_not_understood(rt: HostRuntime) -> Result<(), Fail> {
 
 /// Words of commands on one block, and how each ends with its report.
 const COMMANDS: &[(&[&str], Status, &str)] = &[
+    (&["help"], Status::Ok, HELP),
+    (&["--help"], Status::Ok, HELP),
     (&["version"], Status::Ok, "spcwave 1.0.0\n"),
     (&["--version"], Status::Ok, "spcwave 1.0.0\n"),
     (&["brr", "IN", "OUT"], Status::Ok, "blocks 1 samples 16\n"),
@@ -112,6 +114,21 @@ fn each_word_says_its_command(rt: HostRuntime) -> Result<(), Fail> {
         assert!(rt;
             outcome.status() == *wanted && outcome.report() == report.as_bytes(),
             "{words:?}"
+        );
+    }
+    Ok(())
+}
+
+#[test]
+fn help_and_version_need_a_report(rt: HostRuntime) -> Result<(), Fail> {
+    let alloc = rt.alloc();
+    for word in ["help", "--help", "version", "--version"] {
+        let whole = run_words(alloc, &[word], &[])?;
+        let words = list_words(alloc, &[word])?;
+        let failed = run_failing(alloc, words.as_slice(), &[], &[0])?;
+        assert!(rt;
+            failed.is_cut_off(&whole) && failed.report().is_empty(),
+            "{word}"
         );
     }
     Ok(())
