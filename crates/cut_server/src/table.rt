@@ -1,0 +1,226 @@
+// The table of checkpoints, over a pool of pages.
+ghost use Rattle.std.specs.Prelude.{◌≡◌, ◌==◌, ℕ, ◌≤◌, false, ◌+◌, ◌<◌, ◌++◌, ◌∷◌, [], true, length, vec_len, vec_capacity, IfOk, slice_index, slice_get, Some};
+ghost use Rattle.std.specs.List.{list_any};
+ghost use Rattle.page_pool.specs.Pool.{slot_at, free_slots};
+ghost use Rattle.cut_form.specs.Checkpoints.{pages_of, with_checkpoint, slots_needed, own_slots, shared_with_newest, stands_at, nearest};
+ghost use Rattle.cut_server.specs.Table.{Saved, live_checkpoints, saved_of, samples_of, shared_slots, newest_from, AreOwned, IsPlaced, ArePlaced};
+ghost use Rattle.cut_server.specs.IsServed.{BeginAtOpening};
+
+use crate::OutOfMemory;
+use aram_core::Aram;
+use page_pool::{Page, PagePool};
+use std::alloc::Global;
+use std::marker::Model;
+
+/// A live checkpoint: what was saved of the machine, and a page of the pool for each page of its memory.
+#[derive(Drop)]
+pub(crate) struct Mark<S: Copy> {
+    pub(crate) sample: u32,
+    pub(crate) state: S,
+    pub(crate) pages: [Page; 256],
+}
+
+/// Up to 64 checkpoints, in the order in which they were taken. The first is that of the opening.
+#[derive(Drop)]
+pub(crate) struct Table<S: Copy> {
+    pool: PagePool,
+    marks: Vec<Mark<S>>,
+}
+
+impl<S: Copy> Model for Table<S> {
+    ghost use Rattle.std.specs.Prelude.{◌≤◌, vec_capacity};
+    ghost use Rattle.cut_server.specs.Table.{TableState, IsKept};
+
+    ghost Value = { TableState S };
+
+    ghost view = { λ t. record { pool = t.pool; marks = t.marks.items } };
+
+    ghost invariant = { λ t. (64 ≤ vec_capacity t.marks) × IsKept t.pool t.marks.items };
+}
+
+/// A page of the pool for a page of a memory: that of the newest where it holds the same bytes, and else a free one.
+fn place(pool: &mut PagePool, newest: &[Page], memory: &Aram, page: usize) -> Page
+    requires within { page < 256 }
+    requires owned { AreOwned pool.old 1000000 newest.now }
+    requires free { slice_get (shared_slots pool.old newest.now (pages_of memory.now)) page ≡ Some false → 0 < free_slots pool.old }
+    ensures placed { IsPlaced pool.old pool.new newest.now (pages_of memory.now) page result }
+    ensures memory { length memory.now ≡ 0x10000 }
+{
+    let bytes = memory.page(page as u8);
+    match newest.get(page) {
+        Some(slot) if bytes == pool.bytes(*slot) => {
+            pool.share(*slot);
+            *slot
+        }
+        _ => pool.take(bytes).unwrap(),
+    }
+}
+
+/// A page of the pool for each page of a memory.
+fn place_all(pool: &mut PagePool, newest: &[Page], memory: &Aram) -> [Page; 256]
+    requires owned { AreOwned pool.old 900000 newest.now }
+    requires few { (slot : ℕ) → (slot_at pool.old slot).owners ≤ 900000 }
+    requires free { own_slots (shared_slots pool.old newest.now (pages_of memory.now)) ≤ free_slots pool.old }
+    ensures placed { ArePlaced pool.old pool.new newest.now (pages_of memory.now) result }
+    ensures whole { length result ≡ 256 }
+    ensures memory { length memory.now ≡ 0x10000 }
+{
+    let first = place(pool, newest, memory, 0);
+    let mut pages = [first; 256];
+    for page in 1..256 {
+        pages[page] = place(pool, newest, memory, page);
+    }
+    pages
+}
+
+/// The pages of the newest mark, if there is one.
+fn newest_pages<S: Copy>(marks: &[Mark<S>]) -> &[Page]
+    ensures { result.now ≡ newest_from [] marks.now }
+{
+    match marks.last() {
+        Some(newest) => &newest.pages,
+        None => &[],
+    }
+}
+
+/// Adds a mark, for which there is room.
+fn push_mark<S: Copy>(marks: &mut Vec<Mark<S>>, mark: Mark<S>)
+    requires { vec_len marks.old < vec_capacity marks.old }
+    ensures items { marks.new.items ≡ marks.old.items ++ mark ∷ [] }
+    ensures capacity { vec_capacity marks.old ≤ vec_capacity marks.new }
+{
+    let _ = marks.push(mark);
+}
+
+/// Whether one of the marks was taken at a sample.
+fn stands<S: Copy>(marks: &[Mark<S>], sample: u32) -> bool
+    ensures { result ≡ list_any (λ mark. mark.sample == sample) marks.now }
+{
+    marks.iter().any(|mark| mark.sample == sample)
+}
+
+impl<S: Copy> Table<S> {
+    /// A table with the checkpoint of the opening.
+    pub(crate) fn open(
+        alloc: Global,
+        pages: u32,
+        state: S,
+        memory: &Aram,
+    ) -> Result<Table<S>, OutOfMemory>
+        requires enough { 256 ≤ pages }
+        requires few { pages ≤ 65536 }
+        ensures saved { IfOk result (λ table. saved_of table ≡ record { sample = 0; state = state; memory = memory.now } ∷ []) }
+        ensures live { IfOk result (λ table. live_checkpoints table ≡ with_checkpoint [] 0 (pages_of memory.now)) }
+        ensures free { IfOk result (λ table. free_slots table.pool + 256 ≡ pages) }
+        ensures size { IfOk result (λ table. length table.pool ≡ pages) }
+    {
+        let pool = PagePool::new(alloc, pages)?;
+        let marks = Vec::with_capacity(alloc, 64)?;
+        let mut table = Table { pool, marks };
+        table.add(0, state, memory);
+        Ok(table)
+    }
+
+    /// How many checkpoints are live.
+    pub(crate) fn len(&self) -> usize
+        ensures live { result ≡ length (live_checkpoints self.now) }
+        ensures samples { result ≡ length (samples_of self.now) }
+        ensures few { result ≤ 64 }
+    {
+        self.marks.len()
+    }
+
+    /// The sample of one of them.
+    pub(crate) fn sample(&self, index: usize) -> u32
+        requires { index < length (samples_of self.now) }
+        ensures { result ≡ slice_index (samples_of self.now) index }
+    {
+        self.marks[index].sample
+    }
+
+    /// How many pages are free.
+    pub(crate) fn free(&self) -> u32
+        ensures { result ≡ free_slots self.now.pool }
+    {
+        self.pool.free()
+    }
+
+    /// The last one at or before a sample.
+    pub(crate) fn nearest(&self, at: u32) -> usize
+        requires { BeginAtOpening (saved_of self.now) }
+        ensures index { result < length (samples_of self.now) }
+        ensures sample { slice_index (samples_of self.now) result ≡ nearest (live_checkpoints self.now) at }
+    {
+        let mut nearest = 0;
+        for index in 1..self.len() {
+            let sample = self.sample(index);
+            if sample <= at && sample > self.sample(nearest) {
+                nearest = index;
+            }
+        }
+        nearest
+    }
+
+    /// Whether one stands at a sample.
+    pub(crate) fn has(&self, sample: u32) -> bool
+        ensures { result ≡ stands_at (live_checkpoints self.now) sample }
+    {
+        stands(&self.marks, sample)
+    }
+
+    /// Copies the memory of one of them, and tells what else was saved.
+    pub(crate) fn load(&self, index: usize, memory: &mut Aram) -> S
+        requires { index < length (samples_of self.now) }
+        ensures { slice_get (saved_of self.now) index ≡ Some (record { sample = slice_index (samples_of self.now) index; state = result; memory = memory.new }) }
+    {
+        let mark = &self.marks[index];
+        for page in 0..256 {
+            memory.set_page(page as u8, self.pool.bytes(mark.pages[page]));
+        }
+        mark.state
+    }
+
+    /// Whether a page of a memory holds what that of the newest holds.
+    fn is_shared(&self, memory: &Aram, page: usize) -> bool
+        requires { page < 256 }
+        ensures { Some result ≡ slice_get (shared_with_newest (live_checkpoints self.now) (pages_of memory.now)) page }
+    {
+        match self.marks.last() {
+            Some(newest) => memory.page(page as u8) == self.pool.bytes(newest.pages[page]),
+            None => false,
+        }
+    }
+
+    /// How many free pages one of a memory would take.
+    pub(crate) fn needed(&self, memory: &Aram) -> u32
+        ensures { result ≡ slots_needed (live_checkpoints self.now) (pages_of memory.now) }
+    {
+        let mut needed = 0;
+        for page in 0..256 {
+            if !self.is_shared(memory, page) {
+                needed += 1;
+            }
+        }
+        needed
+    }
+
+    /// Takes one more.
+    pub(crate) fn add(&mut self, sample: u32, state: S, memory: &Aram)
+        requires few { length (samples_of self.old) < 64 }
+        requires pages { slots_needed (live_checkpoints self.old) (pages_of memory.now) ≤ free_slots self.old.pool }
+        ensures saved { saved_of self.new ≡ saved_of self.old ++ record { sample = sample; state = state; memory = memory.now } ∷ [] }
+        ensures live { live_checkpoints self.new ≡ with_checkpoint (live_checkpoints self.old) sample (pages_of memory.now) }
+        ensures free { free_slots self.new.pool + slots_needed (live_checkpoints self.old) (pages_of memory.now) ≡ free_slots self.old.pool }
+        ensures size { length self.new.pool ≡ length self.old.pool }
+    {
+        let pages = place_all(&mut self.pool, newest_pages(&self.marks), memory);
+        push_mark(
+            &mut self.marks,
+            Mark {
+                sample,
+                state,
+                pages,
+            },
+        );
+    }
+}
