@@ -2,7 +2,7 @@
 -- page holds the same bytes as that of the newest live checkpoint, it has the slot of that one, and else a slot of its own. So
 -- the checkpoints that share the slot of a page stand side by side in the order in which they were taken, and it is enough to
 -- say of each page whether its slot is that of the checkpoint taken before.
-use Rattle.std.specs.Prelude.{ℕ, ◌-◌, Bool, false, not, ◌&&◌, ◌==◌, nat_le, if◌then◌else◌, List, [], ◌∷◌, ◌++◌, map, max}
+use Rattle.std.specs.Prelude.{ℕ, zero, suc, ◌-◌, Bool, false, not, ◌&&◌, ◌==◌, nat_le, nat_lt, if◌then◌else◌, List, [], ◌∷◌, ◌++◌, length, map, max}
 use Rattle.std.specs.List.{sum_by, count_by, list_any, range_with_len}
 use Rattle.std.specs.Str.{bytes_eq}
 use Rattle.aram_core.specs.Memory.{page_bytes}
@@ -52,6 +52,10 @@ slots_used live = sum_by (λ checkpoint. own_slots checkpoint.shared) live
 abbrev pub slots_free : (slots : ℕ) → List Checkpoint → ℕ
 slots_free slots live = slots - slots_used live
 
+-- whether there is room for one more with these pages: fewer than 64 are live, and there are slots enough
+abbrev pub has_room : (slots : ℕ) → (pages : List (List ℕ)) → List Checkpoint → Bool
+has_room slots pages live = nat_lt (length live) most_checkpoints && nat_le (slots_needed live pages) (slots_free slots live)
+
 -- one more is taken
 abbrev pub with_checkpoint : List Checkpoint → (sample : ℕ) → (pages : List (List ℕ)) → List Checkpoint
 with_checkpoint live sample pages = live ++ record { sample = sample; pages = pages; shared = shared_with_newest live pages } ∷ []
@@ -60,6 +64,12 @@ with_checkpoint live sample pages = live ++ record { sample = sample; pages = pa
 abbrev pub next_to_dropped : Checkpoint → List Checkpoint → List Checkpoint
 next_to_dropped dropped [] = []
 next_to_dropped dropped (next ∷ rest) = record next { shared = by_places (λ a b. a && b) next.shared dropped.shared } ∷ rest
+
+-- the one at a place in the order is dropped, counted from 0
+abbrev pub without_entry : List Checkpoint → (place : ℕ) → List Checkpoint
+without_entry [] place = []
+without_entry (checkpoint ∷ rest) zero = next_to_dropped checkpoint rest
+without_entry (checkpoint ∷ rest) (suc place) = checkpoint ∷ without_entry rest place
 
 -- the one at a sample is dropped
 abbrev pub without_checkpoint : List Checkpoint → (sample : ℕ) → List Checkpoint

@@ -1,8 +1,8 @@
 -- The book of a server: where it stands, its checkpoints, and how many samples it made (own). `pages_at k` are the pages of the
 -- memory that the run from the opening has once k samples are made.
-use Rattle.std.specs.Prelude.{ℕ, ◌+◌, ◌-◌, ◌^◌, min, not, ◌&&◌, nat_le, nat_lt, if◌then◌else◌, List, [], length, fold}
+use Rattle.std.specs.Prelude.{ℕ, ◌+◌, ◌-◌, ◌^◌, min, not, ◌&&◌, nat_le, if◌then◌else◌, List, [], fold}
 use Rattle.cut_form.specs.declared.cut.Cut.{Cut}
-use Rattle.cut_form.specs.Checkpoints.{Checkpoint, most_checkpoints, with_checkpoint, without_checkpoint, slots_needed, slots_free, stands_at, nearest}
+use Rattle.cut_form.specs.Checkpoints.{Checkpoint, with_checkpoint, without_checkpoint, slots_needed, has_room, stands_at, nearest}
 
 pub record CutBook : Type 0 where
   -- the samples before the position
@@ -53,11 +53,10 @@ counted_book book = record book { made = min book.made (2 ^ 64 - 1) }
 abbrev pub slots_for_cuts : ℕ
 slots_for_cuts = 4096
 
--- one more is taken where none stands, fewer than 64 are live and there are slots enough
+-- one more is taken where none stands and there is room for it
 abbrev pub with_one_if_room : (slots : ℕ) → (pages_at : ℕ → List (List ℕ)) → CutBook → CutBook
 with_one_if_room slots pages_at book =
-    if not (stands_at book.live book.position) && (nat_lt (length book.live) most_checkpoints && nat_le (needed_here pages_at book) (slots_free slots book.live))
-    then with_one_here pages_at book else book
+    if not (stands_at book.live book.position) && has_room slots (pages_at book.position) book.live then with_one_here pages_at book else book
 
 abbrev pub after_cut : (pages_at : ℕ → List (List ℕ)) → CutBook → Cut → CutBook
 after_cut pages_at book cut = after_play (with_one_if_room slots_for_cuts pages_at (after_seek book cut.start)) cut.count

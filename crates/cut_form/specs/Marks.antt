@@ -1,23 +1,18 @@
 -- A mark takes a checkpoint, and gives up older ones where it has to (own).
-use Rattle.std.specs.Prelude.{ℕ, zero, suc, ◌+◌, ◌-◌, Bool, ◌&&◌, nat_le, nat_lt, if◌then◌else◌, List, [], ◌∷◌, length}
+use Rattle.std.specs.Prelude.{ℕ, zero, suc, ◌+◌, ◌-◌, if◌then◌else◌, List, length}
 use Rattle.cut_form.specs.declared.mark.Marked.{Marked}
 use Rattle.cut_form.specs.declared.mark.Marked.TheVariants.{Kept, Taken, NoPages}
-use Rattle.cut_form.specs.Checkpoints.{Checkpoint, most_checkpoints, with_checkpoint, next_to_dropped, slots_needed, slots_free, stands_at}
+use Rattle.cut_form.specs.Checkpoints.{Checkpoint, with_checkpoint, without_entry, slots_needed, slots_free, stands_at, has_room}
+use Rattle.cut_form.specs.CutBook.{CutBook}
 
 -- the live checkpoints once so many were given up
 pub record Room : Type 0 where
   pub live : List Checkpoint
   pub gave : ℕ
 
--- whether there is room for one more with these pages
-abbrev pub has_room : (slots : ℕ) → (pages : List (List ℕ)) → List Checkpoint → Bool
-has_room slots pages live = nat_lt (length live) most_checkpoints && nat_le (slots_needed live pages) (slots_free slots live)
-
--- That of sample 0 is never given up, but the one that was taken first of the others.
+-- The first live checkpoint is that of sample 0, which is never given up. The second is the one taken first of the others.
 abbrev pub without_oldest : List Checkpoint → List Checkpoint
-without_oldest [] = []
-without_oldest (opening ∷ []) = opening ∷ []
-without_oldest (opening ∷ (oldest ∷ rest)) = opening ∷ next_to_dropped oldest rest
+without_oldest live = without_entry live 1
 
 -- so many are given up at most, one by one, until there is room
 abbrev pub room_made : (most : ℕ) → (slots : ℕ) → (pages : List (List ℕ)) → Room → Room
@@ -42,3 +37,7 @@ abbrev pub mark_at : (slots : ℕ) → (pages : List (List ℕ)) → (sample : �
 mark_at slots pages sample live =
     if stands_at live sample then record { live = live; marked = Kept }
     else mark_in slots pages sample (room_made (length live - 1) slots pages (record { live = live; gave = 0 }))
+
+-- a mark at the position of a book
+abbrev pub mark_here : (slots : ℕ) → (pages_at : ℕ → List (List ℕ)) → CutBook → MarkOutcome
+mark_here slots pages_at book = mark_at slots (pages_at book.position) book.position book.live

@@ -10,7 +10,7 @@ use Rattle.cut_form.specs.declared.script.Reply.{Reply}
 use Rattle.cut_form.specs.declared.script.Reply.TheVariants.{At, Played, Refused, AfterMark, Dropped, NoneAt, Counted}
 use Rattle.cut_form.specs.Checkpoints.{stands_at, slots_free}
 use Rattle.cut_form.specs.CutBook.{CutBook, opened_book, after_seek, after_play, with_live, without_one}
-use Rattle.cut_form.specs.Marks.{mark_at}
+use Rattle.cut_form.specs.Marks.{mark_here}
 
 pub record Session : Type 0 where
   pub book : CutBook
@@ -34,7 +34,7 @@ after_play_line session count =
 
 abbrev pub after_mark_line : (slots : ℕ) → (pages_at : ℕ → List (List ℕ)) → Session → LineOutcome
 after_mark_line slots pages_at session =
-    let outcome = mark_at slots (pages_at session.book.position) session.book.position session.book.live in
+    let outcome = mark_here slots pages_at session.book in
     record { session = record session { book = with_live session.book outcome.live }; reply = AfterMark session.book.position outcome.marked }
 
 -- the checkpoint of sample 0 is never dropped
