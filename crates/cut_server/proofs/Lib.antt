@@ -1,6 +1,10 @@
 pub mod Adding
 pub mod Course
+pub mod Dropping
+pub mod Giving
 pub mod Memories
+pub mod Naming
 pub mod Places
 pub mod Placing
+pub mod Removing
 pub mod Shared

@@ -3,7 +3,7 @@ use Rattle.std.proofs.Common.{◌≡◌, ◌≢◌, ℕ, zero, suc, ◌+◌, ◌
 use Rattle.std.specs.Prelude.{slice_index, slice_index_or}
 use Rattle.std.specs.List.{slice_get, count_by}
 use Rattle.std.specs.Str.{bytes_eq}
-use Rattle.std.proofs.lemmas.List.{length-map, length-set, get_or-map, get_or-set_same, get_or-set_other, map_push, take_more, take_more_set, length-take-le, length_push}
+use Rattle.std.proofs.lemmas.List.{length-map, length-set, get_or-map, get_or-set_same, get_or-set_other, map_push, take_more, take_more_set, length-take-le, length_push, get_or_append_left, get_or_push}
 use Rattle.std.proofs.lemmas.List.Sums.{sum_by-cons, sum_by_push, sum_by_more, sum_by-take-le, count_by-le-length}
 use Rattle.std.proofs.lemmas.Option.{get_or_from_slice_get, slice_get-get_or}
 use Rattle.std.proofs.lemmas.Bool.{cases_Bool, cases_eq, cases_lt}
@@ -14,12 +14,10 @@ use Rattle.page_pool.specs.Pool.{free_slot, slot_at, is_free, free_slots, held_s
 use Rattle.page_pool.proofs.Links.{free_slots-set, within_of_owned}
 use Rattle.page_pool.proofs.Kept.{shared_keeps, taken_keeps}
 use Rattle.cut_form.specs.Checkpoints.{by_places, own_slots}
+use Rattle.cut_server.proofs.Naming.{one_if, IsNamedAt, named_place, apart_places}
 use Rattle.cut_server.proofs.Shared.{length-by_places, slice_get-by_places}
-use Rattle.cut_server.specs.Table.{pages_in, shared_slots, AreOwned, IsPlaced, ArePlaced}
-
--- 1 where a test holds
-abbrev pub one_if : Bool → ℕ
-one_if b = if b then 1 else 0
+use Rattle.cut_server.specs.Table.{pages_in, AreApart}
+use Rattle.cut_server.specs.Placing.{shared_slots, AreOwned, IsPlaced, ArePlaced}
 
 one_if-le : (b : Bool) → one_if b ≤ 1
 one_if-le true = omega arith
@@ -95,6 +93,8 @@ pub record IsMore (mid new : List Slot) (newest : List ℕ) (pages : List (List 
   pub shared : by_places nat_eq (placed ++ slot ∷ []) newest ≡ by_places nat_eq placed newest ++ here ∷ []
   pub free : free_slots new + one_if (not here) ≡ free_slots mid
   pub size : length new ≡ length mid
+  pub alone : count_by (nat_eq slot) placed ≡ 0
+  pub fresh : (length placed < length newest → slot ≢ slice_index newest (length placed)) → (slot_at mid slot).owners ≡ 0
 
 pub placed_more : (old mid new : List Slot) (newest : List ℕ) (pages : List (List ℕ)) (placed : List ℕ) (slot : ℕ) (here : Bool) (most : ℕ) → ArePlaced old mid newest pages placed → length placed < length pages
     → slice_get (shared_slots old newest pages) (length placed) ≡ Some here → ((k : ℕ) → (slot_at old k).owners ≤ most) → IsMore mid new newest pages placed slot here → ArePlaced old new newest pages (placed ++ slot ∷ [])
@@ -115,6 +115,20 @@ placed_more old mid new newest pages placed slot here most are within is few mor
       shared = more.shared ∙ rw (are.shared, long) (sym take_sh);
       free = rw (long, take_sh) (omega (arith, are.free, more.free, sum_by_push (λ b. one_if (not b)) (take n sh) here));
       size = more.size ∙ are.size;
+      apart = λ k. elim (cases_eq k slot) [
+        | inl same ↦ omega (arith, count k, one_if-le (nat_eq k slot), ap (λ i. count_by (nat_eq i) placed) same, more.alone)
+        | inr other ↦ let test : nat_eq k slot ≡ false = grind (arith, nat_tests, other) in omega (arith, count k, ap one_if test, are.apart k)
+      ];
+      fresh = λ p inside other. elim (cases_lt p n) [
+        | inl earlier ↦
+            let here : slice_index (placed ++ slot ∷ []) p ≡ slice_index placed p = get_or_append_left placed (slot ∷ []) 0 p earlier in
+            ap (λ k. (slot_at old k).owners) here ∙ are.fresh p earlier (λ shared same. other shared (here ∙ same))
+        | inr last ↦
+            let there : p ≡ n = omega (arith, inside, last, long) in
+            let here : slice_index (placed ++ slot ∷ []) p ≡ slot = ap (λ i. slice_index (placed ++ slot ∷ []) i) there ∙ get_or_push placed slot 0 n refl in
+            let free : (slot_at mid slot).owners ≡ 0 = more.fresh (λ shared same. other (omega (arith, shared, there)) (here ∙ same ∙ ap (slice_index newest) (sym there))) in
+            omega (arith, ap (λ k. (slot_at old k).owners) here, free, are.owners slot)
+      ];
     }
 
 -- nothing is placed yet
@@ -126,6 +140,8 @@ placed_none old newest pages = record {
   shared = refl;
   free = omega arith;
   size = refl;
+  apart = λ slot. omega arith;
+  fresh = λ page within other. absurd (omega arith);
 }
 
 bytes_same : (xs ys : List ℕ) → bytes_eq xs ys ≡ true → xs ≡ ys
@@ -143,10 +159,26 @@ owned_test s owned = let test : nat_eq s.owners 0 ≡ false = grind (arith, nat_
 free_test : (s : Slot) → s.owners ≡ 0 → one_if (is_free s) ≡ 1
 free_test s free = rw free refl
 
+-- a slot of the newest wasn't placed at an earlier page
+placed_earlier : (old mid : List Slot) (newest : List ℕ) (pages : List (List ℕ)) (placed : List ℕ) (slot : ℕ) → ArePlaced old mid newest pages placed → AreOwned old 900000 newest → AreApart newest
+    → slot ≡ slice_index newest (length placed) → length placed < length newest → IsNamedAt placed slot → ⊥
+placed_earlier old mid newest pages placed slot are owned apart named within at = elim (cases_lt at.place (length newest)) [
+  | inl inside ↦ elim (cases_eq (slice_index placed at.place) (slice_index newest at.place)) [
+    | inl same ↦
+        let place : at.place ≡ length placed = apart_places newest apart at.place (length placed) inside within (sym same ∙ at.here ∙ named) in
+        omega (arith, place, at.within)
+    | inr other ↦ no_owner (are.fresh at.place at.within (λ shared. other))
+  ]
+  | inr past ↦ no_owner (are.fresh at.place at.within (λ shared. absurd (omega (arith, shared, past))))
+]
+  where
+    no_owner : (slot_at old (slice_index placed at.place)).owners ≡ 0 → ⊥
+    no_owner none = omega (arith, none, ap (λ k. (slot_at old k).owners) (at.here ∙ named), (owned_at old 900000 newest (length placed) 0 owned within).0)
+
 -- a page that is shared
-pub shared_more : (mid new : List Slot) (newest : List ℕ) (pages : List (List ℕ)) (placed : List ℕ) (slot most : ℕ) → AreOwned mid most newest → length placed < length pages → slice_get (shared_slots mid newest pages) (length placed) ≡ Some true
+pub shared_more : (old mid new : List Slot) (newest : List ℕ) (pages : List (List ℕ)) (placed : List ℕ) (slot most : ℕ) → ArePlaced old mid newest pages placed → AreOwned old 900000 newest → AreApart newest → AreOwned mid most newest → length placed < length pages → slice_get (shared_slots mid newest pages) (length placed) ≡ Some true
     → IsPlaced mid new newest pages (length placed) slot → IsMore mid new newest pages placed slot true
-shared_more mid new newest pages placed slot most owned within is placed_here =
+shared_more old mid new newest pages placed slot most are was apart owned within is placed_here =
     let n = length placed in
     let facts = placed_here.shared is in
     let named : slot ≡ get_or newest n 0 = facts.0 in
@@ -166,12 +198,17 @@ shared_more mid new newest pages placed slot most owned within is placed_here =
       shared = by_places-push nat_eq placed newest slot 0 facts.1 ∙ ap (λ b. by_places nat_eq placed newest ++ b ∷ []) test;
       free = rw new_is (omega (arith, free_slots-set mid slot (with_owner (slot_at mid slot)) there, owned_test (slot_at mid slot) some, owned_test (with_owner (slot_at mid slot)) (omega arith)));
       size = rw (new_is, length-set) refl;
+      alone = elim (cases_lt 0 (count_by (nat_eq slot) placed)) [
+        | inl some_earlier ↦ absurd (placed_earlier old mid newest pages placed slot are was apart named facts.1 (named_place slot placed some_earlier))
+        | inr none ↦ omega (arith, none)
+      ];
+      fresh = λ other. absurd (other facts.1 named);
     }
 
 -- a page that has a slot of its own
-pub taken_more : (mid new : List Slot) (newest : List ℕ) (pages : List (List ℕ)) (placed : List ℕ) (slot most : ℕ) → AreOwned mid most newest → slice_get (shared_slots mid newest pages) (length placed) ≡ Some false
+pub taken_more : (old mid new : List Slot) (newest : List ℕ) (pages : List (List ℕ)) (placed : List ℕ) (slot most : ℕ) → ArePlaced old mid newest pages placed → AreOwned mid most newest → slice_get (shared_slots mid newest pages) (length placed) ≡ Some false
     → IsPlaced mid new newest pages (length placed) slot → IsMore mid new newest pages placed slot false
-taken_more mid new newest pages placed slot most owned is placed_here =
+taken_more old mid new newest pages placed slot most are owned is placed_here =
     let n = length placed in
     let bytes = slice_index_or pages n [] in
     let facts = placed_here.taken is in
@@ -194,6 +231,8 @@ taken_more mid new newest pages placed slot most owned is placed_here =
       ];
       free = rw new_is (omega (arith, free_slots-set mid slot (held_slot 1 bytes) there, free_test (slot_at mid slot) none, owned_test (held_slot 1 bytes) (omega arith)));
       size = rw (new_is, length-set) refl;
+      alone = omega (arith, are.owners slot, none);
+      fresh = λ other. none;
     }
 
 -- the two ways of placing
@@ -233,9 +272,9 @@ placed_room old mid newest pages placed are within owned room is =
     let more : own_slots (take (n + 1) sh) ≡ own_slots (take n sh) + one_if (not (get_or sh n false)) = sum_by_more (λ b. one_if (not b)) sh n false inside in
     omega (arith, are.free, room, more, ap (λ b. one_if (not b)) here, sum_by-take-le (λ b. one_if (not b)) sh (n + 1))
 
-pub placed_step : (old mid new : List Slot) (newest : List ℕ) (pages : List (List ℕ)) (placed : List ℕ) (slot : ℕ) → ArePlaced old mid newest pages placed → length placed < length pages → AreOwned old 900000 newest
+pub placed_step : (old mid new : List Slot) (newest : List ℕ) (pages : List (List ℕ)) (placed : List ℕ) (slot : ℕ) → ArePlaced old mid newest pages placed → length placed < length pages → AreOwned old 900000 newest → AreApart newest
     → ((k : ℕ) → (slot_at old k).owners ≤ 900000) → IsPlaced mid new newest pages (length placed) slot → ArePlaced old new newest pages (placed ++ slot ∷ [])
-placed_step old mid new newest pages placed slot are within owned few placed_here =
+placed_step old mid new newest pages placed slot are within owned apart few placed_here =
     let n = length placed in
     let sh = shared_slots old newest pages in
     let inside : n < length sh = omega (arith, length-by_places bytes_eq pages (pages_in old newest)) in
@@ -245,15 +284,15 @@ placed_step old mid new newest pages placed slot are within owned few placed_her
     elim (cases_Bool (get_or sh n false)) [
       | inl is ↦
           let yes : slice_get sh n ≡ Some true = read ∙ ap (λ b. Some b) is in
-          placed_more old mid new newest pages placed slot true 900000 are within yes few (shared_more mid new newest pages placed slot (900000 + n) mid_owned within (rw same yes) placed_here)
+          placed_more old mid new newest pages placed slot true 900000 are within yes few (shared_more old mid new newest pages placed slot (900000 + n) are owned apart mid_owned within (rw same yes) placed_here)
       | inr is ↦
           let no : slice_get sh n ≡ Some false = read ∙ ap (λ b. Some b) is in
-          placed_more old mid new newest pages placed slot false 900000 are within no few (taken_more mid new newest pages placed slot (900000 + n) mid_owned (rw same no) placed_here)
+          placed_more old mid new newest pages placed slot false 900000 are within no few (taken_more old mid new newest pages placed slot (900000 + n) are mid_owned (rw same no) placed_here)
     ]
 
 -- the same in an array of slots
-pub placed_set : (old mid new : List Slot) (newest : List ℕ) (pages : List (List ℕ)) (slots : List ℕ) (n slot : ℕ) → ArePlaced old mid newest pages (take n slots) → length slots ≡ 256 → length pages ≡ 256 → n < 256 → AreOwned old 900000 newest
+pub placed_set : (old mid new : List Slot) (newest : List ℕ) (pages : List (List ℕ)) (slots : List ℕ) (n slot : ℕ) → ArePlaced old mid newest pages (take n slots) → length slots ≡ 256 → length pages ≡ 256 → n < 256 → AreOwned old 900000 newest → AreApart newest
     → ((k : ℕ) → (slot_at old k).owners ≤ 900000) → IsPlaced mid new newest pages n slot → ArePlaced old new newest pages (take (n + 1) (set slots n slot))
-placed_set old mid new newest pages slots n slot are long whole within owned few placed_here =
+placed_set old mid new newest pages slots n slot are long whole within owned apart few placed_here =
     let size : length (take n slots) ≡ n = length-take-le n slots (omega arith) in
-    rw (take_more_set slots n slot (omega arith)) (placed_step old mid new newest pages (take n slots) slot are (omega arith) owned few (rw size placed_here))
+    rw (take_more_set slots n slot (omega arith)) (placed_step old mid new newest pages (take n slots) slot are (omega arith) owned apart few (rw size placed_here))

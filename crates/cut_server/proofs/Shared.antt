@@ -12,7 +12,8 @@ use Rattle.page_pool.specs.declared.slot.Slot.{Slot}
 use Rattle.page_pool.specs.Pool.{slot_at}
 use Rattle.cut_server.specs.declared.table.Mark.{Mark}
 use Rattle.cut_form.specs.Checkpoints.{Checkpoint, pages_of, by_places, shared_with_newest}
-use Rattle.cut_server.specs.Table.{pages_in, memory_in, checkpoints_after, shared_slots}
+use Rattle.cut_server.specs.Table.{pages_in, memory_in, checkpoints_after}
+use Rattle.cut_server.specs.Placing.{shared_slots}
 
 pub length-pages_of : (memory : List ℕ) → length (pages_of memory) ≡ 256
 unfolding pages_of

@@ -5,7 +5,8 @@ pub mod Server
 pub mod Table
 -- a player: what a server needs of a render
 pub mod Play
--- What a server keeps; no promise speaks of it:
+-- Words of the contracts within the crate: how pages are placed and given back, and what a server keeps.
+pub mod Placing
 pub mod IsServed
 -- A player that shows that the laws of players can be met:
 pub mod Still

@@ -1,11 +1,10 @@
 -- The table of checkpoints.
-use Rattle.std.specs.Prelude.{◌≡◌, ℕ, ◌+◌, ◌<◌, ◌≤◌, nat_eq, ◌==◌, if◌then◌else◌, List, [], ◌∷◌, length, map, take, slice_index, slice_index_or, Bool, true, false, Some}
-use Rattle.std.specs.List.{flat_map, sum_by, count_by, slice_get}
-use Rattle.std.specs.Str.{bytes_eq}
+use Rattle.std.specs.Prelude.{◌≡◌, ◌≢◌, ℕ, ◌+◌, ◌<◌, ◌≤◌, nat_eq, List, [], ◌∷◌, length, map, slice_index}
+use Rattle.std.specs.List.{flat_map, sum_by, count_by}
 use Rattle.page_pool.specs.declared.slot.Slot.{Slot}
-use Rattle.page_pool.specs.Pool.{free_slot, slot_at, free_slots, after_share, after_take, KeepsBytes}
+use Rattle.page_pool.specs.Pool.{slot_at, free_slots}
 use Rattle.cut_server.specs.declared.table.Mark.{Mark}
-use Rattle.cut_form.specs.Checkpoints.{Checkpoint, by_places, own_slots}
+use Rattle.cut_form.specs.Checkpoints.{Checkpoint, most_checkpoints, by_places, own_slots, slots_used}
 
 -- A pool of pages, and the live checkpoints in the order in which they were taken: of each its sample, what was saved of the
 -- machine, and the page of the pool for each page of its memory.
@@ -49,11 +48,6 @@ saved_of table = saved_marks table.pool table.marks
 abbrev pub samples_of : {S : Type 0} → TableState S → List ℕ
 samples_of table = map (λ mark. mark.sample) table.marks
 
--- what was saved, but that at a sample
-abbrev pub without_saved : {S : Type 0} → List (Saved S) → (sample : ℕ) → List (Saved S)
-without_saved [] sample = []
-without_saved (saved ∷ rest) sample = if saved.sample == sample then rest else saved ∷ without_saved rest sample
-
 -- how often live checkpoints name a slot
 abbrev pub times_named : {S : Type 0} → List (Mark S) → (slot : ℕ) → ℕ
 times_named marks slot = sum_by (λ mark. count_by (nat_eq slot) mark.pages) marks
@@ -63,36 +57,34 @@ abbrev pub AreWhole : {S : Type 0} → List (Mark S) → Type 0
 AreWhole [] = Unit {0}
 AreWhole (mark ∷ marks) = (length mark.pages ≡ 256) × AreWhole marks
 
--- What a table keeps: a slot's owners are the live checkpoints that name it, and so many slots are in use as are counted.
+-- each slot has as many owners as live checkpoints name it; a slot that none names is free
+abbrev pub AreOwnersCounted : {S : Type 0} → TableState S → Type 0
+AreOwnersCounted table = (slot : ℕ) → (slot_at table.pool slot).owners ≡ times_named table.marks slot
+
+-- no slot stands twice
+abbrev pub AreApart : (slots : List ℕ) → Type 0
+AreApart slots = (slot : ℕ) → count_by (nat_eq slot) slots ≤ 1
+
+-- where the next one has another slot, no later one has that slot again
+abbrev pub RunsInto : {S : Type 0} → (slots : List ℕ) → List (Mark S) → Type 0
+RunsInto slots [] = Unit {0}
+RunsInto slots (next ∷ rest) =
+    (page : ℕ) → page < length slots → slice_index next.pages page ≢ slice_index slots page → times_named (next ∷ rest) (slice_index slots page) ≡ 0
+
+-- the checkpoints that have a slot stand side by side, and have it at the same page
+abbrev pub AreRuns : {S : Type 0} → List (Mark S) → Type 0
+AreRuns [] = Unit {0}
+AreRuns (mark ∷ marks) = AreApart mark.pages × RunsInto mark.pages marks × AreRuns marks
+
+-- What a table keeps. No contract cites it.
 pub record IsKept {S : Type 0} (pool : List Slot) (marks : List (Mark S)) : Type 0 where
-  pub owners : (slot : ℕ) → (slot_at pool slot).owners ≡ times_named marks slot
+  pub owners : AreOwnersCounted (record { pool = pool; marks = marks })
   pub whole : AreWhole marks
-  pub few : length marks ≤ 64
+  pub few : length marks ≤ most_checkpoints
+  pub runs : AreRuns marks
+  pub used : free_slots pool + slots_used (live_checkpoints (record { pool = pool; marks = marks })) ≡ length pool
 
 -- the slots of the newest of marks behind one with these slots
 abbrev pub newest_from : {S : Type 0} → (before : List ℕ) → List (Mark S) → List ℕ
 newest_from before [] = before
 newest_from before (mark ∷ marks) = newest_from mark.pages marks
-
--- slots that have owners, and no more than so many
-abbrev pub AreOwned : List Slot → (most : ℕ) → (slots : List ℕ) → Type 0
-AreOwned pool most [] = Unit {0}
-AreOwned pool most (slot ∷ slots) = (0 < (slot_at pool slot).owners) × ((slot_at pool slot).owners ≤ most) × AreOwned pool most slots
-
--- which pages hold what the slots of the newest hold
-abbrev pub shared_slots : List Slot → (newest : List ℕ) → (pages : List (List ℕ)) → List Bool
-shared_slots pool newest pages = by_places bytes_eq pages (pages_in pool newest)
-
--- A page was placed: in the slot of the newest, which has one owner more, or in a free one.
-pub record IsPlaced (old new : List Slot) (newest : List ℕ) (pages : List (List ℕ)) (page slot : ℕ) : Type 0 where
-  pub shared : slice_get (shared_slots old newest pages) page ≡ Some true → (slot ≡ slice_index newest page) × (page < length newest) × (new ≡ after_share old slot)
-  pub taken : slice_get (shared_slots old newest pages) page ≡ Some false → (slot < length old) × (slot_at old slot ≡ free_slot) × (new ≡ after_take old slot (slice_index_or pages page []))
-
--- The first pages were placed in these slots.
-pub record ArePlaced (old new : List Slot) (newest : List ℕ) (pages : List (List ℕ)) (slots : List ℕ) : Type 0 where
-  pub owners : (slot : ℕ) → (slot_at new slot).owners ≡ (slot_at old slot).owners + count_by (nat_eq slot) slots
-  pub bytes : KeepsBytes old new
-  pub holds : pages_in new slots ≡ take (length slots) pages
-  pub shared : by_places nat_eq slots newest ≡ take (length slots) (shared_slots old newest pages)
-  pub free : free_slots new + own_slots (take (length slots) (shared_slots old newest pages)) ≡ free_slots old
-  pub size : length new ≡ length old

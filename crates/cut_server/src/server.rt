@@ -1,28 +1,26 @@
 // The server of cuts.
-ghost use Rattle.std.specs.Prelude.{◌≡◌, ◌+◌, ◌<◌, ◌≤◌, true, false, length, IfOk, IfErr, OnOk, IsOk, ◌↔◌};
-ghost use Rattle.cut_form.specs.Checkpoints.{stands_at};
-ghost use Rattle.cut_form.specs.CutBook.{CutBook, after_seek, after_play, counted_book, opened_book};
-ghost use Rattle.cut_server.specs.Table.{live_checkpoints, samples_of};
-ghost use Rattle.cut_server.specs.Server.{opening, book_of, pages_after, slice_of, Goes, Loads, with_one_at, needed_at};
-ghost use Rattle.page_pool.specs.Pool.{free_slots};
+ghost use Rattle.std.specs.Prelude.{◌≡◌, ◌≢◌, ◌+◌, ◌<◌, ◌≤◌, true, false, length, IfOk, IfErr, OnOk, IsOk, ◌↔◌};
+ghost use Rattle.num_fix.specs.Limits.{most_frames};
+ghost use Rattle.page_pool.specs.Pool.{most_pages};
+ghost use Rattle.cut_form.specs.Checkpoints.{most_checkpoints, slots_free, stands_at};
+ghost use Rattle.cut_form.specs.CutBook.{opened_book, after_seek, after_play, counted_book, needed_here, with_live, with_one_here, without_one};
+ghost use Rattle.cut_form.specs.Marks.{mark_here};
+ghost use Rattle.cut_form.specs.Slices.{slice_of};
+ghost use Rattle.cut_server.specs.Table.{samples_of, AreOwnersCounted};
+ghost use Rattle.cut_server.specs.Server.{opening, book_of, slots_of, pages_after, frames_after, KeepsTune};
+ghost use Rattle.cut_server.specs.IsServed.{GoesOn, GoesBack};
 
 use crate::OutOfMemory;
 use crate::player::Player;
 use crate::running::{run_out, run_out_into};
 use crate::table::Table;
 use aram_core::Aram;
+use cut_form::{Marked, NoPages};
 use std::alloc::Global;
 use std::marker::Model;
 use trace_form::Frames;
 
-/// There are too few free pages for a checkpoint.
-#[derive(Clone, Copy, Debug, PartialEq, Eq)]
-pub struct NoPages {
-    pub need: u32,
-    pub free: u32,
-}
-
-/// A player with checkpoints to which it can go back.
+/// A player of a tune, with checkpoints to which it can go back. Only `open` takes memory.
 #[derive(Drop)]
 pub struct Server<P: Player> {
     player: P,
@@ -43,7 +41,8 @@ impl<P: Player> Model for Server<P> {
 }
 
 impl<P: Player> Server<P> {
-    /// A server that stands at the opening, with a checkpoint there, and has so many pages. No later call takes memory.
+    /// A server that stands at sample 0, with a checkpoint there, and has so many pages. Its checkpoints are loaded by way of
+    /// the second memory.
     pub fn open(
         alloc: Global,
         player: P,
@@ -51,14 +50,14 @@ impl<P: Player> Server<P> {
         pages: u32,
     ) -> Result<Server<P>, OutOfMemory>
         requires enough { 256 ≤ pages }
-        requires few { pages ≤ 65536 }
+        requires few { pages ≤ most_pages }
         requires done { (P.playing player).is_done ≡ true }
         requires none_made { (P.playing player).samples ≡ 0 }
         requires opened { P.meaning.sample (P.meaning.state (P.playing player).whole) ≡ 0 }
         requires no_work { (P.playing player).total ≡ 0 }
         ensures opening { IfOk result (λ server. opening P.meaning server ≡ (P.playing player).whole) }
         ensures book { IfOk result (λ server. book_of server ≡ opened_book (pages_after P.meaning (P.playing player).whole)) }
-        ensures free { IfOk result (λ server. free_slots server.table.pool + 256 ≡ pages) }
+        ensures slots { IfOk result (λ server. slots_of server ≡ pages) }
     {
         let table = Table::open(alloc, pages, player.save(), player.memory())?;
         Ok(Server {
@@ -69,18 +68,11 @@ impl<P: Player> Server<P> {
         })
     }
 
-    /// Where it stands.
+    /// The position: the number of samples before it.
     pub fn at(&self) -> u32
         ensures { result ≡ (book_of self.now).position }
     {
         self.position
-    }
-
-    /// The samples that were made.
-    pub fn work(&self) -> u64
-        ensures { result ≡ (book_of self.now).made }
-    {
-        self.player.total()
     }
 
     /// Whether a checkpoint stands at a sample.
@@ -90,32 +82,56 @@ impl<P: Player> Server<P> {
         self.table.has(sample)
     }
 
+    /// How many checkpoints are live.
+    pub fn count(&self) -> u32
+        ensures count { result ≡ length (book_of self.now).live }
+        ensures few { result ≤ most_checkpoints }
+    {
+        self.table.len() as u32
+    }
+
+    /// How many pages of the pool are free. A page has as many owners as live checkpoints name it.
+    pub fn free(&self) -> u32
+        ensures free { result ≡ slots_free (slots_of self.now) (book_of self.now).live }
+        ensures owners { AreOwnersCounted self.now.table }
+    {
+        self.table.free()
+    }
+
+    /// The samples that seeks and plays made. It stays at its type's end.
+    pub fn work(&self) -> u64
+        ensures { result ≡ (book_of self.now).made }
+    {
+        self.player.total()
+    }
+
     /// Goes back to a checkpoint.
     fn load(&mut self, index: usize)
         requires { index < length (samples_of self.old.table) }
-        ensures { Loads P.meaning self.old self.new index }
+        ensures { GoesBack P.meaning self.old self.new index }
     {
         let state = self.table.load(index, &mut self.scratch);
         self.position = self.table.sample(index);
         self.player.load(&state, &self.scratch);
     }
 
-    /// Runs on.
+    /// Runs on to a sample.
     fn run(&mut self, at: u32)
         requires later { self.old.playing.samples ≤ at }
-        requires few { at ≤ 115200000 }
-        ensures { Goes P.meaning self.old self.new self.old.playing.samples at }
+        requires few { at ≤ most_frames }
+        ensures { GoesOn P.meaning self.old self.new self.old.playing.samples at }
     {
         self.player.aim(at);
         run_out(&mut self.player);
         self.position = at;
     }
 
-    /// Goes to a sample. Where it stands behind it, or the last checkpoint before it lies ahead, it goes from there.
+    /// Goes to a sample: from where it stands, unless that is after the sample, or before the last checkpoint up to it; then
+    /// from this checkpoint.
     pub fn seek(&mut self, at: u32)
-        requires { at ≤ 115200000 }
+        requires { at ≤ most_frames }
         ensures book { book_of self.new ≡ counted_book (after_seek (book_of self.old) at) }
-        ensures opening { opening P.meaning self.new ≡ opening P.meaning self.old }
+        ensures tune { KeepsTune P.meaning self.old self.new }
     {
         let nearest = self.table.nearest(at);
         let checkpoint = self.table.sample(nearest);
@@ -125,14 +141,14 @@ impl<P: Player> Server<P> {
         self.run(at);
     }
 
-    /// Plays up to 64 frames: those of the run from the opening, whatever was called before.
+    /// Plays 1 to 64 frames: a slice of those that the run from the opening emits, whatever was called before.
     pub fn play(&mut self, most: u32, frames: &mut Frames)
         requires some { 1 ≤ most }
         requires few { most ≤ 64 }
-        requires within { (book_of self.old).position + most ≤ 115200000 }
-        ensures frames { frames.new ≡ slice_of P.meaning (opening P.meaning self.old) (book_of self.old).position most }
+        requires within { (book_of self.old).position + most ≤ most_frames }
+        ensures frames { frames.new ≡ slice_of (frames_after P.meaning (opening P.meaning self.old)) (book_of self.old).position most }
         ensures book { book_of self.new ≡ counted_book (after_play (book_of self.old) most) }
-        ensures opening { opening P.meaning self.new ≡ opening P.meaning self.old }
+        ensures tune { KeepsTune P.meaning self.old self.new }
     {
         frames.clear();
         self.player.aim(self.position + most);
@@ -140,14 +156,17 @@ impl<P: Player> Server<P> {
         self.position += most;
     }
 
-    /// Takes a checkpoint where it stands, unless there are too few free pages.
+    /// Takes a checkpoint at the position, unless it needs more slots than are free.
     pub fn checkpoint(&mut self) -> Result<(), NoPages>
         requires none_here { stands_at (book_of self.old).live (book_of self.old).position ≡ false }
-        requires few { length (book_of self.old).live < 64 }
-        ensures taken { OnOk result (book_of self.new ≡ with_one_at P.meaning (opening P.meaning self.old) (book_of self.old)) }
-        ensures refused { IfErr result (λ e. (e ≡ record { need = needed_at P.meaning (opening P.meaning self.old) (book_of self.old); free = free_slots self.old.table.pool }) × (self.new ≡ self.old)) }
-        ensures exactly { IsOk result ↔ (needed_at P.meaning (opening P.meaning self.old) (book_of self.old) ≤ free_slots self.old.table.pool) }
-        ensures opening { opening P.meaning self.new ≡ opening P.meaning self.old }
+        requires few { length (book_of self.old).live < most_checkpoints }
+        ensures taken { OnOk result (book_of self.new ≡ with_one_here (pages_after P.meaning (opening P.meaning self.old)) (book_of self.old)) }
+        ensures need { IfErr result (λ e. e.need ≡ needed_here (pages_after P.meaning (opening P.meaning self.old)) (book_of self.old)) }
+        ensures free { IfErr result (λ e. e.free ≡ slots_free (slots_of self.old) (book_of self.old).live) }
+        ensures unchanged { IfErr result (λ e. self.new ≡ self.old) }
+        ensures exactly { let need = needed_here (pages_after P.meaning (opening P.meaning self.old)) (book_of self.old) in
+            IsOk result ↔ (need ≤ slots_free (slots_of self.old) (book_of self.old).live) }
+        ensures tune { KeepsTune P.meaning self.old self.new }
     {
         let need = self.table.needed(self.player.memory());
         let free = self.table.free();
@@ -159,17 +178,31 @@ impl<P: Player> Server<P> {
         Ok(())
     }
 
-    /// How many checkpoints are live.
-    pub fn count(&self) -> u32
-        ensures { result ≡ length (book_of self.now).live }
+    /// Drops the checkpoint at a sample, and gives its pages back.
+    pub fn drop_at(&mut self, sample: u32)
+        requires not_opening { sample ≢ 0 }
+        requires stands { stands_at (book_of self.old).live sample ≡ true }
+        ensures book { book_of self.new ≡ without_one (book_of self.old) sample }
+        ensures tune { KeepsTune P.meaning self.old self.new }
     {
-        self.table.len() as u32
+        let place = self.table.place_of(sample);
+        self.table.remove(place);
     }
 
-    /// How many pages are free.
-    pub fn free(&self) -> u32
-        ensures { result ≡ free_slots self.now.table.pool }
+    /// Takes a checkpoint at the position, unless one stands there. It gives up others for it as long as there is no room,
+    /// first those taken first; but never that of sample 0.
+    pub fn mark(&mut self) -> Marked
+        ensures book { book_of self.new ≡ with_live (book_of self.old) (mark_here (slots_of self.old) (pages_after P.meaning (opening P.meaning self.old)) (book_of self.old)).live }
+        ensures answer { result ≡ (mark_here (slots_of self.old) (pages_after P.meaning (opening P.meaning self.old)) (book_of self.old)).marked }
+        ensures tune { KeepsTune P.meaning self.old self.new }
     {
-        self.table.free()
+        if self.has(self.position) {
+            return Marked::Kept;
+        }
+        let gave = self.table.make_room(self.player.memory());
+        match self.checkpoint() {
+            Ok(()) => Marked::Taken { gave },
+            Err(NoPages { need, free }) => Marked::NoPages { gave, need, free },
+        }
     }
 }

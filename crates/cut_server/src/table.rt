@@ -1,12 +1,14 @@
 // The table of checkpoints, over a pool of pages.
-ghost use Rattle.std.specs.Prelude.{◌≡◌, ◌==◌, ℕ, ◌≤◌, false, ◌+◌, ◌<◌, ◌++◌, ◌∷◌, [], true, length, vec_len, vec_capacity, IfOk, slice_index, slice_get, Some};
-ghost use Rattle.std.specs.List.{list_any};
-ghost use Rattle.page_pool.specs.Pool.{slot_at, free_slots};
-ghost use Rattle.cut_form.specs.Checkpoints.{pages_of, with_checkpoint, slots_needed, own_slots, shared_with_newest, stands_at, nearest};
-ghost use Rattle.cut_server.specs.Table.{Saved, live_checkpoints, saved_of, samples_of, shared_slots, newest_from, AreOwned, IsPlaced, ArePlaced};
+ghost use Rattle.std.specs.Prelude.{◌≡◌, ◌==◌, ℕ, ◌≤◌, ◌+◌, ◌-◌, ◌<◌, ◌++◌, ◌∷◌, [], true, length, vec_len, vec_capacity, IfOk, slice_index, slice_get, Some};
+ghost use Rattle.std.specs.List.{list_any, remove, remove_range};
+ghost use Rattle.page_pool.specs.Pool.{free_slots};
+ghost use Rattle.cut_form.specs.Checkpoints.{most_checkpoints, pages_of, with_checkpoint, without_checkpoint, without_entry, slots_needed, slots_free, has_room, shared_with_newest, stands_at, nearest};
+ghost use Rattle.cut_form.specs.Marks.{room_made};
+ghost use Rattle.cut_server.specs.Table.{Saved, live_checkpoints, saved_of, samples_of, newest_from, AreOwnersCounted};
 ghost use Rattle.cut_server.specs.IsServed.{BeginAtOpening};
 
 use crate::OutOfMemory;
+use crate::pages::{give_all, place_all};
 use aram_core::Aram;
 use page_pool::{Page, PagePool};
 use std::alloc::Global;
@@ -36,41 +38,6 @@ impl<S: Copy> Model for Table<S> {
     ghost view = { λ t. record { pool = t.pool; marks = t.marks.items } };
 
     ghost invariant = { λ t. (64 ≤ vec_capacity t.marks) × IsKept t.pool t.marks.items };
-}
-
-/// A page of the pool for a page of a memory: that of the newest where it holds the same bytes, and else a free one.
-fn place(pool: &mut PagePool, newest: &[Page], memory: &Aram, page: usize) -> Page
-    requires within { page < 256 }
-    requires owned { AreOwned pool.old 1000000 newest.now }
-    requires free { slice_get (shared_slots pool.old newest.now (pages_of memory.now)) page ≡ Some false → 0 < free_slots pool.old }
-    ensures placed { IsPlaced pool.old pool.new newest.now (pages_of memory.now) page result }
-    ensures memory { length memory.now ≡ 0x10000 }
-{
-    let bytes = memory.page(page as u8);
-    match newest.get(page) {
-        Some(slot) if bytes == pool.bytes(*slot) => {
-            pool.share(*slot);
-            *slot
-        }
-        _ => pool.take(bytes).unwrap(),
-    }
-}
-
-/// A page of the pool for each page of a memory.
-fn place_all(pool: &mut PagePool, newest: &[Page], memory: &Aram) -> [Page; 256]
-    requires owned { AreOwned pool.old 900000 newest.now }
-    requires few { (slot : ℕ) → (slot_at pool.old slot).owners ≤ 900000 }
-    requires free { own_slots (shared_slots pool.old newest.now (pages_of memory.now)) ≤ free_slots pool.old }
-    ensures placed { ArePlaced pool.old pool.new newest.now (pages_of memory.now) result }
-    ensures whole { length result ≡ 256 }
-    ensures memory { length memory.now ≡ 0x10000 }
-{
-    let first = place(pool, newest, memory, 0);
-    let mut pages = [first; 256];
-    for page in 1..256 {
-        pages[page] = place(pool, newest, memory, page);
-    }
-    pages
 }
 
 /// The pages of the newest mark, if there is one.
@@ -125,7 +92,7 @@ impl<S: Copy> Table<S> {
     pub(crate) fn len(&self) -> usize
         ensures live { result ≡ length (live_checkpoints self.now) }
         ensures samples { result ≡ length (samples_of self.now) }
-        ensures few { result ≤ 64 }
+        ensures few { result ≤ most_checkpoints }
     {
         self.marks.len()
     }
@@ -140,7 +107,9 @@ impl<S: Copy> Table<S> {
 
     /// How many pages are free.
     pub(crate) fn free(&self) -> u32
-        ensures { result ≡ free_slots self.now.pool }
+        ensures pool { result ≡ free_slots self.now.pool }
+        ensures free { result ≡ slots_free (length self.now.pool) (live_checkpoints self.now) }
+        ensures owners { AreOwnersCounted self.now }
     {
         self.pool.free()
     }
@@ -166,6 +135,20 @@ impl<S: Copy> Table<S> {
         ensures { result ≡ stands_at (live_checkpoints self.now) sample }
     {
         stands(&self.marks, sample)
+    }
+
+    /// The place of the first one at a sample, where one stands there.
+    pub(crate) fn place_of(&self, sample: u32) -> usize
+        requires { stands_at (live_checkpoints self.now) sample ≡ true }
+        ensures within { result < length (samples_of self.now) }
+        ensures sample { slice_index (samples_of self.now) result ≡ sample }
+        ensures live { without_entry (live_checkpoints self.now) result ≡ without_checkpoint (live_checkpoints self.now) sample }
+    {
+        let mut place = 0;
+        'marks: while self.sample(place) != sample {
+            place += 1;
+        }
+        place
     }
 
     /// Copies the memory of one of them, and tells what else was saved.
@@ -206,7 +189,7 @@ impl<S: Copy> Table<S> {
 
     /// Takes one more.
     pub(crate) fn add(&mut self, sample: u32, state: S, memory: &Aram)
-        requires few { length (samples_of self.old) < 64 }
+        requires few { length (samples_of self.old) < most_checkpoints }
         requires pages { slots_needed (live_checkpoints self.old) (pages_of memory.now) ≤ free_slots self.old.pool }
         ensures saved { saved_of self.new ≡ saved_of self.old ++ record { sample = sample; state = state; memory = memory.now } ∷ [] }
         ensures live { live_checkpoints self.new ≡ with_checkpoint (live_checkpoints self.old) sample (pages_of memory.now) }
@@ -222,5 +205,38 @@ impl<S: Copy> Table<S> {
                 pages,
             },
         );
+    }
+
+    /// Drops the one at a place.
+    pub(crate) fn remove(&mut self, place: usize)
+        requires { place < length (samples_of self.old) }
+        ensures saved { saved_of self.new ≡ remove (saved_of self.old) place }
+        ensures live { live_checkpoints self.new ≡ without_entry (live_checkpoints self.old) place }
+        ensures size { length self.new.pool ≡ length self.old.pool }
+    {
+        let mark = self.marks.remove(place);
+        give_all(&mut self.pool, &mark.pages);
+    }
+
+    /// Whether there is room for one of a memory.
+    fn has_room(&self, memory: &Aram) -> bool
+        ensures { result ≡ has_room (length self.now.pool) (pages_of memory.now) (live_checkpoints self.now) }
+    {
+        self.len() < 64 && self.needed(memory) <= self.free()
+    }
+
+    /// Drops the second one, as long as there is one and no room for one of a memory; tells how many.
+    pub(crate) fn make_room(&mut self, memory: &Aram) -> u32
+        ensures saved { saved_of self.new ≡ remove_range (saved_of self.old) 1 (result + 1) }
+        ensures room { let most = length (live_checkpoints self.old) - 1 in
+            record { live = live_checkpoints self.new; gave = result } ≡ room_made most (length self.old.pool) (pages_of memory.now) (record { live = live_checkpoints self.old; gave = 0 }) }
+        ensures size { length self.new.pool ≡ length self.old.pool }
+    {
+        let mut gave = 0;
+        'marks: while self.len() > 1 && !self.has_room(memory) {
+            self.remove(1);
+            gave += 1;
+        }
+        gave
     }
 }

@@ -1,11 +1,14 @@
 use Rattle.std.proofs.Common.{arith}
 use Rattle.std.proofs.lemmas.List.{length-map}
 use Rattle.cut_form.specs.Checkpoints.{pages_of}
-use Rattle.cut_server.proofs.Adding.{newest_is_owned, owners_few, shared_live, saved_added, live_added, free_added, kept_added, memory_added}
+use Rattle.cut_server.proofs.Adding.{newest_is_owned, newest_apart, owners_few, shared_live, saved_added, live_added, free_added, kept_added, memory_added}
 use Rattle.cut_server.proofs.table.Table.add.Goals as goal
 
 pub place_all-pages-requires-clause-owned : goal.place_all-pages-requires-clause-owned
 place_all-pages-requires-clause-owned g c = rw (c.newest_pages.ensures, c.deref.ensures.value) (newest_is_owned c.self.invariant.1)
+
+pub place_all-pages-requires-clause-apart : goal.place_all-pages-requires-clause-apart
+place_all-pages-requires-clause-apart g c = rw (c.newest_pages.ensures, c.deref.ensures.value) (newest_apart c.self.invariant.1)
 
 pub place_all-pages-requires-clause-few : goal.place_all-pages-requires-clause-few
 place_all-pages-requires-clause-few g c = owners_few c.self.invariant.1
@@ -17,9 +20,10 @@ place_all-pages-requires-clause-free g c =
 
 pub invariant_of-self : goal.invariant_of-self
 invariant_of-self g c =
-    let few = rw (← c.self.view_is) at c.requires.few in (
+    let few = rw (← c.self.view_is) at c.requires.few in
+    let placed = rw (c.newest_pages.ensures, c.deref.ensures.value) at c.place_all-pages.ensures.placed in (
       omega (arith, c.push_mark.ensures.capacity, c.self.invariant.0),
-      rw c.push_mark.ensures.items (kept_added c.self.invariant.1 _ _ _ _ c.place_all-pages.ensures.placed c.place_all-pages.ensures.whole (omega (arith, few, length-map c.self.inside.marks.items (λ mark. mark.sample)))),
+      rw c.push_mark.ensures.items (kept_added c.self.invariant.1 _ c.args.memory.now _ placed c.place_all-pages.ensures.whole (omega (arith, few, length-map c.self.inside.marks.items (λ mark. mark.sample)))),
     )
 
 pub returns-clause-saved : goal.returns-clause-saved
