@@ -1,14 +1,14 @@
 -- The table with one checkpoint fewer.
-use Rattle.std.proofs.Common.{◌≡◌, ℕ, zero, suc, ◌+◌, ◌<◌, ◌≤◌, nat_eq, List, [], ◌∷◌, length, get_or, refl, sym, ap, ◌∙◌, arith}
+use Rattle.std.proofs.Common.{◌≡◌, ℕ, zero, suc, ◌<◌, nat_eq, List, [], ◌∷◌, length, get_or, refl, ap, ◌∙◌, arith}
 use Rattle.std.specs.List.{count_by, remove}
 use Rattle.std.proofs.lemmas.List.Edits.{length-remove}
 use Rattle.page_pool.specs.declared.slot.Slot.{Slot}
 use Rattle.page_pool.specs.Pool.{slot_at, KeepsBytes}
-use Rattle.cut_form.specs.Checkpoints.{Checkpoint, slots_used, without_entry}
+use Rattle.cut_form.specs.Checkpoints.{slots_used, without_entry}
 use Rattle.cut_server.specs.declared.table.Mark.{Mark}
-use Rattle.cut_server.specs.Table.{saved_mark, saved_marks, pages_in, checkpoints_after, times_named, AreApart, AreRuns, IsKept}
+use Rattle.cut_server.specs.Table.{saved_mark, saved_marks, checkpoints_after, times_named, AreApart, AreRuns, IsKept}
 use Rattle.cut_server.specs.Placing.{AreGiven}
-use Rattle.cut_server.proofs.Naming.{times-remove, times-cons}
+use Rattle.cut_server.proofs.Naming.{times-remove}
 use Rattle.cut_server.proofs.Placing.{pages_in-kept}
 use Rattle.cut_server.proofs.Adding.{AllOwned, all_owned, owners_few, saved_marks-kept}
 use Rattle.cut_server.proofs.Removing.{among_all, used_removed, live_removed, runs_removed, whole_removed, map_removed}

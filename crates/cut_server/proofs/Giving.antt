@@ -1,13 +1,12 @@
 -- Pages are given back one after another.
-use Rattle.std.proofs.Common.{◌≡◌, ◌≢◌, ℕ, suc, ◌+◌, ◌-◌, ◌<◌, ◌≤◌, ◌==◌, Bool, true, false, nat_eq, List, [], ◌∷◌, ◌++◌, length, take, set, get_or, refl, sym, ap, ◌∙◌, arith, inl, inr}
-use Rattle.std.specs.Prelude.{slice_index}
+use Rattle.std.proofs.Common.{◌≡◌, ℕ, ◌+◌, ◌-◌, ◌<◌, ◌≤◌, ◌==◌, true, false, nat_eq, List, [], ◌∷◌, ◌++◌, length, take, get_or, refl, sym, ap, ◌∙◌, arith, inl, inr}
 use Rattle.std.specs.List.{count_by}
-use Rattle.std.proofs.lemmas.List.{length-set, get_or-set_same, get_or-set_other, take_more, get_or_default}
+use Rattle.std.proofs.lemmas.List.{length-set, get_or-set_same, get_or-set_other, take_more}
 use Rattle.std.proofs.lemmas.List.Sums.{sum_by_push, sum_by-take-le}
 use Rattle.std.proofs.lemmas.Bool.{cases_Bool, cases_eq}
 use Rattle.std.proofs.lemmas.Bool.Decides.{nat_tests}
 use Rattle.page_pool.specs.declared.slot.Slot.{Slot}
-use Rattle.page_pool.specs.Pool.{free_slot, slot_at, is_free, free_slots, without_owner, after_give, KeepsBytes}
+use Rattle.page_pool.specs.Pool.{free_slot, slot_at, is_free, free_slots, without_owner, after_give}
 use Rattle.page_pool.proofs.Links.{free_slots-set, within_of_owned}
 use Rattle.page_pool.proofs.Kept.{given_keeps}
 use Rattle.cut_server.specs.Table.{AreApart}

@@ -7,4 +7,5 @@ pub mod Naming
 pub mod Places
 pub mod Placing
 pub mod Removing
+pub mod Rooms
 pub mod Shared

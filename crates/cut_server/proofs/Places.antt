@@ -1,15 +1,15 @@
 -- The places of a table, as its parts see them.
-use Rattle.std.proofs.Common.{◌≡◌, ℕ, suc, ◌+◌, ◌<◌, ◌≤◌, nat_le, inl, inr, true, false, ◌==◌, ◌||◌, List, [], ◌∷◌, ◌++◌, length, take, max, if◌then◌else◌, map, get_or, refl, sym, ap, ◌∙◌, arith}
-use Rattle.std.specs.Prelude.{slice_index}
-use Rattle.std.specs.List.{list_any}
+use Rattle.std.proofs.Common.{◌≡◌, ℕ, nat_eq, nat_lt, Option, Some, None, IsNone, suc, ◌+◌, ◌<◌, ◌≤◌, nat_le, inl, inr, true, false, ◌==◌, ◌||◌, List, [], ◌∷◌, ◌++◌, length, take, max, if◌then◌else◌, map, get_or, refl, sym, ap, ◌∙◌, subst, arith}
+use Rattle.std.specs.Prelude.{slice_index, IfSome, ◌↔◌}
+use Rattle.std.specs.List.{list_any, position, position_or_len}
 use Rattle.std.proofs.lemmas.List.{length-map, get_or-map, take_more}
 use Rattle.std.proofs.lemmas.Bool.{cases_Bool}
 use Rattle.std.proofs.lemmas.Bool.Decides.{nat_tests}
 use Rattle.page_pool.specs.declared.slot.Slot.{Slot}
-use Rattle.cut_form.specs.Checkpoints.{Checkpoint, stands_at, nearest, greatest_up_to}
+use Rattle.cut_form.specs.Checkpoints.{Checkpoint, by_places, stands_at, nearest, greatest_up_to, without_entry, without_checkpoint}
 use Rattle.cut_server.specs.declared.table.Mark.{Mark}
 use Rattle.cut_server.specs.IsServed.{BeginAtOpening}
-use Rattle.cut_server.specs.Table.{TableState, saved_mark, saved_marks, saved_of, samples_of, live_checkpoints, checkpoints_after}
+use Rattle.cut_server.specs.Table.{TableState, saved_mark, saved_marks, saved_of, samples_of, live_checkpoints, pages_in, checkpoints_after}
 
 -- there are as many checkpoints as marks
 pub length-checkpoints_after : {S : Type 0} (pool : List Slot) (before : List ℕ) (marks : List (Mark S)) → length (checkpoints_after pool before marks) ≡ length marks
@@ -100,3 +100,61 @@ nearest_begun pool (mark ∷ marks) at begin = (
     | inr past ↦ rw past begin
   ],
 )
+
+-- The first mark that was taken at a sample, and the checkpoint there.
+pub record IsFirstAt {S : Type 0} (pool : List Slot) (before : List ℕ) (marks : List (Mark S)) (sample i : ℕ) : Type 0 where
+  pub here : i < length marks → slice_index (map (λ mark. mark.sample) marks) i ≡ sample
+  pub live : i < length marks → without_entry (checkpoints_after pool before marks) i ≡ without_checkpoint (checkpoints_after pool before marks) sample
+  pub stands : i < length marks → stands_at (checkpoints_after pool before marks) sample ≡ true
+  pub none : length marks ≤ i → stands_at (checkpoints_after pool before marks) sample ≡ false
+
+is_first_at : {S : Type 0} (pool : List Slot) (before : List ℕ) (marks : List (Mark S)) (sample : ℕ) → IsFirstAt pool before marks sample (position_or_len (λ mark. mark.sample == sample) marks)
+is_first_at pool before [] sample = record { here = λ within. absurd (omega arith); live = λ within. absurd (omega arith); stands = λ within. absurd (omega arith); none = λ past. refl }
+is_first_at pool before (x ∷ xs) sample = elim (cases_Bool (x.sample == sample)) [
+  | inl here ↦ let is : x.sample ≡ sample = grind (arith, nat_tests, here) in rw here record {
+    here = λ within. is;
+    live = λ within. rw here refl;
+    stands = λ within. rw here refl;
+    none = λ past. absurd (omega (arith, past));
+  }
+  | inr other ↦
+      let rest = is_first_at pool x.pages xs sample in
+      let next : position_or_len (λ mark. mark.sample == sample) (x ∷ xs) ≡ suc (position_or_len (λ mark. mark.sample == sample) xs) = rw other (omega arith) in
+      subst (λ i. IsFirstAt pool before (x ∷ xs) sample i) (sym next) record {
+        here = λ within. rest.here (omega (arith, within));
+        live = λ within. rw other (ap (λ l. record { sample = x.sample; pages = pages_in pool x.pages; shared = by_places nat_eq x.pages before } ∷ l) (rest.live (omega (arith, within))));
+        stands = λ within. rw other (rest.stands (omega (arith, within)));
+        none = λ past. rw other (rest.none (omega (arith, past)));
+      }
+]
+
+found_at : {S : Type 0} (pool : List Slot) (marks : List (Mark S)) (sample i : ℕ) → position (λ mark. mark.sample == sample) marks ≡ Some i → (i < length marks) × IsFirstAt pool [] marks sample i
+found_at pool marks sample i found = elim (cases_Bool (nat_lt (position_or_len (λ mark. mark.sample == sample) marks) (length marks))) [
+  | inl within ↦
+      let is : Some (position_or_len (λ mark. mark.sample == sample) marks) ≡ Some i = rw within at found in
+      let same : position_or_len (λ mark. mark.sample == sample) marks ≡ i = cc in
+      rw (← same) (grind (arith, nat_tests, within), is_first_at pool [] marks sample)
+  | inr past ↦ let none : None ≡ Some i = rw past at found in cc
+]
+
+found_none : {S : Type 0} (pool : List Slot) (marks : List (Mark S)) (sample : ℕ) → position (λ mark. mark.sample == sample) marks ≡ None → stands_at (checkpoints_after pool [] marks) sample ≡ false
+found_none pool marks sample found = elim (cases_Bool (nat_lt (position_or_len (λ mark. mark.sample == sample) marks) (length marks))) [
+  | inl within ↦ let some : Some (position_or_len (λ mark. mark.sample == sample) marks) ≡ None = rw within at found in cc
+  | inr past ↦ (is_first_at pool [] marks sample).none (grind (arith, nat_tests, past))
+]
+
+-- What a search for the first mark at a sample finds.
+pub record Finds {S : Type 0} (table : TableState S) (sample : ℕ) (found : Option ℕ) : Type 0 where
+  pub here : IfSome found (λ place. slice_index (samples_of table) place ≡ sample)
+  pub live : IfSome found (λ place. without_entry (live_checkpoints table) place ≡ without_checkpoint (live_checkpoints table) sample)
+  pub none : IsNone found ↔ (stands_at (live_checkpoints table) sample ≡ false)
+
+pub finds : {S : Type 0} (table : TableState S) (sample : ℕ) (found : Option ℕ) → found ≡ position (λ mark. mark.sample == sample) table.marks → Finds table sample found
+finds table sample None is = record { here = tt; live = tt; none = (λ none. found_none table.pool table.marks sample (sym is), λ not_there. refl) }
+finds table sample (Some i) is =
+    let at = found_at table.pool table.marks sample i (sym is) in
+    record {
+      here = at.1.here at.0;
+      live = at.1.live at.0;
+      none = (λ none. cc, λ not_there. let both : true ≡ false = sym (at.1.stands at.0) ∙ not_there in cc);
+    }

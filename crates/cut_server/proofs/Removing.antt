@@ -1,13 +1,13 @@
 -- One checkpoint fewer.
-use Rattle.std.proofs.Common.{◌≡◌, ◌≢◌, ℕ, zero, suc, ◌+◌, ◌<◌, ◌≤◌, Bool, true, false, not, ◌&&◌, nat_eq, if◌then◌else◌, List, [], ◌∷◌, length, map, get_or, refl, sym, ap, ◌∙◌, arith, inl, inr}
+use Rattle.std.proofs.Common.{◌≡◌, ◌≢◌, ℕ, zero, suc, ◌+◌, ◌<◌, ◌≤◌, Bool, true, false, not, ◌&&◌, nat_eq, List, [], ◌∷◌, length, map, get_or, refl, sym, ap, ◌∙◌, arith, inl, inr}
 use Rattle.std.specs.Prelude.{slice_index}
 use Rattle.std.specs.List.{count_by, remove}
 use Rattle.std.proofs.lemmas.List.Sums.{sum_by-cons, sum_by-remove}
-use Rattle.std.proofs.lemmas.Bool.{cases_Bool, cases_eq, cases_lt, and_right}
+use Rattle.std.proofs.lemmas.Bool.{cases_eq, cases_lt, and_right}
 use Rattle.std.proofs.lemmas.Bool.Decides.{nat_tests}
 use Rattle.page_pool.specs.declared.slot.Slot.{Slot}
 use Rattle.page_pool.specs.Pool.{slot_at}
-use Rattle.cut_form.specs.Checkpoints.{Checkpoint, by_places, own_slots, slots_used, next_to_dropped, without_entry}
+use Rattle.cut_form.specs.Checkpoints.{Checkpoint, by_places, own_slots, slots_used, without_entry}
 use Rattle.cut_server.specs.declared.table.Mark.{Mark}
 use Rattle.cut_server.specs.Table.{pages_in, checkpoints_after, times_named, AreWhole, AreApart, RunsInto, AreRuns}
 use Rattle.cut_server.specs.Placing.{has_one_owner}

@@ -1,10 +1,10 @@
 -- What contracts see of a server of cuts: its player, and its table of checkpoints.
-use Rattle.std.specs.Prelude.{◌≡◌, ℕ, ◌+◌, ◌-◌, ◌^◌, min, List, [], ◌∷◌, length, slice_index}
+use Rattle.std.specs.Prelude.{◌≡◌, ℕ, List, [], ◌∷◌, length}
 use Rattle.num_fix.specs.declared.Frame.{Frame}
 use Rattle.cut_form.specs.Checkpoints.{pages_of}
 use Rattle.cut_form.specs.CutBook.{CutBook}
 use Rattle.cut_server.specs.Play.{PlayerMeaning, Playing}
-use Rattle.cut_server.specs.Table.{TableState, Saved, saved_of, samples_of, live_checkpoints}
+use Rattle.cut_server.specs.Table.{TableState, Saved, saved_of, live_checkpoints}
 
 pub record ServerState (W S : Type 0) : Type 0 where
   pub playing : Playing W

@@ -4,7 +4,7 @@ use Rattle.std.specs.List.{flat_map, sum_by, count_by}
 use Rattle.page_pool.specs.declared.slot.Slot.{Slot}
 use Rattle.page_pool.specs.Pool.{slot_at, free_slots}
 use Rattle.cut_server.specs.declared.table.Mark.{Mark}
-use Rattle.cut_form.specs.Checkpoints.{Checkpoint, most_checkpoints, by_places, own_slots, slots_used}
+use Rattle.cut_form.specs.Checkpoints.{Checkpoint, most_checkpoints, by_places, slots_used}
 
 -- A pool of pages, and the live checkpoints in the order in which they were taken: of each its sample, what was saved of the
 -- machine, and the page of the pool for each page of its memory.

@@ -1,10 +1,10 @@
 // The server of cuts.
-ghost use Rattle.std.specs.Prelude.{◌≡◌, ◌≢◌, ◌+◌, ◌<◌, ◌≤◌, true, false, length, IfOk, IfErr, OnOk, IsOk, ◌↔◌};
+ghost use Rattle.std.specs.Prelude.{◌≡◌, ◌≢◌, ◌+◌, ◌-◌, ◌<◌, ◌≤◌, true, false, length, IfOk, IfErr, OnOk, IsOk, ◌↔◌};
 ghost use Rattle.num_fix.specs.Limits.{most_frames};
 ghost use Rattle.page_pool.specs.Pool.{most_pages};
 ghost use Rattle.cut_form.specs.Checkpoints.{most_checkpoints, slots_free, stands_at};
 ghost use Rattle.cut_form.specs.CutBook.{opened_book, after_seek, after_play, counted_book, needed_here, with_live, with_one_here, without_one};
-ghost use Rattle.cut_form.specs.Marks.{mark_here};
+ghost use Rattle.cut_form.specs.Marks.{room_made, mark_here};
 ghost use Rattle.cut_form.specs.Slices.{slice_of};
 ghost use Rattle.cut_server.specs.Table.{samples_of, AreOwnersCounted};
 ghost use Rattle.cut_server.specs.Server.{opening, book_of, slots_of, pages_after, frames_after, KeepsTune};
@@ -185,8 +185,20 @@ impl<P: Player> Server<P> {
         ensures book { book_of self.new ≡ without_one (book_of self.old) sample }
         ensures tune { KeepsTune P.meaning self.old self.new }
     {
-        let place = self.table.place_of(sample);
-        self.table.remove(place);
+        if let Some(place) = self.table.place_of(sample) {
+            self.table.remove(place);
+        }
+    }
+
+    /// Gives checkpoints up until there is room for one at the position; tells how many.
+    fn make_room(&mut self) -> u32
+        ensures room { let most = length (book_of self.old).live - 1 in
+            record { live = (book_of self.new).live; gave = result } ≡ room_made most (slots_of self.old) (pages_after P.meaning (opening P.meaning self.old) (book_of self.old).position) (record { live = (book_of self.old).live; gave = 0 }) }
+        ensures few { length (book_of self.new).live < most_checkpoints }
+        ensures book { book_of self.new ≡ with_live (book_of self.old) (book_of self.new).live }
+        ensures tune { KeepsTune P.meaning self.old self.new }
+    {
+        self.table.make_room(self.player.memory())
     }
 
     /// Takes a checkpoint at the position, unless one stands there. It gives up others for it as long as there is no room,
@@ -199,7 +211,7 @@ impl<P: Player> Server<P> {
         if self.has(self.position) {
             return Marked::Kept;
         }
-        let gave = self.table.make_room(self.player.memory());
+        let gave = self.make_room();
         match self.checkpoint() {
             Ok(()) => Marked::Taken { gave },
             Err(NoPages { need, free }) => Marked::NoPages { gave, need, free },

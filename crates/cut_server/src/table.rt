@@ -1,6 +1,6 @@
 // The table of checkpoints, over a pool of pages.
-ghost use Rattle.std.specs.Prelude.{◌≡◌, ◌==◌, ℕ, ◌≤◌, ◌+◌, ◌-◌, ◌<◌, ◌++◌, ◌∷◌, [], true, length, vec_len, vec_capacity, IfOk, slice_index, slice_get, Some};
-ghost use Rattle.std.specs.List.{list_any, remove, remove_range};
+ghost use Rattle.std.specs.Prelude.{◌≡◌, ◌==◌, ℕ, ◌≤◌, ◌+◌, ◌-◌, ◌<◌, ◌++◌, ◌∷◌, [], true, length, vec_len, vec_capacity, IfOk, IfSome, IsNone, ◌↔◌, false, slice_index, slice_get, Some};
+ghost use Rattle.std.specs.List.{list_any, position, remove, remove_range};
 ghost use Rattle.page_pool.specs.Pool.{free_slots};
 ghost use Rattle.cut_form.specs.Checkpoints.{most_checkpoints, pages_of, with_checkpoint, without_checkpoint, without_entry, slots_needed, slots_free, has_room, shared_with_newest, stands_at, nearest};
 ghost use Rattle.cut_form.specs.Marks.{room_made};
@@ -64,6 +64,13 @@ fn stands<S: Copy>(marks: &[Mark<S>], sample: u32) -> bool
     ensures { result ≡ list_any (λ mark. mark.sample == sample) marks.now }
 {
     marks.iter().any(|mark| mark.sample == sample)
+}
+
+/// The place of the first mark that was taken at a sample.
+fn first_at<S: Copy>(marks: &[Mark<S>], sample: u32) -> Option<usize>
+    ensures { result ≡ position (λ mark. mark.sample == sample) marks.now }
+{
+    marks.iter().position(|mark| mark.sample == sample)
 }
 
 impl<S: Copy> Table<S> {
@@ -137,18 +144,14 @@ impl<S: Copy> Table<S> {
         stands(&self.marks, sample)
     }
 
-    /// The place of the first one at a sample, where one stands there.
-    pub(crate) fn place_of(&self, sample: u32) -> usize
-        requires { stands_at (live_checkpoints self.now) sample ≡ true }
-        ensures within { result < length (samples_of self.now) }
-        ensures sample { slice_index (samples_of self.now) result ≡ sample }
-        ensures live { without_entry (live_checkpoints self.now) result ≡ without_checkpoint (live_checkpoints self.now) sample }
+    /// The place of the one at a sample; None exactly where none stands there.
+    pub(crate) fn place_of(&self, sample: u32) -> Option<usize>
+        ensures within { IfSome result (λ place. place < length (samples_of self.now)) }
+        ensures sample { IfSome result (λ place. slice_index (samples_of self.now) place ≡ sample) }
+        ensures live { IfSome result (λ place. without_entry (live_checkpoints self.now) place ≡ without_checkpoint (live_checkpoints self.now) sample) }
+        ensures none { IsNone result ↔ (stands_at (live_checkpoints self.now) sample ≡ false) }
     {
-        let mut place = 0;
-        'marks: while self.sample(place) != sample {
-            place += 1;
-        }
-        place
+        first_at(&self.marks, sample)
     }
 
     /// Copies the memory of one of them, and tells what else was saved.
@@ -228,15 +231,15 @@ impl<S: Copy> Table<S> {
     /// Drops the second one, as long as there is one and no room for one of a memory; tells how many.
     pub(crate) fn make_room(&mut self, memory: &Aram) -> u32
         ensures saved { saved_of self.new ≡ remove_range (saved_of self.old) 1 (result + 1) }
+        ensures few { length (live_checkpoints self.new) < most_checkpoints }
         ensures room { let most = length (live_checkpoints self.old) - 1 in
             record { live = live_checkpoints self.new; gave = result } ≡ room_made most (length self.old.pool) (pages_of memory.now) (record { live = live_checkpoints self.old; gave = 0 }) }
         ensures size { length self.new.pool ≡ length self.old.pool }
     {
-        let mut gave = 0;
+        let before = self.len();
         'marks: while self.len() > 1 && !self.has_room(memory) {
             self.remove(1);
-            gave += 1;
         }
-        gave
+        (before - self.len()) as u32
     }
 }

@@ -1,5 +1,4 @@
 use Rattle.std.proofs.Common.{arith}
-use Rattle.cut_server.specs.Placing.{AreGiven}
 use Rattle.cut_server.proofs.Memories.{within_marks}
 use Rattle.cut_server.proofs.Dropping.{apart_read, IsDropping, saved_dropped, live_dropped, kept_dropped}
 use Rattle.cut_server.proofs.table.Table.remove.Goals as goal
