@@ -62,6 +62,7 @@ impl Aram {
     pub fn page(&self, page: u8) -> &[u8]
         ensures bytes { result.now ≡ page_bytes self.now page }
         ensures length { length result.now ≡ 256 }
+        ensures memory { length self.now ≡ 0x10000 }
     {
         let first = PAGE * usize::from(page);
         &self.bytes[first..first + PAGE]
@@ -70,7 +71,8 @@ impl Aram {
     /// Puts 256 bytes into a page.
     pub fn set_page(&mut self, page: u8, bytes: &[u8])
         requires { length bytes.now ≡ 256 }
-        ensures { self.new ≡ with_page self.old page bytes.now }
+        ensures bytes { self.new ≡ with_page self.old page bytes.now }
+        ensures memory { length self.old ≡ 0x10000 }
     {
         let first = PAGE * usize::from(page);
         self.bytes[first..first + PAGE].copy_from_slice(bytes);

@@ -1,0 +1,44 @@
+-- What a script says (own).
+use Rattle.std.specs.Prelude.{ℕ, ◌+◌, nat_le, if◌then◌else◌, List, [], ◌∷◌, Option, Some, None, Result, Ok, Err, codes}
+use Rattle.std.specs.Str.{bytes_eq}
+use Rattle.num_fix.specs.Limits.{most_frames}
+use Rattle.cut_form.specs.declared.script.ScriptLine.{ScriptLine}
+use Rattle.cut_form.specs.declared.script.ScriptLine.TheVariants.{Seek, Play, Mark, Drop, Free}
+use Rattle.cut_form.specs.TextLines.{text_lines, line_words, number_of_word}
+
+-- the most lines of a script
+abbrev pub most_script_lines : ℕ
+most_script_lines = 100000
+
+-- a line with a number, which is an hour of sound at most
+abbrev pub numbered : (ℕ → ScriptLine) → Option ℕ → Option ScriptLine
+numbered line None = None
+numbered line (Some n) = if nat_le n most_frames then Some (line n) else None
+
+-- what the words of a line say
+abbrev pub line_of_words : List (List ℕ) → Option ScriptLine
+line_of_words [] = None
+line_of_words (name ∷ []) = if bytes_eq name (codes "mark") then Some Mark else if bytes_eq name (codes "free") then Some Free else None
+line_of_words (name ∷ (number ∷ [])) =
+    if bytes_eq name (codes "seek") then numbered Seek (number_of_word number)
+    else if bytes_eq name (codes "play") then numbered Play (number_of_word number)
+    else if bytes_eq name (codes "drop") then numbered Drop (number_of_word number)
+    else None
+line_of_words (name ∷ (number ∷ (more ∷ rest))) = None
+
+-- a line before others, unless one of theirs is wrong
+abbrev pub line_before : ScriptLine → Result (List ScriptLine) ℕ → Result (List ScriptLine) ℕ
+line_before line (Ok lines) = Ok (line ∷ lines)
+line_before line (Err wrong) = Err wrong
+
+-- what lines say, the first of which has a number, or the number of the first wrong one; no more of them than a script may have
+abbrev pub script_from : (number : ℕ) → List (List ℕ) → Result (List ScriptLine) ℕ
+script_from number [] = Ok []
+script_from number (line ∷ lines) = elim (if nat_le number most_script_lines then line_of_words (line_words line) else None) as (λ said. Result (List ScriptLine) ℕ) [
+  | Some said ↦ line_before said (script_from (number + 1) lines)
+  | None ↦ Err number
+]
+
+-- the lines of a script, or the number of its first wrong line, counted from 1
+abbrev pub script_lines : (text : List ℕ) → Result (List ScriptLine) ℕ
+script_lines text = script_from 1 (text_lines text)

@@ -1,0 +1,10 @@
+//! What cuts of a tune and sessions over it mean: checkpoints that share pages, lists of cuts, and scripts with their replies.
+#![tactic(auto)]
+
+mod cut;
+mod mark;
+mod script;
+
+pub use cut::Cut;
+pub use mark::{Marked, NoPages};
+pub use script::{Reply, ScriptLine};

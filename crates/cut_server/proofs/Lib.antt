@@ -1,0 +1,11 @@
+pub mod Adding
+pub mod Course
+pub mod Dropping
+pub mod Giving
+pub mod Memories
+pub mod Naming
+pub mod Places
+pub mod Placing
+pub mod Removing
+pub mod Rooms
+pub mod Shared

@@ -1,0 +1,156 @@
+-- Room for one more checkpoint, which others are given up for.
+use Rattle.std.proofs.Common.{◌≡◌, ℕ, zero, suc, ◌+◌, ◌-◌, ◌<◌, ◌≤◌, Bool, true, false, ◌&&◌, ◌||◌, ◌==◌, nat_le, nat_lt, List, [], ◌∷◌, length, drop, refl, sym, ap, ◌∙◌, arith, inl, inr}
+use Rattle.std.specs.List.{remove, remove_range}
+use Rattle.std.proofs.lemmas.List.{drop-drop}
+use Rattle.std.proofs.lemmas.Bool.{cases_Bool, cases_lt, and_right}
+use Rattle.std.proofs.lemmas.Bool.Decides.{nat_tests}
+use Rattle.cut_form.specs.Checkpoints.{Checkpoint, with_checkpoint, next_to_dropped, without_entry, has_room, slots_needed, slots_free, stands_at}
+use Rattle.cut_form.specs.CutBook.{CutBook}
+use Rattle.cut_form.specs.Marks.{Room, room_made, mark_in, mark_here}
+use Rattle.cut_form.specs.declared.mark.Marked.TheVariants.{Taken, NoPages}
+use Rattle.cut_server.specs.Table.{TableState, saved_of, live_checkpoints}
+
+-- dropping keeps the number of those after the first
+length-next_to_dropped : (dropped : Checkpoint) (live : List Checkpoint) → length (next_to_dropped dropped live) ≡ length live
+length-next_to_dropped dropped [] = refl
+length-next_to_dropped dropped (next ∷ rest) = refl
+
+pub length-without_entry : (live : List Checkpoint) (i : ℕ) → i < length live → length (without_entry live i) + 1 ≡ length live
+length-without_entry [] i within = absurd (omega arith)
+length-without_entry (x ∷ xs) zero within = omega (arith, length-next_to_dropped x xs)
+length-without_entry (x ∷ xs) (suc i) within = omega (arith, length-without_entry xs i (omega arith))
+
+-- one more is given up
+pub room_less : (slots : ℕ) (pages : List (List ℕ)) (live : List Checkpoint) (gave : ℕ) → 1 < length live → has_room slots pages live ≡ false
+    → room_made (length live - 1) slots pages (record { live = live; gave = gave }) ≡ room_made (length (without_entry live 1) - 1) slots pages (record { live = without_entry live 1; gave = gave + 1 })
+room_less slots pages [] gave more none = absurd (omega arith)
+room_less slots pages (x ∷ []) gave more none = absurd (omega arith)
+room_less slots pages (x ∷ (y ∷ rest)) gave more none =
+    let live = x ∷ (y ∷ rest) in
+    let most : length live - 1 ≡ suc (length rest) = omega arith in
+    let next : length (without_entry live 1) - 1 ≡ length rest = omega (arith, length-without_entry live 1 (omega arith)) in
+    ap (λ n. room_made n slots pages (record { live = live; gave = gave })) most ∙ rw none refl ∙ ap (λ n. room_made n slots pages (record { live = without_entry live 1; gave = gave + 1 })) (sym next)
+
+-- none more is given up
+pub room_ended : (slots : ℕ) (pages : List (List ℕ)) (live : List Checkpoint) (gave : ℕ) → (1 < length live → has_room slots pages live ≡ true) → room_made (length live - 1) slots pages (record { live = live; gave = gave }) ≡ record { live = live; gave = gave }
+room_ended slots pages [] gave ended = refl
+room_ended slots pages (x ∷ []) gave ended = refl
+room_ended slots pages (x ∷ (y ∷ rest)) gave ended =
+    let live = x ∷ (y ∷ rest) in
+    let most : length live - 1 ≡ suc (length rest) = omega arith in
+    ap (λ n. room_made n slots pages (record { live = live; gave = gave })) most ∙ rw (ended (omega arith)) refl
+
+drop_none : {A : Type 0} (n : ℕ) → drop {A = A} n [] ≡ []
+drop_none zero = refl
+drop_none (suc n) = refl
+
+-- what was saved of those that stay
+pub saved_kept : {A : Type 0} (xs : List A) → xs ≡ remove_range xs 1 1
+saved_kept [] = refl
+saved_kept (x ∷ xs) = refl
+
+pub saved_less : {A : Type 0} (xs : List A) (n : ℕ) → remove (remove_range xs 1 (n + 1)) 1 ≡ remove_range xs 1 (n + 1 + 1)
+saved_less {A = A} [] n = let none = drop_none {A = A} (n + 1) in let gone = drop_none {A = A} (n + 1 + 1) in rw (none, gone) refl
+saved_less (x ∷ xs) n =
+    let one : n + 1 ≡ suc n = omega arith in
+    let two : n + 1 + 1 ≡ suc (n + 1) = omega arith in
+    ap (λ k. x ∷ drop 1 (drop k (x ∷ xs))) one ∙ ap (λ rest. x ∷ rest) (drop-drop 1 n xs) ∙ ap (λ k. x ∷ drop k (x ∷ xs)) (sym two)
+
+-- Others were given up so far, as a mark does it, of so many that were live.
+pub record MakesRoom {S : Type 0} (pages : List (List ℕ)) (before : ℕ) (old new : TableState S) : Type 0 where
+  pub count : before ≡ length (live_checkpoints old)
+  pub fewer : length (live_checkpoints new) ≤ before
+  pub saved : saved_of new ≡ remove_range (saved_of old) 1 (before - length (live_checkpoints new) + 1)
+  pub room : room_made (length (live_checkpoints new) - 1) (length old.pool) pages (record { live = live_checkpoints new; gave = before - length (live_checkpoints new) })
+      ≡ room_made (length (live_checkpoints old) - 1) (length old.pool) pages (record { live = live_checkpoints old; gave = 0 })
+  pub size : length new.pool ≡ length old.pool
+
+pub makes_none : {S : Type 0} (pages : List (List ℕ)) (before : ℕ) (old : TableState S) → before ≡ length (live_checkpoints old) → MakesRoom pages before old old
+makes_none pages before old count =
+    let none : before - length (live_checkpoints old) ≡ 0 = omega (arith, count) in
+    record {
+      count = count;
+      fewer = omega (arith, count);
+      saved = rw none (saved_kept (saved_of old));
+      room = ap (λ gave. room_made (length (live_checkpoints old) - 1) (length old.pool) pages (record { live = live_checkpoints old; gave = gave })) none;
+      size = refl;
+    }
+
+pub makes_more : {S : Type 0} {pages : List (List ℕ)} {before : ℕ} {old mid : TableState S} → MakesRoom pages before old mid → (new : TableState S) → 1 < length (live_checkpoints mid) → has_room (length mid.pool) pages (live_checkpoints mid) ≡ false
+    → saved_of new ≡ remove (saved_of mid) 1 → live_checkpoints new ≡ without_entry (live_checkpoints mid) 1 → length new.pool ≡ length mid.pool → MakesRoom pages before old new
+makes_more {pages = pages} {before} {old} {mid} makes new more none saved live size =
+    let gave = before - length (live_checkpoints mid) in
+    let fewer : length (live_checkpoints new) + 1 ≡ length (live_checkpoints mid) = omega (arith, ap length live, length-without_entry (live_checkpoints mid) 1 more) in
+    let next : before - length (live_checkpoints new) ≡ gave + 1 = omega (arith, fewer, makes.fewer) in
+    let room_of : List Checkpoint → ℕ → Room = λ live gave. room_made (length live - 1) (length old.pool) pages (record { live = live; gave = gave }) in
+    record {
+      count = makes.count;
+      fewer = omega (arith, fewer, makes.fewer);
+      saved = saved ∙ ap (λ l. remove l 1) makes.saved ∙ saved_less (saved_of old) gave ∙ ap (λ n. remove_range (saved_of old) 1 (n + 1)) (sym next);
+      room = ap (λ n. room_of (live_checkpoints new) n) next ∙ ap (λ l. room_of l (gave + 1)) live ∙ sym (room_less (length old.pool) pages (live_checkpoints mid) gave more (rw (← makes.size) none)) ∙ makes.room;
+      size = size ∙ makes.size;
+    }
+
+pub room_made_here : {S : Type 0} {pages : List (List ℕ)} {before : ℕ} {old new : TableState S} → MakesRoom pages before old new → (1 < length (live_checkpoints new) → has_room (length new.pool) pages (live_checkpoints new) ≡ true)
+    → record { live = live_checkpoints new; gave = before - length (live_checkpoints new) } ≡ room_made (length (live_checkpoints old) - 1) (length old.pool) pages (record { live = live_checkpoints old; gave = 0 })
+room_made_here {pages = pages} {before} {old} {new} makes ended =
+    sym (room_ended (length old.pool) pages (live_checkpoints new) (before - length (live_checkpoints new)) (λ more. rw (← makes.size) (ended more))) ∙ makes.room
+
+first_of_both : (a b : Bool) → (a && b) ≡ true → a ≡ true
+first_of_both true b both = refl
+first_of_both false b both = cc
+
+pub room_few : (slots : ℕ) (pages : List (List ℕ)) (live : List Checkpoint) → length live ≤ 64 → (1 < length live → has_room slots pages live ≡ true) → length live < 64
+room_few slots pages live few ended = elim (cases_lt 1 (length live)) [
+  | inl more ↦ grind (arith, nat_tests, first_of_both (nat_lt (length live) 64) (nat_le (slots_needed live pages) (slots_free slots live)) (ended more))
+  | inr one ↦ omega (arith, one)
+]
+
+-- where none stood at a sample, none does once others are given up
+stands_in_next : (dropped : Checkpoint) (live : List Checkpoint) (sample : ℕ) → stands_at (next_to_dropped dropped live) sample ≡ stands_at live sample
+stands_in_next dropped [] sample = refl
+stands_in_next dropped (next ∷ rest) sample = refl
+
+none_of_both : (a b : Bool) → (a || b) ≡ false → (a ≡ false) × (b ≡ false)
+none_of_both true b none = cc
+none_of_both false b none = (refl, none)
+
+none_without : (live : List Checkpoint) (i sample : ℕ) → stands_at live sample ≡ false → stands_at (without_entry live i) sample ≡ false
+none_without [] i sample none = refl
+none_without (x ∷ xs) zero sample none = stands_in_next x xs sample ∙ (none_of_both (x.sample == sample) (stands_at xs sample) none).1
+none_without (x ∷ xs) (suc i) sample none =
+    let parts = none_of_both (x.sample == sample) (stands_at xs sample) none in
+    let rest : stands_at (without_entry xs i) sample ≡ false = none_without xs i sample parts.1 in
+    rw (parts.0, rest) refl
+
+none_in_room : (most slots : ℕ) (pages : List (List ℕ)) (live : List Checkpoint) (gave sample : ℕ) → stands_at live sample ≡ false → stands_at (room_made most slots pages (record { live = live; gave = gave })).live sample ≡ false
+none_in_room zero slots pages live gave sample none = none
+none_in_room (suc most) slots pages live gave sample none = elim (cases_Bool (has_room slots pages live)) [
+  | inl room ↦ rw room none
+  | inr full ↦ rw full (none_in_room most slots pages (without_entry live 1) (gave + 1) sample (none_without live 1 sample none))
+]
+
+pub none_left : (most slots : ℕ) (pages : List (List ℕ)) (live : List Checkpoint) (gave sample : ℕ) (room : Room) → room ≡ room_made most slots pages (record { live = live; gave = gave }) → stands_at live sample ≡ false
+    → stands_at room.live sample ≡ false
+none_left most slots pages live gave sample room is none = rw is (none_in_room most slots pages live gave sample none)
+
+-- a mark, once there is room or all others are given up
+pub mark_made : (slots : ℕ) (pages_at : ℕ → List (List ℕ)) (book : CutBook) (room : Room) → stands_at book.live book.position ≡ false
+    → room ≡ room_made (length book.live - 1) slots (pages_at book.position) (record { live = book.live; gave = 0 }) → mark_here slots pages_at book ≡ mark_in slots (pages_at book.position) book.position room
+mark_made slots pages_at book room none is = rw (none, ← is) refl
+
+pub mark_taken : (slots : ℕ) (pages : List (List ℕ)) (sample : ℕ) (room : Room) → length room.live < 64 → slots_needed room.live pages ≤ slots_free slots room.live
+    → mark_in slots pages sample room ≡ record { live = with_checkpoint room.live sample pages; marked = Taken room.gave }
+mark_taken slots pages sample room few enough =
+    let short : nat_lt (length room.live) 64 ≡ true = grind (arith, nat_tests, few) in
+    let test : nat_le (slots_needed room.live pages) (slots_free slots room.live) ≡ true = grind (arith, nat_tests, enough) in
+    rw (short, test) refl
+
+pub mark_refused : (slots : ℕ) (pages : List (List ℕ)) (sample : ℕ) (room : Room) → (slots_needed room.live pages ≤ slots_free slots room.live → ⊥)
+    → mark_in slots pages sample room ≡ record { live = room.live; marked = NoPages room.gave (slots_needed room.live pages) (slots_free slots room.live) }
+mark_refused slots pages sample room too_few =
+    let test : nat_le (slots_needed room.live pages) (slots_free slots room.live) ≡ false = elim (cases_Bool (nat_le (slots_needed room.live pages) (slots_free slots room.live))) [
+      | inl enough ↦ absurd (too_few (grind (arith, nat_tests, enough)))
+      | inr fewer ↦ fewer
+    ] in
+    rw (test, and_right (nat_lt (length room.live) 64) false refl) refl

@@ -1,0 +1,220 @@
+// The server of cuts.
+ghost use Rattle.std.specs.Prelude.{◌≡◌, ◌≢◌, ◌+◌, ◌-◌, ◌<◌, ◌≤◌, true, false, length, IfOk, IfErr, OnOk, IsOk, ◌↔◌};
+ghost use Rattle.num_fix.specs.Limits.{most_frames};
+ghost use Rattle.page_pool.specs.Pool.{most_pages};
+ghost use Rattle.cut_form.specs.Checkpoints.{most_checkpoints, slots_free, stands_at};
+ghost use Rattle.cut_form.specs.CutBook.{opened_book, after_seek, after_play, counted_book, needed_here, with_live, with_one_here, without_one};
+ghost use Rattle.cut_form.specs.Marks.{room_made, mark_here};
+ghost use Rattle.cut_form.specs.Slices.{slice_of};
+ghost use Rattle.cut_server.specs.Table.{samples_of, AreOwnersCounted};
+ghost use Rattle.cut_server.specs.Server.{opening, book_of, slots_of, pages_after, frames_after, KeepsTune};
+ghost use Rattle.cut_server.specs.IsServed.{GoesOn, GoesBack};
+
+use crate::OutOfMemory;
+use crate::player::Player;
+use crate::running::{run_out, run_out_into};
+use crate::table::Table;
+use aram_core::Aram;
+use cut_form::{Marked, NoPages};
+use std::alloc::Global;
+use std::marker::Model;
+use trace_form::Frames;
+
+/// A player of a tune, with checkpoints to which it can go back. Only `open` takes memory.
+#[derive(Drop)]
+pub struct Server<P: Player> {
+    player: P,
+    position: u32,
+    table: Table<P::Saved>,
+    scratch: Aram,
+}
+
+impl<P: Player> Model for Server<P> {
+    ghost use Rattle.cut_server.specs.Server.{ServerState};
+    ghost use Rattle.cut_server.specs.IsServed.{IsServed};
+
+    ghost Value = { ServerState P.Whole P.Saved };
+
+    ghost view = { λ s. record { playing = P.playing s.player; table = s.table } };
+
+    ghost invariant = { λ s. IsServed P.meaning (P.playing s.player) s.table s.position };
+}
+
+impl<P: Player> Server<P> {
+    /// A server that stands at sample 0, with a checkpoint there, and has so many pages. Its checkpoints are loaded by way of
+    /// the second memory.
+    pub fn open(
+        alloc: Global,
+        player: P,
+        scratch: Aram,
+        pages: u32,
+    ) -> Result<Server<P>, OutOfMemory>
+        requires enough { 256 ≤ pages }
+        requires few { pages ≤ most_pages }
+        requires done { (P.playing player).is_done ≡ true }
+        requires none_made { (P.playing player).samples ≡ 0 }
+        requires opened { P.meaning.sample (P.meaning.state (P.playing player).whole) ≡ 0 }
+        requires no_work { (P.playing player).total ≡ 0 }
+        ensures opening { IfOk result (λ server. opening P.meaning server ≡ (P.playing player).whole) }
+        ensures book { IfOk result (λ server. book_of server ≡ opened_book (pages_after P.meaning (P.playing player).whole)) }
+        ensures slots { IfOk result (λ server. slots_of server ≡ pages) }
+    {
+        let table = Table::open(alloc, pages, player.save(), player.memory())?;
+        Ok(Server {
+            player,
+            position: 0,
+            table,
+            scratch,
+        })
+    }
+
+    /// The position: the number of samples before it.
+    pub fn at(&self) -> u32
+        ensures { result ≡ (book_of self.now).position }
+    {
+        self.position
+    }
+
+    /// Whether a checkpoint stands at a sample.
+    pub fn has(&self, sample: u32) -> bool
+        ensures { result ≡ stands_at (book_of self.now).live sample }
+    {
+        self.table.has(sample)
+    }
+
+    /// How many checkpoints are live.
+    pub fn count(&self) -> u32
+        ensures count { result ≡ length (book_of self.now).live }
+        ensures few { result ≤ most_checkpoints }
+    {
+        self.table.len() as u32
+    }
+
+    /// How many pages of the pool are free. A page has as many owners as live checkpoints name it.
+    pub fn free(&self) -> u32
+        ensures free { result ≡ slots_free (slots_of self.now) (book_of self.now).live }
+        ensures owners { AreOwnersCounted self.now.table }
+    {
+        self.table.free()
+    }
+
+    /// The samples that seeks and plays made. It stays at its type's end.
+    pub fn work(&self) -> u64
+        ensures { result ≡ (book_of self.now).made }
+    {
+        self.player.total()
+    }
+
+    /// Goes back to a checkpoint.
+    fn load(&mut self, index: usize)
+        requires { index < length (samples_of self.old.table) }
+        ensures { GoesBack P.meaning self.old self.new index }
+    {
+        let state = self.table.load(index, &mut self.scratch);
+        self.position = self.table.sample(index);
+        self.player.load(&state, &self.scratch);
+    }
+
+    /// Runs on to a sample.
+    fn run(&mut self, at: u32)
+        requires later { self.old.playing.samples ≤ at }
+        requires few { at ≤ most_frames }
+        ensures { GoesOn P.meaning self.old self.new self.old.playing.samples at }
+    {
+        self.player.aim(at);
+        run_out(&mut self.player);
+        self.position = at;
+    }
+
+    /// Goes to a sample: from where it stands, unless that is after the sample, or before the last checkpoint up to it; then
+    /// from this checkpoint.
+    pub fn seek(&mut self, at: u32)
+        requires { at ≤ most_frames }
+        ensures book { book_of self.new ≡ counted_book (after_seek (book_of self.old) at) }
+        ensures tune { KeepsTune P.meaning self.old self.new }
+    {
+        let nearest = self.table.nearest(at);
+        let checkpoint = self.table.sample(nearest);
+        if self.position > at || self.position < checkpoint {
+            self.load(nearest);
+        }
+        self.run(at);
+    }
+
+    /// Plays 1 to 64 frames: a slice of those that the run from the opening emits, whatever was called before.
+    pub fn play(&mut self, most: u32, frames: &mut Frames)
+        requires some { 1 ≤ most }
+        requires few { most ≤ 64 }
+        requires within { (book_of self.old).position + most ≤ most_frames }
+        ensures frames { frames.new ≡ slice_of (frames_after P.meaning (opening P.meaning self.old)) (book_of self.old).position most }
+        ensures book { book_of self.new ≡ counted_book (after_play (book_of self.old) most) }
+        ensures tune { KeepsTune P.meaning self.old self.new }
+    {
+        frames.clear();
+        self.player.aim(self.position + most);
+        run_out_into(&mut self.player, frames);
+        self.position += most;
+    }
+
+    /// Takes a checkpoint at the position, unless it needs more slots than are free.
+    pub fn checkpoint(&mut self) -> Result<(), NoPages>
+        requires none_here { stands_at (book_of self.old).live (book_of self.old).position ≡ false }
+        requires few { length (book_of self.old).live < most_checkpoints }
+        ensures taken { OnOk result (book_of self.new ≡ with_one_here (pages_after P.meaning (opening P.meaning self.old)) (book_of self.old)) }
+        ensures need { IfErr result (λ e. e.need ≡ needed_here (pages_after P.meaning (opening P.meaning self.old)) (book_of self.old)) }
+        ensures free { IfErr result (λ e. e.free ≡ slots_free (slots_of self.old) (book_of self.old).live) }
+        ensures unchanged { IfErr result (λ e. self.new ≡ self.old) }
+        ensures exactly { let need = needed_here (pages_after P.meaning (opening P.meaning self.old)) (book_of self.old) in
+            IsOk result ↔ (need ≤ slots_free (slots_of self.old) (book_of self.old).live) }
+        ensures tune { KeepsTune P.meaning self.old self.new }
+    {
+        let need = self.table.needed(self.player.memory());
+        let free = self.table.free();
+        if need > free {
+            return Err(NoPages { need, free });
+        }
+        let state = self.player.save();
+        self.table.add(self.position, state, self.player.memory());
+        Ok(())
+    }
+
+    /// Drops the checkpoint at a sample, and gives its pages back.
+    pub fn drop_at(&mut self, sample: u32)
+        requires not_opening { sample ≢ 0 }
+        requires stands { stands_at (book_of self.old).live sample ≡ true }
+        ensures book { book_of self.new ≡ without_one (book_of self.old) sample }
+        ensures tune { KeepsTune P.meaning self.old self.new }
+    {
+        if let Some(place) = self.table.place_of(sample) {
+            self.table.remove(place);
+        }
+    }
+
+    /// Gives checkpoints up until there is room for one at the position; tells how many.
+    fn make_room(&mut self) -> u32
+        ensures room { let most = length (book_of self.old).live - 1 in
+            record { live = (book_of self.new).live; gave = result } ≡ room_made most (slots_of self.old) (pages_after P.meaning (opening P.meaning self.old) (book_of self.old).position) (record { live = (book_of self.old).live; gave = 0 }) }
+        ensures few { length (book_of self.new).live < most_checkpoints }
+        ensures book { book_of self.new ≡ with_live (book_of self.old) (book_of self.new).live }
+        ensures tune { KeepsTune P.meaning self.old self.new }
+    {
+        self.table.make_room(self.player.memory())
+    }
+
+    /// Takes a checkpoint at the position, unless one stands there. It gives up others for it as long as there is no room,
+    /// first those taken first; but never that of sample 0.
+    pub fn mark(&mut self) -> Marked
+        ensures book { book_of self.new ≡ with_live (book_of self.old) (mark_here (slots_of self.old) (pages_after P.meaning (opening P.meaning self.old)) (book_of self.old)).live }
+        ensures answer { result ≡ (mark_here (slots_of self.old) (pages_after P.meaning (opening P.meaning self.old)) (book_of self.old)).marked }
+        ensures tune { KeepsTune P.meaning self.old self.new }
+    {
+        if self.has(self.position) {
+            return Marked::Kept;
+        }
+        let gave = self.make_room();
+        match self.checkpoint() {
+            Ok(()) => Marked::Taken { gave },
+            Err(NoPages { need, free }) => Marked::NoPages { gave, need, free },
+        }
+    }
+}

@@ -1,0 +1,245 @@
+// The table of checkpoints, over a pool of pages.
+ghost use Rattle.std.specs.Prelude.{◌≡◌, ◌==◌, ℕ, ◌≤◌, ◌+◌, ◌-◌, ◌<◌, ◌++◌, ◌∷◌, [], true, length, vec_len, vec_capacity, IfOk, IfSome, IsNone, ◌↔◌, false, slice_index, slice_get, Some};
+ghost use Rattle.std.specs.List.{list_any, position, remove, remove_range};
+ghost use Rattle.page_pool.specs.Pool.{free_slots};
+ghost use Rattle.cut_form.specs.Checkpoints.{most_checkpoints, pages_of, with_checkpoint, without_checkpoint, without_entry, slots_needed, slots_free, has_room, shared_with_newest, stands_at, nearest};
+ghost use Rattle.cut_form.specs.Marks.{room_made};
+ghost use Rattle.cut_server.specs.Table.{Saved, live_checkpoints, saved_of, samples_of, newest_from, AreOwnersCounted};
+ghost use Rattle.cut_server.specs.IsServed.{BeginAtOpening};
+
+use crate::OutOfMemory;
+use crate::pages::{give_all, place_all};
+use aram_core::Aram;
+use page_pool::{Page, PagePool};
+use std::alloc::Global;
+use std::marker::Model;
+
+/// A live checkpoint: what was saved of the machine, and a page of the pool for each page of its memory.
+#[derive(Drop)]
+pub(crate) struct Mark<S: Copy> {
+    pub(crate) sample: u32,
+    pub(crate) state: S,
+    pub(crate) pages: [Page; 256],
+}
+
+/// Up to 64 checkpoints, in the order in which they were taken. The first is that of the opening.
+#[derive(Drop)]
+pub(crate) struct Table<S: Copy> {
+    pool: PagePool,
+    marks: Vec<Mark<S>>,
+}
+
+impl<S: Copy> Model for Table<S> {
+    ghost use Rattle.std.specs.Prelude.{◌≤◌, vec_capacity};
+    ghost use Rattle.cut_server.specs.Table.{TableState, IsKept};
+
+    ghost Value = { TableState S };
+
+    ghost view = { λ t. record { pool = t.pool; marks = t.marks.items } };
+
+    ghost invariant = { λ t. (64 ≤ vec_capacity t.marks) × IsKept t.pool t.marks.items };
+}
+
+/// The pages of the newest mark, if there is one.
+fn newest_pages<S: Copy>(marks: &[Mark<S>]) -> &[Page]
+    ensures { result.now ≡ newest_from [] marks.now }
+{
+    match marks.last() {
+        Some(newest) => &newest.pages,
+        None => &[],
+    }
+}
+
+/// Adds a mark, for which there is room.
+fn push_mark<S: Copy>(marks: &mut Vec<Mark<S>>, mark: Mark<S>)
+    requires { vec_len marks.old < vec_capacity marks.old }
+    ensures items { marks.new.items ≡ marks.old.items ++ mark ∷ [] }
+    ensures capacity { vec_capacity marks.old ≤ vec_capacity marks.new }
+{
+    let _ = marks.push(mark);
+}
+
+/// Whether one of the marks was taken at a sample.
+fn stands<S: Copy>(marks: &[Mark<S>], sample: u32) -> bool
+    ensures { result ≡ list_any (λ mark. mark.sample == sample) marks.now }
+{
+    marks.iter().any(|mark| mark.sample == sample)
+}
+
+/// The place of the first mark that was taken at a sample.
+fn first_at<S: Copy>(marks: &[Mark<S>], sample: u32) -> Option<usize>
+    ensures { result ≡ position (λ mark. mark.sample == sample) marks.now }
+{
+    marks.iter().position(|mark| mark.sample == sample)
+}
+
+impl<S: Copy> Table<S> {
+    /// A table with the checkpoint of the opening.
+    pub(crate) fn open(
+        alloc: Global,
+        pages: u32,
+        state: S,
+        memory: &Aram,
+    ) -> Result<Table<S>, OutOfMemory>
+        requires enough { 256 ≤ pages }
+        requires few { pages ≤ 65536 }
+        ensures saved { IfOk result (λ table. saved_of table ≡ record { sample = 0; state = state; memory = memory.now } ∷ []) }
+        ensures live { IfOk result (λ table. live_checkpoints table ≡ with_checkpoint [] 0 (pages_of memory.now)) }
+        ensures free { IfOk result (λ table. free_slots table.pool + 256 ≡ pages) }
+        ensures size { IfOk result (λ table. length table.pool ≡ pages) }
+    {
+        let pool = PagePool::new(alloc, pages)?;
+        let marks = Vec::with_capacity(alloc, 64)?;
+        let mut table = Table { pool, marks };
+        table.add(0, state, memory);
+        Ok(table)
+    }
+
+    /// How many checkpoints are live.
+    pub(crate) fn len(&self) -> usize
+        ensures live { result ≡ length (live_checkpoints self.now) }
+        ensures samples { result ≡ length (samples_of self.now) }
+        ensures few { result ≤ most_checkpoints }
+    {
+        self.marks.len()
+    }
+
+    /// The sample of one of them.
+    pub(crate) fn sample(&self, index: usize) -> u32
+        requires { index < length (samples_of self.now) }
+        ensures { result ≡ slice_index (samples_of self.now) index }
+    {
+        self.marks[index].sample
+    }
+
+    /// How many pages are free.
+    pub(crate) fn free(&self) -> u32
+        ensures pool { result ≡ free_slots self.now.pool }
+        ensures free { result ≡ slots_free (length self.now.pool) (live_checkpoints self.now) }
+        ensures owners { AreOwnersCounted self.now }
+    {
+        self.pool.free()
+    }
+
+    /// The last one at or before a sample.
+    pub(crate) fn nearest(&self, at: u32) -> usize
+        requires { BeginAtOpening (saved_of self.now) }
+        ensures index { result < length (samples_of self.now) }
+        ensures sample { slice_index (samples_of self.now) result ≡ nearest (live_checkpoints self.now) at }
+    {
+        let mut nearest = 0;
+        for index in 1..self.len() {
+            let sample = self.sample(index);
+            if sample <= at && sample > self.sample(nearest) {
+                nearest = index;
+            }
+        }
+        nearest
+    }
+
+    /// Whether one stands at a sample.
+    pub(crate) fn has(&self, sample: u32) -> bool
+        ensures { result ≡ stands_at (live_checkpoints self.now) sample }
+    {
+        stands(&self.marks, sample)
+    }
+
+    /// The place of the one at a sample; None exactly where none stands there.
+    pub(crate) fn place_of(&self, sample: u32) -> Option<usize>
+        ensures within { IfSome result (λ place. place < length (samples_of self.now)) }
+        ensures sample { IfSome result (λ place. slice_index (samples_of self.now) place ≡ sample) }
+        ensures live { IfSome result (λ place. without_entry (live_checkpoints self.now) place ≡ without_checkpoint (live_checkpoints self.now) sample) }
+        ensures none { IsNone result ↔ (stands_at (live_checkpoints self.now) sample ≡ false) }
+    {
+        first_at(&self.marks, sample)
+    }
+
+    /// Copies the memory of one of them, and tells what else was saved.
+    pub(crate) fn load(&self, index: usize, memory: &mut Aram) -> S
+        requires { index < length (samples_of self.now) }
+        ensures { slice_get (saved_of self.now) index ≡ Some (record { sample = slice_index (samples_of self.now) index; state = result; memory = memory.new }) }
+    {
+        let mark = &self.marks[index];
+        for page in 0..256 {
+            memory.set_page(page as u8, self.pool.bytes(mark.pages[page]));
+        }
+        mark.state
+    }
+
+    /// Whether a page of a memory holds what that of the newest holds.
+    fn is_shared(&self, memory: &Aram, page: usize) -> bool
+        requires { page < 256 }
+        ensures { Some result ≡ slice_get (shared_with_newest (live_checkpoints self.now) (pages_of memory.now)) page }
+    {
+        match self.marks.last() {
+            Some(newest) => memory.page(page as u8) == self.pool.bytes(newest.pages[page]),
+            None => false,
+        }
+    }
+
+    /// How many free pages one of a memory would take.
+    pub(crate) fn needed(&self, memory: &Aram) -> u32
+        ensures { result ≡ slots_needed (live_checkpoints self.now) (pages_of memory.now) }
+    {
+        let mut needed = 0;
+        for page in 0..256 {
+            if !self.is_shared(memory, page) {
+                needed += 1;
+            }
+        }
+        needed
+    }
+
+    /// Takes one more.
+    pub(crate) fn add(&mut self, sample: u32, state: S, memory: &Aram)
+        requires few { length (samples_of self.old) < most_checkpoints }
+        requires pages { slots_needed (live_checkpoints self.old) (pages_of memory.now) ≤ free_slots self.old.pool }
+        ensures saved { saved_of self.new ≡ saved_of self.old ++ record { sample = sample; state = state; memory = memory.now } ∷ [] }
+        ensures live { live_checkpoints self.new ≡ with_checkpoint (live_checkpoints self.old) sample (pages_of memory.now) }
+        ensures free { free_slots self.new.pool + slots_needed (live_checkpoints self.old) (pages_of memory.now) ≡ free_slots self.old.pool }
+        ensures size { length self.new.pool ≡ length self.old.pool }
+    {
+        let pages = place_all(&mut self.pool, newest_pages(&self.marks), memory);
+        push_mark(
+            &mut self.marks,
+            Mark {
+                sample,
+                state,
+                pages,
+            },
+        );
+    }
+
+    /// Drops the one at a place.
+    pub(crate) fn remove(&mut self, place: usize)
+        requires { place < length (samples_of self.old) }
+        ensures saved { saved_of self.new ≡ remove (saved_of self.old) place }
+        ensures live { live_checkpoints self.new ≡ without_entry (live_checkpoints self.old) place }
+        ensures size { length self.new.pool ≡ length self.old.pool }
+    {
+        let mark = self.marks.remove(place);
+        give_all(&mut self.pool, &mark.pages);
+    }
+
+    /// Whether there is room for one of a memory.
+    fn has_room(&self, memory: &Aram) -> bool
+        ensures { result ≡ has_room (length self.now.pool) (pages_of memory.now) (live_checkpoints self.now) }
+    {
+        self.len() < 64 && self.needed(memory) <= self.free()
+    }
+
+    /// Drops the second one, as long as there is one and no room for one of a memory; tells how many.
+    pub(crate) fn make_room(&mut self, memory: &Aram) -> u32
+        ensures saved { saved_of self.new ≡ remove_range (saved_of self.old) 1 (result + 1) }
+        ensures few { length (live_checkpoints self.new) < most_checkpoints }
+        ensures room { let most = length (live_checkpoints self.old) - 1 in
+            record { live = live_checkpoints self.new; gave = result } ≡ room_made most (length self.old.pool) (pages_of memory.now) (record { live = live_checkpoints self.old; gave = 0 }) }
+        ensures size { length self.new.pool ≡ length self.old.pool }
+    {
+        let before = self.len();
+        'marks: while self.len() > 1 && !self.has_room(memory) {
+            self.remove(1);
+        }
+        (before - self.len()) as u32
+    }
+}
