@@ -94,19 +94,13 @@ fn a_key_on_after_a_poll_is_lost_at_the_next(rt: HostRuntime) -> Result<(), Fail
     };
     assert_eq!(rt; records.as_slice(), [keyed].as_slice());
     dsp.reg_write(0x4c, 0x01);
-    play(&mut dsp, &mut memory, 6, &mut frames, &mut records);
-    assert_eq!(rt;
-        frames.as_slice(),
-        [SILENCE, SILENCE, SILENCE, SILENCE, SILENCE, SOUND].as_slice()
-    );
-    assert_eq!(rt; records.as_slice().len(), 6);
+    play(&mut dsp, &mut memory, 7, &mut frames, &mut records);
+    assert_eq!(rt; frames.as_slice(), SEVEN.as_slice());
+    assert_eq!(rt; records.as_slice().len(), 7);
     assert!(rt; is_quiet(&records));
     // ENVX and OUTX, also by an address above 7Fh
     assert_eq!(rt; (dsp.reg_read(0x08), dsp.reg_read(0x89)), (127, 15));
-    play(&mut dsp, &mut memory, 1, &mut frames, &mut records);
-    assert_eq!(rt; frames.as_slice(), [SOUND].as_slice());
-    assert!(rt; is_quiet(&records));
-    assert_eq!(rt; (dsp.sample(), dsp.batches()), (8, 3));
+    assert_eq!(rt; (dsp.sample(), dsp.batches()), (8, 2));
     Ok(())
 }
 
