@@ -29,4 +29,4 @@ tune_records file table mask samples = run_records (lock_step dsp_chip) lock_ste
 
 -- and how often the chip ran for them, and why
 abbrev pub tune_counts : (file : List ℕ) → (table : List ℤ) → (mask samples : ℕ) → Counts
-tune_counts file table mask samples = run_counts dsp_chip samples (with_opened_book dsp_chip (opened_tune file table mask))
+tune_counts file table mask samples = run_counts dsp_chip samples (with_opened_book dsp_chip (opened_tune file table mask) 0)
