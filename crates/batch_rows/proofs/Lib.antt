@@ -1,0 +1,16 @@
+-- Lanes: the voices of a sample, one after another, are a sample of their lanes.
+-- SameInputs: registers that differ in results alone give voices, sums and echo the same.
+-- OneMore: one sample, from where a batch by rows has come.
+-- ByRows: a batch whose voices read nothing that its echo writes is one by rows.
+-- InReach: where the voices of a batch read nothing that its echo writes.
+-- Once: the results of a batch, and its keys.
+-- Afar: the blocks of a chain lie in two runs of bytes.
+-- Inputs: what the voices of a batch read.
+pub mod Lanes
+pub mod SameInputs
+pub mod OneMore
+pub mod ByRows
+pub mod InReach
+pub mod Once
+pub mod Afar
+pub mod Inputs
