@@ -1,9 +1,7 @@
 -- Voices that samples sample by sample and voices that run one after another give the same.
 use Rattle.std.proofs.Common.{◌≡◌, ℕ, zero, suc, ◌+◌, List, [], ◌∷◌, ℤ, map, refl, ◌<◌, ap, arith}
 use Rattle.voice_unit.specs.Voice.{VoiceState}
-use Rattle.voice_unit.specs.Batch.{steps}
-use Rattle.dsp_form.specs.Registers.{voice_regs}
-use Rattle.dsp_form.specs.Sample.{SharedInput, VoiceResult, voice_in, voice_result, results_from}
+use Rattle.dsp_form.specs.Sample.{SharedInput, VoiceResult, voice_result, results_from}
 use Rattle.batch_rows.specs.Lane.{voice_after, lane, outs, voices_after, lanes}
 
 -- before the first sample each voice is as it was
@@ -44,12 +42,31 @@ voice_after-rows shared others v previous other voice (suc n) same before =
       before n (omega arith),
     ) refl
 
--- a voice over rows with the same registers and memory makes the steps of a voice by its own inputs
-pub voice_after-steps : (shared : ℕ → SharedInput) (registers memory : List ℕ) (v : ℕ) (previous : ℕ → ℤ) (voice : VoiceState) (n : ℕ)
-    → ((j : ℕ) → (shared j).registers ≡ registers) → ((j : ℕ) → (shared j).memory ≡ memory)
-    → voice_after shared v previous voice n
-    ≡ steps (voice_regs registers v) (λ j. voice_in registers (shared j).common v (previous j)) memory (λ j. (shared j).counter) voice n
-unfolding voice_after voice_result
-voice_after-steps shared registers memory v previous voice zero same there = refl
-voice_after-steps shared registers memory v previous voice (suc n) same there =
-    rw (voice_after-steps shared registers memory v previous voice n same there, same n, there n) refl
+-- and the same of its lane
+lane-rows : (shared : ℕ → SharedInput) (v : ℕ) (previous other : ℕ → ℤ) (voice : VoiceState) (n j : ℕ) → j < n
+    → ((j : ℕ) → j < n → previous j ≡ other j) → lane shared v previous voice j ≡ lane shared v other voice j
+unfolding lane
+lane-rows shared v previous other voice n j few before =
+    rw (
+      voice_after-rows shared shared v previous other voice j (λ i below. refl) (λ i below. before i (omega (arith, below, few))),
+      before j few,
+    ) refl
+
+-- the lanes and the voices of a batch depend on the first row of outputs below its length alone
+pub lanes-rows : (shared : ℕ → SharedInput) (v : ℕ) (previous other : ℕ → ℤ) (voices : List VoiceState) (n j : ℕ) → j < n
+    → ((j : ℕ) → j < n → previous j ≡ other j) → lanes shared v previous voices j ≡ lanes shared v other voices j
+lanes-rows shared v previous other [] n j few before = refl
+lanes-rows shared v previous other (voice ∷ voices) n j few before =
+    rw (lane-rows shared v previous other voice n j few before)
+    (ap (λ (rest : List VoiceResult). lane shared v other voice j ∷ rest)
+    (lanes-rows shared (v + 1) (outs shared v previous voice) (outs shared v other voice) voices n j few
+    (λ i below. ap (λ (one : VoiceResult). one.answer.out) (lane-rows shared v previous other voice n i below before))))
+
+pub voices_after-rows : (shared : ℕ → SharedInput) (v : ℕ) (previous other : ℕ → ℤ) (voices : List VoiceState) (n : ℕ)
+    → ((j : ℕ) → j < n → previous j ≡ other j) → voices_after shared v previous voices n ≡ voices_after shared v other voices n
+voices_after-rows shared v previous other [] n before = refl
+voices_after-rows shared v previous other (voice ∷ voices) n before =
+    rw (voice_after-rows shared shared v previous other voice n (λ i below. refl) before)
+    (ap (λ (rest : List VoiceState). voice_after shared v other voice n ∷ rest)
+    (voices_after-rows shared (v + 1) (outs shared v previous voice) (outs shared v other voice) voices n
+    (λ i below. ap (λ (one : VoiceResult). one.answer.out) (lane-rows shared v previous other voice n i below before))))

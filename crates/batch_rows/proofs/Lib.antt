@@ -4,8 +4,8 @@
 -- ByRows: a batch whose voices read nothing that its echo writes is one by rows.
 -- InReach: where the voices of a batch read nothing that its echo writes.
 -- Once: the results of a batch, and its keys.
+-- KeyRows: one sample more of the rows of keys and noise.
 -- Afar: the blocks of a chain lie in two runs of bytes.
--- Inputs: what the voices of a batch read.
 pub mod Lanes
 pub mod SameInputs
 pub mod OneMore
@@ -13,4 +13,4 @@ pub mod ByRows
 pub mod InReach
 pub mod Once
 pub mod Afar
-pub mod Inputs
+pub mod KeyRows

@@ -3,8 +3,14 @@
 -- Apart: that the voices of a batch read nothing that its echo writes.
 -- Once: what a batch does once.
 -- Afar: what voices can read, from afar.
+-- KeyRows: the rows of keys and noise that the voices of a batch read.
+-- PlayedLane: what a voice leaves of a batch.
+-- Laws: the laws of batches by rows.
 pub mod Lane
 pub mod Rows
 pub mod Apart
 pub mod Once
 pub mod Afar
+pub mod KeyRows
+pub mod PlayedLane
+pub mod Laws
