@@ -5,6 +5,7 @@
 -- InReach: where the voices of a batch read nothing that its echo writes.
 -- Once: the results of a batch, and its keys.
 -- KeyRows: one sample more of the rows of keys and noise.
+-- PlayedLane: a voice over the rows of a batch makes the steps of its lane.
 -- Afar: the blocks of a chain lie in two runs of bytes.
 pub mod Lanes
 pub mod SameInputs
@@ -14,3 +15,4 @@ pub mod InReach
 pub mod Once
 pub mod Afar
 pub mod KeyRows
+pub mod PlayedLane

@@ -10,6 +10,7 @@ use Rattle.dsp_form.specs.Results.{without_bits, registers_after}
 use Rattle.dsp_form.specs.Sample.{VoiceResult, results_from, records_from, shared_input, after_poll, after_noise, sample}
 use Rattle.dsp_form.specs.declared.registers.TheConstants.{FLG}
 use Rattle.dsp_form.specs.declared.state.DspState.{DspState}
+use Rattle.dsp_form.proofs.EightVoices.{polled_part}
 use Rattle.dsp_form.proofs.Inputs.{SameInputs, registers-before_step}
 use Rattle.batch_rows.specs.Rows.{keys_after, with_parts}
 use Rattle.batch_rows.specs.Apart.{polled}
@@ -77,3 +78,13 @@ sample_of_parts now k first registers voices echo memory results same flg gives 
       same_echo_regs registers first same,
       same_volumes registers first same,
     ) refl
+
+-- nor do they change the table
+table-before_step : (s : DspState) (k : ℕ) → (polled s k).table ≡ s.table
+unfolding after_poll after_noise
+table-before_step s k = polled_part (λ (t : DspState). t.table) (k % 2 == 0) s (without_bits s.hidden.waiting s.hidden.taken) refl
+
+pub table-keys_after : (k : ℕ) (s : DspState) (n : ℕ) → (keys_after k s n).table ≡ s.table
+unfolding keys_after
+table-keys_after k s zero = refl
+table-keys_after k s (suc n) = table-before_step (keys_after k s n) (k + n) ∙ table-keys_after k s n

@@ -1,0 +1,63 @@
+//! The voices of a batch, each over all its samples before the next.
+
+ghost use Rattle.std.specs.Prelude.{◌≡◌, ◌<◌, ◌≤◌, ◌+◌, ◌-◌, ◌^◌, ℕ, pos, List, map, length, slice_index};
+ghost use Rattle.num_fix.specs.Words.{number_at};
+ghost use Rattle.voice_unit.specs.Play.{CountsFrom};
+ghost use Rattle.dsp_form.specs.Limits.{most_samples_of_batch};
+ghost use Rattle.dsp_form.specs.Registers.{is_soft_reset};
+ghost use Rattle.dsp_form.specs.declared.registers.TheConstants.{DIR, PMON, NON, KOFF, FLG};
+ghost use Rattle.dsp_form.specs.declared.state.DspState.{DspState};
+ghost use Rattle.batch_rows.specs.KeyRows.{AreKeyRows};
+ghost use Rattle.batch_rows.specs.PlayedLane.{IsPlayedLane};
+ghost use Rattle.batch_rows.specs.Rows.{inputs};
+
+use aram_core::Aram;
+use dsp_form::registers::{DIR, FLG, KOFF, NON, PMON, Registers, voice_regs};
+use gauss_table::GaussTable;
+use num_fix::has_bit;
+use rate_clock::RateClock;
+use voice_unit::{BatchLane, BatchRows, Voice, VoiceOut};
+
+/// What voice `v` reads of the registers that all voices share.
+fn lane_of(registers: &Registers, v: u8) -> BatchLane
+    requires { v < 8 }
+    ensures { result ≡ record { voice = v; dir = slice_index registers.now DIR; pmon = slice_index registers.now PMON; non = slice_index registers.now NON; koff = slice_index registers.now KOFF; reset = is_soft_reset (slice_index registers.now FLG) } }
+{
+    BatchLane {
+        voice: v,
+        dir: registers[DIR],
+        pmon: registers[PMON],
+        non: registers[NON],
+        koff: registers[KOFF],
+        reset: has_bit(registers[FLG], 7),
+    }
+}
+
+/// Voice `v` over a batch of n samples, over the row of outputs of the voice before it. The answer is that of its last sample.
+pub fn play_voice(
+    voice: &mut Voice,
+    v: u8,
+    n: u8,
+    registers: &Registers,
+    rows: &BatchRows,
+    clocks: &[RateClock; 64],
+    previous: &[i16; 64],
+    memory: &Aram,
+    table: &GaussTable,
+    row: &mut [i16; 64],
+    loops: &mut [u8; 64],
+) -> VoiceOut
+    requires voice { v < 8 }
+    requires some { 0 < n }
+    requires few { n ≤ most_samples_of_batch }
+    requires noise { (j : ℕ) → j < n → slice_index rows.now.noise j < 0x8000 }
+    requires room { (j : ℕ) → j < 64 → slice_index loops.old j < 2 ^ v }
+    ensures { (k : ℕ) (s : DspState) → s.registers ≡ registers.now → s.table ≡ table.now → AreKeyRows k n s rows.now → CountsFrom k n clocks.now
+        → IsPlayedLane (inputs k s memory.now) v n (number_at previous.now) voice.old voice.new row.new loops.old loops.new result }
+{
+    let regs = voice_regs(registers, v);
+    let lane = lane_of(registers, v);
+    voice.play(
+        n, &regs, &lane, rows, previous, memory, table, clocks, row, loops,
+    )
+}
