@@ -6,6 +6,7 @@
 -- Once: the results of a batch, and its keys.
 -- KeyRows: one sample more of the rows of keys and noise.
 -- PlayedLane: a voice over the rows of a batch makes the steps of its lane.
+-- Remains: the voices of a batch, one more of them played.
 -- Afar: the blocks of a chain lie in two runs of bytes.
 pub mod Lanes
 pub mod SameInputs
@@ -16,3 +17,4 @@ pub mod Once
 pub mod Afar
 pub mod KeyRows
 pub mod PlayedLane
+pub mod Remains

@@ -5,6 +5,8 @@
 -- Afar: what voices can read, from afar.
 -- KeyRows: the rows of keys and noise that the voices of a batch read.
 -- PlayedLane: what a voice leaves of a batch.
+-- SumRows: rows of sums with the shares of a voice.
+-- PlayedBatch: what the voices leave of a batch.
 -- Laws: the laws of batches by rows.
 pub mod Lane
 pub mod Rows
@@ -13,4 +15,6 @@ pub mod Once
 pub mod Afar
 pub mod KeyRows
 pub mod PlayedLane
+pub mod SumRows
+pub mod PlayedBatch
 pub mod Laws

@@ -8,10 +8,13 @@ ghost use Rattle.dsp_form.specs.Registers.{is_soft_reset};
 ghost use Rattle.dsp_form.specs.declared.registers.TheConstants.{DIR, PMON, NON, KOFF, FLG};
 ghost use Rattle.dsp_form.specs.declared.state.DspState.{DspState};
 ghost use Rattle.batch_rows.specs.KeyRows.{AreKeyRows};
+ghost use Rattle.batch_rows.specs.PlayedBatch.{IsPlayedBatch};
 ghost use Rattle.batch_rows.specs.PlayedLane.{IsPlayedLane};
 ghost use Rattle.batch_rows.specs.Rows.{inputs};
 
+use crate::sums::SumRows;
 use aram_core::Aram;
+use dsp_form::Volumes;
 use dsp_form::registers::{DIR, FLG, KOFF, NON, PMON, Registers, voice_regs};
 use gauss_table::GaussTable;
 use num_fix::has_bit;
@@ -60,4 +63,49 @@ pub fn play_voice(
     voice.play(
         n, &regs, &lane, rows, previous, memory, table, clocks, row, loops,
     )
+}
+
+/// All voices over a batch of n samples: their answers of the last sample, the bits of those that loop in each, and its sums.
+pub fn play_voices(
+    voices: &mut [Voice; 8],
+    n: u8,
+    registers: &Registers,
+    volumes: &[Volumes; 8],
+    rows: &BatchRows,
+    clocks: &[RateClock; 64],
+    memory: &Aram,
+    table: &GaussTable,
+    answers: &mut [VoiceOut; 8],
+    loops: &mut [u8; 64],
+    sums: &mut SumRows,
+)
+    requires some { 0 < n }
+    requires few { n ≤ most_samples_of_batch }
+    requires noise { (j : ℕ) → j < n → slice_index rows.now.noise j < 0x8000 }
+    ensures { (k : ℕ) (s : DspState) → s.registers ≡ registers.now → s.table ≡ table.now → AreKeyRows k n s rows.now → CountsFrom k n clocks.now
+        → IsPlayedBatch (inputs k s memory.now) n volumes.now voices.old voices.new answers.new loops.new sums.new }
+{
+    *loops = [0; 64];
+    *sums = SumRows::silent();
+    let mut previous = [0; 64];
+    let mut row = [0; 64];
+    for v in 0..8u8 {
+        let place = usize::from(v);
+        let answer = play_voice(
+            &mut voices[place],
+            v,
+            n,
+            registers,
+            rows,
+            clocks,
+            &previous,
+            memory,
+            table,
+            &mut row,
+            loops,
+        );
+        sums.add(&row, &volumes[place]);
+        answers[place] = answer;
+        previous = row;
+    }
 }

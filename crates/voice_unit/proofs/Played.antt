@@ -2,6 +2,7 @@
 use Rattle.std.proofs.Common.{◌≡◌, ◌≢◌, ℕ, suc, ◌+◌, ◌^◌, ◌<◌, ◌≤◌, ◌==◌, List, ℤ, pos, Bool, true, false, length, get_or, slice_index, slice_set, if◌then◌else◌, refl, ap, sym, ◌∙◌, add-one, arith}
 use Rattle.std.proofs.lemmas.Bool.Decides.{nat_tests}
 use Rattle.std.proofs.lemmas.List.{get_or-set_same, get_or-set_other}
+use Rattle.std.proofs.lemmas.Nat.{pow-add}
 use Rattle.num_fix.specs.Words.{number_at}
 use Rattle.rate_clock.specs.Counter.{counter_at}
 use Rattle.voice_unit.specs.Batch.{steps, answer_of_step}
@@ -29,6 +30,20 @@ with_loop-same loops n v false within = omega arith
 pub with_loop-other : (loops : List ℕ) (n v j : ℕ) (looped : Bool) → j ≢ n → slice_index (with_loop loops n v looped) j ≡ slice_index loops j
 with_loop-other loops n v j true other = get_or-set_other loops n j (slice_index loops n + 2 ^ v) 0 other
 with_loop-other loops n v j false other = refl
+
+-- twice a power of 2
+pub doubled : (v : ℕ) → 2 ^ (v + 1) ≡ 2 ^ v + 2 ^ v
+doubled v = pow-add 2 v 1 ∙ omega arith
+
+-- bytes below the bit of the next voice stay below it
+pub with_loop-bound : (loops : List ℕ) (n v i : ℕ) (looped : Bool) → n < length loops → slice_index loops n < 2 ^ v → slice_index loops i < 2 ^ (v + 1)
+    → slice_index (with_loop loops n v looped) i < 2 ^ (v + 1)
+with_loop-bound loops n v i true long room below = by (i == n) refl
+  where
+    by : (b : Bool) → (i == n) ≡ b → slice_index (with_loop loops n v true) i < 2 ^ (v + 1)
+    by true e = let here : i ≡ n = grind (arith, nat_tests, e) in rw (here, with_loop-same loops n v true long, doubled v) (omega (arith, room))
+    by false e = let other : i ≢ n = grind (arith, nat_tests, e) in rw (with_loop-other loops n v i true other) below
+with_loop-bound loops n v i false long room below = below
 
 -- the voice after one sample more
 more_steps : (lane : Lane) (n : ℕ) → voice_at lane (n + 1) ≡ voice_step (voice_at lane n) lane.regs (lane.inputs n) lane.memory (counter_at (lane.k + n))

@@ -74,6 +74,7 @@ impl Voice {
         requires room { (j : ℕ) → j < 64 → slice_index loops.old j < 2 ^ lane.now.voice }
         ensures played { (k : ℕ) → CountsFrom k n clocks.now → IsPlayed (lane_of regs.now lane.now rows.now previous.now memory.now table.now self.old k) lane.now.voice n loops.old loops.new outs.new self.new }
         ensures others { (j : ℕ) → n ≤ j → slice_index loops.new j ≡ slice_index loops.old j }
+        ensures room { (j : ℕ) → j < 64 → slice_index loops.new j < 2 ^ (lane.now.voice + 1) }
     {
         let mut rest = 0;
         for j in 0..n {
@@ -109,6 +110,7 @@ impl Voice {
         requires noise { (j : ℕ) → j < n → slice_index rows.now.noise j < 0x8000 }
         requires room { (j : ℕ) → j < 64 → slice_index loops.old j < 2 ^ lane.now.voice }
         ensures played { (k : ℕ) → CountsFrom k n clocks.now → IsPlayed (lane_of regs.now lane.now rows.now previous.now memory.now table.now self.old k) lane.now.voice n loops.old loops.new outs.new self.new }
+        ensures room { (j : ℕ) → j < 64 → slice_index loops.new j < 2 ^ (lane.now.voice + 1) }
         ensures last { (k : ℕ) → CountsFrom k n clocks.now → result ≡ answer_at (lane_of regs.now lane.now rows.now previous.now memory.now table.now self.old k) (n - 1) }
     {
         let last = n - 1;

@@ -7,7 +7,7 @@ use Rattle.voice_unit.specs.Batch.{lane_inputs, answer_of_step}
 use Rattle.voice_unit.specs.Play.{Lane, CountsFrom, IsPlayed, lane_of, answer_at}
 use Rattle.voice_unit.specs.Voice.{VoiceState, voice_answer}
 use Rattle.voice_unit.specs.declared.interface.VoiceOut.{VoiceOut}
-use Rattle.voice_unit.proofs.Played.{one_more_played}
+use Rattle.voice_unit.proofs.Played.{one_more_played, with_loop-bound}
 use Rattle.voice_unit.proofs.voice.Voice.play.Goals as goal
 
 pub mark_loop-requires-clause-room : goal.mark_loop-requires-clause-room
@@ -45,3 +45,10 @@ returns-clause-last c k counts =
     rw place at c.index-clocks-place.is ∙ get_or_default c.args.clocks.now j c.index-clocks-place.result 0 (search rules) ∙ counts j (omega (arith, c.requires.some)) in
     let before = c.play_row.ensures.played k (λ i below. counts i (omega (arith, below))) in
     rw before.voice_is at (rw (input, ← c.index-clocks-place.is, clock) at c.step-answer.ensures.answer)
+
+pub returns-clause-room : goal.returns-clause-room
+returns-clause-room c j below =
+    let last : ℕ = c.args.n - 1 in
+    let same : slice_index c.play_row.new.loops last ≡ slice_index c.args.loops.now last = c.play_row.ensures.others last (omega arith) in
+    let own : slice_index c.play_row.new.loops last < 2 ^ c.args.lane.now.voice = rw same (c.requires.room last (omega (arith, c.requires.some, c.requires.few))) in
+    rw c.mark_loop.ensures (with_loop-bound c.play_row.new.loops last c.args.lane.now.voice j c.step-answer.result.looped (search rules) own (c.play_row.ensures.room j below))

@@ -1,4 +1,4 @@
-use Rattle.std.proofs.Common.{rules, ◌≡◌, ◌≢◌, ◌<◌, ◌+◌, ℕ, List, ℤ, to_z, of_z, length, slice_index, refl, ap, sym, ◌∙◌, arith}
+use Rattle.std.proofs.Common.{rules, ◌≡◌, ◌≢◌, ◌<◌, ◌+◌, ◌^◌, ℕ, List, ℤ, to_z, of_z, length, slice_index, refl, ap, sym, ◌∙◌, arith}
 use Rattle.std.specs.Int.{w16}
 use Rattle.std.proofs.lemmas.List.{get_or_default, length-set}
 use Rattle.num_fix.specs.Arithmetic.{has_bit}
@@ -9,7 +9,7 @@ use Rattle.voice_unit.specs.Rest.{IsAtRest}
 use Rattle.voice_unit.specs.Play.{Lane, CountsFrom, IsPlayed, lane_of}
 use Rattle.voice_unit.specs.declared.interface.VoiceIn.{VoiceIn}
 use Rattle.voice_unit.proofs.AtRest.{no_rest}
-use Rattle.voice_unit.proofs.Played.{none_played, one_more_played, with_loop-other}
+use Rattle.voice_unit.proofs.Played.{none_played, one_more_played, with_loop-other, with_loop-bound, doubled}
 use Rattle.voice_unit.proofs.voice.Voice.play_row.Goals as goal
 
 pub loop-j-init : goal.loop-j-init
@@ -17,6 +17,7 @@ loop-j-init c = record {
   played = λ k counts. none_played (lane_of c.args.regs.now c.args.lane.now c.args.rows.now c.args.previous.now c.args.memory.now c.args.table.now c.args.self.now k) c.args.lane.now.voice c.args.loops.now c.args.outs.now;
   rest = λ k counts. no_rest c.args.lane.now.reset (has_bit c.args.lane.now.koff c.args.lane.now.voice) c.args.regs.now c.args.memory.now (k + 0) c.args.self.now;
   later = λ j above. refl;
+  room = λ j below. rw (doubled c.args.lane.now.voice) (omega (arith, c.requires.room j below));
   outs_long = search rules;
   loops_long = search rules;
 }
@@ -51,6 +52,9 @@ loop-j-preserved c =
           let other : i ≢ j = λ e. absurd (omega (arith, e, above)) in
           rw c.mark_loop.ensures (with_loop-other c.loop-j.loops j c.args.lane.now.voice i c.play_sample-played.result.looped other
           ∙ c.loop-j.invariant.later i (omega (arith, above)));
+      room = λ i below.
+          let own : slice_index c.loop-j.loops j < 2 ^ c.args.lane.now.voice = rw (c.loop-j.invariant.later j (omega arith)) (c.requires.room j (omega (arith, c.requires.few))) in
+          rw c.mark_loop.ensures (with_loop-bound c.loop-j.loops j c.args.lane.now.voice i c.play_sample-played.result.looped within_loops own (c.loop-j.invariant.room i below));
       outs_long = length-set c.loop-j.outs c.from-place.result (to_z w16 (of_z w16 c.play_sample-played.result.out)) ∙ c.loop-j.invariant.outs_long;
       loops_long = c.mark_loop.array_long;
     }

@@ -1,0 +1,9 @@
+-- Rows of sums with the shares of a voice.
+use Rattle.std.specs.Prelude.{◌≡◌, ℕ, ◌<◌, List, ℤ, ◌+ℤ◌}
+use Rattle.num_fix.specs.Arithmetic.{clamp16, scaled}
+use Rattle.num_fix.specs.Words.{number_at}
+
+-- each sum has the share of an output at a volume added, limited to 16 bits
+abbrev pub HasShares : (outs : List ℤ) → (volume : ℤ) → (before after : List ℤ) → Type 0
+HasShares outs volume before after =
+    (j : ℕ) → j < 64 → number_at after j ≡ clamp16 (number_at before j +ℤ scaled (number_at outs j) volume 7)
