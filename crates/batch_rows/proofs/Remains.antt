@@ -1,6 +1,6 @@
 -- The voices of a batch, one more of them played.
 use Rattle.std.proofs.Common.{◌≡◌, ℕ, ◌+◌, ◌-◌, ◌^◌, ◌<◌, ◌≤◌, List, [], ◌∷◌, ◌++◌, ℤ, pos, ◌+ℤ◌, map, length, take, drop, get_or, slice_index, slice_set, if◌then◌else◌, refl, ap, sym, ◌∙◌, append_assoc, arith}
-use Rattle.std.proofs.lemmas.List.{drop_more, take_more_set, drop-set-lt, drop_all, append-nil}
+use Rattle.std.proofs.lemmas.List.{drop_more, take_more_set, drop-set-lt, drop_all, take_all, append-nil}
 use Rattle.num_fix.specs.Arithmetic.{clamp16, scaled}
 use Rattle.num_fix.specs.Words.{number_at}
 use Rattle.voice_unit.specs.Voice.{VoiceState}
@@ -93,4 +93,41 @@ module _ (shared : ℕ → SharedInput) (n : ℕ) (volumes : List Volumes) (befo
   pub all_played : (previous : List ℤ) (voices : List VoiceState) (answers : List VoiceOut) (loops : List ℕ) (sums : SumRows)
       → length voices ≡ 8 → length answers ≡ 8 → Remains shared n volumes before 8 previous voices answers loops sums
       → IsPlayedBatch shared n volumes before voices answers loops sums
-  all_played previous voices answers loops sums eight eight_answers done = ?
+  all_played previous voices answers loops sums eight eight_answers done =
+      let none : drop 8 voices ≡ [] = drop_all 8 voices (omega (arith, eight)) in
+      let all : take 8 voices ≡ voices = take_all 8 voices (omega (arith, eight)) in
+      let all_answers : take 8 answers ≡ answers = take_all 8 answers (omega (arith, eight_answers)) in
+      record {
+        voices_are = sym (rw (none, all, append-nil) at done.voices_are);
+        last_is = sym (rw (none, all_answers, append-nil) at done.last_is);
+        loops_are = λ j few. sym (rw none at (done.loops_are j few) ∙ omega arith);
+        main_left = λ j few. sym (rw none at (done.main_left j few) ∙ ended (λ one. one.left) (number_at sums.main_left j) (drop 8 volumes));
+        main_right = λ j few. sym (rw none at (done.main_right j few) ∙ ended (λ one. one.right) (number_at sums.main_right j) (drop 8 volumes));
+        sent_left = λ j few. sym (rw none at (done.sent_left j few) ∙ ended (λ one. one.sent_left) (number_at sums.sent_left j) (drop 8 volumes));
+        sent_right = λ j few. sym (rw none at (done.sent_right j few) ∙ ended (λ one. one.sent_right) (number_at sums.sent_right j) (drop 8 volumes));
+      }
+    where
+      ended : (volume : Volumes → ℤ) (sum : ℤ) (vols : List Volumes) → clamped_sum sum (shares_at volume vols []) ≡ sum
+      ended volume sum [] = refl
+      ended volume sum (one ∷ vols) = refl
+
+  -- all of them remain
+  pub none_played : (previous : List ℤ) (answers : List VoiceOut) (loops : List ℕ) (sums : SumRows)
+      → ((j : ℕ) → j < n → pos 0 ≡ number_at previous j) → ((j : ℕ) → j < n → slice_index loops j ≡ 0)
+      → ((j : ℕ) → j < n → number_at sums.main_left j ≡ pos 0) → ((j : ℕ) → j < n → number_at sums.main_right j ≡ pos 0)
+      → ((j : ℕ) → j < n → number_at sums.sent_left j ≡ pos 0) → ((j : ℕ) → j < n → number_at sums.sent_right j ≡ pos 0)
+      → 0 < n → Remains shared n volumes before 0 previous before answers loops sums
+  none_played previous answers loops sums quiet none ml mr sl sr some = record {
+    voices_are = voices_after-rows shared 0 (λ j. pos 0) (number_at previous) before n quiet;
+    last_is = same (n - 1) (omega (arith, some));
+    loops_are = λ j few. rw (same j few, none j few) (omega arith);
+    main_left = λ j few. rw (same j few, ml j few) refl;
+    main_right = λ j few. rw (same j few, mr j few) refl;
+    sent_left = λ j few. rw (same j few, sl j few) refl;
+    sent_right = λ j few. rw (same j few, sr j few) refl;
+  }
+    where
+      same : (j : ℕ) → j < n → answers_from shared 0 (λ j. pos 0) before j ≡ answers_from shared 0 (number_at previous) before j
+      same j few =
+          ap (λ (results : List VoiceResult). map (λ (result : VoiceResult). result.answer) results)
+          (lanes-rows shared 0 (λ j. pos 0) (number_at previous) before n j few quiet)

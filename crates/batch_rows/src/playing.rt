@@ -1,6 +1,6 @@
 //! The voices of a batch, each over all its samples before the next.
 
-ghost use Rattle.std.specs.Prelude.{◌≡◌, ◌<◌, ◌≤◌, ◌+◌, ◌-◌, ◌^◌, ℕ, pos, List, map, length, slice_index};
+ghost use Rattle.std.specs.Prelude.{◌≡◌, ◌<◌, ◌≤◌, ◌+◌, ◌-◌, ◌^◌, ℕ, pos, List, map, length, replicate, slice_index};
 ghost use Rattle.num_fix.specs.Words.{number_at};
 ghost use Rattle.voice_unit.specs.Play.{CountsFrom};
 ghost use Rattle.dsp_form.specs.Limits.{most_samples_of_batch};
@@ -55,14 +55,22 @@ pub fn play_voice(
     requires few { n ≤ most_samples_of_batch }
     requires noise { (j : ℕ) → j < n → slice_index rows.now.noise j < 0x8000 }
     requires room { (j : ℕ) → j < 64 → slice_index loops.old j < 2 ^ v }
-    ensures { (k : ℕ) (s : DspState) → s.registers ≡ registers.now → s.table ≡ table.now → AreKeyRows k n s rows.now → CountsFrom k n clocks.now
+    ensures played { (k : ℕ) (s : DspState) → s.registers ≡ registers.now → s.table ≡ table.now → AreKeyRows k n s rows.now → CountsFrom k n clocks.now
         → IsPlayedLane (inputs k s memory.now) v n (number_at previous.now) voice.old voice.new row.new loops.old loops.new result }
+    ensures room { (j : ℕ) → j < 64 → slice_index loops.new j < 2 ^ (v + 1) }
 {
     let regs = voice_regs(registers, v);
     let lane = lane_of(registers, v);
     voice.play(
         n, &regs, &lane, rows, previous, memory, table, clocks, row, loops,
     )
+}
+
+/// Begins with no voice that loops.
+fn clear_loops(loops: &mut [u8; 64])
+    ensures { loops.new ≡ replicate 64 0 }
+{
+    *loops = [0; 64];
 }
 
 /// All voices over a batch of n samples: their answers of the last sample, the bits of those that loop in each, and its sums.
@@ -85,14 +93,15 @@ pub fn play_voices(
     ensures { (k : ℕ) (s : DspState) → s.registers ≡ registers.now → s.table ≡ table.now → AreKeyRows k n s rows.now → CountsFrom k n clocks.now
         → IsPlayedBatch (inputs k s memory.now) n volumes.now voices.old voices.new answers.new loops.new sums.new }
 {
-    *loops = [0; 64];
-    *sums = SumRows::silent();
+    clear_loops(loops);
+    sums.clear();
     let mut previous = [0; 64];
     let mut row = [0; 64];
     for v in 0..8u8 {
         let place = usize::from(v);
+        let mut voice = voices[place];
         let answer = play_voice(
-            &mut voices[place],
+            &mut voice,
             v,
             n,
             registers,
@@ -104,7 +113,9 @@ pub fn play_voices(
             &mut row,
             loops,
         );
-        sums.add(&row, &volumes[place]);
+        let own = volumes[place];
+        sums.add(&row, &own);
+        voices[place] = voice;
         answers[place] = answer;
         previous = row;
     }

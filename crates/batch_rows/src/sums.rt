@@ -24,16 +24,16 @@ fn add_row(sums: &mut [i16; 64], outs: &[i16; 64], volume: i16)
 }
 
 impl SumRows {
-    /// The sums over no voices.
-    pub fn silent() -> SumRows
-        ensures { result ≡ record { main_left = replicate 64 (pos 0); main_right = replicate 64 (pos 0); sent_left = replicate 64 (pos 0); sent_right = replicate 64 (pos 0) } }
+    /// Begins with the sums over no voices.
+    pub fn clear(&mut self)
+        ensures { self.new ≡ record { main_left = replicate 64 (pos 0); main_right = replicate 64 (pos 0); sent_left = replicate 64 (pos 0); sent_right = replicate 64 (pos 0) } }
     {
-        SumRows {
+        *self = SumRows {
             main_left: [0; 64],
             main_right: [0; 64],
             sent_left: [0; 64],
             sent_right: [0; 64],
-        }
+        };
     }
 
     /// Adds the shares of a voice.

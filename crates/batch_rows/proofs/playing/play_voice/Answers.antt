@@ -5,8 +5,8 @@ use Rattle.dsp_form.specs.Registers.{voice_regs}
 use Rattle.batch_rows.proofs.PlayedLane.{lane_registers, played_lane}
 use Rattle.batch_rows.proofs.playing.play_voice.Goals as goal
 
-pub returns : goal.returns
-returns c k s registers table are counts =
+pub returns-clause-played : goal.returns-clause-played
+returns-clause-played c k s registers table are counts =
     let regs : c.voice_regs-regs.result ≡ voice_regs s.registers c.args.v = rw registers c.voice_regs-regs.ensures.value in
     let lane : c.lane_of-lane.result ≡ lane_registers s.registers c.args.v = rw registers c.lane_of-lane.ensures in
     let played = rw (regs, lane, ← table) at (c.play.ensures.played k counts) in
