@@ -15,7 +15,7 @@ use Rattle.reach_map.specs.Reach.{pages_of_bytes, chain, block_pages, chain_page
 use Rattle.echo_unit.specs.Flg.{has_echo_writes}
 use Rattle.dsp_form.specs.Reach.{entries_from, starts_from, chip_window, chip_reach}
 use Rattle.dsp_form.specs.declared.registers.TheConstants.{FLG}
-use Rattle.dsp_form.specs.declared.state.DspState.{DspState}
+use Rattle.dsp_form.specs.declared.state.ChipState.{ChipState}
 use Rattle.dsp_reach.proofs.PageSets.{contains-pages, apart_right, has_page, at_page, in_left, in_right, in_either}
 use Rattle.dsp_reach.proofs.ChainPages.{bytes_have}
 use Rattle.batch_rows.specs.Afar.{far_pages, far_voice_pages}
@@ -102,7 +102,7 @@ none_common these those apart =
     neither false b h = refl
 
 -- where the echo's window has no page of what voices can read from afar, the reach isn't entangled
-pub far_apart : (s : DspState) (memory : List ℕ)
+pub far_apart : (s : ChipState) (memory : List ℕ)
     → have_common_page (set.from_list (far_voice_pages (starts_from s memory 0 s.hidden.voices) (entries_from s.registers 0 s.hidden.voices))) (set.from_list (window_pages (chip_window s))) ≡ false
     → (chip_reach s memory).entangled ≡ false
 unfolding chip_reach reach

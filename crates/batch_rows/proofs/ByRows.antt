@@ -5,7 +5,7 @@ use Rattle.echo_unit.specs.Echo.{EchoState}
 use Rattle.dsp_form.specs.Samples.{SamplesResult, samples, one_more}
 use Rattle.dsp_form.specs.Sample.{SharedInput, results_from, shared_input, sample}
 use Rattle.dsp_form.specs.declared.registers.TheConstants.{FLG}
-use Rattle.dsp_form.specs.declared.state.DspState.{DspState}
+use Rattle.dsp_form.specs.declared.state.ChipState.{ChipState}
 use Rattle.dsp_form.proofs.Inputs.{SameInputs, registers-before_step}
 use Rattle.dsp_reach.proofs.Registers.{same_inputs-samples}
 use Rattle.batch_rows.specs.Lane.{lanes, voices_after}
@@ -16,12 +16,12 @@ use Rattle.batch_rows.proofs.SameInputs.{same_results}
 use Rattle.batch_rows.proofs.OneMore.{polled_parts, registers-keys_after, sample_of_parts}
 
 -- what all voices of a batch by rows read in sample n is what the chip's keys and noise make of it
-inputs_are : (k : ℕ) (s : DspState) (memory : List ℕ) (n : ℕ) → inputs k s memory n ≡ shared_input (polled (keys_after k s n) (k + n)) memory (k + n)
+inputs_are : (k : ℕ) (s : ChipState) (memory : List ℕ) (n : ℕ) → inputs k s memory n ≡ shared_input (polled (keys_after k s n) (k + n)) memory (k + n)
 unfolding inputs keys_after
 inputs_are k s memory n = refl
 
 -- what the voices read from where a batch by rows has come, over the memory from before the batch
-results_of_parts : (s : DspState) (memory : List ℕ) (n k : ℕ) (registers : List ℕ) (voices : List VoiceState) (echo : EchoState) → SameInputs registers s.registers
+results_of_parts : (s : ChipState) (memory : List ℕ) (n k : ℕ) (registers : List ℕ) (voices : List VoiceState) (echo : EchoState) → SameInputs registers s.registers
     → results_from (shared_input (polled (with_parts (keys_after k s n) registers voices echo) (k + n)) memory (k + n)) 0 (pos 0) voices
     ≡ results_from (inputs k s memory n) 0 (pos 0) voices
 results_of_parts s memory n k registers voices echo same = rw parts whole
@@ -32,7 +32,7 @@ results_of_parts s memory n k registers voices echo same = rw parts whole
     flg : slice_index registers FLG ≡ slice_index (keys_after k s n).registers FLG
     flg = rw own (same FLG refl)
 
-    next : DspState
+    next : ChipState
     next = polled (keys_after k s n) (k + n)
 
     parts : polled (with_parts (keys_after k s n) registers voices echo) (k + n) ≡ with_parts next registers voices echo
@@ -45,18 +45,18 @@ results_of_parts s memory n k registers voices echo same = rw parts whole
     whole = same_results registers next.registers registers_same (shared_input next memory (k + n)) 0 (pos 0) voices
         ∙ ap (λ (one : SharedInput). results_from one 0 (pos 0) voices) (sym (inputs_are k s memory n))
 
-no_more : (k : ℕ) (s : DspState) (memory : List ℕ) → samples sample zero k s memory ≡ by_rows zero k s memory
+no_more : (k : ℕ) (s : ChipState) (memory : List ℕ) → samples sample zero k s memory ≡ by_rows zero k s memory
 unfolding samples by_rows keys_after echo_after
 no_more k s memory = rw (voices_after-zero (inputs k s memory) 0 (λ j. pos 0) s.hidden.voices) refl
 
 -- that the voices of sample n give the same over the memory from before the batch
-abbrev GivesTheSame : (n k : ℕ) → DspState → (memory : List ℕ) → SamplesResult DspState → Type 0
+abbrev GivesTheSame : (n k : ℕ) → ChipState → (memory : List ℕ) → SamplesResult ChipState → Type 0
 GivesTheSame n k s memory now =
     results_from (shared_input (polled now.state (k + n)) now.memory (k + n)) 0 (pos 0) now.state.hidden.voices
     ≡ results_from (shared_input (polled now.state (k + n)) memory (k + n)) 0 (pos 0) now.state.hidden.voices
 
 -- one sample more, from where a batch by rows has come
-one_more_row : (s : DspState) (memory : List ℕ) (n k : ℕ) → SameInputs (by_rows n k s memory).state.registers s.registers
+one_more_row : (s : ChipState) (memory : List ℕ) (n k : ℕ) → SameInputs (by_rows n k s memory).state.registers s.registers
     → GivesTheSame n k s memory (by_rows n k s memory)
     → one_more sample (k + n) (by_rows n k s memory) ≡ by_rows (suc n) k s memory
 unfolding by_rows keys_after echo_after answers
@@ -75,7 +75,7 @@ one_more_row s memory n k same apart =
     ) refl
 
 -- samples whose voices read nothing that the echo writes are those by rows
-pub samples_by_rows : (n k : ℕ) (s : DspState) (memory : List ℕ) → VoicesReadTheSame n k s memory → samples sample n k s memory ≡ by_rows n k s memory
+pub samples_by_rows : (n k : ℕ) (s : ChipState) (memory : List ℕ) → VoicesReadTheSame n k s memory → samples sample n k s memory ≡ by_rows n k s memory
 unfolding samples
 samples_by_rows zero k s memory apart = no_more k s memory
 samples_by_rows (suc n) k s memory apart =

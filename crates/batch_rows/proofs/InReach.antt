@@ -14,7 +14,7 @@ use Rattle.dsp_reach.proofs.Registers.{same_inputs-samples}
 use Rattle.dsp_reach.proofs.EchoPages.{echo_memory_still}
 use Rattle.dsp_form.specs.Valid.{is_valid}
 use Rattle.dsp_form.specs.Reach.{chip_reach}
-use Rattle.dsp_form.specs.declared.state.DspState.{DspState}
+use Rattle.dsp_form.specs.declared.state.ChipState.{ChipState}
 use Rattle.dsp_form.proofs.Inputs.{registers-before_step}
 use Rattle.dsp_reach.proofs.Keys.{taken_waited}
 use Rattle.dsp_reach.proofs.ReachOfChip.{voices_unwritten}
@@ -24,10 +24,10 @@ use Rattle.dsp_reach.proofs.Within.{stays_in_samples}
 use Rattle.batch_rows.specs.Apart.{polled, VoicesReadTheSame}
 
 -- where the reach isn't entangled
-pub reach_keeps_apart : (n k : ℕ) (s : DspState) (memory : List ℕ) → n ≤ 64 → is_valid s ≡ true → (chip_reach s memory).entangled ≡ false → VoicesReadTheSame n k s memory
+pub reach_keeps_apart : (n k : ℕ) (s : ChipState) (memory : List ℕ) → n ≤ 64 → is_valid s ≡ true → (chip_reach s memory).entangled ≡ false → VoicesReadTheSame n k s memory
 reach_keeps_apart n k s memory few valid clear j below = sym over
   where
-    now : SamplesResult DspState
+    now : SamplesResult ChipState
     now = samples sample j k s memory
 
     stays : StaysInReach s memory j now.state now.memory
@@ -49,12 +49,12 @@ reach_keeps_apart n k s memory few valid clear j below = sym over
     over = results_same s memory j 0 (pos 0) shared memory s.hidden.voices now.state.hidden.voices find (omega (arith, few, below)) (stays.voices clear) (λ at there. sym (find.bytes at there))
 
 -- while echo writes are off, samples leave the memory as it is
-memory-samples : (n k : ℕ) (s : DspState) (memory : List ℕ) → has_echo_writes (slice_index s.registers FLG) ≡ false → (samples sample n k s memory).memory ≡ memory
+memory-samples : (n k : ℕ) (s : ChipState) (memory : List ℕ) → has_echo_writes (slice_index s.registers FLG) ≡ false → (samples sample n k s memory).memory ≡ memory
 unfolding samples sample echo_regs
 memory-samples zero k s memory off = refl
 memory-samples (suc n) k s memory off =
-    let now : SamplesResult DspState = samples sample n k s memory in
-    let next : DspState = polled now.state (k + n) in
+    let now : SamplesResult ChipState = samples sample n k s memory in
+    let next : ChipState = polled now.state (k + n) in
     let same : slice_index next.registers FLG ≡ slice_index s.registers FLG =
     ap (λ (registers : List ℕ). slice_index registers FLG) (registers-before_step now.state (k + n)) ∙ same_inputs-samples n k s memory FLG refl in
     let still : has_echo_writes (slice_index next.registers FLG) ≡ false = ap has_echo_writes same ∙ off in
@@ -63,7 +63,7 @@ memory-samples (suc n) k s memory off =
     ∙ memory-samples n k s memory off
 
 -- and so the voices read the same
-pub still_keeps_apart : (n k : ℕ) (s : DspState) (memory : List ℕ) → has_echo_writes (slice_index s.registers FLG) ≡ false → VoicesReadTheSame n k s memory
+pub still_keeps_apart : (n k : ℕ) (s : ChipState) (memory : List ℕ) → has_echo_writes (slice_index s.registers FLG) ≡ false → VoicesReadTheSame n k s memory
 still_keeps_apart n k s memory off j below =
-    let now : SamplesResult DspState = samples sample j k s memory in
+    let now : SamplesResult ChipState = samples sample j k s memory in
     ap (λ (m : List ℕ). results_from (shared_input (polled now.state (k + j)) m (k + j)) 0 (pos 0) now.state.hidden.voices) (memory-samples j k s memory off)

@@ -7,6 +7,9 @@
 -- KeyRows: one sample more of the rows of keys and noise.
 -- PlayedLane: a voice over the rows of a batch makes the steps of its lane.
 -- Remains: the voices of a batch, one more of them played.
+-- Keyed: the voices that a sample keys are those whose key-ons its poll took.
+-- EchoRun: one step more of the echo's run, and of ENDX.
+-- MakeBatch: what the voices, the echo and the results leave of a batch by rows.
 -- Afar: the blocks of a chain lie in two runs of bytes.
 pub mod Lanes
 pub mod SameInputs
@@ -18,3 +21,6 @@ pub mod Afar
 pub mod KeyRows
 pub mod PlayedLane
 pub mod Remains
+pub mod Keyed
+pub mod EchoRun
+pub mod MakeBatch

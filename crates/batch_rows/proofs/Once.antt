@@ -10,7 +10,7 @@ use Rattle.voice_unit.specs.declared.interface.VoiceOut.{VoiceOut}
 use Rattle.dsp_form.specs.Results.{without_bits, with_levels_from, next_endx, registers_after}
 use Rattle.dsp_form.specs.Sample.{after_poll, after_noise}
 use Rattle.dsp_form.specs.declared.registers.TheConstants.{ENVX, OUTX, ENDX}
-use Rattle.dsp_form.specs.declared.state.DspState.{DspState}
+use Rattle.dsp_form.specs.declared.state.ChipState.{ChipState}
 use Rattle.batch_rows.specs.Rows.{keys_after, results_after}
 use Rattle.batch_rows.specs.Apart.{polled}
 use Rattle.batch_rows.specs.Once.{endx_after, put_once}
@@ -99,7 +99,7 @@ none_left byte within =
     grind (arith, nat_tests)
 
 -- at a poll both waiting and taken key-ons are those that waited and weren't taken; else both stay
-module _ (s : DspState) (k : ℕ) where
+module _ (s : ChipState) (k : ℕ) where
   at_poll : (k % 2 == 0) ≡ true → ((polled s k).hidden.waiting ≡ without_bits s.hidden.waiting s.hidden.taken) × ((polled s k).hidden.taken ≡ without_bits s.hidden.waiting s.hidden.taken)
   unfolding after_poll after_noise
   at_poll even = (rw even refl, rw even refl)
@@ -109,12 +109,12 @@ module _ (s : DspState) (k : ℕ) where
   between_polls odd = (rw odd refl, rw odd refl)
 
 -- a byte of keys stays one
-small_keys : (k : ℕ) (s : DspState) (n : ℕ) → s.hidden.waiting < 0x100 → (keys_after k s n).hidden.waiting < 0x100
+small_keys : (k : ℕ) (s : ChipState) (n : ℕ) → s.hidden.waiting < 0x100 → (keys_after k s n).hidden.waiting < 0x100
 unfolding keys_after
 small_keys k s zero small = small
 small_keys k s (suc n) small = by ((k + n) % 2 == 0) refl (small_keys k s n small)
   where
-    now : DspState
+    now : ChipState
     now = keys_after k s n
 
     by : (b : Bool) → ((k + n) % 2 == 0) ≡ b → now.hidden.waiting < 0x100 → (polled now (k + n)).hidden.waiting < 0x100
@@ -122,7 +122,7 @@ small_keys k s (suc n) small = by ((k + n) % 2 == 0) refl (small_keys k s n smal
     by false odd before = let same = (between_polls now (k + n) odd).0 in omega (arith, same, before)
 
 -- from the first poll of a batch on the key-ons that wait are those that are taken
-settled : (k : ℕ) (s : DspState) (i more : ℕ) → ((k + i) % 2 == 0) ≡ true → (keys_after k s (suc (more + i))).hidden.waiting ≡ (keys_after k s (suc (more + i))).hidden.taken
+settled : (k : ℕ) (s : ChipState) (i more : ℕ) → ((k + i) % 2 == 0) ≡ true → (keys_after k s (suc (more + i))).hidden.waiting ≡ (keys_after k s (suc (more + i))).hidden.taken
 unfolding keys_after
 settled k s i zero even =
     let both = at_poll (keys_after k s i) (k + i) even in
@@ -133,7 +133,7 @@ settled k s i (suc more) even = rw next (by ((k + suc (more + i)) % 2 == 0) refl
     next : suc more + i ≡ suc (more + i)
     next = omega arith
 
-    now : DspState
+    now : ChipState
     now = keys_after k s (suc (more + i))
 
     at : ℕ
@@ -144,11 +144,11 @@ settled k s i (suc more) even = rw next (by ((k + suc (more + i)) % 2 == 0) refl
     by false odd before = let both = between_polls now at odd in both.0 ∙ before ∙ sym both.1
 
 -- so a later poll of the batch takes none
-pub taken_once : (k : ℕ) (s : DspState) (i more : ℕ) → s.hidden.waiting < 0x100 → ((k + i) % 2 == 0) ≡ true → ((k + suc (more + i)) % 2 == 0) ≡ true
+pub taken_once : (k : ℕ) (s : ChipState) (i more : ℕ) → s.hidden.waiting < 0x100 → ((k + i) % 2 == 0) ≡ true → ((k + suc (more + i)) % 2 == 0) ≡ true
     → (keys_after k s (suc (suc (more + i)))).hidden.taken ≡ 0
 unfolding keys_after
 taken_once k s i more small first second =
-    let now : DspState = keys_after k s (suc (more + i)) in
+    let now : ChipState = keys_after k s (suc (more + i)) in
     let same : now.hidden.waiting ≡ now.hidden.taken = settled k s i more first in
     (at_poll now (k + suc (more + i)) second).1 ∙ ap (λ (byte : ℕ). without_bits now.hidden.waiting byte) (sym same)
     ∙ none_left now.hidden.waiting (small_keys k s (suc (more + i)) small)

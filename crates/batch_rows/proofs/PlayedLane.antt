@@ -12,7 +12,7 @@ use Rattle.dsp_form.specs.Registers.{voice_regs, is_soft_reset}
 use Rattle.dsp_form.specs.Settings.{voice_settings}
 use Rattle.dsp_form.specs.Sample.{SharedInput, voice_in, voice_result}
 use Rattle.dsp_form.specs.declared.registers.TheConstants.{DIR, PMON, NON, KOFF, FLG}
-use Rattle.dsp_form.specs.declared.state.DspState.{DspState}
+use Rattle.dsp_form.specs.declared.state.ChipState.{ChipState}
 use Rattle.batch_rows.specs.KeyRows.{AreKeyRows}
 use Rattle.batch_rows.specs.Lane.{voice_after, lane, outs}
 use Rattle.batch_rows.specs.PlayedLane.{IsPlayedLane}
@@ -30,7 +30,7 @@ lane_registers registers v = record {
   reset = is_soft_reset (slice_index registers FLG);
 }
 
-module _ (k n v : ℕ) (s : DspState) (memory : List ℕ) (rows : BatchRows) (previous : List ℤ) (voice : VoiceState) (are : AreKeyRows k n s rows) where
+module _ (k n v : ℕ) (s : ChipState) (memory : List ℕ) (rows : BatchRows) (previous : List ℤ) (voice : VoiceState) (are : AreKeyRows k n s rows) where
   -- what it reads in a sample
   reads : (j : ℕ) → j < n → lane_inputs (lane_registers s.registers v) rows previous j ≡ voice_in s.registers (inputs k s memory j).common v (number_at previous j)
   unfolding lane_input voice_in voice_settings inputs

@@ -13,20 +13,20 @@ use Rattle.dsp_form.specs.Volumes.{all_volumes}
 use Rattle.dsp_form.specs.Results.{registers_after}
 use Rattle.dsp_form.specs.Samples.{SamplesResult}
 use Rattle.dsp_form.specs.Sample.{SharedInput, after_poll, after_noise, shared_input, records_from}
-use Rattle.dsp_form.specs.declared.state.DspState.{DspState}
+use Rattle.dsp_form.specs.declared.state.ChipState.{ChipState}
 use Rattle.batch_rows.specs.Lane.{lanes, voices_after}
 
 -- the keys and the noise once so many samples are made, from number k on; all else is as it was
-unfoldable pub keys_after : (k : ℕ) → DspState → (samples : ℕ) → DspState
+unfoldable pub keys_after : (k : ℕ) → ChipState → (samples : ℕ) → ChipState
 keys_after k s zero = s
 keys_after k s (suc j) = after_noise (after_poll (keys_after k s j) (k + j)) (counter_at (k + j))
 
 -- what all voices read in sample j of the batch: keys, noise and counter by the sample's number, and the memory from before the batch
-unfoldable pub inputs : (k : ℕ) → DspState → (memory : List ℕ) → (j : ℕ) → SharedInput
+unfoldable pub inputs : (k : ℕ) → ChipState → (memory : List ℕ) → (j : ℕ) → SharedInput
 inputs k s memory j = shared_input (keys_after k s (suc j)) memory (k + j)
 
 -- what the voices give in sample j
-unfoldable pub answers : (k : ℕ) → DspState → (memory : List ℕ) → (j : ℕ) → List VoiceOut
+unfoldable pub answers : (k : ℕ) → ChipState → (memory : List ℕ) → (j : ℕ) → List VoiceOut
 answers k s memory j = map (λ result. result.answer) (lanes (inputs k s memory) 0 (λ j. pos 0) s.hidden.voices j)
 
 -- the registers with the results of so many samples
@@ -57,16 +57,16 @@ echo_run regs main sent echo memory (suc j) =
     }
 
 -- the echo of a batch
-unfoldable pub echo_after : (k : ℕ) → DspState → (memory : List ℕ) → (samples : ℕ) → EchoRun
+unfoldable pub echo_after : (k : ℕ) → ChipState → (memory : List ℕ) → (samples : ℕ) → EchoRun
 echo_after k s memory n =
     echo_run (echo_regs s.registers) (λ j. main_frame (all_volumes s.registers) (answers k s memory j)) (λ j. sent_frame (all_volumes s.registers) (answers k s memory j)) s.hidden.echo memory n
 
 -- a state with other registers, voices and echo
-abbrev pub with_parts : DspState → (registers : List ℕ) → (voices : List VoiceState) → EchoState → DspState
+abbrev pub with_parts : ChipState → (registers : List ℕ) → (voices : List VoiceState) → EchoState → ChipState
 with_parts s registers voices echo = record s { registers = registers; hidden = record s.hidden { voices = voices; echo = echo } }
 
 -- n samples from number k on, by rows
-unfoldable pub by_rows : (n k : ℕ) → DspState → (memory : List ℕ) → SamplesResult DspState
+unfoldable pub by_rows : (n k : ℕ) → ChipState → (memory : List ℕ) → SamplesResult ChipState
 by_rows n k s memory =
     let echo = echo_after k s memory n in
     record {

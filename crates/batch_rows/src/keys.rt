@@ -11,7 +11,7 @@ ghost use Rattle.batch_rows.specs.Apart.{polled};
 ghost use Rattle.batch_rows.specs.KeyRows.{AreKeyRows};
 ghost use Rattle.batch_rows.specs.Rows.{keys_after};
 
-use dsp_form::DspState;
+use dsp_form::ChipState;
 use rate_clock::RateClock;
 use voice_unit::BatchRows;
 
@@ -24,7 +24,7 @@ pub fn is_polled(number: u32) -> bool
 
 /// Polls the keys at an even sample.
 #[tactic(auto, unfolding(dsp_form::specs::Sample::after_poll))]
-pub fn poll(state: &mut DspState, number: u32)
+pub fn poll(state: &mut ChipState, number: u32)
     ensures state { state.new ≡ after_poll state.old number }
     ensures registers { state.new.registers ≡ state.old.registers }
 {
@@ -36,7 +36,7 @@ pub fn poll(state: &mut DspState, number: u32)
 
 /// Lets the noise go on where its rate fires.
 #[tactic(auto, unfolding(dsp_form::specs::Sample::after_noise))]
-pub fn step_noise(state: &mut DspState, rate: u8, clock: &RateClock)
+pub fn step_noise(state: &mut ChipState, rate: u8, clock: &RateClock)
     requires { rate ≡ noise_rate (slice_index state.old.registers FLG) }
     ensures state { state.new ≡ after_noise state.old clock.now }
     ensures registers { state.new.registers ≡ state.old.registers }
@@ -45,8 +45,15 @@ pub fn step_noise(state: &mut DspState, rate: u8, clock: &RateClock)
     state.hidden.noise.step(fired);
 }
 
+/// The key-ons that the last poll took.
+fn taken_keys(state: &ChipState) -> u8
+    ensures { result ≡ state.now.hidden.taken }
+{
+    state.hidden.taken
+}
+
 /// The keys and the noise of one sample.
-fn step_keys_once(state: &mut DspState, number: u32, rate: u8, clock: &mut RateClock)
+fn step_keys_once(state: &mut ChipState, number: u32, rate: u8, clock: &mut RateClock)
     requires rate { rate ≡ noise_rate (slice_index state.old.registers FLG) }
     requires clock { clock.old ≡ counter_after number }
     ensures state { state.new ≡ polled state.old number }
@@ -61,7 +68,7 @@ fn step_keys_once(state: &mut DspState, number: u32, rate: u8, clock: &mut RateC
 /// The keys and the noise of a batch of n samples from a number on, as rows of what its voices read of them, and the clocks
 /// of its samples.
 pub fn step_keys(
-    state: &mut DspState,
+    state: &mut ChipState,
     number: u32,
     n: u8,
     rate: u8,
@@ -77,6 +84,9 @@ pub fn step_keys(
     ensures rows { AreKeyRows number n state.old rows.new }
     ensures clocks { CountsFrom number n clocks.new }
     ensures clock { clock.new ≡ counter_after (number + n) }
+    ensures noise { (j : ℕ) → j < n → slice_index rows.new.noise j < 0x8000 }
+    ensures taken { (j : ℕ) → j < n → slice_index rows.new.kon j < 0x100 }
+    ensures registers { state.new.registers ≡ state.old.registers }
 {
     for j in 0..n {
         let place = usize::from(j);
@@ -84,7 +94,7 @@ pub fn step_keys(
         step_keys_once(state, at, rate, clock);
         rows.noise[place] = state.hidden.noise.value();
         rows.poll[place] = is_polled(at);
-        rows.kon[place] = state.hidden.taken;
+        rows.kon[place] = taken_keys(state);
         clocks[place] = *clock;
     }
 }

@@ -6,7 +6,7 @@ ghost use Rattle.voice_unit.specs.Play.{CountsFrom};
 ghost use Rattle.dsp_form.specs.Limits.{most_samples_of_batch};
 ghost use Rattle.dsp_form.specs.Registers.{is_soft_reset};
 ghost use Rattle.dsp_form.specs.declared.registers.TheConstants.{DIR, PMON, NON, KOFF, FLG};
-ghost use Rattle.dsp_form.specs.declared.state.DspState.{DspState};
+ghost use Rattle.dsp_form.specs.declared.state.ChipState.{ChipState};
 ghost use Rattle.batch_rows.specs.KeyRows.{AreKeyRows};
 ghost use Rattle.batch_rows.specs.PlayedBatch.{IsPlayedBatch};
 ghost use Rattle.batch_rows.specs.PlayedLane.{IsPlayedLane};
@@ -55,7 +55,7 @@ pub fn play_voice(
     requires few { n ≤ most_samples_of_batch }
     requires noise { (j : ℕ) → j < n → slice_index rows.now.noise j < 0x8000 }
     requires room { (j : ℕ) → j < 64 → slice_index loops.old j < 2 ^ v }
-    ensures played { (k : ℕ) (s : DspState) → s.registers ≡ registers.now → s.table ≡ table.now → AreKeyRows k n s rows.now → CountsFrom k n clocks.now
+    ensures played { (k : ℕ) (s : ChipState) → s.registers ≡ registers.now → s.table ≡ table.now → AreKeyRows k n s rows.now → CountsFrom k n clocks.now
         → IsPlayedLane (inputs k s memory.now) v n (number_at previous.now) voice.old voice.new row.new loops.old loops.new result }
     ensures room { (j : ℕ) → j < 64 → slice_index loops.new j < 2 ^ (v + 1) }
 {
@@ -90,8 +90,9 @@ pub fn play_voices(
     requires some { 0 < n }
     requires few { n ≤ most_samples_of_batch }
     requires noise { (j : ℕ) → j < n → slice_index rows.now.noise j < 0x8000 }
-    ensures { (k : ℕ) (s : DspState) → s.registers ≡ registers.now → s.table ≡ table.now → AreKeyRows k n s rows.now → CountsFrom k n clocks.now
+    ensures played { (k : ℕ) (s : ChipState) → s.registers ≡ registers.now → s.table ≡ table.now → AreKeyRows k n s rows.now → CountsFrom k n clocks.now
         → IsPlayedBatch (inputs k s memory.now) n volumes.now voices.old voices.new answers.new loops.new sums.new }
+    ensures eight { length voices.old ≡ 8 }
 {
     clear_loops(loops);
     sums.clear();

@@ -1,4 +1,4 @@
-use Rattle.std.proofs.Common.{◌≡◌, ◌+◌, length}
+use Rattle.std.proofs.Common.{◌≡◌, ◌+◌, ◌<◌, ℕ, length, slice_index}
 use Rattle.rate_clock.specs.Counter.{counter_after}
 use Rattle.voice_unit.specs.Play.{CountsFrom}
 use Rattle.batch_rows.specs.KeyRows.{AreKeyRows}
@@ -12,6 +12,8 @@ invariant-loop-j l = record {
   clock : l.clock ≡ counter_after (l.number + l.j);
   rows : AreKeyRows l.number l.j l.initial.state l.rows;
   clocks : CountsFrom l.number l.j l.clocks;
+  noise : (i : ℕ) → i < l.j → slice_index l.rows.noise i < 0x8000;
+  taken : (i : ℕ) → i < l.j → slice_index l.rows.kon i < 0x100;
   noise_long : length l.rows.noise ≡ 64;
   poll_long : length l.rows.poll ≡ 64;
   kon_long : length l.rows.kon ≡ 64;

@@ -60,8 +60,8 @@ loop-v-preserved c =
       eight_answers = length-set c.loop-v.answers c.from-place.result c.play_voice-answer.result ∙ c.loop-v.invariant.eight_answers;
     }
 
-pub returns : goal.returns
-returns c k s registers table are counts =
+pub returns-clause-played : goal.returns-clause-played
+returns-clause-played c k s registers table are counts =
     let all : c.loop-v.v ≡ 8 = search rules in
     all_played (inputs k s c.args.memory.now) c.args.n c.args.volumes.now c.args.voices.now c.loop-v.previous c.loop-v.voices c.loop-v.answers c.loop-v.loops c.loop-v.sums
     c.loop-v.invariant.eight c.loop-v.invariant.eight_answers (rw all at (c.loop-v.invariant.remains k s registers table are counts))

@@ -8,7 +8,7 @@ use Rattle.dsp_form.specs.Settings.{settings_of}
 use Rattle.dsp_form.specs.Volumes.{all_volumes}
 use Rattle.dsp_form.specs.declared.settings.Settings.{Settings}
 use Rattle.dsp_form.proofs.EightVoices.{length-results_from}
-use Rattle.dsp_core.proofs.Keyed.{keyed_bits}
+use Rattle.batch_rows.proofs.Keyed.{keyed_bits}
 use Rattle.dsp_core.proofs.sample.make_sample.Goals as goal
 
 pub put_results-requires : goal.put_results-requires
