@@ -56,8 +56,13 @@ module _ (shared : ℕ → SharedInput) (n : ℕ) (volumes : List Volumes) (befo
     pub voices_more : voices_after shared 0 (λ j. pos 0) before n ≡ take v voices ++ voices_after shared v (number_at previous) (drop v voices) n
         → voices_after shared 0 (λ j. pos 0) before n ≡ take (v + 1) (slice_set voices v now) ++ voices_after shared (v + 1) (number_at row) (drop (v + 1) (slice_set voices v now)) n
     voices_more is =
-        rw (take_more_set voices v now within, kept, append_assoc, played.voice,
-        voices_after-rows shared (v + 1) (number_at row) (outs shared v (number_at previous) (get_or voices v d)) (drop (v + 1) voices) n played.row_is)
+        rw (
+          take_more_set voices v now within,
+          kept,
+          append_assoc,
+          played.voice,
+          voices_after-rows shared (v + 1) (number_at row) (outs shared v (number_at previous) (get_or voices v d)) (drop (v + 1) voices) n played.row_is,
+        )
         (rw split at is)
 
     pub last_more : (answers : List VoiceOut) → v < length answers → 0 < n
@@ -86,7 +91,7 @@ module _ (shared : ℕ → SharedInput) (n : ℕ) (volumes : List Volumes) (befo
         let there = is j few
         ∙ ap (λ (answers : List VoiceOut). clamped_sum (number_at sums j) (shares_at volume (drop v volumes) answers)) (opened j)
         ∙ ap (λ (vols : List Volumes). clamped_sum (number_at sums j) (shares_at volume vols ((lane shared v (number_at previous) (get_or voices v d) j).answer
-            ∷ answers_from shared (v + 1) (outs shared v (number_at previous) (get_or voices v d)) (drop (v + 1) voices) j))) opened_volumes in
+        ∷ answers_from shared (v + 1) (outs shared v (number_at previous) (get_or voices v d)) (drop (v + 1) voices) j))) opened_volumes in
         rw (rest_same j few, added j few, played.row_is j few) there
 
   -- none of eight voices remains

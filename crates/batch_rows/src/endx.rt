@@ -14,11 +14,7 @@ fn keyed_in(rows: &BatchRows, j: u8) -> u8
     ensures { result ≡ (if get_or rows.now.poll j false then slice_index rows.now.kon j else 0) }
 {
     let place = usize::from(j);
-    if rows.poll[place] {
-        rows.kon[place]
-    } else {
-        0
-    }
+    if rows.poll[place] { rows.kon[place] } else { 0 }
 }
 
 /// ENDX after one sample.

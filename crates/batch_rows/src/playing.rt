@@ -102,17 +102,7 @@ pub fn play_voices(
         let place = usize::from(v);
         let mut voice = voices[place];
         let answer = play_voice(
-            &mut voice,
-            v,
-            n,
-            registers,
-            rows,
-            clocks,
-            &previous,
-            memory,
-            table,
-            &mut row,
-            loops,
+            &mut voice, v, n, registers, rows, clocks, &previous, memory, table, &mut row, loops,
         );
         let own = volumes[place];
         sums.add(&row, &own);

@@ -15,14 +15,7 @@ const FOR_EVER: u16 = u16::MAX;
 impl Envelope {
     /// For how many samples the envelope rests on this target of its steps, from the clock's on: until the rate fires,
     /// where a step changes neither mode nor hidden value, and for ever where it has the target's level too.
-    fn rest_on(
-        &self,
-        target: &Target,
-        adsr1: u8,
-        adsr2: u8,
-        gain: u8,
-        clock: &RateClock,
-    ) -> u16
+    fn rest_on(&self, target: &Target, adsr1: u8, adsr2: u8, gain: u8, clock: &RateClock) -> u16
         requires target { step_target self.now.mode self.now.level self.now.hidden adsr1 adsr2 gain ≡ Some target.now }
         requires rate { target.now.rate < 32 }
         ensures { (k : ℕ) → clock.now ≡ counter_at k → RestsFor self.now adsr1 adsr2 gain k result }

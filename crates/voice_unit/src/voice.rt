@@ -261,7 +261,13 @@ impl Voice {
 
     /// Reads a group, where the position has come to it, and tells whether that ends a block that has its end bit.
     #[tactic(auto, unfolding(crate::specs::Voice::after_reading))]
-    pub(crate) fn read_on(&mut self, header: u8, regs: &VoiceRegs, input: &VoiceIn, memory: &Aram) -> bool
+    pub(crate) fn read_on(
+        &mut self,
+        header: u8,
+        regs: &VoiceRegs,
+        input: &VoiceIn,
+        memory: &Aram,
+    ) -> bool
         ensures voice { self.new ≡ after_reading self.old memory.now header (loop_word input.now.dir regs.now.srcn memory.now) }
         ensures looped { result ≡ is_looped self.old header }
     {

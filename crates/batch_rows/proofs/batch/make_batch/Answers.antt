@@ -35,7 +35,7 @@ returns-clause-state c =
     let bits = bits_are k n s c.args.memory.now c.play_voices.new.voices c.play_voices.new.answers c.play_voices.new.loops c.play_voices.new.sums played c.step_keys.new.rows eight c.step_keys.ensures.rows c.step_keys.ensures.taken in
     let endx : c.endx_of_batch-endx.result ≡ endx_after (answers k s c.args.memory.now) (slice_index s.registers ENDX) n = rw c.step_keys.ensures.registers at (c.endx_of_batch-endx.ensures (answers k s c.args.memory.now) bits) in
     let registers = registers_are k n s c.args.memory.now c.play_voices.new.voices c.play_voices.new.answers c.play_voices.new.loops c.play_voices.new.sums played c.endx_of_batch-endx.result
-        c.requires.some eight long endx in
+    c.requires.some eight long endx in
     rw (c.put_all_levels.ensures, c.step_keys.ensures.registers, registers, played.voices_are, c.play_echo.ensures.echo, regs, echo, ran, c.step_keys.ensures.state) refl
 
 pub returns-clause-memory : goal.returns-clause-memory

@@ -20,7 +20,7 @@ loop-j-preserved c =
     rw (c.loop-j.invariant.rest j (omega arith)) at (rw (sum, out) at c.with_share.ensures) in
     record {
       added = rw whole (with_entry (λ i. clamp16 (number_at c.args.sums.now i +ℤ scaled (number_at c.args.outs.now i) (to_z w16 (of_z w16 c.args.volume)) 7)) c.loop-j.sums j
-      c.with_share.result (pos 0) within c.loop-j.invariant.added is);
+          c.with_share.result (pos 0) within c.loop-j.invariant.added is);
       rest = λ i above.
           let other : i ≢ j = λ e. absurd (omega (arith, e, above)) in
           rw whole (get_or-set_other c.loop-j.sums j i c.with_share.result (pos 0) other ∙ c.loop-j.invariant.rest i (omega (arith, above)));

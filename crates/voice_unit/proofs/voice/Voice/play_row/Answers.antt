@@ -31,7 +31,7 @@ loop-j-preserved c =
     let input : c.input-input.result ≡ lane_inputs c.args.lane.now c.args.rows.now c.args.previous.now j = rw whole at (rw place at c.input-input.ensures.value) in
     let clock : (k : ℕ) → CountsFrom k (j + 1) c.args.clocks.now → c.index-clocks-place.result ≡ counter_at (k + j) = λ k counts. rw place at c.index-clocks-place.is ∙ get_or_default c.args.clocks.now j c.index-clocks-place.result 0 (search rules) ∙ counts j (omega arith) in
     let at_rest : (k : ℕ) → CountsFrom k (j + 1) c.args.clocks.now
-        → IsAtRest c.input-input.result.reset c.input-input.result.koff c.args.regs.now c.args.memory.now (k + j) c.loop-j.rest c.loop-j.self =
+    → IsAtRest c.input-input.result.reset c.input-input.result.koff c.args.regs.now c.args.memory.now (k + j) c.loop-j.rest c.loop-j.self =
     λ k counts. rw input (c.loop-j.invariant.rest k (λ i below. counts i (omega (arith, below)))) in
     let out : to_z w16 (of_z w16 c.play_sample-played.result.out) ≡ c.play_sample-played.result.out = search rules in
     let within_outs : j < length c.loop-j.outs = rw c.loop-j.invariant.outs_long (omega (arith, c.requires.few)) in
