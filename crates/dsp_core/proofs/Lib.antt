@@ -1,4 +1,4 @@
--- Keyed: the voices that a sample keys are those whose key-ons its poll took.
 -- NoRecords: no record of a voice is in the mask 0.
-pub mod Keyed
+-- Batches: samples whose echo can't write what the voices read are those by rows.
 pub mod NoRecords
+pub mod Batches

@@ -1,6 +1,6 @@
 //! The chip.
 
-ghost use Rattle.std.specs.Prelude.{◌≡◌, ◌≤◌, ◌<◌, ◌+◌, ◌*◌, ◌++◌, ◌∷◌, [], ◌==◌, true, length, IfOk, if◌then◌else◌};
+ghost use Rattle.std.specs.Prelude.{◌≡◌, ◌≤◌, ◌<◌, ◌+◌, ◌*◌, ◌++◌, ◌∷◌, [], ◌==◌, true, false, length, IfOk, if◌then◌else◌};
 ghost use Rattle.std.specs.List.{filter};
 ghost use Rattle.trace_form.specs.Rooms.{frame_room, record_room};
 ghost use Rattle.dsp_form.specs.Limits.{most_samples_of_chip, most_samples_of_batch};
@@ -16,8 +16,8 @@ use crate::OutOfMemory;
 use crate::records::push_records;
 use crate::sample::make_sample;
 use crate::saved::DspState;
-use crate::voices::UNHEARD;
 use aram_core::Aram;
+use batch_rows::{UNHEARD, make_batch};
 use dsp_form::registers::{ENDX, KON};
 use dsp_form::{ChipState, Hidden, Settings, settings_of};
 use echo_unit::Echo;
@@ -138,6 +138,67 @@ impl Dsp {
         self.number += 1;
     }
 
+    /// Makes the next n samples one after another, and adds their frames and the records of the voices in the mask.
+    fn make_each(
+        &mut self,
+        n: u8,
+        settings: &Settings,
+        memory: &mut Aram,
+        mask: u8,
+        frames: &mut Frames,
+        records: &mut Records,
+    )
+        requires settings { settings.now ≡ settings_of self.old.state.registers }
+        requires frame_room { length frames.old + n ≤ frame_room }
+        requires record_room { length records.old + 8 * n ≤ record_room }
+        requires number { self.old.sample + n ≤ most_samples_of_chip }
+        ensures chip { self.new ≡ record self.old { state = (samples sample n self.old.sample self.old.state memory.old).state; sample = self.old.sample + n } }
+        ensures memory { memory.new ≡ (samples sample n self.old.sample self.old.state memory.old).memory }
+        ensures frames { frames.new ≡ frames.old ++ (samples sample n self.old.sample self.old.state memory.old).frames }
+        ensures records { records.new ≡ records.old ++ filter (in_mask mask) (samples sample n self.old.sample self.old.state memory.old).records }
+    {
+        let mut answers = [UNHEARD; 8];
+        'samples: for _ in 0..n {
+            self.make_one(settings, memory, mask, frames, records, &mut answers);
+        }
+    }
+
+    /// Makes the next n samples by rows, and adds their frames.
+    fn make_rows(&mut self, n: u8, settings: &Settings, memory: &mut Aram, frames: &mut Frames)
+        requires settings { settings.now ≡ settings_of self.old.state.registers }
+        requires some { 0 < n }
+        requires few { n ≤ most_samples_of_batch }
+        requires frame_room { length frames.old + n ≤ frame_room }
+        requires number { self.old.sample + n ≤ most_samples_of_chip }
+        requires apart { (chip_reach self.old.state memory.old).entangled ≡ false }
+        ensures chip { self.new ≡ record self.old { state = (samples sample n self.old.sample self.old.state memory.old).state; sample = self.old.sample + n } }
+        ensures memory { memory.new ≡ (samples sample n self.old.sample self.old.state memory.old).memory }
+        ensures frames { frames.new ≡ frames.old ++ (samples sample n self.old.sample self.old.state memory.old).frames }
+    {
+        make_batch(
+            &mut self.state,
+            self.number,
+            n,
+            &mut self.clock,
+            settings,
+            memory,
+            frames,
+        );
+        self.number += u32::from(n);
+    }
+
+    /// Whether the next n samples may be made by rows, and it pays: no record is wanted, they are more than two, and the echo
+    /// can't write what the voices read.
+    fn goes_by_rows(&self, n: u8, mask: u8, memory: &Aram) -> bool
+        ensures unwanted { result ≡ true → mask ≡ 0 }
+        ensures apart { result ≡ true → (chip_reach self.now.state memory.now).entangled ≡ false }
+    {
+        if mask != 0 || n <= 2 {
+            return false;
+        }
+        !self.state.reach(memory).entangled
+    }
+
     /// Makes the next n samples, at most 64, and adds their frames and the records of the voices in the
     /// mask; bit v of the mask is voice v.
     pub fn advance(
@@ -165,11 +226,12 @@ impl Dsp {
             return;
         }
         let settings = settings_of(&self.state.registers);
-        let mut answers = [UNHEARD; 8];
-        'samples: for _ in 0..n {
-            self.make_one(&settings, memory, mask, frames, records, &mut answers);
-        }
         self.batches = self.batches.saturating_add(1);
+        if self.goes_by_rows(n, mask, memory) {
+            self.make_rows(n, &settings, memory, frames);
+        } else {
+            self.make_each(n, &settings, memory, mask, frames, records);
+        }
     }
 
     /// Saves all but the table.

@@ -2,34 +2,16 @@
 
 ghost use Rattle.std.specs.Prelude.{◌≡◌, ◌%◌, ◌==◌, length, map, pos, if◌then◌else◌};
 ghost use Rattle.rate_clock.specs.Counter.{counter_at};
-ghost use Rattle.dsp_form.specs.Sample.{sample, after_poll, after_noise, results_from, shared_input, records_from};
+ghost use Rattle.dsp_form.specs.Sample.{sample, results_from, shared_input, records_from};
 ghost use Rattle.dsp_form.specs.Settings.{settings_of};
 
 use crate::voices::step_voices;
 use aram_core::Aram;
+use batch_rows::{is_polled, poll, step_noise};
 use dsp_form::{ChipState, SILENCE, Settings, SharedByVoices, put_results, sum_voices};
 use num_fix::Frame;
 use rate_clock::RateClock;
 use voice_unit::VoiceOut;
-
-/// Whether the sample of a number polls the keys, as each even one does.
-fn is_polled(number: u32) -> bool
-    ensures { result ≡ (number % 2 == 0) }
-{
-    number % 2 == 0
-}
-
-/// Polls the keys at an even sample.
-#[tactic(auto, unfolding(dsp_form::specs::Sample::after_poll))]
-fn poll(state: &mut ChipState, number: u32)
-    ensures state { state.new ≡ after_poll state.old number }
-    ensures registers { state.new.registers ≡ state.old.registers }
-{
-    if is_polled(number) {
-        state.hidden.waiting &= 0xff - state.hidden.taken;
-        state.hidden.taken = state.hidden.waiting;
-    }
-}
 
 /// The voices that the sample of a number keys, once the keys are polled, as bits.
 fn keyed_voices(state: &ChipState, number: u32) -> u8
@@ -40,17 +22,6 @@ fn keyed_voices(state: &ChipState, number: u32) -> u8
     } else {
         0
     }
-}
-
-/// Lets the noise go on where its rate fires.
-#[tactic(auto, unfolding(dsp_form::specs::Sample::after_noise, dsp_form::specs::Settings::settings_of))]
-fn step_noise(state: &mut ChipState, settings: &Settings, clock: &RateClock)
-    requires { settings.now ≡ settings_of state.old.registers }
-    ensures state { state.new ≡ after_noise state.old clock.now }
-    ensures registers { state.new.registers ≡ state.old.registers }
-{
-    let fired = clock.fires(settings.noise_rate);
-    state.hidden.noise.step(fired);
 }
 
 /// One step of the voices, with their answers.
@@ -103,7 +74,7 @@ pub fn make_sample(
     ensures answers { records_from number 0 answers.new ≡ (sample number state.old memory.old).records }
 {
     poll(state, number);
-    step_noise(state, settings, clock);
+    step_noise(state, settings.noise_rate, clock);
     step_chip_voices(state, number, clock, settings, memory, answers);
     let keyed = keyed_voices(state, number);
     let mut sums = SILENCE;

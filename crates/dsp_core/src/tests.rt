@@ -155,6 +155,75 @@ fn what_was_saved_plays_again(rt: HostRuntime) -> Result<(), Fail> {
     Ok(())
 }
 
+/// Makes n samples anew, and no records.
+fn play_unseen(dsp: &mut Dsp, memory: &mut Aram, n: u8, frames: &mut Frames, records: &mut Records)
+    requires { n ≤ 64 }
+{
+    frames.clear();
+    records.clear();
+    if dsp.sample() < 1_000_000 {
+        dsp.advance(n, memory, 0, frames, records);
+    }
+}
+
+/// Sets voice 1 to loop at a pitch bent by voice 0, under ADSR, and both to be heard in an echo with feedback.
+fn add_a_bent_voice(dsp: &mut Dsp) {
+    let writes = [
+        (0x10, 0x40),
+        (0x11, 0xc0),
+        (0x12, 0x34),
+        (0x13, 0x0a),
+        (0x15, 0x8a),
+        (0x16, 0x2c),
+        (0x2c, 0x30),
+        (0x3c, 0x50),
+        (0x2d, 0x02),
+        (0x4d, 0x03),
+        (0x0d, 0x60),
+        (0x7f, 0x70),
+        (0x0f, 0x10),
+        (0x7d, 0x01),
+        (0x6c, 0x00),
+    ];
+    for (register, byte) in writes {
+        dsp.reg_write(register, byte);
+    }
+}
+
+#[test]
+fn a_batch_is_its_samples_one_by_one(rt: HostRuntime) -> Result<(), Fail> {
+    let (mut whole, mut memory) = one_voice(rt.alloc())?;
+    let (mut split, mut other) = one_voice(rt.alloc())?;
+    let mut frames = Frames::new(rt.alloc())?;
+    let mut frame = Frames::new(rt.alloc())?;
+    let mut records = Records::new(rt.alloc())?;
+    add_a_bent_voice(&mut whole);
+    add_a_bent_voice(&mut split);
+    // a key on waits in the first batch, a key off holds from the third on, and noise takes the place of voice 0 in the last
+    for (n, register, byte) in [
+        (64, 0x4c, 0x03),
+        (64, 0x4c, 0x01),
+        (63, 0x5c, 0x02),
+        (64, 0x3d, 0x01),
+    ] {
+        whole.reg_write(register, byte);
+        split.reg_write(register, byte);
+        play_unseen(&mut whole, &mut memory, n, &mut frames, &mut records);
+        for made in frames.as_slice() {
+            play_unseen(&mut split, &mut other, 1, &mut frame, &mut records);
+            assert_eq!(rt; frame.as_slice(), [*made].as_slice());
+        }
+        for address in 0..128u8 {
+            assert_eq!(rt; whole.reg_read(address), split.reg_read(address));
+        }
+    }
+    assert_eq!(rt; (whole.batches(), split.batches()), (4, 255));
+    for at in 0..=0xffffu16 {
+        assert_eq!(rt; memory.get(at), other.get(at));
+    }
+    Ok(())
+}
+
 /// How many bytes from an address on are 0.
 fn zeros_from(memory: &Aram, from: u16) -> u32 {
     for k in 0..0x10000u32 {

@@ -12,17 +12,6 @@ use gauss_table::GaussTable;
 use rate_clock::RateClock;
 use voice_unit::{Voice, VoiceIn, VoiceOut};
 
-/// The answer of a voice that has not been heard.
-pub const UNHEARD: VoiceOut = VoiceOut {
-    out: 0,
-    level: 0,
-    envx: 0,
-    outx: 0,
-    block: 0,
-    looped: false,
-    keyed: false,
-};
-
 /// What voice `v` reads beside its registers.
 fn voice_in(
     settings: &Settings,

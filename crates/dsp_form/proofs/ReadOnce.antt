@@ -34,7 +34,7 @@ module _ (these those : List ℕ) (same : SameInputs these those) where
   same_register v register low = same (16 * v + register) (input_at (16 * v + register) (omega (arith, low)) (omega (arith, low)) (omega (arith, low)))
 
   -- what a voice reads
-  same_voice : (v : ℕ) → voice_settings these v ≡ voice_settings those v
+  pub same_voice : (v : ℕ) → voice_settings these v ≡ voice_settings those v
   unfolding voice_settings voice_regs
   same_voice v =
       rw (

@@ -22,7 +22,7 @@ pub const SILENCE: Sums = Sums {
 };
 
 /// A sum with an output at a volume, limited to 16 bits.
-fn with_share(sum: i16, out: i16, volume: i16) -> i16
+pub fn with_share(sum: i16, out: i16, volume: i16) -> i16
     ensures { result ≡ clamp16 (sum +ℤ scaled out volume 7) }
 {
     clamp16(i32::from(sum) + scaled(out, volume, 7))

@@ -53,7 +53,7 @@ fn put_levels(registers: &mut Registers, v: u8, answer: &VoiceOut)
 }
 
 /// Puts ENVX and OUTX of each voice.
-fn put_all_levels(registers: &mut Registers, answers: &[VoiceOut; 8])
+pub fn put_all_levels(registers: &mut Registers, answers: &[VoiceOut; 8])
     ensures { registers.new ≡ with_levels_from 0 answers.now registers.old }
 {
     for v in 0..8u8 {

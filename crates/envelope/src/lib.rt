@@ -1,6 +1,7 @@
 //! The volume envelope of a voice: attack, decay, sustain and release, or a gain set by hand.
 #![tactic(auto)]
 
+mod rest;
 mod target;
 #[cfg(test)]
 mod tests;

@@ -1,5 +1,5 @@
 -- The counter that all rates look at, from the number of the sample, and when a rate fires.
-use Rattle.std.specs.Prelude.{ℕ, zero, suc, ◌+◌, ◌%◌, List, [], ◌∷◌, Bool, ◌&&◌, ◌==◌, nat_lt, pos, negsuc, unsigned_abs, slice_index}
+use Rattle.std.specs.Prelude.{◌≡◌, ℕ, zero, suc, ◌+◌, ◌%◌, ◌<◌, List, [], ◌∷◌, Bool, false, ◌&&◌, ◌==◌, nat_lt, pos, negsuc, unsigned_abs, slice_index}
 use Rattle.std.specs.Int.{int_rem_euclid}
 
 -- the counter while sample number k is made: -(k + 1) modulo 30,720
@@ -28,3 +28,11 @@ offsets =
 -- whether a rate fires at a counter
 unfoldable pub fires : ℕ → ℕ → Bool
 fires rate counter = nat_lt 0 rate && ((counter + slice_index offsets rate) % slice_index periods rate == 0)
+
+-- how many samples pass before a rate above 0 fires, from the one at a counter on
+abbrev pub until_fires : (rate counter : ℕ) → ℕ
+until_fires rate counter = (counter + slice_index offsets rate) % slice_index periods rate
+
+-- a rate fires at none of so many samples, from number k on
+abbrev pub IsQuiet : (rate k samples : ℕ) → Type 0
+IsQuiet rate k samples = (j : ℕ) → j < samples → fires rate (counter_at (k + j)) ≡ false

@@ -1,7 +1,7 @@
 //! The counter that all rates look at.
 
 ghost use Rattle.std.specs.Prelude.{◌≡◌, ℕ, ◌+◌, ◌-◌, ◌%◌, ◌==◌, ◌<◌, if◌then◌else◌};
-ghost use Rattle.rate_clock.specs.Counter.{counter_after, fires};
+ghost use Rattle.rate_clock.specs.Counter.{counter_at, counter_after, fires, until_fires, IsQuiet};
 ghost use Rattle.rate_clock.specs.Inside.{rest_at};
 
 use std::marker::Model;
@@ -16,6 +16,12 @@ const FIFTHS: u16 = 536;
 const OFFSETS: [u16; 32] = [
     0, 0, 1040, 536, 0, 1040, 536, 0, 1040, 536, 0, 1040, 536, 0, 1040, 536, 0, 1040, 536, 0, 1040,
     536, 0, 1040, 536, 0, 1040, 536, 0, 1040, 0, 0,
+];
+
+/// The period of each rate in samples; rate 0 has none.
+const PERIODS: [u16; 32] = [
+    0, 2048, 1536, 1280, 1024, 768, 640, 512, 384, 320, 256, 192, 160, 128, 96, 80, 64, 48, 40, 32,
+    24, 20, 16, 12, 10, 8, 6, 5, 4, 3, 2, 1,
 ];
 
 /// The power of 2 in the period of each rate, less 1.
@@ -109,5 +115,16 @@ impl RateClock {
         let low = (self.counter + offset) & LOW_BITS[place];
         let rest = self.rest(offset);
         low == 0 && rest == 0
+    }
+
+    /// How many samples pass before a rate, 1 to 31, fires, this one the first of them; 0 where it fires at this one.
+    pub fn until_fires(&self, rate: u8) -> u16
+        requires positive { 0 < rate }
+        requires within { rate < 32 }
+        ensures count { result ≡ until_fires rate self.now }
+        ensures quiet { (k : ℕ) → self.now ≡ counter_at k → IsQuiet rate k result }
+    {
+        let place = usize::from(rate);
+        (self.counter + OFFSETS[place]) % PERIODS[place]
     }
 }

@@ -59,7 +59,7 @@ fn samples_with_group(samples: &[i16; 12], group: [i16; 4]) -> [i16; 12]
 }
 
 /// Whether a voice is keyed in a step.
-fn is_keyed(input: &VoiceIn) -> bool
+pub(crate) fn is_keyed(input: &VoiceIn) -> bool
     ensures { result ≡ is_keyed input.now }
 {
     input.poll && input.kon
@@ -67,7 +67,7 @@ fn is_keyed(input: &VoiceIn) -> bool
 
 /// The pitch of a voice.
 #[tactic(auto, unfolding(crate::specs::Voice::pitch_of))]
-fn pitch_of(regs: &VoiceRegs, input: &VoiceIn) -> u16
+pub(crate) fn pitch_of(regs: &VoiceRegs, input: &VoiceIn) -> u16
     requires { regs.now.pitch < 0x4000 }
     ensures value { result ≡ pitch_of regs.now input.now }
     ensures bound { result < 0x8000 }
@@ -107,6 +107,13 @@ impl Voice {
         ensures bound { result ≤ 5 }
     {
         self.delay
+    }
+
+    /// The envelope.
+    pub(crate) fn envelope(&self) -> Envelope
+        ensures { result ≡ self.now.envelope }
+    {
+        self.envelope
     }
 
     /// The pitch at which a step moves on.
@@ -191,7 +198,7 @@ impl Voice {
 
     /// The output at the level. At level 0 it is 0, whatever the samples are.
     #[tactic(auto, unfolding(crate::specs::Voice::output))]
-    fn output(&self, input: &VoiceIn, table: &GaussTable) -> i16
+    pub(crate) fn output(&self, input: &VoiceIn, table: &GaussTable) -> i16
         requires { input.now.noise < 0x8000 }
         ensures { result ≡ output self.now input.now table.now }
     {
@@ -254,7 +261,13 @@ impl Voice {
 
     /// Reads a group, where the position has come to it, and tells whether that ends a block that has its end bit.
     #[tactic(auto, unfolding(crate::specs::Voice::after_reading))]
-    fn read_on(&mut self, header: u8, regs: &VoiceRegs, input: &VoiceIn, memory: &Aram) -> bool
+    pub(crate) fn read_on(
+        &mut self,
+        header: u8,
+        regs: &VoiceRegs,
+        input: &VoiceIn,
+        memory: &Aram,
+    ) -> bool
         ensures voice { self.new ≡ after_reading self.old memory.now header (loop_word input.now.dir regs.now.srcn memory.now) }
         ensures looped { result ≡ is_looped self.old header }
     {
@@ -269,7 +282,7 @@ impl Voice {
 
     /// Moves on by a pitch.
     #[tactic(auto, unfolding(crate::specs::Voice::after_pitch))]
-    fn move_on(&mut self, pitch: u16)
+    pub(crate) fn move_on(&mut self, pitch: u16)
         requires { pitch < 0x8000 }
         ensures { self.new ≡ after_pitch self.old pitch }
     {

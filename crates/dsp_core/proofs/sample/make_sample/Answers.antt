@@ -8,7 +8,7 @@ use Rattle.dsp_form.specs.Settings.{settings_of}
 use Rattle.dsp_form.specs.Volumes.{all_volumes}
 use Rattle.dsp_form.specs.declared.settings.Settings.{Settings}
 use Rattle.dsp_form.proofs.EightVoices.{length-results_from}
-use Rattle.dsp_core.proofs.Keyed.{keyed_bits}
+use Rattle.batch_rows.proofs.Keyed.{keyed_bits}
 use Rattle.dsp_core.proofs.sample.make_sample.Goals as goal
 
 pub put_results-requires : goal.put_results-requires
@@ -48,3 +48,7 @@ returns-clause-frame c =
     let regs : c.args.settings.now.echo ≡ echo_regs c.step_noise.new.state.registers = ap (λ (s : Settings). s.echo) is in
     let volumes : c.args.settings.now.volumes ≡ all_volumes c.step_noise.new.state.registers = ap (λ (s : Settings). s.volumes) is in
     rw (← now, c.step-frame.ensures.frame, c.step_chip_voices.ensures.voices c.requires.clock, regs, c.sum_voices.ensures.main, volumes, c.step_chip_voices.ensures.answers c.requires.clock) refl
+
+pub step_noise-requires : goal.step_noise-requires
+unfolding settings_of
+step_noise-requires c = rw c.poll.ensures.registers (ap (λ (s : Settings). s.noise_rate) c.requires.settings)

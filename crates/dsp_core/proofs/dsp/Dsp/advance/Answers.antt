@@ -1,37 +1,8 @@
-use Rattle.std.proofs.Common.{rules, refl, sym, arith, append_assoc, length-append}
+use Rattle.std.proofs.Common.{rules, ◌≡◌, refl, sym, arith}
 use Rattle.std.proofs.lemmas.List.{append-nil}
-use Rattle.std.proofs.lemmas.List.Elements.{filter-append}
-use Rattle.dsp_form.proofs.ReadOnce.{settings_of-sample}
-use Rattle.dsp_form.proofs.OneMoreSample.{samples_none, samples_more}
+use Rattle.dsp_form.proofs.OneMoreSample.{samples_none}
+use Rattle.dsp_core.proofs.NoRecords.{no_records}
 use Rattle.dsp_core.proofs.dsp.Dsp.advance.Goals as goal
-
-pub samples-init : goal.samples-init
-samples-init c = record {
-  state = rw samples_none refl;
-  sample = omega arith;
-  settings = search rules;
-  batches = refl;
-  total = refl;
-  memory = rw samples_none refl;
-  frames = rw samples_none (sym (append-nil c.args.frames.now));
-  records = rw samples_none (sym (append-nil c.args.records.now));
-  frame_count = omega arith;
-  record_count = omega arith;
-}
-
-pub samples-preserved : goal.samples-preserved
-samples-preserved c = record {
-  state = rw (samples_more, c.make_one.ensures.chip, c.samples.invariant.state, c.samples.invariant.memory, c.samples.invariant.sample) refl;
-  sample = rw (c.make_one.ensures.chip) (omega (arith, c.samples.invariant.sample));
-  settings = rw (c.make_one.ensures.chip, settings_of-sample) c.samples.invariant.settings;
-  batches = rw (c.make_one.ensures.chip) c.samples.invariant.batches;
-  total = rw (c.make_one.ensures.chip) c.samples.invariant.total;
-  memory = rw (samples_more, c.make_one.ensures.memory, c.samples.invariant.state, c.samples.invariant.memory, c.samples.invariant.sample) refl;
-  frames = rw (samples_more, c.make_one.ensures.frames, c.samples.invariant.state, c.samples.invariant.memory, c.samples.invariant.sample, c.samples.invariant.frames, append_assoc) refl;
-  records = rw (samples_more, filter-append, c.make_one.ensures.records, c.samples.invariant.state, c.samples.invariant.memory, c.samples.invariant.sample, c.samples.invariant.records, append_assoc) refl;
-  frame_count = rw (c.make_one.ensures.frames, length-append) (omega (arith, c.samples.invariant.frame_count));
-  record_count = omega (arith, c.samples.invariant.record_count, c.make_one.ensures.record_count);
-}
 
 pub returns-then-n-eq0-clause-state : goal.returns-then-n-eq0-clause-state
 returns-then-n-eq0-clause-state c = rw (c.if-n-eq0.true, samples_none, ← c.self.view_is) refl
@@ -44,3 +15,8 @@ returns-then-n-eq0-clause-frames c = rw (c.if-n-eq0.true, samples_none) (sym (ap
 
 pub returns-then-n-eq0-clause-records : goal.returns-then-n-eq0-clause-records
 returns-then-n-eq0-clause-records c = rw (c.if-n-eq0.true, samples_none) (sym (append-nil c.args.records.now))
+
+pub returns-then-goes_by_rows-clause-records : goal.returns-then-goes_by_rows-clause-records
+returns-then-goes_by_rows-clause-records c =
+    let unwanted : c.args.mask ≡ 0 = c.goes_by_rows.ensures.unwanted c.if-goes_by_rows.true in
+    rw (unwanted, no_records) (sym (append-nil c.args.records.now))

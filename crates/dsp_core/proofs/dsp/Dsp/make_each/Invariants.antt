@@ -3,7 +3,7 @@ use Rattle.std.specs.List.{filter}
 use Rattle.dsp_form.specs.Samples.{samples, in_mask}
 use Rattle.dsp_form.specs.Sample.{sample}
 use Rattle.dsp_form.specs.Settings.{settings_of}
-use Rattle.dsp_core.proofs.dsp.Dsp.advance.Given as goal
+use Rattle.dsp_core.proofs.dsp.Dsp.make_each.Given as goal
 
 abbrev pub invariant-samples : goal.invariant-samples
 invariant-samples l =

@@ -1,0 +1,115 @@
+-- The blocks of a chain lie within the 162 bytes from its start on and the 162 bytes from its loop word on.
+use Rattle.std.proofs.Common.{◌≡◌, ℕ, zero, suc, ◌+◌, ◌*◌, ◌%◌, ◌<◌, ◌≤◌, List, [], ◌∷◌, map, flat_map, Bool, true, false, ◌&&◌, slice_index, if◌then◌else◌, ◌⊎◌, inl, inr, refl, ap, sym, ◌∙◌, arith}
+use Rattle.std.specs.List.{range_with_len}
+use Rattle.std.specs.Ordering.{nat_cmp}
+use Rattle.std.specs.Cmp.{nat_cmp_total}
+use Rattle.std.specs.FinSet as set
+use Rattle.std.specs.FinMap.{nat_cmp-IsAntisymmetric}
+use Rattle.std.proofs.lemmas.Bool.{and_right}
+use Rattle.std.proofs.lemmas.Bool.Decides.{nat_tests}
+use Rattle.aram_core.specs.Memory.{byte_at}
+use Rattle.aram_core.specs.Pages.{page_of, have_common_page}
+use Rattle.brr_decode.specs.Header.{next_block, has_end}
+use Rattle.reach_map.specs.declared.ChainStart.{ChainStart}
+use Rattle.reach_map.specs.Reach.{pages_of_bytes, chain, block_pages, chain_pages, entry_pages, voice_pages, window_pages, reach}
+use Rattle.echo_unit.specs.Flg.{has_echo_writes}
+use Rattle.dsp_form.specs.Reach.{entries_from, starts_from, chip_window, chip_reach}
+use Rattle.dsp_form.specs.declared.registers.TheConstants.{FLG}
+use Rattle.dsp_form.specs.declared.state.ChipState.{ChipState}
+use Rattle.dsp_reach.proofs.PageSets.{contains-pages, apart_right, has_page, at_page, in_left, in_right, in_either}
+use Rattle.dsp_reach.proofs.ChainPages.{bytes_have}
+use Rattle.batch_rows.specs.Afar.{far_pages, far_voice_pages}
+
+none_has : (p : ℕ) → has_page [] p ≡ true → ⊥
+none_has p h = cc
+
+one_has : (q p : ℕ) → has_page (q ∷ []) p ≡ true → q ≡ p
+one_has q p h = grind (arith, nat_tests)
+
+-- a list has a page, where it has each of those of a list that has it
+has_all : (target : List ℕ) (f : ℕ → ℕ) (i n p : ℕ) → has_page (map f (range_with_len i n)) p ≡ true
+    → ((k : ℕ) → i ≤ k → k < i + n → has_page target (f k) ≡ true) → has_page target p ≡ true
+has_all target f i zero p h all = absurd (none_has p h)
+has_all target f i (suc n) p h all = elim (in_either (f i ∷ []) (map f (range_with_len (i + 1) n)) p h) [
+  | inl here ↦ at_page target (f i) p (one_has (f i) p here) (all i (omega arith) (omega arith))
+  | inr rest ↦ has_all target f (i + 1) n p rest (λ k above below. all k (omega (arith, above)) (omega (arith, below)))
+]
+
+-- more bytes from the same start on
+longer : (start few many p : ℕ) → few ≤ many → has_page (pages_of_bytes start few) p ≡ true → has_page (pages_of_bytes start many) p ≡ true
+longer start few many p more h =
+    has_all (pages_of_bytes start many) (λ i. page_of (start + i)) 0 few p h (λ k above below. bytes_have start many k (omega (arith, below, more)))
+
+-- the bytes of a block, and those that follow it
+further : (block count p : ℕ) → has_page (pages_of_bytes ((block + 9) % 0x10000) (9 * count)) p ≡ true → has_page (pages_of_bytes block (9 * suc count)) p ≡ true
+further block count p h =
+    has_all (pages_of_bytes block (9 * suc count)) (λ i. page_of ((block + 9) % 0x10000 + i)) 0 (9 * count) p h
+    (λ k above below.
+    let same : page_of (block + (9 + k)) ≡ page_of ((block + 9) % 0x10000 + k) = omega arith in
+    at_page (pages_of_bytes block (9 * suc count)) _ _ same (bytes_have block (9 * suc count) (9 + k) (omega (arith, below))))
+
+near : (memory : List ℕ) (loop_to count block p : ℕ) → has_page (flat_map block_pages (chain memory loop_to count block)) p ≡ true
+    → (has_page (pages_of_bytes block (9 * count)) p ≡ true) ⊎ (has_page (pages_of_bytes loop_to (9 * count)) p ≡ true)
+near memory loop_to zero block p h = absurd (none_has p h)
+near memory loop_to (suc count) block p h =
+    elim (in_either (block_pages block) (flat_map block_pages (chain memory loop_to count (next_block (byte_at memory block) block loop_to))) p h) [
+      | inl here ↦ inl (longer block 9 (9 * suc count) p (omega arith) here)
+      | inr rest ↦ by (has_end (byte_at memory block)) (near memory loop_to count (next_block (byte_at memory block) block loop_to) p rest)
+    ]
+  where
+    by : (b : Bool)
+        → (has_page (pages_of_bytes (if b then loop_to else (block + 9) % 0x10000) (9 * count)) p ≡ true) ⊎ (has_page (pages_of_bytes loop_to (9 * count)) p ≡ true)
+        → (has_page (pages_of_bytes block (9 * suc count)) p ≡ true) ⊎ (has_page (pages_of_bytes loop_to (9 * suc count)) p ≡ true)
+    by true (inl at) = inr (longer loop_to (9 * count) (9 * suc count) p (omega arith) at)
+    by true (inr at) = inr (longer loop_to (9 * count) (9 * suc count) p (omega arith) at)
+    by false (inl at) = inl (further block count p at)
+    by false (inr at) = inr (longer loop_to (9 * count) (9 * suc count) p (omega arith) at)
+
+pub chain_is_near : (memory : List ℕ) (start : ChainStart) (p : ℕ) → has_page (chain_pages memory start) p ≡ true → has_page (far_pages start) p ≡ true
+chain_is_near memory start p h = elim (near memory start.loop_word 18 start.block p h) [
+  | inl at ↦ in_left (pages_of_bytes start.block 162) (pages_of_bytes start.loop_word 162) p at
+  | inr at ↦ in_right (pages_of_bytes start.block 162) (pages_of_bytes start.loop_word 162) p at
+]
+
+-- the same of several chains
+chains_are_near : (memory : List ℕ) (starts : List ChainStart) (p : ℕ) → has_page (flat_map (chain_pages memory) starts) p ≡ true → has_page (flat_map far_pages starts) p ≡ true
+chains_are_near memory [] p h = absurd (none_has p h)
+chains_are_near memory (start ∷ starts) p h = elim (in_either (chain_pages memory start) (flat_map (chain_pages memory) starts) p h) [
+  | inl here ↦ in_left (far_pages start) (flat_map far_pages starts) p (chain_is_near memory start p here)
+  | inr rest ↦ in_right (far_pages start) (flat_map far_pages starts) p (chains_are_near memory starts p rest)
+]
+
+-- and of what voices read
+pub voices_are_near : (memory : List ℕ) (starts : List ChainStart) (entries : List ℕ) (p : ℕ) → has_page (voice_pages memory starts entries) p ≡ true
+    → has_page (far_voice_pages starts entries) p ≡ true
+voices_are_near memory starts entries p h = elim (in_either (flat_map entry_pages entries) (flat_map (chain_pages memory) starts) p h) [
+  | inl entry ↦ in_left (flat_map entry_pages entries) (flat_map far_pages starts) p entry
+  | inr chains ↦ in_right (flat_map entry_pages entries) (flat_map far_pages starts) p (chains_are_near memory starts p chains)
+]
+
+-- lists with no page in common
+none_common : (these those : List ℕ) → ((q : ℕ) → has_page these q ≡ true → has_page those q ≡ false) → have_common_page (set.from_list these) (set.from_list those) ≡ false
+none_common these those apart =
+    let none : set.intersection (set.from_list {R = nat_cmp} these) (set.from_list those) ≡ set.empty =
+    set.same_set nat_cmp_total nat_cmp-IsAntisymmetric _ _
+    (λ q. set.contains-intersection nat_cmp_total (set.from_list these) (set.from_list those) q
+    ∙ (λ i. contains-pages these q i && contains-pages those q i) ∙ neither (has_page these q) (has_page those q) (apart q) ∙ sym (set.contains-empty nat_cmp q)) in
+    let zero_long : set.len (set.intersection (set.from_list {R = nat_cmp} these) (set.from_list those)) ≡ 0 = ap set.len none ∙ set.len-empty nat_cmp in
+    rw zero_long refl
+  where
+    neither : (a b : Bool) → (a ≡ true → b ≡ false) → (a && b) ≡ false
+    neither true b h = h refl
+    neither false b h = refl
+
+-- where the echo's window has no page of what voices can read from afar, the reach isn't entangled
+pub far_apart : (s : ChipState) (memory : List ℕ)
+    → have_common_page (set.from_list (far_voice_pages (starts_from s memory 0 s.hidden.voices) (entries_from s.registers 0 s.hidden.voices))) (set.from_list (window_pages (chip_window s))) ≡ false
+    → (chip_reach s memory).entangled ≡ false
+unfolding chip_reach reach
+far_apart s memory apart =
+    let starts : List ChainStart = starts_from s memory 0 s.hidden.voices in
+    let entries : List ℕ = entries_from s.registers 0 s.hidden.voices in
+    let window : List ℕ = window_pages (chip_window s) in
+    let none : have_common_page (set.from_list (voice_pages memory starts entries)) (set.from_list window) ≡ false =
+    none_common (voice_pages memory starts entries) window (λ q here. apart_right (far_voice_pages starts entries) window q apart (voices_are_near memory starts entries q here)) in
+    rw none (and_right (has_echo_writes (slice_index s.registers FLG)) false refl)

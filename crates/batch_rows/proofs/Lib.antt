@@ -1,0 +1,26 @@
+-- Lanes: the voices of a sample, one after another, are a sample of their lanes.
+-- SameInputs: registers that differ in results alone give voices, sums and echo the same.
+-- OneMore: one sample, from where a batch by rows has come.
+-- ByRows: a batch whose voices read nothing that its echo writes is one by rows.
+-- InReach: where the voices of a batch read nothing that its echo writes.
+-- Once: the results of a batch, and its keys.
+-- KeyRows: one sample more of the rows of keys and noise.
+-- PlayedLane: a voice over the rows of a batch makes the steps of its lane.
+-- Remains: the voices of a batch, one more of them played.
+-- Keyed: the voices that a sample keys are those whose key-ons its poll took.
+-- EchoRun: one step more of the echo's run, and of ENDX.
+-- MakeBatch: what the voices, the echo and the results leave of a batch by rows.
+-- Afar: the blocks of a chain lie in two runs of bytes.
+pub mod Lanes
+pub mod SameInputs
+pub mod OneMore
+pub mod ByRows
+pub mod InReach
+pub mod Once
+pub mod Afar
+pub mod KeyRows
+pub mod PlayedLane
+pub mod Remains
+pub mod Keyed
+pub mod EchoRun
+pub mod MakeBatch

@@ -1,0 +1,13 @@
+use Rattle.std.proofs.Common.{rules, ◌≡◌, ◌<◌, ◌+◌, ℕ, refl, sym, ◌∙◌, arith}
+use Rattle.dsp_form.specs.Results.{next_endx}
+use Rattle.batch_rows.proofs.EchoRun.{endx_after-more}
+use Rattle.batch_rows.proofs.endx.endx_of_batch.Goals as goal
+
+pub loop-j-preserved : goal.loop-j-preserved
+unfolding next_endx
+loop-j-preserved c = record {
+  endx = λ answers bits.
+      let few : c.loop-j.j < c.args.n = c.loop-j-test.true in
+      let place = c.from.ensures in
+      rw (endx_after-more, ← c.loop-j.invariant.endx answers bits, ← bits.looped c.loop-j.j few, ← bits.keyed c.loop-j.j few, c.next_endx-now.ensures, c.keyed_in.ensures, place) refl;
+}

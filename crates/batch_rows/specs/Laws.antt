@@ -1,0 +1,53 @@
+-- The laws of batches by rows.
+use Rattle.std.specs.Prelude.{◌≡◌, ℕ, suc, ◌+◌, ◌%◌, ◌<◌, ◌≤◌, ◌==◌, List, true, false, length, slice_index}
+use Rattle.std.specs.FinSet as set
+use Rattle.aram_core.specs.Pages.{have_common_page}
+use Rattle.voice_unit.specs.declared.interface.VoiceOut.{VoiceOut}
+use Rattle.echo_unit.specs.Flg.{has_echo_writes}
+use Rattle.reach_map.specs.Reach.{window_pages}
+use Rattle.dsp_form.specs.Limits.{most_samples_of_batch}
+use Rattle.dsp_form.specs.Reach.{entries_from, starts_from, chip_window, chip_reach}
+use Rattle.dsp_form.specs.Sample.{sample}
+use Rattle.dsp_form.specs.Samples.{samples}
+use Rattle.dsp_form.specs.Valid.{is_valid}
+use Rattle.dsp_form.specs.declared.registers.TheConstants.{FLG, ENDX}
+use Rattle.dsp_form.specs.declared.state.ChipState.{ChipState}
+use Rattle.batch_rows.specs.Afar.{far_voice_pages}
+use Rattle.batch_rows.specs.Apart.{VoicesReadTheSame}
+use Rattle.batch_rows.specs.Once.{put_once, endx_after}
+use Rattle.batch_rows.specs.Rows.{by_rows, keys_after, results_after}
+
+-- samples whose voices read nothing that the echo writes are those by rows
+abbrev pub ApartByRows : Type 0
+ApartByRows = (n k : ℕ) (s : ChipState) (memory : List ℕ) → VoicesReadTheSame n k s memory → samples sample n k s memory ≡ by_rows n k s memory
+
+-- so are those of a batch from a valid state whose echo can't write what its voices read
+abbrev pub ReachByRows : Type 0
+ReachByRows =
+    (n k : ℕ) (s : ChipState) (memory : List ℕ) → n ≤ most_samples_of_batch → is_valid s ≡ true → (chip_reach s memory).entangled ≡ false
+    → samples sample n k s memory ≡ by_rows n k s memory
+
+-- and those made while echo writes are off
+abbrev pub StillByRows : Type 0
+StillByRows =
+    (n k : ℕ) (s : ChipState) (memory : List ℕ) → has_echo_writes (slice_index s.registers FLG) ≡ false
+    → samples sample n k s memory ≡ by_rows n k s memory
+
+-- where the window has no page of what voices can read from afar, the reach isn't entangled
+abbrev pub FarChainsApart : Type 0
+FarChainsApart =
+    (s : ChipState) (memory : List ℕ)
+    → have_common_page (set.from_list (far_voice_pages (starts_from s memory 0 s.hidden.voices) (entries_from s.registers 0 s.hidden.voices))) (set.from_list (window_pages (chip_window s))) ≡ false
+    → (chip_reach s memory).entangled ≡ false
+
+-- the results of a batch are those of its last sample, but for ENDX
+abbrev pub ResultsOnce : Type 0
+ResultsOnce =
+    (rows : ℕ → List VoiceOut) (registers : List ℕ) (n : ℕ) → ((j : ℕ) → length (rows j) ≡ 8) → ENDX < length registers
+    → results_after rows registers (suc n) ≡ put_once (rows n) (endx_after rows (slice_index registers ENDX) (suc n)) registers
+
+-- a poll behind the first of a batch takes no key-ons
+abbrev pub KeysOnce : Type 0
+KeysOnce =
+    (k : ℕ) (s : ChipState) (i more : ℕ) → s.hidden.waiting < 0x100 → ((k + i) % 2 == 0) ≡ true → ((k + suc (more + i)) % 2 == 0) ≡ true
+    → (keys_after k s (suc (suc (more + i)))).hidden.taken ≡ 0

@@ -1,0 +1,20 @@
+-- Lane: one voice over a batch, and all voices, each over the row of the one before.
+-- Rows: a batch by rows: voice by voice, and then the echo over the sums.
+-- Apart: that the voices of a batch read nothing that its echo writes.
+-- Once: what a batch does once.
+-- Afar: what voices can read, from afar.
+-- KeyRows: the rows of keys and noise that the voices of a batch read.
+-- PlayedLane: what a voice leaves of a batch.
+-- SumRows: rows of sums with the shares of a voice.
+-- PlayedBatch: what the voices leave of a batch.
+-- Laws: the laws of batches by rows.
+pub mod Lane
+pub mod Rows
+pub mod Apart
+pub mod Once
+pub mod Afar
+pub mod KeyRows
+pub mod PlayedLane
+pub mod SumRows
+pub mod PlayedBatch
+pub mod Laws

@@ -1,0 +1,21 @@
+// The laws of batches by rows.
+ghost use Rattle.batch_rows.specs.Laws.{ApartByRows, ReachByRows, StillByRows, FarChainsApart, ResultsOnce, KeysOnce};
+
+/// Samples whose voices read nothing that the echo writes are those by rows. Where the echo can't write what voices read, or echo writes
+/// are off, they are such.
+pub fn batches_by_rows()
+    ensures apart { ApartByRows }
+    ensures reach { ReachByRows }
+    ensures still { StillByRows }
+{}
+
+/// Where the window has no page of the two runs of 162 bytes of each chain, nor of the entries, the reach isn't entangled: no chain is walked.
+pub fn chains_from_afar()
+    ensures { FarChainsApart }
+{}
+
+/// The results of a batch are those of its last sample, but for ENDX. The key-ons that a batch takes are taken at its first poll.
+pub fn once_a_batch()
+    ensures results { ResultsOnce }
+    ensures keys { KeysOnce }
+{}

@@ -1,0 +1,2 @@
+-- Still: steps that leave an envelope as it is.
+pub mod Still

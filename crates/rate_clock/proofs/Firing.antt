@@ -1,0 +1,54 @@
+-- When a rate fires next.
+use Rattle.std.proofs.Common.{◌≡◌, ℕ, zero, suc, ◌+◌, ◌-◌, ◌*◌, ◌/◌, ◌%◌, ◌<◌, ◌≤◌, ◌==◌, nat_lt, drop, true, false, get_or, slice_index, refl, sym, arith}
+use Rattle.std.proofs.Math.Nat.{div-add-mod}
+use Rattle.std.proofs.lemmas.Nat.{mod-mul-add, mod_below}
+use Rattle.std.proofs.lemmas.Bool.Decides.{nat_tests}
+use Rattle.rate_clock.specs.Counter.{counter_at, periods, offsets, fires, until_fires, IsQuiet}
+use Rattle.rate_clock.proofs.Tables.{list_all-entry, period_positive}
+
+-- each period divides the round of the counter
+divides-round : (rate : ℕ) → 0 < rate → rate < 32 → slice_index periods rate * (30720 / slice_index periods rate) ≡ 30720
+divides-round zero positive within = absurd (omega arith)
+divides-round (suc r) positive within =
+    let test : (get_or (drop 1 periods) r 0 * (30720 / get_or (drop 1 periods) r 0) == 30720) ≡ true =
+    list_all-entry (λ x. x * (30720 / x) == 30720) (drop 1 periods) r (omega arith) refl in
+    grind (arith, nat_tests)
+
+-- the counter falls by 1 a sample, but for whole rounds
+falls : (k j : ℕ) → counter_at (k + j) + j + 30720 * (k / 30720) ≡ counter_at k + 30720 * ((k + j) / 30720)
+falls k j = omega arith
+
+rounds : (k j : ℕ) → k / 30720 ≤ (k + j) / 30720
+rounds k j = omega arith
+
+-- numbers that fall from x to y by j and rise by whole rounds
+rest_falls : (p q x y j m r d : ℕ) → p * q ≡ 30720 → x ≡ p * m + r → r < p → j ≤ r → y + j ≡ x + 30720 * d → y % p ≡ r - j
+rest_falls p q x y j m r d whole parts small within fall =
+    let turned : 30720 * d ≡ q * d * p = rw (← whole) (omega arith) in
+    let is : y ≡ (m + q * d) * p + (r - j) = omega (arith, turned) in
+    rw is (mod-mul-add (m + q * d) p (r - j) (omega arith))
+
+-- so many samples on, the rest is that much less
+rest_at : (rate k j : ℕ) → 0 < rate → rate < 32 → j ≤ until_fires rate (counter_at k) → until_fires rate (counter_at (k + j)) ≡ until_fires rate (counter_at k) - j
+rest_at rate k j positive within few =
+    rest_falls p (30720 / p) x (counter_at (k + j) + offset) j (x / p) (x % p) ((k + j) / 30720 - k / 30720)
+    (divides-round rate positive within) (sym (div-add-mod x p)) (mod_below x p (period_positive rate positive within)) few
+    (omega (arith, falls k j, rounds k j))
+  where
+    p : ℕ
+    p = slice_index periods rate
+
+    offset : ℕ
+    offset = slice_index offsets rate
+
+    x : ℕ
+    x = counter_at k + offset
+
+-- before that it doesn't fire
+pub quiet_until : (rate k : ℕ) → 0 < rate → rate < 32 → IsQuiet rate k (until_fires rate (counter_at k))
+unfolding fires
+quiet_until rate k positive within j few =
+    let rest : until_fires rate (counter_at (k + j)) ≡ until_fires rate (counter_at k) - j = rest_at rate k j positive within (omega (arith, few)) in
+    let some : nat_lt 0 rate ≡ true = grind (arith, nat_tests) in
+    let more : (until_fires rate (counter_at k) - j == 0) ≡ false = grind (arith, nat_tests) in
+    rw (some, rest, more) refl

@@ -1,0 +1,4 @@
+use Rattle.voice_unit.proofs.voice.Voice.play_sample.Goals as goal
+
+pub returns-clause-rest : goal.returns-clause-rest
+returns-clause-rest c k now at = c.play_at_rest.ensures.rest k at

@@ -1,0 +1,38 @@
+-- A voice over a batch of samples. A row is told by the sample's place in the batch, from 0 on.
+use Rattle.std.specs.Prelude.{ℕ, zero, suc, List, ℤ, false, ◌&&◌, nat_lt, get_or, slice_index}
+use Rattle.num_fix.specs.Arithmetic.{has_bit}
+use Rattle.num_fix.specs.Words.{number_at}
+use Rattle.voice_unit.specs.Voice.{VoiceState, voice_step, voice_answer}
+use Rattle.voice_unit.specs.declared.interface.VoiceRegs.{VoiceRegs}
+use Rattle.voice_unit.specs.declared.interface.VoiceIn.{VoiceIn}
+use Rattle.voice_unit.specs.declared.interface.VoiceOut.{VoiceOut}
+use Rattle.voice_unit.specs.declared.batch.BatchRows.{BatchRows}
+use Rattle.voice_unit.specs.declared.batch.BatchLane.{BatchLane}
+
+-- what a voice reads in sample j, after the output of the voice before it
+unfoldable pub lane_input : BatchLane → BatchRows → (previous : ℤ) → (j : ℕ) → VoiceIn
+lane_input lane rows previous j = record {
+  dir = lane.dir;
+  modulated = nat_lt 0 lane.voice && has_bit lane.pmon lane.voice;
+  previous = previous;
+  noisy = has_bit lane.non lane.voice;
+  noise = slice_index rows.noise j;
+  reset = lane.reset;
+  poll = get_or rows.poll j false;
+  koff = has_bit lane.koff lane.voice;
+  kon = has_bit (slice_index rows.kon j) lane.voice;
+}
+
+-- what it reads in each sample, over the row of outputs of the voice before it
+abbrev pub lane_inputs : BatchLane → BatchRows → (previous : List ℤ) → ℕ → VoiceIn
+lane_inputs lane rows previous j = lane_input lane rows (number_at previous j) j
+
+-- a voice after so many steps, by the rows of its inputs and of counters
+unfoldable pub steps : VoiceRegs → (inputs : ℕ → VoiceIn) → (memory : List ℕ) → (counters : ℕ → ℕ) → VoiceState → (samples : ℕ) → VoiceState
+steps r inputs memory counters voice zero = voice
+steps r inputs memory counters voice (suc j) = voice_step (steps r inputs memory counters voice j) r (inputs j) memory (counters j)
+
+-- what its step in sample j gives
+unfoldable pub answer_of_step : VoiceRegs → (inputs : ℕ → VoiceIn) → (memory : List ℕ) → (table : List ℤ) → (counters : ℕ → ℕ) → VoiceState → (j : ℕ) → VoiceOut
+answer_of_step r inputs memory table counters voice j =
+    voice_answer (steps r inputs memory counters voice j) r (inputs j) memory table (counters j)

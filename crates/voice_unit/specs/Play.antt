@@ -1,0 +1,43 @@
+-- A voice over a batch, as rows of numbers alone.
+use Rattle.std.specs.Prelude.{◌≡◌, ℕ, ◌+◌, ◌^◌, ◌<◌, ◌≤◌, List, ℤ, slice_index, if◌then◌else◌}
+use Rattle.num_fix.specs.Words.{number_at}
+use Rattle.rate_clock.specs.Counter.{counter_at}
+use Rattle.voice_unit.specs.Voice.{VoiceState}
+use Rattle.voice_unit.specs.Batch.{lane_inputs, steps, answer_of_step}
+use Rattle.voice_unit.specs.declared.batch.BatchLane.{BatchLane}
+use Rattle.voice_unit.specs.declared.batch.BatchRows.{BatchRows}
+use Rattle.voice_unit.specs.declared.interface.VoiceRegs.{VoiceRegs}
+use Rattle.voice_unit.specs.declared.interface.VoiceIn.{VoiceIn}
+use Rattle.voice_unit.specs.declared.interface.VoiceOut.{VoiceOut}
+
+-- the counters of so many samples, from number k on
+abbrev pub CountsFrom : (k n : ℕ) → (clocks : List ℕ) → Type 0
+CountsFrom k n clocks = (j : ℕ) → j < n → slice_index clocks j ≡ counter_at (k + j)
+
+-- what a voice and its row read in a batch from number k on
+pub record Lane : Type 0 where
+  pub regs : VoiceRegs
+  pub inputs : ℕ → VoiceIn
+  pub memory : List ℕ
+  pub table : List ℤ
+  pub k : ℕ
+  pub voice : VoiceState
+
+-- that of a voice with its registers, over the rows of a batch and the row of outputs of the voice before it
+abbrev pub lane_of : VoiceRegs → BatchLane → BatchRows → (previous : List ℤ) → (memory : List ℕ) → (table : List ℤ) → VoiceState → (k : ℕ) → Lane
+lane_of r lane rows previous memory table voice k =
+    record { regs = r; inputs = lane_inputs lane rows previous; memory = memory; table = table; k = k; voice = voice }
+
+-- the voice after j samples, and what it gives in sample j
+abbrev pub voice_at : Lane → (j : ℕ) → VoiceState
+voice_at lane j = steps lane.regs lane.inputs lane.memory (λ j. counter_at (lane.k + j)) lane.voice j
+
+abbrev pub answer_at : Lane → (j : ℕ) → VoiceOut
+answer_at lane j = answer_of_step lane.regs lane.inputs lane.memory lane.table (λ j. counter_at (lane.k + j)) lane.voice j
+
+-- What n samples of voice v leave: the voice, the row of its outputs, and the row of bytes in which bit v is added where it loops.
+pub record IsPlayed (lane : Lane) (v n : ℕ) (before after : List ℕ) (outs : List ℤ) (voice : VoiceState) : Type 0 where
+  pub voice_is : voice ≡ voice_at lane n
+  pub outs_are : (j : ℕ) → j < n → number_at outs j ≡ (answer_at lane j).out
+  pub loops_are : (j : ℕ) → j < n → slice_index after j ≡ slice_index before j + (if (answer_at lane j).looped then 2 ^ v else 0)
+  pub others : (j : ℕ) → n ≤ j → slice_index after j ≡ slice_index before j

@@ -1,0 +1,128 @@
+//! A voice over a batch of samples, as rows of numbers alone.
+
+ghost use Rattle.std.specs.Prelude.{◌≡◌, ◌<◌, ◌≤◌, ◌+◌, ◌-◌, ◌^◌, ℕ, length, slice_index, slice_set, if◌then◌else◌};
+ghost use Rattle.rate_clock.specs.Counter.{counter_at};
+ghost use Rattle.voice_unit.specs.Voice.{voice_step, voice_answer};
+ghost use Rattle.voice_unit.specs.Rest.{IsAtRest};
+ghost use Rattle.voice_unit.specs.Play.{CountsFrom, IsPlayed, answer_at, lane_of};
+
+use crate::batch::{BatchLane, BatchRows};
+use crate::interface::{VoiceIn, VoiceOut, VoiceRegs};
+use crate::rest::Played;
+use crate::voice::{Voice, is_keyed};
+use aram_core::Aram;
+use gauss_table::GaussTable;
+use rate_clock::RateClock;
+
+/// Adds the bit of a voice that looped in sample `j`.
+fn mark_loop(loops: &mut [u8; 64], j: u8, looped: bool, voice: u8)
+    requires few { j < 64 }
+    requires voice { voice < 8 }
+    requires room { slice_index loops.old j < 2 ^ voice }
+    ensures { loops.new ≡ (if looped then slice_set loops.old j (slice_index loops.old j + 2 ^ voice) else loops.old) }
+{
+    if looped {
+        loops[usize::from(j)] += 1 << voice;
+    }
+}
+
+impl Voice {
+    /// One sample, of a voice whose envelope rests for so many.
+    fn play_sample(
+        &mut self,
+        rest: u16,
+        regs: &VoiceRegs,
+        input: &VoiceIn,
+        memory: &Aram,
+        table: &GaussTable,
+        clock: &RateClock,
+    ) -> Played
+        requires pitch { regs.now.pitch < 0x4000 }
+        requires noise { input.now.noise < 0x8000 }
+        ensures voice { (k : ℕ) → clock.now ≡ counter_at k → IsAtRest input.now.reset input.now.koff regs.now memory.now k rest self.old → self.new ≡ voice_step self.old regs.now input.now memory.now (counter_at k) }
+        ensures out { (k : ℕ) → clock.now ≡ counter_at k → IsAtRest input.now.reset input.now.koff regs.now memory.now k rest self.old → result.out ≡ (voice_answer self.old regs.now input.now memory.now table.now (counter_at k)).out }
+        ensures looped { (k : ℕ) → clock.now ≡ counter_at k → IsAtRest input.now.reset input.now.koff regs.now memory.now k rest self.old → result.looped ≡ (voice_answer self.old regs.now input.now memory.now table.now (counter_at k)).looped }
+        ensures rest { (k : ℕ) → clock.now ≡ counter_at k → IsAtRest input.now.reset input.now.koff regs.now memory.now k rest self.old → IsAtRest input.now.reset input.now.koff regs.now memory.now (k + 1) result.rest self.new }
+    {
+        if rest == 0 {
+            return self.play_awake(regs, input, memory, table, clock);
+        }
+        if is_keyed(input) {
+            return self.play_awake(regs, input, memory, table, clock);
+        }
+        self.play_at_rest(rest, regs, input, memory, table)
+    }
+
+    /// Makes n samples.
+    fn play_row(
+        &mut self,
+        n: u8,
+        regs: &VoiceRegs,
+        lane: &BatchLane,
+        rows: &BatchRows,
+        previous: &[i16; 64],
+        memory: &Aram,
+        table: &GaussTable,
+        clocks: &[RateClock; 64],
+        outs: &mut [i16; 64],
+        loops: &mut [u8; 64],
+    )
+        requires few { n < 64 }
+        requires voice { lane.now.voice < 8 }
+        requires pitch { regs.now.pitch < 0x4000 }
+        requires noise { (j : ℕ) → j < n → slice_index rows.now.noise j < 0x8000 }
+        requires room { (j : ℕ) → j < 64 → slice_index loops.old j < 2 ^ lane.now.voice }
+        ensures played { (k : ℕ) → CountsFrom k n clocks.now → IsPlayed (lane_of regs.now lane.now rows.now previous.now memory.now table.now self.old k) lane.now.voice n loops.old loops.new outs.new self.new }
+        ensures others { (j : ℕ) → n ≤ j → slice_index loops.new j ≡ slice_index loops.old j }
+        ensures room { (j : ℕ) → j < 64 → slice_index loops.new j < 2 ^ (lane.now.voice + 1) }
+    {
+        let mut rest = 0;
+        for j in 0..n {
+            let place = usize::from(j);
+            let input = lane.input(rows, previous[place], j);
+            let clock = clocks[place];
+            let played = self.play_sample(rest, regs, &input, memory, table, &clock);
+            outs[place] = played.out;
+            mark_loop(loops, j, played.looped, lane.voice);
+            rest = played.rest;
+        }
+    }
+
+    /// Makes n samples: their outputs are put into a row, and its bit is added to the byte of each sample in which the voice
+    /// loops. The answer is that of the last step.
+    pub fn play(
+        &mut self,
+        n: u8,
+        regs: &VoiceRegs,
+        lane: &BatchLane,
+        rows: &BatchRows,
+        previous: &[i16; 64],
+        memory: &Aram,
+        table: &GaussTable,
+        clocks: &[RateClock; 64],
+        outs: &mut [i16; 64],
+        loops: &mut [u8; 64],
+    ) -> VoiceOut
+        requires some { 0 < n }
+        requires few { n ≤ 64 }
+        requires voice { lane.now.voice < 8 }
+        requires pitch { regs.now.pitch < 0x4000 }
+        requires noise { (j : ℕ) → j < n → slice_index rows.now.noise j < 0x8000 }
+        requires room { (j : ℕ) → j < 64 → slice_index loops.old j < 2 ^ lane.now.voice }
+        ensures played { (k : ℕ) → CountsFrom k n clocks.now → IsPlayed (lane_of regs.now lane.now rows.now previous.now memory.now table.now self.old k) lane.now.voice n loops.old loops.new outs.new self.new }
+        ensures room { (j : ℕ) → j < 64 → slice_index loops.new j < 2 ^ (lane.now.voice + 1) }
+        ensures last { (k : ℕ) → CountsFrom k n clocks.now → result ≡ answer_at (lane_of regs.now lane.now rows.now previous.now memory.now table.now self.old k) (n - 1) }
+    {
+        let last = n - 1;
+        self.play_row(
+            last, regs, lane, rows, previous, memory, table, clocks, outs, loops,
+        );
+        let place = usize::from(last);
+        let input = lane.input(rows, previous[place], last);
+        let clock = clocks[place];
+        let answer = self.step(regs, &input, memory, table, &clock);
+        outs[place] = answer.out;
+        mark_loop(loops, last, answer.looped, lane.voice);
+        answer
+    }
+}

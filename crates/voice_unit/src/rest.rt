@@ -1,0 +1,129 @@
+//! One sample of a voice over a batch, with a shorter way for a voice whose envelope rests.
+
+ghost use Rattle.std.specs.Prelude.{◌≡◌, ◌<◌, ◌≤◌, ◌+◌, ℕ, true, false};
+ghost use Rattle.aram_core.specs.Memory.{byte_at};
+ghost use Rattle.rate_clock.specs.Counter.{counter_at};
+ghost use Rattle.voice_unit.specs.Voice.{voice_step, voice_answer, is_keyed};
+ghost use Rattle.envelope.specs.declared.Mode.TheVariants.{Release};
+ghost use Rattle.voice_unit.specs.Rest.{is_silencing, IsSilent, IsAtRest};
+
+use crate::interface::{VoiceIn, VoiceRegs};
+use crate::voice::{Voice, is_keyed, pitch_of};
+use aram_core::Aram;
+use envelope::{Envelope, Mode};
+use gauss_table::GaussTable;
+use rate_clock::RateClock;
+
+/// What a sample of a batch gives.
+#[derive(Clone, Copy, Debug)]
+pub(crate) struct Played {
+    pub out: i16,
+    /// The voice came to the end of a block that has its end bit.
+    pub looped: bool,
+    /// How many more samples its envelope rests.
+    pub rest: u16,
+}
+
+/// Whether the soft reset or the header of a block that ends without a loop silences a voice.
+fn is_silencing(reset: bool, header: u8) -> bool
+    ensures { result ≡ is_silencing reset header }
+{
+    reset || header & 3 == 1
+}
+
+/// Whether an envelope is released at level 0.
+fn is_silent(envelope: &Envelope) -> bool
+    ensures { result ≡ true → IsSilent envelope.now }
+{
+    envelope.mode == Mode::Release && envelope.level() == 0
+}
+
+impl Voice {
+    /// Whether its block silences the voice while it sounds.
+    fn is_to_be_silenced(&self, reset: bool, memory: &Aram) -> bool
+        ensures { result ≡ false → is_silencing reset (byte_at memory.now self.now.block) ≡ true → IsSilent self.now.envelope }
+    {
+        is_silencing(reset, memory.get(self.block())) && !is_silent(&self.envelope())
+    }
+
+    /// Whether a key off is to release the voice.
+    fn is_to_be_released(&self, koff: bool) -> bool
+        ensures { result ≡ false → koff ≡ true → self.now.envelope.mode ≡ Release }
+    {
+        koff && self.envelope().mode != Mode::Release
+    }
+
+    /// How many samples the envelope rests, from the one after the clock's on.
+    fn rest(&self, regs: &VoiceRegs, input: &VoiceIn, memory: &Aram, clock: &RateClock) -> u16
+        ensures { (k : ℕ) → clock.now ≡ counter_at k → IsAtRest input.now.reset input.now.koff regs.now memory.now (k + 1) result self.now }
+    {
+        if self.delay() != 0 {
+            return 0;
+        }
+        if self.is_to_be_silenced(input.reset, memory) {
+            return 0;
+        }
+        if self.is_to_be_released(input.koff) {
+            return 0;
+        }
+        let mut next = *clock;
+        next.step();
+        self.envelope()
+            .rest(regs.adsr1, regs.adsr2, regs.gain, &next)
+    }
+
+    /// A whole step.
+    pub(crate) fn play_awake(
+        &mut self,
+        regs: &VoiceRegs,
+        input: &VoiceIn,
+        memory: &Aram,
+        table: &GaussTable,
+        clock: &RateClock,
+    ) -> Played
+        requires pitch { regs.now.pitch < 0x4000 }
+        requires noise { input.now.noise < 0x8000 }
+        ensures voice { self.new ≡ voice_step self.old regs.now input.now memory.now clock.now }
+        ensures out { result.out ≡ (voice_answer self.old regs.now input.now memory.now table.now clock.now).out }
+        ensures looped { result.looped ≡ (voice_answer self.old regs.now input.now memory.now table.now clock.now).looped }
+        ensures rest { (k : ℕ) → clock.now ≡ counter_at k → IsAtRest input.now.reset input.now.koff regs.now memory.now (k + 1) result.rest self.new }
+    {
+        let answer = self.step(regs, input, memory, table, clock);
+        let rest = self.rest(regs, input, memory, clock);
+        Played {
+            out: answer.out,
+            looped: answer.looped,
+            rest,
+        }
+    }
+
+    /// A step of a voice at rest that isn't keyed.
+    pub(crate) fn play_at_rest(
+        &mut self,
+        rest: u16,
+        regs: &VoiceRegs,
+        input: &VoiceIn,
+        memory: &Aram,
+        table: &GaussTable,
+    ) -> Played
+        requires pitch { regs.now.pitch < 0x4000 }
+        requires noise { input.now.noise < 0x8000 }
+        requires resting { 0 < rest }
+        requires unkeyed { is_keyed input.now ≡ false }
+        ensures voice { (k : ℕ) → IsAtRest input.now.reset input.now.koff regs.now memory.now k rest self.old → self.new ≡ voice_step self.old regs.now input.now memory.now (counter_at k) }
+        ensures out { (k : ℕ) → IsAtRest input.now.reset input.now.koff regs.now memory.now k rest self.old → result.out ≡ (voice_answer self.old regs.now input.now memory.now table.now (counter_at k)).out }
+        ensures looped { (k : ℕ) → IsAtRest input.now.reset input.now.koff regs.now memory.now k rest self.old → result.looped ≡ (voice_answer self.old regs.now input.now memory.now table.now (counter_at k)).looped }
+        ensures rest { (k : ℕ) → IsAtRest input.now.reset input.now.koff regs.now memory.now k rest self.old → IsAtRest input.now.reset input.now.koff regs.now memory.now (k + 1) result.rest self.new }
+    {
+        let block = self.block();
+        let out = self.output(input, table);
+        let looped = self.read_on(memory.get(block), regs, input, memory);
+        self.move_on(pitch_of(regs, input));
+        let is_woken = self.block() != block && self.is_to_be_silenced(input.reset, memory);
+        Played {
+            out,
+            looped,
+            rest: if is_woken { 0 } else { rest - 1 },
+        }
+    }
+}
