@@ -23,7 +23,7 @@ record IsApart (v i : ℕ) : Type 0 where
 later : {v i : ℕ} → IsApart v i → IsApart (v + 1) i
 later a = record { envx = λ u above. a.envx u (omega (arith, above)); outx = λ u above. a.outx u (omega (arith, above)) }
 
--- such a register may be set before or behind them
+-- such a register may be set before or after them
 levels_set : (v : ℕ) (answers : List VoiceOut) (registers : List ℕ) (i x : ℕ) → IsApart v i
     → with_levels_from v answers (slice_set registers i x) ≡ slice_set (with_levels_from v answers registers) i x
 levels_set v [] registers i x apart = refl
@@ -67,7 +67,7 @@ length-levels v (answer ∷ answers) registers =
     length-levels (v + 1) answers (slice_set (slice_set registers (16 * v + ENVX) answer.envx) (16 * v + OUTX) answer.outx)
     ∙ length-set (slice_set registers (16 * v + ENVX) answer.envx) (16 * v + OUTX) answer.outx ∙ length-set registers (16 * v + ENVX) answer.envx
 
--- results behind results
+-- results after results
 again : (answers before : List VoiceOut) (endx : ℕ) (registers : List ℕ) → length answers ≡ length before → ENDX < length registers
     → registers_after answers (put_once before endx registers) ≡ put_once answers (next_endx endx answers) registers
 unfolding registers_after

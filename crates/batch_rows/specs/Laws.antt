@@ -46,7 +46,7 @@ ResultsOnce =
     (rows : ℕ → List VoiceOut) (registers : List ℕ) (n : ℕ) → ((j : ℕ) → length (rows j) ≡ 8) → ENDX < length registers
     → results_after rows registers (suc n) ≡ put_once (rows n) (endx_after rows (slice_index registers ENDX) (suc n)) registers
 
--- a poll behind the first of a batch takes no key-ons
+-- a poll after the first of a batch takes no key-ons
 abbrev pub KeysOnce : Type 0
 KeysOnce =
     (k : ℕ) (s : ChipState) (i more : ℕ) → s.hidden.waiting < 0x100 → ((k + i) % 2 == 0) ≡ true → ((k + suc (more + i)) % 2 == 0) ≡ true

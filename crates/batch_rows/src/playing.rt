@@ -24,7 +24,14 @@ use voice_unit::{BatchLane, BatchRows, Voice, VoiceOut};
 /// What voice `v` reads of the registers that all voices share.
 fn lane_of(registers: &Registers, v: u8) -> BatchLane
     requires { v < 8 }
-    ensures { result ≡ record { voice = v; dir = slice_index registers.now DIR; pmon = slice_index registers.now PMON; non = slice_index registers.now NON; koff = slice_index registers.now KOFF; reset = is_soft_reset (slice_index registers.now FLG) } }
+    ensures { result ≡ record {
+      voice = v;
+      dir = slice_index registers.now DIR;
+      pmon = slice_index registers.now PMON;
+      non = slice_index registers.now NON;
+      koff = slice_index registers.now KOFF;
+      reset = is_soft_reset (slice_index registers.now FLG);
+    } }
 {
     BatchLane {
         voice: v,

@@ -26,7 +26,8 @@ fn add_row(sums: &mut [i16; 64], outs: &[i16; 64], volume: i16)
 impl SumRows {
     /// Begins with the sums over no voices.
     pub fn clear(&mut self)
-        ensures { self.new ≡ record { main_left = replicate 64 (pos 0); main_right = replicate 64 (pos 0); sent_left = replicate 64 (pos 0); sent_right = replicate 64 (pos 0) } }
+        ensures { let zeros = replicate 64 (pos 0) in
+            self.new ≡ record { main_left = zeros; main_right = zeros; sent_left = zeros; sent_right = zeros } }
     {
         *self = SumRows {
             main_left: [0; 64],

@@ -67,7 +67,8 @@ fn push_block(
         IfOk result (λ _. bytes.new.items ≡ bytes.old.items ++ block) }
     ensures reports { let report = block_report place.first place.last place.looped coder.last coder.before targets.now in
         IfOk result (λ _. reports.new.items ≡ reports.old.items ++ report ∷ []) }
-    ensures coder { IfOk result (λ new. new ≡ after_targets (best_header place.first coder.last coder.before targets.now) (coder_after coder.last coder.before) targets.now) }
+    ensures coder { let header = best_header place.first coder.last coder.before targets.now in
+        IfOk result (λ new. new ≡ after_targets header (coder_after coder.last coder.before) targets.now) }
     ensures within { IfOk result (λ _. All IsWithin reports.old.items → All IsWithin reports.new.items) }
 {
     let header = best_header(place.first, targets, coder.last, coder.before);

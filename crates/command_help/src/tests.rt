@@ -1,8 +1,27 @@
 // Runs of `help` and `version` over a host in memory.
 use crate::{help, version};
-use command_tests::{HELP, Outcome, ROOM, host_with};
+use command_tests::{Outcome, ROOM, host_with};
 use std::alloc::Global;
 use std::test::Fail;
+
+/// What is told of the commands.
+const HELP: &str = "\
+spcwave renders SPC music, as the Super Nintendo plays it, to WAV files. Its commands:\n\
+\n\
+\x20 spcwave render SPC TABLE WAV [--samples N] [--trace FILE] [--voices HH]: render a tune, and trace it on request\n\
+\x20 spcwave info SPC: show the tags and the registers of a tune\n\
+\x20 spcwave brr IN OUT: decode BRR blocks to a WAV file\n\
+\x20 spcwave encode WAV BRR [--loop]: encode a WAV file to BRR blocks\n\
+\x20 spcwave demo NUMBER OUT: make a tune from a number\n\
+\x20 spcwave check NUMBER: render that tune for ten seconds, and tell sums over its frames\n\
+\x20 spcwave asm IN ORIGIN OUT: assemble a program of the SPC700\n\
+\x20 spcwave dis IN ORIGIN OUT: list a program of the SPC700\n\
+\x20 spcwave rip SPC PREFIX [--range AABB]: write the samples of a tune to WAV files\n\
+\x20 spcwave help: tell this; --help does so too\n\
+\x20 spcwave version: tell the number of the version; --version does so too\n\
+\n\
+The manual page spcwave(1) and docs/FORMATS.md describe files, texts and exit statuses.\n\
+";
 
 /// Asks for the commands, where the calls of these numbers fail.
 fn ask_for_help(alloc: Global, failing: &[u32]) -> Result<Outcome, Fail> {

@@ -39,10 +39,14 @@ impl Voice {
     ) -> Played
         requires pitch { regs.now.pitch < 0x4000 }
         requires noise { input.now.noise < 0x8000 }
-        ensures voice { (k : ℕ) → clock.now ≡ counter_at k → IsAtRest input.now.reset input.now.koff regs.now memory.now k rest self.old → self.new ≡ voice_step self.old regs.now input.now memory.now (counter_at k) }
-        ensures out { (k : ℕ) → clock.now ≡ counter_at k → IsAtRest input.now.reset input.now.koff regs.now memory.now k rest self.old → result.out ≡ (voice_answer self.old regs.now input.now memory.now table.now (counter_at k)).out }
-        ensures looped { (k : ℕ) → clock.now ≡ counter_at k → IsAtRest input.now.reset input.now.koff regs.now memory.now k rest self.old → result.looped ≡ (voice_answer self.old regs.now input.now memory.now table.now (counter_at k)).looped }
-        ensures rest { (k : ℕ) → clock.now ≡ counter_at k → IsAtRest input.now.reset input.now.koff regs.now memory.now k rest self.old → IsAtRest input.now.reset input.now.koff regs.now memory.now (k + 1) result.rest self.new }
+        ensures voice { (k : ℕ) → clock.now ≡ counter_at k → IsAtRest input.now.reset input.now.koff regs.now memory.now k rest self.old
+            → self.new ≡ voice_step self.old regs.now input.now memory.now (counter_at k) }
+        ensures out { (k : ℕ) → clock.now ≡ counter_at k → IsAtRest input.now.reset input.now.koff regs.now memory.now k rest self.old
+            → result.out ≡ (voice_answer self.old regs.now input.now memory.now table.now (counter_at k)).out }
+        ensures looped { (k : ℕ) → clock.now ≡ counter_at k → IsAtRest input.now.reset input.now.koff regs.now memory.now k rest self.old
+            → result.looped ≡ (voice_answer self.old regs.now input.now memory.now table.now (counter_at k)).looped }
+        ensures rest { (k : ℕ) → clock.now ≡ counter_at k → IsAtRest input.now.reset input.now.koff regs.now memory.now k rest self.old
+            → IsAtRest input.now.reset input.now.koff regs.now memory.now (k + 1) result.rest self.new }
     {
         if rest == 0 {
             return self.play_awake(regs, input, memory, table, clock);
@@ -72,7 +76,9 @@ impl Voice {
         requires pitch { regs.now.pitch < 0x4000 }
         requires noise { (j : ℕ) → j < n → slice_index rows.now.noise j < 0x8000 }
         requires room { (j : ℕ) → j < 64 → slice_index loops.old j < 2 ^ lane.now.voice }
-        ensures played { (k : ℕ) → CountsFrom k n clocks.now → IsPlayed (lane_of regs.now lane.now rows.now previous.now memory.now table.now self.old k) lane.now.voice n loops.old loops.new outs.new self.new }
+        ensures played { (k : ℕ) → CountsFrom k n clocks.now
+            → let plays = lane_of regs.now lane.now rows.now previous.now memory.now table.now self.old k in
+            IsPlayed plays lane.now.voice n loops.old loops.new outs.new self.new }
         ensures others { (j : ℕ) → n ≤ j → slice_index loops.new j ≡ slice_index loops.old j }
         ensures room { (j : ℕ) → j < 64 → slice_index loops.new j < 2 ^ (lane.now.voice + 1) }
     {
@@ -109,9 +115,12 @@ impl Voice {
         requires pitch { regs.now.pitch < 0x4000 }
         requires noise { (j : ℕ) → j < n → slice_index rows.now.noise j < 0x8000 }
         requires room { (j : ℕ) → j < 64 → slice_index loops.old j < 2 ^ lane.now.voice }
-        ensures played { (k : ℕ) → CountsFrom k n clocks.now → IsPlayed (lane_of regs.now lane.now rows.now previous.now memory.now table.now self.old k) lane.now.voice n loops.old loops.new outs.new self.new }
+        ensures played { (k : ℕ) → CountsFrom k n clocks.now
+            → let plays = lane_of regs.now lane.now rows.now previous.now memory.now table.now self.old k in
+            IsPlayed plays lane.now.voice n loops.old loops.new outs.new self.new }
         ensures room { (j : ℕ) → j < 64 → slice_index loops.new j < 2 ^ (lane.now.voice + 1) }
-        ensures last { (k : ℕ) → CountsFrom k n clocks.now → result ≡ answer_at (lane_of regs.now lane.now rows.now previous.now memory.now table.now self.old k) (n - 1) }
+        ensures last { (k : ℕ) → CountsFrom k n clocks.now
+            → result ≡ answer_at (lane_of regs.now lane.now rows.now previous.now memory.now table.now self.old k) (n - 1) }
     {
         let last = n - 1;
         self.play_row(

@@ -110,10 +110,14 @@ impl Voice {
         requires noise { input.now.noise < 0x8000 }
         requires resting { 0 < rest }
         requires unkeyed { is_keyed input.now ≡ false }
-        ensures voice { (k : ℕ) → IsAtRest input.now.reset input.now.koff regs.now memory.now k rest self.old → self.new ≡ voice_step self.old regs.now input.now memory.now (counter_at k) }
-        ensures out { (k : ℕ) → IsAtRest input.now.reset input.now.koff regs.now memory.now k rest self.old → result.out ≡ (voice_answer self.old regs.now input.now memory.now table.now (counter_at k)).out }
-        ensures looped { (k : ℕ) → IsAtRest input.now.reset input.now.koff regs.now memory.now k rest self.old → result.looped ≡ (voice_answer self.old regs.now input.now memory.now table.now (counter_at k)).looped }
-        ensures rest { (k : ℕ) → IsAtRest input.now.reset input.now.koff regs.now memory.now k rest self.old → IsAtRest input.now.reset input.now.koff regs.now memory.now (k + 1) result.rest self.new }
+        ensures voice { (k : ℕ) → IsAtRest input.now.reset input.now.koff regs.now memory.now k rest self.old
+            → self.new ≡ voice_step self.old regs.now input.now memory.now (counter_at k) }
+        ensures out { (k : ℕ) → IsAtRest input.now.reset input.now.koff regs.now memory.now k rest self.old
+            → result.out ≡ (voice_answer self.old regs.now input.now memory.now table.now (counter_at k)).out }
+        ensures looped { (k : ℕ) → IsAtRest input.now.reset input.now.koff regs.now memory.now k rest self.old
+            → result.looped ≡ (voice_answer self.old regs.now input.now memory.now table.now (counter_at k)).looped }
+        ensures rest { (k : ℕ) → IsAtRest input.now.reset input.now.koff regs.now memory.now k rest self.old
+            → IsAtRest input.now.reset input.now.koff regs.now memory.now (k + 1) result.rest self.new }
     {
         let block = self.block();
         let out = self.output(input, table);
