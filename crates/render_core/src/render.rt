@@ -141,7 +141,7 @@ impl<C: Chip> Render<C> {
     /// steps as a drained bus has room for, so that a piece can have more than was emitted first. The pieces in order are the
     /// whole render, each with at most 128 frames and 1,344 records. After the last one each piece is empty and is a last one.
     pub fn next_piece(&mut self) -> Piece<'_>
-        ensures* next { sem 𝓛 (Rests (the_row C.row C.State.row C.Chip) self.entry
+        ensures* next { sem 𝓛 (Rests (the_row C.row C.State.row C.Saved.row C.Chip) self.entry
             (λ new. IsNextPiece C.meaning self.old new result.frames.now result.records.now result.done)) }
         ensures some { result.done ≡ false → 0 < length result.frames.now + length result.records.now }
         ensures few_frames { length result.frames.now ≤ frame_room }
