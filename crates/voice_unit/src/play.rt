@@ -83,13 +83,15 @@ impl Voice {
         ensures room { (j : ℕ) → j < 64 → slice_index loops.new j < 2 ^ (lane.now.voice + 1) }
     {
         let mut rest = 0;
+        // a copy, so that what is the same in all samples is worked out once
+        let own = *lane;
         for j in 0..n {
             let place = usize::from(j);
-            let input = lane.input(rows, previous[place], j);
+            let input = own.input(rows, previous[place], j);
             let clock = clocks[place];
             let played = self.play_sample(rest, regs, &input, memory, table, &clock);
             outs[place] = played.out;
-            mark_loop(loops, j, played.looped, lane.voice);
+            mark_loop(loops, j, played.looped, own.voice);
             rest = played.rest;
         }
     }

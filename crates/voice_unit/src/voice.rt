@@ -260,6 +260,8 @@ impl Voice {
     }
 
     /// Reads a group, where the position has come to it, and tells whether that ends a block that has its end bit.
+    /// Inlined, since most samples of a batch read none.
+    #[inline(always)]
     #[tactic(auto, unfolding(crate::specs::Voice::after_reading))]
     pub(crate) fn read_on(
         &mut self,
