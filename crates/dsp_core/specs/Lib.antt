@@ -1,6 +1,10 @@
 -- Chip: what contracts see of a chip.
+-- Saved: what is saved of a chip, and put back.
 -- VoicesOfSample: the voices of a sample, by the settings that the chip has read.
 -- Inside: what holds of the fields of each chip.
+-- InsideSaved: and of all that is saved of one.
 pub mod Chip
+pub mod Saved
 pub mod VoicesOfSample
 pub mod Inside
+pub mod InsideSaved

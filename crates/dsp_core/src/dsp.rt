@@ -4,20 +4,22 @@ ghost use Rattle.std.specs.Prelude.{◌≡◌, ◌≤◌, ◌<◌, ◌+◌, ◌*
 ghost use Rattle.std.specs.List.{filter};
 ghost use Rattle.trace_form.specs.Rooms.{frame_room, record_room};
 ghost use Rattle.dsp_form.specs.Limits.{most_samples_of_chip, most_samples_of_batch};
-ghost use Rattle.dsp_form.specs.Samples.{samples, in_mask, next_count};
+ghost use Rattle.dsp_form.specs.Samples.{samples, in_mask, next_count, count_after};
 ghost use Rattle.dsp_form.specs.Sample.{sample};
 ghost use Rattle.dsp_form.specs.Settings.{settings_of};
 ghost use Rattle.dsp_form.specs.Outside.{opened_state, register_read, register_write};
 ghost use Rattle.dsp_form.specs.Valid.{is_valid};
 ghost use Rattle.dsp_form.specs.Reach.{chip_reach};
+ghost use Rattle.dsp_core.specs.Saved.{saved_state, loaded_state};
 
 use crate::OutOfMemory;
 use crate::records::push_records;
 use crate::sample::make_sample;
+use crate::saved::DspState;
 use crate::voices::UNHEARD;
 use aram_core::Aram;
 use dsp_form::registers::{ENDX, KON};
-use dsp_form::{DspState, Hidden, Settings, settings_of};
+use dsp_form::{ChipState, Hidden, Settings, settings_of};
 use echo_unit::Echo;
 use gauss_table::GaussTable;
 use rate_clock::{Noise, RateClock};
@@ -30,10 +32,11 @@ use voice_unit::{Voice, VoiceOut};
 /// The S-DSP. It runs once for each sample, 32,000 times a second of sound.
 #[derive(Drop)]
 pub struct Dsp {
-    state: DspState,
+    state: ChipState,
     clock: RateClock,
     number: u32,
     batches: u64,
+    total: u64,
 }
 
 impl Model for Dsp {
@@ -43,7 +46,7 @@ impl Model for Dsp {
 
     ghost use Rattle.dsp_core.specs.Inside.{IsDsp};
 
-    ghost view = { λ d. record { state = d.state; sample = d.number; batches = d.batches } };
+    ghost view = { λ d. record { state = d.state; sample = d.number; batches = d.batches; total = d.total } };
 
     ghost invariant = { IsDsp };
 }
@@ -53,7 +56,7 @@ impl Dsp {
     #[tactic(auto, unfolding(dsp_form::specs::Outside::opened_state))]
     pub fn open(_alloc: Global, registers: &[u8], table: GaussTable) -> Result<Dsp, OutOfMemory>
         requires { length registers.now ≡ 0x80 }
-        ensures { IfOk result (λ dsp. dsp ≡ record { state = opened_state registers.now table; sample = 0; batches = 0 }) }
+        ensures { IfOk result (λ dsp. dsp ≡ record { state = opened_state registers.now table; sample = 0; batches = 0; total = 0 }) }
     {
         let mut own = [0; 128];
         own.copy_from_slice(registers);
@@ -65,7 +68,7 @@ impl Dsp {
             echo: Echo::new(),
         };
         Ok(Dsp {
-            state: DspState {
+            state: ChipState {
                 registers: own,
                 hidden,
                 table,
@@ -73,6 +76,7 @@ impl Dsp {
             clock: RateClock::new(),
             number: 0,
             batches: 0,
+            total: 0,
         })
     }
 
@@ -151,10 +155,12 @@ impl Dsp {
         ensures state { self.new.state ≡ (samples sample n self.old.sample self.old.state memory.old).state }
         ensures sample { self.new.sample ≡ self.old.sample + n }
         ensures batches { self.new.batches ≡ (if n == 0 then self.old.batches else next_count self.old.batches) }
+        ensures total { self.new.total ≡ count_after self.old.total n }
         ensures memory { memory.new ≡ (samples sample n self.old.sample self.old.state memory.old).memory }
         ensures frames { frames.new ≡ frames.old ++ (samples sample n self.old.sample self.old.state memory.old).frames }
         ensures records { records.new ≡ records.old ++ filter (in_mask mask) (samples sample n self.old.sample self.old.state memory.old).records }
     {
+        self.total = self.total.saturating_add(u64::from(n));
         if n == 0 {
             return;
         }
@@ -166,6 +172,30 @@ impl Dsp {
         self.batches = self.batches.saturating_add(1);
     }
 
+    /// Saves all but the table.
+    pub fn save(&self) -> DspState
+        ensures { result ≡ saved_state self.now.state self.now.sample }
+    {
+        DspState {
+            registers: self.state.registers,
+            hidden: self.state.hidden,
+            clock: self.clock,
+            number: self.number,
+        }
+    }
+
+    /// Puts back what was saved, of this chip or of another one. The table stays, and so do the numbers of batches and samples
+    /// made in all.
+    pub fn load(&mut self, saved: &DspState)
+        ensures chip { self.new ≡ record self.old { state = loaded_state self.old.state saved.now; sample = saved.now.sample } }
+        ensures is_valid { is_valid self.new.state ≡ true }
+    {
+        self.state.registers = saved.registers;
+        self.state.hidden = saved.hidden;
+        self.clock = saved.clock;
+        self.number = saved.number;
+    }
+
     /// The number of batches made, each by an `advance` of at least one sample. It stays at its type's end.
     pub fn batches(&self) -> u64
         ensures { result ≡ self.now.batches }
@@ -173,7 +203,14 @@ impl Dsp {
         self.batches
     }
 
-    /// The number of samples made, which is the number of the next one.
+    /// The number of samples made in all, those before a load too. It stays at its type's end.
+    pub fn total(&self) -> u64
+        ensures { result ≡ self.now.total }
+    {
+        self.total
+    }
+
+    /// The number of the next sample: of those made, and with a load of those made before what was saved.
     pub fn sample(&self) -> u32
         ensures number { result ≡ self.now.sample }
         ensures is_valid { is_valid self.now.state ≡ true }

@@ -4,11 +4,13 @@
 mod dsp;
 mod records;
 mod sample;
+mod saved;
 #[cfg(test)]
 mod tests;
 mod voices;
 
 pub use dsp::Dsp;
-pub use dsp_form::DspState;
+pub use dsp_form::ChipState;
 pub use reach_map::ReachPages;
+pub use saved::DspState;
 pub use std::alloc::AllocError as OutOfMemory;

@@ -7,7 +7,7 @@ ghost use Rattle.dsp_form.specs.Settings.{settings_of};
 
 use crate::voices::step_voices;
 use aram_core::Aram;
-use dsp_form::{DspState, SILENCE, Settings, SharedByVoices, put_results, sum_voices};
+use dsp_form::{ChipState, SILENCE, Settings, SharedByVoices, put_results, sum_voices};
 use num_fix::Frame;
 use rate_clock::RateClock;
 use voice_unit::VoiceOut;
@@ -21,7 +21,7 @@ fn is_polled(number: u32) -> bool
 
 /// Polls the keys at an even sample.
 #[tactic(auto, unfolding(dsp_form::specs::Sample::after_poll))]
-fn poll(state: &mut DspState, number: u32)
+fn poll(state: &mut ChipState, number: u32)
     ensures state { state.new ≡ after_poll state.old number }
     ensures registers { state.new.registers ≡ state.old.registers }
 {
@@ -32,7 +32,7 @@ fn poll(state: &mut DspState, number: u32)
 }
 
 /// The voices that the sample of a number keys, once the keys are polled, as bits.
-fn keyed_voices(state: &DspState, number: u32) -> u8
+fn keyed_voices(state: &ChipState, number: u32) -> u8
     ensures { result ≡ (if number % 2 == 0 then state.now.hidden.taken else 0) }
 {
     if is_polled(number) {
@@ -44,7 +44,7 @@ fn keyed_voices(state: &DspState, number: u32) -> u8
 
 /// Lets the noise go on where its rate fires.
 #[tactic(auto, unfolding(dsp_form::specs::Sample::after_noise, dsp_form::specs::Settings::settings_of))]
-fn step_noise(state: &mut DspState, settings: &Settings, clock: &RateClock)
+fn step_noise(state: &mut ChipState, settings: &Settings, clock: &RateClock)
     requires { settings.now ≡ settings_of state.old.registers }
     ensures state { state.new ≡ after_noise state.old clock.now }
     ensures registers { state.new.registers ≡ state.old.registers }
@@ -55,7 +55,7 @@ fn step_noise(state: &mut DspState, settings: &Settings, clock: &RateClock)
 
 /// One step of the voices, with their answers.
 fn step_chip_voices(
-    state: &mut DspState,
+    state: &mut ChipState,
     number: u32,
     clock: &RateClock,
     settings: &Settings,
@@ -88,7 +88,7 @@ fn step_chip_voices(
 /// Makes the sample of a number, at which the clock stands, with the answers of the voices.
 #[tactic(auto, unfolding(dsp_form::specs::Sample::sample))]
 pub fn make_sample(
-    state: &mut DspState,
+    state: &mut ChipState,
     number: u32,
     clock: &RateClock,
     settings: &Settings,

@@ -141,6 +141,26 @@ fn the_soft_reset_silences_from_the_next_sample_on(rt: HostRuntime) -> Result<()
     Ok(())
 }
 
+#[test]
+fn what_was_saved_plays_again(rt: HostRuntime) -> Result<(), Fail> {
+    let (mut dsp, mut memory) = one_voice(rt.alloc())?;
+    let mut frames = Frames::new(rt.alloc())?;
+    let mut records = Records::new(rt.alloc())?;
+    dsp.reg_write(0x4c, 0x01);
+    play(&mut dsp, &mut memory, 3, &mut frames, &mut records);
+    let third = dsp.save();
+    play(&mut dsp, &mut memory, 5, &mut frames, &mut records);
+    let rest = [SILENCE, SILENCE, SILENCE, SOUND, SOUND];
+    assert_eq!(rt; frames.as_slice(), rest.as_slice());
+    dsp.load(&third);
+    // neither the batches nor the total go back
+    assert_eq!(rt; (dsp.sample(), dsp.batches(), dsp.total()), (3, 2, 8));
+    play(&mut dsp, &mut memory, 5, &mut frames, &mut records);
+    assert_eq!(rt; frames.as_slice(), rest.as_slice());
+    assert_eq!(rt; (dsp.sample(), dsp.batches(), dsp.total()), (8, 3, 13));
+    Ok(())
+}
+
 /// How many bytes from an address on are 0.
 fn zeros_from(memory: &Aram, from: u16) -> u32 {
     for k in 0..0x10000u32 {

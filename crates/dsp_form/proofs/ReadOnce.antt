@@ -9,7 +9,7 @@ use Rattle.dsp_form.specs.Settings.{voice_settings, all_voice_settings, settings
 use Rattle.dsp_form.specs.declared.registers.TheConstants.{VOLL, VOLR, PITCHL, PITCHH, SRCN, ADSR1, ADSR2, GAIN, FIR, MVOLL, MVOLR, EVOLL, EVOLR, EFB, EON, PMON, NON, KOFF, DIR, FLG, ESA, EDL}
 use Rattle.dsp_form.specs.declared.voice_settings.VoiceSettings.{VoiceSettings}
 use Rattle.dsp_form.specs.declared.settings.Settings.{Settings}
-use Rattle.dsp_form.specs.declared.state.DspState.{DspState}
+use Rattle.dsp_form.specs.declared.state.ChipState.{ChipState}
 use Rattle.dsp_form.proofs.Inputs.{SameInputs, input_at, same_inputs-sample}
 
 -- the settings of each voice
@@ -87,5 +87,5 @@ module _ (these those : List ℕ) (same : SameInputs these those) where
       ) refl
 
 -- a sample leaves the settings as they are
-pub settings_of-sample : (k : ℕ) (s : DspState) (memory : List ℕ) → settings_of (sample k s memory).state.registers ≡ settings_of s.registers
+pub settings_of-sample : (k : ℕ) (s : ChipState) (memory : List ℕ) → settings_of (sample k s memory).state.registers ≡ settings_of s.registers
 settings_of-sample k s memory = same_settings (sample k s memory).state.registers s.registers (same_inputs-sample k s memory)

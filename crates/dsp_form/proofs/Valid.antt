@@ -13,16 +13,16 @@ use Rattle.dsp_form.specs.Results.{without_bits}
 use Rattle.dsp_form.specs.Sample.{SharedInput, voice_in, voice_result, results_from, shared_input, after_poll, after_noise, sample}
 use Rattle.dsp_form.specs.Outside.{opened_state, register_write}
 use Rattle.dsp_form.specs.Valid.{is_valid}
-use Rattle.dsp_form.specs.declared.state.DspState.{DspState}
+use Rattle.dsp_form.specs.declared.state.ChipState.{ChipState}
 use Rattle.dsp_form.proofs.EightVoices.{polled_part, voices-before_step, length-voices-sample}
 
 -- the parts of validity
-pub record IsValid (s : DspState) : Type 0 where
+pub record IsValid (s : ChipState) : Type 0 where
   pub eight : length s.hidden.voices ≡ 8
   pub groups : list_all is_at_group s.hidden.voices ≡ true
   pub cell : is_at_cell s.hidden.echo ≡ true
 
-pub valid_of : (s : DspState) → is_valid s ≡ true → IsValid s
+pub valid_of : (s : ChipState) → is_valid s ≡ true → IsValid s
 unfolding is_valid
 valid_of s h =
     let eight : Bool = length s.hidden.voices == 8 in
@@ -31,7 +31,7 @@ valid_of s h =
     let q = and_parts eight groups p.0 in
     record { eight = grind (arith, nat_tests, q.0); groups = q.1; cell = p.1 }
 
-pub valid_from : (s : DspState) → IsValid s → is_valid s ≡ true
+pub valid_from : (s : ChipState) → IsValid s → is_valid s ≡ true
 unfolding is_valid
 valid_from s h =
     let eight : (length s.hidden.voices == 8) ≡ true = grind (arith, nat_tests, h.eight) in
@@ -50,16 +50,16 @@ groups-results_from shared v previous (voice ∷ voices) h =
     and_from _ _ (is_at_group-voice_result shared v previous voice parts.0) (groups-results_from shared (v + 1) (voice_result shared v previous voice).answer.out voices parts.1)
 
 -- the poll and the noise leave the echo alone
-pub echo-before_step : (s : DspState) (k : ℕ) → (after_noise (after_poll s k) (counter_at k)).hidden.echo ≡ s.hidden.echo
+pub echo-before_step : (s : ChipState) (k : ℕ) → (after_noise (after_poll s k) (counter_at k)).hidden.echo ≡ s.hidden.echo
 unfolding after_poll after_noise
 echo-before_step s k = polled_part (λ s. s.hidden.echo) (k % 2 == 0) s (without_bits s.hidden.waiting s.hidden.taken) refl
 
 -- a sample keeps a state valid
-pub is_valid-sample : (k : ℕ) (s : DspState) (memory : List ℕ) → is_valid s ≡ true → is_valid (sample k s memory).state ≡ true
+pub is_valid-sample : (k : ℕ) (s : ChipState) (memory : List ℕ) → is_valid s ≡ true → is_valid (sample k s memory).state ≡ true
 unfolding sample
 is_valid-sample k s memory h =
     let valid : IsValid s = valid_of s h in
-    let now : DspState = after_noise (after_poll s k) (counter_at k) in
+    let now : ChipState = after_noise (after_poll s k) (counter_at k) in
     valid_from (sample k s memory).state record {
       eight = length-voices-sample k s memory ∙ valid.eight;
       groups = groups-results_from (shared_input now memory k) 0 (pos 0) now.hidden.voices (ap (list_all is_at_group) (voices-before_step s k) ∙ valid.groups);
@@ -67,7 +67,7 @@ is_valid-sample k s memory h =
     }
 
 -- a write of a register keeps a state valid
-pub is_valid-register_write : (s : DspState) (address byte : ℕ) → is_valid s ≡ true → is_valid (register_write s address byte) ≡ true
+pub is_valid-register_write : (s : ChipState) (address byte : ℕ) → is_valid s ≡ true → is_valid (register_write s address byte) ≡ true
 unfolding register_write is_valid
 is_valid-register_write s address byte h = by (nat_le 0x80 address) _ _
   where

@@ -4,10 +4,10 @@ use Rattle.voice_unit.specs.Voice.{silent_voice}
 use Rattle.echo_unit.specs.Echo.{first_echo}
 use Rattle.rate_clock.specs.Noise.{noise_at}
 use Rattle.dsp_form.specs.declared.registers.TheConstants.{KON, ENDX}
-use Rattle.dsp_form.specs.declared.state.DspState.{DspState}
+use Rattle.dsp_form.specs.declared.state.ChipState.{ChipState}
 
 -- the state at the opening: the key-ons of the register wait, and no key, sample or echo is left from before
-unfoldable pub opened_state : (registers : List ℕ) → (table : List ℤ) → DspState
+unfoldable pub opened_state : (registers : List ℕ) → (table : List ℤ) → ChipState
 opened_state registers table = record {
   registers = registers;
   hidden = record {
@@ -21,12 +21,12 @@ opened_state registers table = record {
 }
 
 -- the register at an address, taken modulo 128
-unfoldable pub register_read : DspState → (address : ℕ) → ℕ
+unfoldable pub register_read : ChipState → (address : ℕ) → ℕ
 register_read s address = slice_index s.registers (address % 0x80)
 
 -- A write stores its byte, but ENDX is cleared by any byte. A write of KON also lets its key-ons wait in place of those
 -- that waited. From 80h on nothing is written.
-unfoldable pub register_write : DspState → (address byte : ℕ) → DspState
+unfoldable pub register_write : ChipState → (address byte : ℕ) → ChipState
 register_write s address byte =
     if nat_le 0x80 address then s
     else record s {

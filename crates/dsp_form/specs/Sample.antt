@@ -16,17 +16,17 @@ use Rattle.dsp_form.specs.Volumes.{all_volumes}
 use Rattle.dsp_form.specs.Results.{without_bits, registers_after}
 use Rattle.dsp_form.specs.Samples.{SampleResult}
 use Rattle.dsp_form.specs.declared.registers.TheConstants.{DIR, FLG}
-use Rattle.dsp_form.specs.declared.state.DspState.{DspState}
+use Rattle.dsp_form.specs.declared.state.ChipState.{ChipState}
 use Rattle.dsp_form.specs.declared.voice_settings.SharedByVoices.{SharedByVoices}
 
 -- An even sample polls the keys: the waiting key-ons lose those taken at the last poll, and what remains is taken.
-unfoldable pub after_poll : DspState → (k : ℕ) → DspState
+unfoldable pub after_poll : ChipState → (k : ℕ) → ChipState
 after_poll s k =
     let waiting = without_bits s.hidden.waiting s.hidden.taken in
     if k % 2 == 0 then record s { hidden = record s.hidden { waiting = waiting; taken = waiting } } else s
 
 -- the noise goes on where its rate fires
-unfoldable pub after_noise : DspState → (counter : ℕ) → DspState
+unfoldable pub after_noise : ChipState → (counter : ℕ) → ChipState
 after_noise s counter =
     let fired = fires (noise_rate (slice_index s.registers FLG)) counter in
     record s { hidden = record s.hidden { noise = if fired then next_noise s.hidden.noise else s.hidden.noise } }
@@ -83,7 +83,7 @@ records_from k v (answer ∷ answers) =
     Voice k v answer.level answer.out answer.block answer.keyed answer.looped ∷ records_from k (v + 1) answers
 
 -- what the voices read once the keys are polled and the noise has gone on
-abbrev pub shared_input : DspState → List ℕ → (k : ℕ) → SharedInput
+abbrev pub shared_input : ChipState → List ℕ → (k : ℕ) → SharedInput
 shared_input s memory k = record {
   registers = s.registers;
   common = record { noise = s.hidden.noise; taken = s.hidden.taken; is_poll = k % 2 == 0 };
@@ -94,7 +94,7 @@ shared_input s memory k = record {
 
 -- the rest of a sample, once the keys are polled and the noise has gone on: the voices in order, the echo with the output, and
 -- the registers' results
-abbrev pub rest_of_sample : (k : ℕ) → DspState → List ℕ → SampleResult DspState
+abbrev pub rest_of_sample : (k : ℕ) → ChipState → List ℕ → SampleResult ChipState
 rest_of_sample k now memory =
     let results = results_from (shared_input now memory k) 0 (pos 0) now.hidden.voices in
     let answers = map (λ result. result.answer) results in
@@ -111,5 +111,5 @@ rest_of_sample k now memory =
     }
 
 -- one sample, of number k
-unfoldable pub sample : (k : ℕ) → DspState → List ℕ → SampleResult DspState
+unfoldable pub sample : (k : ℕ) → ChipState → List ℕ → SampleResult ChipState
 sample k s memory = rest_of_sample k (after_noise (after_poll s k) (counter_at k)) memory

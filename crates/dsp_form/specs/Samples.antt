@@ -41,6 +41,10 @@ in_mask mask (Reg sample addr value) = true
 in_mask mask (Port sample port value) = true
 in_mask mask (Voice sample voice level out block keyed looped) = has_bit mask voice
 
--- a count with one more, which stands still at the end of 64 bits
+-- a count with some more, which stands still at the end of 64 bits
+abbrev pub count_after : (count more : ℕ) → ℕ
+count_after count more = min (count + more) (2 ^ 64 - 1)
+
+-- with one more
 abbrev pub next_count : ℕ → ℕ
-next_count n = min (n + 1) (2 ^ 64 - 1)
+next_count count = count_after count 1

@@ -14,6 +14,6 @@ mod volumes;
 pub use mix::{SILENCE, Sums, sum_voices};
 pub use results::{is_result, put_results};
 pub use settings::{Settings, settings_of};
-pub use state::{DspState, Hidden};
+pub use state::{ChipState, Hidden};
 pub use voice_settings::{SharedByVoices, VoiceSettings};
 pub use volumes::Volumes;

@@ -5,7 +5,7 @@ ghost use Rattle.arrayvec.specs.ArrayVec.{array_vec_len};
 ghost use Rattle.dsp_form.specs.Reach.{chip_reach, entries_from, starts_from, voice_starts};
 
 use crate::registers::{DIR, EDL, ESA, FLG, SRCN, voice_register};
-use crate::state::DspState;
+use crate::state::ChipState;
 use aram_core::Aram;
 use arrayvec::ArrayVec;
 use num_fix::has_bit;
@@ -15,7 +15,7 @@ use voice_unit::{Voice, entry_address, loop_word, start_word};
 /// Where eight voices can be: each at its block, or at the start of its sample.
 type Starts = ArrayVec<ChainStart, 16>;
 
-impl DspState {
+impl ChipState {
     /// The directory's entries of all voices.
     fn entries(&self) -> [u16; 8]
         ensures { result ≡ entries_from self.now.registers 0 self.now.hidden.voices }

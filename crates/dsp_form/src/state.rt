@@ -7,7 +7,7 @@ use rate_clock::Noise;
 use voice_unit::Voice;
 
 /// What the chip keeps beside its registers.
-#[derive(Debug, Drop)]
+#[derive(Clone, Copy, Debug)]
 pub struct Hidden {
     /// The key-ons that wait for a poll.
     pub waiting: u8,
@@ -18,9 +18,9 @@ pub struct Hidden {
     pub echo: Echo,
 }
 
-/// The state of the chip: its registers, what it keeps beside them, and its table.
+/// The state of the chip: its registers, what it keeps beside them, and its table, which nothing changes.
 #[derive(Drop)]
-pub struct DspState {
+pub struct ChipState {
     pub registers: Registers,
     pub hidden: Hidden,
     pub table: GaussTable,

@@ -13,7 +13,7 @@ use Rattle.voice_unit.specs.Directory.{entry_address, start_word, loop_word}
 use Rattle.voice_unit.specs.Voice.{VoiceState, playing_voice, step_header}
 use Rattle.reach_map.specs.declared.ChainStart.{ChainStart}
 use Rattle.reach_map.specs.Reach.{pages_of_bytes, chain, chain_entry, block_pages, chain_pages, entry_pages, voice_pages}
-use Rattle.dsp_form.specs.declared.state.DspState.{DspState}
+use Rattle.dsp_form.specs.declared.state.ChipState.{ChipState}
 use Rattle.dsp_form.specs.Reach.{voice_entry, can_start, own_chain, start_chain, voice_starts}
 use Rattle.voice_unit.proofs.Groups.{group_of}
 use Rattle.reach_map.proofs.ChainEntries.{rest_of, chain_entry-zero, chain_entry-rest}
@@ -53,19 +53,19 @@ on_chain_has {memory = memory} {start = start} p few k small =
     at_page (chain_pages memory start) _ _ (ap (λ (b : ℕ). page_of (b + k)) (sym p.block)) (blocks_have memory start 18 p.index k below small)
 
 -- the pages that voice v reads
-abbrev pub own_pages : DspState → List ℕ → (v : ℕ) → VoiceState → List ℕ
+abbrev pub own_pages : ChipState → List ℕ → (v : ℕ) → VoiceState → List ℕ
 own_pages s memory v old = voice_pages memory (voice_starts s memory v old) (voice_entry s.registers v ∷ [])
 
-pub entry_in : (s : DspState) (memory : List ℕ) (v : ℕ) (old : VoiceState) (k : ℕ) → k < 4 → has_page (own_pages s memory v old) (page_of (voice_entry s.registers v + k)) ≡ true
+pub entry_in : (s : ChipState) (memory : List ℕ) (v : ℕ) (old : VoiceState) (k : ℕ) → k < 4 → has_page (own_pages s memory v old) (page_of (voice_entry s.registers v + k)) ≡ true
 entry_in s memory v old k few =
     in_left (entry_pages (voice_entry s.registers v) ++ []) (flat_map (chain_pages memory) (voice_starts s memory v old)) _ (in_left (entry_pages (voice_entry s.registers v)) [] _ (bytes_have (voice_entry s.registers v) 4 k few))
 
-own_chain_in : (s : DspState) (memory : List ℕ) (v : ℕ) (old : VoiceState) (p : ℕ) → has_page (chain_pages memory (own_chain s memory v old)) p ≡ true → has_page (own_pages s memory v old) p ≡ true
+own_chain_in : (s : ChipState) (memory : List ℕ) (v : ℕ) (old : VoiceState) (p : ℕ) → has_page (chain_pages memory (own_chain s memory v old)) p ≡ true → has_page (own_pages s memory v old) p ≡ true
 own_chain_in s memory v old p h =
     in_right (entry_pages (voice_entry s.registers v) ++ []) (flat_map (chain_pages memory) (voice_starts s memory v old)) p
     (in_left (chain_pages memory (own_chain s memory v old)) (flat_map (chain_pages memory) (if can_start s v old then start_chain s memory v ∷ [] else [])) p h)
 
-start_chain_in : (s : DspState) (memory : List ℕ) (v : ℕ) (old : VoiceState) (p : ℕ) → can_start s v old ≡ true → has_page (chain_pages memory (start_chain s memory v)) p ≡ true
+start_chain_in : (s : ChipState) (memory : List ℕ) (v : ℕ) (old : VoiceState) (p : ℕ) → can_start s v old ≡ true → has_page (chain_pages memory (start_chain s memory v)) p ≡ true
     → has_page (own_pages s memory v old) p ≡ true
 start_chain_in s memory v old p starts h =
     in_right (entry_pages (voice_entry s.registers v) ++ []) (flat_map (chain_pages memory) (voice_starts s memory v old)) p
@@ -73,7 +73,7 @@ start_chain_in s memory v old p starts h =
     (rw starts (in_left (chain_pages memory (start_chain s memory v)) [] p h)))
 
 -- a voice on its chains: the 9 bytes of its block
-pub block_in : (s : DspState) (memory : List ℕ) (j v : ℕ) (old new : VoiceState) (k : ℕ) → StaysOnChains s memory j v old new → j ≤ 64 → k < 9
+pub block_in : (s : ChipState) (memory : List ℕ) (j v : ℕ) (old new : VoiceState) (k : ℕ) → StaysOnChains s memory j v old new → j ≤ 64 → k < 9
     → has_page (own_pages s memory v old) (page_of (new.block + k)) ≡ true
 block_in s memory j v old new k stays few small = elim stays.on [
   | inl p ↦ own_chain_in s memory v old _ (on_chain_has p few k small)
@@ -91,7 +91,7 @@ agree_put pages memory at value none a some =
     get_or-set_other memory (at % 0x10000) (a % 0x10000) value 0 apart
 
 -- the words of the voice's entry
-pub start_same : (s : DspState) (memory : List ℕ) (v : ℕ) (old : VoiceState) (m n : List ℕ) → AgreeOn (own_pages s memory v old) m n
+pub start_same : (s : ChipState) (memory : List ℕ) (v : ℕ) (old : VoiceState) (m n : List ℕ) → AgreeOn (own_pages s memory v old) m n
     → word_at m (voice_entry s.registers v) ≡ word_at n (voice_entry s.registers v)
 unfolding word_at
 start_same s memory v old m n same =
@@ -99,7 +99,7 @@ start_same s memory v old m n same =
     let at0 : page_of (e + 0) ≡ page_of e = ap page_of (omega arith) in
     rw (same e (at_page (own_pages s memory v old) _ _ at0 (entry_in s memory v old 0 (omega arith))), same (e + 1) (entry_in s memory v old 1 (omega arith))) refl
 
-pub loop_same : (s : DspState) (memory : List ℕ) (v : ℕ) (old : VoiceState) (m n : List ℕ) → AgreeOn (own_pages s memory v old) m n
+pub loop_same : (s : ChipState) (memory : List ℕ) (v : ℕ) (old : VoiceState) (m n : List ℕ) → AgreeOn (own_pages s memory v old) m n
     → word_at m ((voice_entry s.registers v + 2) % 0x10000) ≡ word_at n ((voice_entry s.registers v + 2) % 0x10000)
 unfolding word_at
 loop_same s memory v old m n same =
@@ -113,7 +113,7 @@ loop_same s memory v old m n same =
     ) refl
 
 -- the two bytes of the group that a step may read
-group_in : (s : DspState) (memory : List ℕ) (j v : ℕ) (old new : VoiceState) (r : VoiceRegs) (i : VoiceIn) (now : List ℕ) (k : ℕ) → SeesTheSame s memory v old new r i now
+group_in : (s : ChipState) (memory : List ℕ) (j v : ℕ) (old new : VoiceState) (r : VoiceRegs) (i : VoiceIn) (now : List ℕ) (k : ℕ) → SeesTheSame s memory v old new r i now
     → StaysOnChains s memory j v old new → j ≤ 64 → k < 2
     → has_page (own_pages s memory v old) (page_of ((playing_voice new r i now).block + ((playing_voice new r i now).offset + k))) ≡ true
 group_in s memory j v old new r i now k sees stays few small =
@@ -135,7 +135,7 @@ group_in s memory j v old new r i now k sees stays few small =
     ] refl
 
 -- where a voice on its chains looks in a step, memories that agree on its pages agree
-pub agrees : (s : DspState) (memory : List ℕ) (j v : ℕ) (old new : VoiceState) (r : VoiceRegs) (i : VoiceIn) (m now : List ℕ)
+pub agrees : (s : ChipState) (memory : List ℕ) (j v : ℕ) (old new : VoiceState) (r : VoiceRegs) (i : VoiceIn) (m now : List ℕ)
     → entry_address i.dir r.srcn ≡ voice_entry s.registers v → SeesTheSame s memory v old new r i now
     → StaysOnChains s memory j v old new → j ≤ 64 → AgreeOn (own_pages s memory v old) m now → AgreeFor new r i m now
 unfolding start_word loop_word step_header

@@ -7,7 +7,7 @@ use Rattle.num_fix.specs.Arithmetic.{has_bit}
 use Rattle.rate_clock.specs.Counter.{counter_at}
 use Rattle.dsp_form.specs.Results.{without_bits}
 use Rattle.dsp_form.specs.Sample.{after_poll, after_noise}
-use Rattle.dsp_form.specs.declared.state.DspState.{DspState}
+use Rattle.dsp_form.specs.declared.state.ChipState.{ChipState}
 
 -- every bit of a byte is set in another
 abbrev pub IsPart : (byte whole : ℕ) → Type 0
@@ -25,7 +25,7 @@ is_part-without_bits : (byte bits : ℕ) → IsPart (without_bits byte bits) byt
 is_part-without_bits byte bits = is_part-bit_and byte (0xff - bits)
 
 -- the poll and the noise let no more key-ons wait
-pub waiting-before_step : (s : DspState) (k : ℕ) → IsPart (after_noise (after_poll s k) (counter_at k)).hidden.waiting s.hidden.waiting
+pub waiting-before_step : (s : ChipState) (k : ℕ) → IsPart (after_noise (after_poll s k) (counter_at k)).hidden.waiting s.hidden.waiting
 unfolding after_poll after_noise
 waiting-before_step s k = by (k % 2 == 0)
   where
@@ -37,6 +37,6 @@ waiting-before_step s k = by (k % 2 == 0)
     by false = λ v h. h
 
 -- a key-on that a poll takes has waited
-pub taken_waited : (s : DspState) (k v : ℕ) → (k % 2 == 0) ≡ true → has_bit (after_noise (after_poll s k) (counter_at k)).hidden.taken v ≡ true → has_bit s.hidden.waiting v ≡ true
+pub taken_waited : (s : ChipState) (k v : ℕ) → (k % 2 == 0) ≡ true → has_bit (after_noise (after_poll s k) (counter_at k)).hidden.taken v ≡ true → has_bit s.hidden.waiting v ≡ true
 unfolding after_poll after_noise
 taken_waited s k v even h = is_part-without_bits s.hidden.waiting s.hidden.taken v (rw even at h)

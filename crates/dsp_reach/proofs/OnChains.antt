@@ -7,7 +7,7 @@ use Rattle.voice_unit.specs.declared.interface.VoiceIn.{VoiceIn}
 use Rattle.voice_unit.specs.Directory.{start_word, loop_word}
 use Rattle.voice_unit.specs.Voice.{VoiceState, is_at_group, after_delay, step_header, after_decoding, at_next_group, after_reading, after_envelope, after_pitch, playing_voice, voice_step, is_keyed, needs_group}
 use Rattle.reach_map.specs.declared.ChainStart.{ChainStart}
-use Rattle.dsp_form.specs.declared.state.DspState.{DspState}
+use Rattle.dsp_form.specs.declared.state.ChipState.{ChipState}
 use Rattle.dsp_form.specs.Reach.{can_start, own_chain, start_chain}
 use Rattle.voice_unit.proofs.Groups.{IsGroup, group_of, is_group}
 use Rattle.reach_map.proofs.ChainEntries.{chain_entry-zero, chain_entry-suc}
@@ -143,14 +143,14 @@ waits_still true starts delay h g n = h refl
 waits_still false starts delay h g n = g (λ e. n (omega arith))
 
 -- what a step finds as it was when the reach was taken: the words of the voice's entry and the header of its block
-pub record SeesTheSame (s : DspState) (memory : List ℕ) (v : ℕ) (old new : VoiceState) (r : VoiceRegs) (i : VoiceIn) (now : List ℕ) : Type 0 where
+pub record SeesTheSame (s : ChipState) (memory : List ℕ) (v : ℕ) (old new : VoiceState) (r : VoiceRegs) (i : VoiceIn) (now : List ℕ) : Type 0 where
   pub start : start_word i.dir r.srcn now ≡ (start_chain s memory v).block
   pub loop : loop_word i.dir r.srcn now ≡ (start_chain s memory v).loop_word
   pub header : byte_at now new.block ≡ byte_at memory new.block
   pub keyed : is_keyed i ≡ true → can_start s v old ≡ true
 
 -- one step keeps a voice on its chains
-pub step_on_chains : (s : DspState) (memory now : List ℕ) (j v counter : ℕ) (old new : VoiceState) (r : VoiceRegs) (i : VoiceIn) → SeesTheSame s memory v old new r i now
+pub step_on_chains : (s : ChipState) (memory now : List ℕ) (j v counter : ℕ) (old new : VoiceState) (r : VoiceRegs) (i : VoiceIn) → SeesTheSame s memory v old new r i now
     → StaysOnChains s memory j v old new → StaysOnChains s memory (j + 1) v old (voice_step new r i now counter)
 step_on_chains s memory now j v counter old new r i sees stays =
     let next : VoiceState = voice_step new r i now counter in

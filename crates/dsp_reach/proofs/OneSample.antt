@@ -19,7 +19,7 @@ use Rattle.dsp_form.specs.Registers.{echo_regs}
 use Rattle.dsp_form.specs.Sample.{VoiceResult, rest_of_sample, results_from, shared_input, after_poll, after_noise, sample}
 use Rattle.dsp_form.specs.Valid.{is_valid}
 use Rattle.dsp_form.specs.declared.registers.TheConstants.{FLG, ESA, EDL}
-use Rattle.dsp_form.specs.declared.state.DspState.{DspState}
+use Rattle.dsp_form.specs.declared.state.ChipState.{ChipState}
 use Rattle.dsp_form.proofs.EightVoices.{voices-before_step}
 use Rattle.echo_unit.proofs.Cells.{cell_of, is_at_cell-next_echo}
 use Rattle.dsp_form.proofs.Valid.{valid_of, echo-before_step}
@@ -35,7 +35,7 @@ use Rattle.dsp_reach.proofs.Voices.{FindTheSame, voices_at_start, voices_stay, v
 -- After j samples from a start, over a memory: the registers but those of results are as they were, no key-on waits that did
 -- not wait, the echo stands at a cell of the window, and the bytes off the write pages are as they were. Where the reach of
 -- the start isn't entangled, the voices are on their chains.
-pub record StaysInReach (start : DspState) (before : List ℕ) (j : ℕ) (s : DspState) (memory : List ℕ) : Type 0 where
+pub record StaysInReach (start : ChipState) (before : List ℕ) (j : ℕ) (s : ChipState) (memory : List ℕ) : Type 0 where
   pub inputs : SameInputs s.registers start.registers
   pub waiting : IsPart s.hidden.waiting start.hidden.waiting
   pub cell : is_at_cell s.hidden.echo ≡ true
@@ -44,7 +44,7 @@ pub record StaysInReach (start : DspState) (before : List ℕ) (j : ℕ) (s : Ds
   pub voices : (chip_reach start before).entangled ≡ false → AllStayOnChains start before j 0 start.hidden.voices s.hidden.voices
 
 -- it holds at a valid start
-pub stays_at_start : (s : DspState) (memory : List ℕ) → is_valid s ≡ true → StaysInReach s memory 0 s memory
+pub stays_at_start : (s : ChipState) (memory : List ℕ) → is_valid s ≡ true → StaysInReach s memory 0 s memory
 stays_at_start s memory valid = record {
   inputs = λ address h. refl;
   waiting = λ v h. h;
@@ -55,15 +55,15 @@ stays_at_start s memory valid = record {
 }
 
 -- the state once the keys are polled and the noise has gone on
-abbrev before_voices : DspState → (k : ℕ) → DspState
+abbrev before_voices : ChipState → (k : ℕ) → ChipState
 before_voices s k = after_noise (after_poll s k) (counter_at k)
 
-sample_is : (k : ℕ) (s : DspState) (memory : List ℕ) → sample k s memory ≡ rest_of_sample k (before_voices s k) memory
+sample_is : (k : ℕ) (s : ChipState) (memory : List ℕ) → sample k s memory ≡ rest_of_sample k (before_voices s k) memory
 unfolding sample
 sample_is k s memory = refl
 
 -- the poll and the noise keep it
-stays_polled : (start : DspState) (before : List ℕ) (j k : ℕ) (s : DspState) (memory : List ℕ) → StaysInReach start before j s memory → StaysInReach start before j (before_voices s k) memory
+stays_polled : (start : ChipState) (before : List ℕ) (j k : ℕ) (s : ChipState) (memory : List ℕ) → StaysInReach start before j s memory → StaysInReach start before j (before_voices s k) memory
 stays_polled start before j k s memory stays = record {
   inputs = λ address h. ap (λ (registers : List ℕ). slice_index registers address) (registers-before_step s k) ∙ stays.inputs address h;
   waiting = λ v h. stays.waiting v (waiting-before_step s k v h);
@@ -74,7 +74,7 @@ stays_polled start before j k s memory stays = record {
 }
 
 -- what the voices find in the sample that follows
-finds : (start : DspState) (before : List ℕ) (j k : ℕ) (s : DspState) (memory : List ℕ) → StaysInReach start before j s memory → (chip_reach start before).entangled ≡ false
+finds : (start : ChipState) (before : List ℕ) (j k : ℕ) (s : ChipState) (memory : List ℕ) → StaysInReach start before j s memory → (chip_reach start before).entangled ≡ false
     → FindTheSame start before 0 start.hidden.voices (shared_input (before_voices s k) memory k)
 finds start before j k s memory stays clear =
     let now : StaysInReach start before j (before_voices s k) memory = stays_polled start before j k s memory stays in
@@ -98,7 +98,7 @@ unfolding echo_regs
 regs_flg registers = refl
 
 -- an address off the pages of the window is off the echo's cell
-off_echo : (start : DspState) (before : List ℕ) (j : ℕ) (s : DspState) (memory : List ℕ) (at : ℕ) → StaysInReach start before j s memory
+off_echo : (start : ChipState) (before : List ℕ) (j : ℕ) (s : ChipState) (memory : List ℕ) (at : ℕ) → StaysInReach start before j s memory
     → has_page (pages_of_echo start) (page_of at) ≡ false → IsOffCell (cell_address (echo_regs s.registers).esa s.hidden.echo.offset) at
 off_echo start before j s memory at stays none =
     let echo : EchoState = s.hidden.echo in
@@ -106,7 +106,7 @@ off_echo start before j s memory at stays none =
     (off_window echo (slice_index start.registers ESA) (slice_index start.registers EDL) start.hidden.echo.length at (cell_of echo stays.cell) stays.length none)
 
 -- the echo writes no byte off the write pages
-writes_off : (start : DspState) (before : List ℕ) (j : ℕ) (s : DspState) (memory : List ℕ) (sent : Frame) (at : ℕ) → StaysInReach start before j s memory
+writes_off : (start : ChipState) (before : List ℕ) (j : ℕ) (s : ChipState) (memory : List ℕ) (sent : Frame) (at : ℕ) → StaysInReach start before j s memory
     → set.contains (chip_reach start before).write_pages (page_of at) ≡ false
     → byte_at (echo_memory s.hidden.echo (echo_regs s.registers) memory sent) at ≡ byte_at memory at
 writes_off start before j s memory sent at stays none = by (writes_echo start) refl
@@ -119,11 +119,11 @@ writes_off start before j s memory sent at stays none = by (writes_echo start) r
     by false off = ap (λ (m : List ℕ). byte_at m at) (echo_memory_still s.hidden.echo (echo_regs s.registers) memory sent (flg ∙ off))
 
 -- one sample keeps it
-pub stays_in_reach : (start : DspState) (before : List ℕ) (j k : ℕ) (s : DspState) (memory : List ℕ) → j < 64 → StaysInReach start before j s memory
+pub stays_in_reach : (start : ChipState) (before : List ℕ) (j k : ℕ) (s : ChipState) (memory : List ℕ) → j < 64 → StaysInReach start before j s memory
     → StaysInReach start before (j + 1) (sample k s memory).state (sample k s memory).memory
 stays_in_reach start before j k s memory few stays = rw (sample_is k s memory) next
   where
-    now : DspState
+    now : ChipState
     now = before_voices s k
 
     held : StaysInReach start before j now memory
@@ -152,13 +152,13 @@ stays_in_reach start before j k s memory few stays = rw (sample_is k s memory) n
     }
 
 -- a byte put off the read pages of a reach that isn't entangled changes nothing of what one sample does
-pub reads_in_reach : (start : DspState) (before : List ℕ) (j k : ℕ) (s : DspState) (memory : List ℕ) (at value : ℕ) → j < 64 → StaysInReach start before j s memory
+pub reads_in_reach : (start : ChipState) (before : List ℕ) (j k : ℕ) (s : ChipState) (memory : List ℕ) (at value : ℕ) → j < 64 → StaysInReach start before j s memory
     → (chip_reach start before).entangled ≡ false → set.contains (chip_reach start before).read_pages (page_of at) ≡ false
     → sample k s (with_byte memory at value) ≡ record (sample k s memory) { memory = with_byte (sample k s memory).memory at value }
 reads_in_reach start before j k s memory at value few stays clear none =
     rw (sample_is k s (with_byte memory at value), sample_is k s memory) same
   where
-    now : DspState
+    now : ChipState
     now = before_voices s k
 
     held : StaysInReach start before j now memory

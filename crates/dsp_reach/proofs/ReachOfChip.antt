@@ -7,29 +7,29 @@ use Rattle.reach_map.specs.Reach.{reach, window_pages}
 use Rattle.echo_unit.specs.Flg.{has_echo_writes}
 use Rattle.dsp_form.specs.Reach.{chip_reach, chip_window}
 use Rattle.dsp_form.specs.declared.registers.TheConstants.{FLG}
-use Rattle.dsp_form.specs.declared.state.DspState.{DspState}
+use Rattle.dsp_form.specs.declared.state.ChipState.{ChipState}
 use Rattle.dsp_reach.proofs.PageSets.{has_page, contains-pages, apart_right, not_in_left, not_in_right}
 use Rattle.dsp_reach.proofs.Voices.{pages_from}
 
 -- the pages that the voices read, and those of the window
-abbrev pub pages_of_voices : DspState → List ℕ → List ℕ
+abbrev pub pages_of_voices : ChipState → List ℕ → List ℕ
 pages_of_voices s memory = pages_from s memory 0 s.hidden.voices
 
-abbrev pub pages_of_echo : DspState → List ℕ
+abbrev pub pages_of_echo : ChipState → List ℕ
 pages_of_echo s = window_pages (chip_window s)
 
-abbrev pub writes_echo : DspState → Bool
+abbrev pub writes_echo : ChipState → Bool
 writes_echo s = has_echo_writes (slice_index s.registers FLG)
 
 -- a page that is no read page is no page of the voices, nor one of the window
-pub unread_by_voices : (s : DspState) (memory : List ℕ) (p : ℕ) → set.contains (chip_reach s memory).read_pages p ≡ false → has_page (pages_of_voices s memory) p ≡ false
+pub unread_by_voices : (s : ChipState) (memory : List ℕ) (p : ℕ) → set.contains (chip_reach s memory).read_pages p ≡ false → has_page (pages_of_voices s memory) p ≡ false
 unfolding chip_reach reach
 unread_by_voices s memory p none =
     let voices : List ℕ = pages_of_voices s memory in
     let echo : List ℕ = pages_of_echo s in
     not_in_left voices echo p (sym (contains-pages (voices ++ echo) p) ∙ none)
 
-pub unread_by_echo : (s : DspState) (memory : List ℕ) (p : ℕ) → set.contains (chip_reach s memory).read_pages p ≡ false → has_page (pages_of_echo s) p ≡ false
+pub unread_by_echo : (s : ChipState) (memory : List ℕ) (p : ℕ) → set.contains (chip_reach s memory).read_pages p ≡ false → has_page (pages_of_echo s) p ≡ false
 unfolding chip_reach reach
 unread_by_echo s memory p none =
     let voices : List ℕ = pages_of_voices s memory in
@@ -37,12 +37,12 @@ unread_by_echo s memory p none =
     not_in_right voices echo p (sym (contains-pages (voices ++ echo) p) ∙ none)
 
 -- where the echo writes, a page that is no write page is none of the window
-pub unwritten_by_echo : (s : DspState) (memory : List ℕ) (p : ℕ) → writes_echo s ≡ true → set.contains (chip_reach s memory).write_pages p ≡ false → has_page (pages_of_echo s) p ≡ false
+pub unwritten_by_echo : (s : ChipState) (memory : List ℕ) (p : ℕ) → writes_echo s ≡ true → set.contains (chip_reach s memory).write_pages p ≡ false → has_page (pages_of_echo s) p ≡ false
 unfolding chip_reach reach
 unwritten_by_echo s memory p writes none = sym (contains-pages (pages_of_echo s) p) ∙ rw writes at none
 
 -- where the reach isn't entangled, the pages of the voices are no write pages
-pub voices_unwritten : (s : DspState) (memory : List ℕ) (p : ℕ) → (chip_reach s memory).entangled ≡ false → has_page (pages_of_voices s memory) p ≡ true
+pub voices_unwritten : (s : ChipState) (memory : List ℕ) (p : ℕ) → (chip_reach s memory).entangled ≡ false → has_page (pages_of_voices s memory) p ≡ true
     → set.contains (chip_reach s memory).write_pages p ≡ false
 unfolding chip_reach reach
 voices_unwritten s memory p clear there = by (writes_echo s) clear

@@ -4,11 +4,11 @@ use Rattle.dsp_form.specs.Results.{is_result}
 use Rattle.dsp_form.specs.Samples.{samples}
 use Rattle.dsp_form.specs.Sample.{sample}
 use Rattle.dsp_form.specs.Outside.{register_read}
-use Rattle.dsp_form.specs.declared.state.DspState.{DspState}
+use Rattle.dsp_form.specs.declared.state.ChipState.{ChipState}
 use Rattle.dsp_form.proofs.Inputs.{SameInputs, same_inputs-sample}
 
 -- n samples change no other register
-pub same_inputs-samples : (n k : ℕ) (s : DspState) (memory : List ℕ) → SameInputs (samples sample n k s memory).state.registers s.registers
+pub same_inputs-samples : (n k : ℕ) (s : ChipState) (memory : List ℕ) → SameInputs (samples sample n k s memory).state.registers s.registers
 unfolding samples
 same_inputs-samples zero k s memory address h = refl
 same_inputs-samples (suc n) k s memory address h =
@@ -16,7 +16,7 @@ same_inputs-samples (suc n) k s memory address h =
     same_inputs-sample (k + n) now.state now.memory address h ∙ same_inputs-samples n k s memory address h
 
 -- seen from outside
-pub registers_stay : (n k : ℕ) (s : DspState) (memory : List ℕ) (address : ℕ) → is_result address ≡ false
+pub registers_stay : (n k : ℕ) (s : ChipState) (memory : List ℕ) (address : ℕ) → is_result address ≡ false
     → register_read (samples sample n k s memory).state address ≡ register_read s address
 unfolding register_read
 registers_stay n k s memory address h =

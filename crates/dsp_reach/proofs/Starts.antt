@@ -11,7 +11,7 @@ use Rattle.reach_map.specs.declared.Window.{Window}
 use Rattle.reach_map.specs.declared.ChainStart.{ChainStart}
 use Rattle.reach_map.specs.Reach.{chain, block_pages, chain_pages, entry_pages, voice_pages, window_pages, reach}
 use Rattle.dsp_form.specs.declared.registers.TheConstants.{FLG}
-use Rattle.dsp_form.specs.declared.state.DspState.{DspState}
+use Rattle.dsp_form.specs.declared.state.ChipState.{ChipState}
 use Rattle.dsp_form.specs.Reach.{entries_from, voice_starts, starts_from, chip_window, chip_reach}
 use Rattle.dsp_reach.proofs.PageSets.{has_page, at_page, in_left, in_right}
 use Rattle.dsp_reach.proofs.ChainPages.{bytes_have, own_pages, AgreeOn, agree_put, start_same, loop_same}
@@ -51,13 +51,13 @@ voice_pages_same memory m starts entries same =
     (chains_same memory m starts (λ at some. same at (in_right (flat_map entry_pages entries) (flat_map (chain_pages memory) starts) (page_of at) some)))
 
 -- where a voice can be
-voice_starts_same : (s : DspState) (memory m : List ℕ) (v : ℕ) (voice : VoiceState) → AgreeOn (own_pages s memory v voice) m memory
+voice_starts_same : (s : ChipState) (memory m : List ℕ) (v : ℕ) (voice : VoiceState) → AgreeOn (own_pages s memory v voice) m memory
     → voice_starts s m v voice ≡ voice_starts s memory v voice
 unfolding start_word loop_word
 voice_starts_same s memory m v voice same = rw (start_same s memory v voice m memory same, loop_same s memory v voice m memory same) refl
 
 -- where the voices from v on can be
-pub starts_from_same : (s : DspState) (memory m : List ℕ) (v : ℕ) (voices : List VoiceState) → AgreeOn (pages_from s memory v voices) m memory
+pub starts_from_same : (s : ChipState) (memory m : List ℕ) (v : ℕ) (voices : List VoiceState) → AgreeOn (pages_from s memory v voices) m memory
     → starts_from s m v voices ≡ starts_from s memory v voices
 starts_from_same s memory m v [] same = refl
 starts_from_same s memory m v (voice ∷ voices) same =
@@ -66,18 +66,18 @@ starts_from_same s memory m v (voice ∷ voices) same =
     starts_from_same s memory m (v + 1) voices (rest_agree s memory v voice voices m memory same) in
     ap (λ (starts : List ChainStart). starts ++ starts_from s m (v + 1) voices) first ∙ ap (λ (starts : List ChainStart). voice_starts s memory v voice ++ starts) rest
 
-pub pages_from_same : (s : DspState) (memory m : List ℕ) (v : ℕ) (voices : List VoiceState) → AgreeOn (pages_from s memory v voices) m memory
+pub pages_from_same : (s : ChipState) (memory m : List ℕ) (v : ℕ) (voices : List VoiceState) → AgreeOn (pages_from s memory v voices) m memory
     → pages_from s m v voices ≡ pages_from s memory v voices
 pages_from_same s memory m v voices same =
     ap (λ (starts : List ChainStart). voice_pages m starts (entries_from s.registers v voices)) (starts_from_same s memory m v voices same)
     ∙ voice_pages_same memory m (starts_from s memory v voices) (entries_from s.registers v voices) same
 
 -- a byte that is put on none of the pages of voices
-pub starts_stay : (s : DspState) (memory : List ℕ) (v : ℕ) (voices : List VoiceState) (at value : ℕ) → has_page (pages_from s memory v voices) (page_of at) ≡ false
+pub starts_stay : (s : ChipState) (memory : List ℕ) (v : ℕ) (voices : List VoiceState) (at value : ℕ) → has_page (pages_from s memory v voices) (page_of at) ≡ false
     → starts_from s (with_byte memory at value) v voices ≡ starts_from s memory v voices
 starts_stay s memory v voices at value none = starts_from_same s memory (with_byte memory at value) v voices (agree_put (pages_from s memory v voices) memory at value none)
 
-pub pages_stay : (s : DspState) (memory : List ℕ) (v : ℕ) (voices : List VoiceState) (at value : ℕ) → has_page (pages_from s memory v voices) (page_of at) ≡ false
+pub pages_stay : (s : ChipState) (memory : List ℕ) (v : ℕ) (voices : List VoiceState) (at value : ℕ) → has_page (pages_from s memory v voices) (page_of at) ≡ false
     → pages_from s (with_byte memory at value) v voices ≡ pages_from s memory v voices
 pages_stay s memory v voices at value none = pages_from_same s memory (with_byte memory at value) v voices (agree_put (pages_from s memory v voices) memory at value none)
 
@@ -93,7 +93,7 @@ reach_of_pages memory m starts others entries window writes_on same =
     }) same
 
 -- the reach stays
-pub reach_stays : (s : DspState) (memory : List ℕ) (at value : ℕ) → set.contains (chip_reach s memory).read_pages (page_of at) ≡ false
+pub reach_stays : (s : ChipState) (memory : List ℕ) (at value : ℕ) → set.contains (chip_reach s memory).read_pages (page_of at) ≡ false
     → chip_reach s (with_byte memory at value) ≡ chip_reach s memory
 unfolding chip_reach
 reach_stays s memory at value none =

@@ -11,7 +11,7 @@ use Rattle.voice_unit.specs.Voice.{VoiceState}
 use Rattle.reach_map.specs.declared.ChainStart.{ChainStart}
 use Rattle.reach_map.specs.Reach.{entry_pages, chain_pages, voice_pages}
 use Rattle.dsp_form.specs.declared.registers.TheConstants.{SRCN, DIR}
-use Rattle.dsp_form.specs.declared.state.DspState.{DspState}
+use Rattle.dsp_form.specs.declared.state.ChipState.{ChipState}
 use Rattle.dsp_form.specs.Registers.{voice_regs}
 use Rattle.dsp_form.specs.Results.{is_result}
 use Rattle.dsp_form.specs.Sample.{SharedInput, VoiceResult, voice_in, voice_result, results_from}
@@ -26,7 +26,7 @@ use Rattle.dsp_reach.proofs.OnChains.{on_first, SeesTheSame, step_on_chains}
 use Rattle.dsp_reach.proofs.ChainPages.{own_pages, block_in, AgreeOn, agree_put, start_same, loop_same, agrees}
 
 -- the pages of the voices from v on
-abbrev pub pages_from : DspState → List ℕ → (v : ℕ) → (olds : List VoiceState) → List ℕ
+abbrev pub pages_from : ChipState → List ℕ → (v : ℕ) → (olds : List VoiceState) → List ℕ
 pages_from s memory v olds = voice_pages memory (starts_from s memory v olds) (entries_from s.registers v olds)
 
 -- the pages of a voice and those of the rest are pages of all
@@ -59,19 +59,19 @@ rest_in memory starts rest entry entries p h =
 
 -- What the voices from v on find in a sample as it was when the reach was taken: the registers but those that samples write,
 -- the bytes on their pages, and key-ons of no voice but those that waited.
-pub record FindTheSame (s : DspState) (memory : List ℕ) (v : ℕ) (olds : List VoiceState) (shared : SharedInput) : Type 0 where
+pub record FindTheSame (s : ChipState) (memory : List ℕ) (v : ℕ) (olds : List VoiceState) (shared : SharedInput) : Type 0 where
   pub registers : (address : ℕ) → is_result address ≡ false → slice_index shared.registers address ≡ slice_index s.registers address
   pub bytes : AgreeOn (pages_from s memory v olds) shared.memory memory
   pub keyed : (u : ℕ) → (shared.common.is_poll && has_bit shared.common.taken u) ≡ true → has_bit s.hidden.waiting u ≡ true
 
 -- the bytes of all but the first
-pub rest_agree : (s : DspState) (memory : List ℕ) (v : ℕ) (old : VoiceState) (olds : List VoiceState) (m n : List ℕ)
+pub rest_agree : (s : ChipState) (memory : List ℕ) (v : ℕ) (old : VoiceState) (olds : List VoiceState) (m n : List ℕ)
     → AgreeOn (pages_from s memory v (old ∷ olds)) m n → AgreeOn (pages_from s memory (v + 1) olds) m n
 rest_agree s memory v old olds m n same at some =
     same at (rest_in memory (voice_starts s memory v old) (starts_from s memory (v + 1) olds) (voice_entry s.registers v) (entries_from s.registers (v + 1) olds) (page_of at) some)
 
 -- the same of the rest of the voices
-rest_find : (s : DspState) (memory : List ℕ) (v : ℕ) (old : VoiceState) (olds : List VoiceState) (shared : SharedInput)
+rest_find : (s : ChipState) (memory : List ℕ) (v : ℕ) (old : VoiceState) (olds : List VoiceState) (shared : SharedInput)
     → FindTheSame s memory v (old ∷ olds) shared → FindTheSame s memory (v + 1) olds shared
 rest_find s memory v old olds shared find = record {
   registers = find.registers;
@@ -80,7 +80,7 @@ rest_find s memory v old olds shared find = record {
 }
 
 -- the bytes of the first of them
-pub first_agree : (s : DspState) (memory : List ℕ) (v : ℕ) (old : VoiceState) (olds : List VoiceState) (m n : List ℕ)
+pub first_agree : (s : ChipState) (memory : List ℕ) (v : ℕ) (old : VoiceState) (olds : List VoiceState) (m n : List ℕ)
     → AgreeOn (pages_from s memory v (old ∷ olds)) m n → AgreeOn (own_pages s memory v old) m n
 first_agree s memory v old olds m n same at some =
     same at (first_in memory (voice_starts s memory v old) (starts_from s memory (v + 1) olds) (voice_entry s.registers v) (entries_from s.registers (v + 1) olds) (page_of at) some)
@@ -92,13 +92,13 @@ is_result-srcn v =
     rw (register, other) refl
 
 -- the entry of a voice
-entry_same : (s : DspState) (memory : List ℕ) (v : ℕ) (previous : ℤ) (olds : List VoiceState) (shared : SharedInput) → FindTheSame s memory v olds shared
+entry_same : (s : ChipState) (memory : List ℕ) (v : ℕ) (previous : ℤ) (olds : List VoiceState) (shared : SharedInput) → FindTheSame s memory v olds shared
     → entry_address (voice_in shared.registers shared.common v previous).dir (voice_regs shared.registers v).srcn ≡ voice_entry s.registers v
 unfolding voice_in voice_regs
 entry_same s memory v previous olds shared find = rw (find.registers DIR refl, find.registers (16 * v + SRCN) (is_result-srcn v)) refl
 
 -- what a voice on its chains finds
-first_sees : (s : DspState) (memory : List ℕ) (j v : ℕ) (previous : ℤ) (old new : VoiceState) (olds : List VoiceState) (shared : SharedInput)
+first_sees : (s : ChipState) (memory : List ℕ) (j v : ℕ) (previous : ℤ) (old new : VoiceState) (olds : List VoiceState) (shared : SharedInput)
     → FindTheSame s memory v (old ∷ olds) shared → StaysOnChains s memory j v old new → j ≤ 64
     → SeesTheSame s memory v old new (voice_regs shared.registers v) (voice_in shared.registers shared.common v previous) shared.memory
 unfolding start_word loop_word voice_in
@@ -115,7 +115,7 @@ first_sees s memory j v previous old new olds shared find stays few =
     }
 
 -- one sample keeps the voices on their chains
-pub voices_stay : (s : DspState) (memory : List ℕ) (j v : ℕ) (previous : ℤ) (shared : SharedInput) (olds news : List VoiceState) → FindTheSame s memory v olds shared → j < 64
+pub voices_stay : (s : ChipState) (memory : List ℕ) (j v : ℕ) (previous : ℤ) (shared : SharedInput) (olds news : List VoiceState) → FindTheSame s memory v olds shared → j < 64
     → AllStayOnChains s memory j v olds news
     → AllStayOnChains s memory (j + 1) v olds (map (λ (result : VoiceResult). result.voice) (results_from shared v previous news))
 unfolding voice_result
@@ -129,7 +129,7 @@ voices_stay s memory j v previous shared (old ∷ olds) (new ∷ news) find few 
     )
 
 -- memories that agree on the pages of the voices give them the same results
-pub results_same : (s : DspState) (memory : List ℕ) (j v : ℕ) (previous : ℤ) (shared : SharedInput) (m : List ℕ) (olds news : List VoiceState) → FindTheSame s memory v olds shared → j ≤ 64
+pub results_same : (s : ChipState) (memory : List ℕ) (j v : ℕ) (previous : ℤ) (shared : SharedInput) (m : List ℕ) (olds news : List VoiceState) → FindTheSame s memory v olds shared → j ≤ 64
     → AllStayOnChains s memory j v olds news → AgreeOn (pages_from s memory v olds) m shared.memory
     → results_from (record shared { memory = m }) v previous news ≡ results_from shared v previous news
 results_same s memory j v previous shared m [] [] find few stay same = refl
@@ -147,14 +147,14 @@ results_same s memory j v previous shared m (old ∷ olds) (new ∷ news) find f
     rw first (ap (λ (results : List VoiceResult). voice_result shared v previous new ∷ results) rest)
 
 -- a byte that is put elsewhere gives the voices the same results
-pub voices_apart : (s : DspState) (memory : List ℕ) (j v : ℕ) (previous : ℤ) (shared : SharedInput) (olds news : List VoiceState) (at value : ℕ) → FindTheSame s memory v olds shared → j ≤ 64
+pub voices_apart : (s : ChipState) (memory : List ℕ) (j v : ℕ) (previous : ℤ) (shared : SharedInput) (olds news : List VoiceState) (at value : ℕ) → FindTheSame s memory v olds shared → j ≤ 64
     → AllStayOnChains s memory j v olds news → has_page (pages_from s memory v olds) (page_of at) ≡ false
     → results_from (record shared { memory = with_byte shared.memory at value }) v previous news ≡ results_from shared v previous news
 voices_apart s memory j v previous shared olds news at value find few stay none =
     results_same s memory j v previous shared (with_byte shared.memory at value) olds news find few stay (agree_put (pages_from s memory v olds) shared.memory at value none)
 
 -- when the reach is taken, each voice stands in the first block of its own chain
-all_at_start : (s : DspState) (memory : List ℕ) (v : ℕ) (voices : List VoiceState) → list_all is_at_group voices ≡ true → AllStayOnChains s memory 0 v voices voices
+all_at_start : (s : ChipState) (memory : List ℕ) (v : ℕ) (voices : List VoiceState) → list_all is_at_group voices ≡ true → AllStayOnChains s memory 0 v voices voices
 all_at_start s memory v [] groups = tt
 all_at_start s memory v (voice ∷ voices) groups =
     let both = and_both (is_at_group voice) (list_all is_at_group voices) groups in
@@ -171,7 +171,7 @@ all_at_start s memory v (voice ∷ voices) groups =
         either true = refl
         either false = refl
 
-pub voices_at_start : (s : DspState) (memory : List ℕ) → is_valid s ≡ true → AllStayOnChains s memory 0 0 s.hidden.voices s.hidden.voices
+pub voices_at_start : (s : ChipState) (memory : List ℕ) → is_valid s ≡ true → AllStayOnChains s memory 0 0 s.hidden.voices s.hidden.voices
 unfolding is_valid
 voices_at_start s memory valid = all_at_start s memory 0 s.hidden.voices (middle (length s.hidden.voices == 8) (list_all is_at_group s.hidden.voices) (is_at_cell s.hidden.echo) valid)
   where

@@ -8,6 +8,7 @@ use Rattle.std.specs.List.{filter}
 use Rattle.aram_core.specs.Memory.{byte_at, with_byte}
 use Rattle.trace_form.specs.declared.record.Record.{Record}
 use Rattle.trace_form.specs.declared.record.Record.TheVariants.{Reg, Port, Voice}
+use Rattle.dsp_form.specs.Limits.{most_samples_of_chip}
 use Rattle.dsp_form.specs.Results.{is_result}
 use Rattle.dsp_form.specs.Samples.{SampleResult, SamplesResult, samples, in_mask}
 use Rattle.dsp_form.proofs.OneMoreSample.{samples_none, samples_more}
@@ -37,11 +38,12 @@ opposite : (k : ℕ) (b : Bool) (item : Record) → is_before_sample k item ≡ 
 opposite k b item h = ap not h
 
 -- what is held once the pending samples are made
-abbrev pub held_after_settle : {S : Type 0} → ChipMeaning S → ℕ → Held S → Held S
-held_after_settle chip batches h = record {
+abbrev pub held_after_settle : {S : Type 0} → ChipMeaning S → (batches total : ℕ) → Held S → Held S
+held_after_settle chip batches total h = record {
   state = (pending_samples chip h).state;
   number = h.number + h.pending;
   batches = batches;
+  total = total;
   memory = (pending_samples chip h).memory;
   frames = h.frames ++ (pending_samples chip h).frames;
   records = h.records ++ merge (filter (in_mask h.mask) (pending_samples chip h).records) h.ring;
@@ -179,8 +181,8 @@ module _ {S : Type 0} {chip : ChipMeaning S} (laws : IsLawfulChip chip) where
         omega (arith, length-append h.records (merge (filter (in_mask h.mask) (pending_samples chip h).records) h.ring), length-merge (filter (in_mask h.mask) (pending_samples chip h).records) h.ring, voices_fit)
 
     -- all pending samples made
-    pub held_settled : (batches : ℕ) → IsHeld chip (held_after_settle chip batches h)
-    held_settled batches =
+    pub held_settled : (batches total : ℕ) → IsHeld chip (held_after_settle chip batches total h)
+    held_settled batches total =
         let voices = filter (in_mask h.mask) (pending_samples chip h).records in
         let first = Each-map (λ r. is_before_sample h.number r ≡ true) (λ r. is_before_sample (h.number + h.pending) r ≡ true) (later_before h.number (h.number + h.pending) (omega arith)) h.records is.made_before in
         let second = Each-map (IsVoiceWithin h.number (h.number + h.pending)) (λ r. is_before_sample (h.number + h.pending) r ≡ true) (voice_before h.number (h.number + h.pending)) voices pending_voices in
@@ -198,16 +200,17 @@ module _ {S : Type 0} {chip : ChipMeaning S} (laws : IsLawfulChip chip) where
           records_fit = omega (arith, records_within, is.records_fit);
         }
 
-    pub late_settled : (batches : ℕ)
-        → late_of chip (held_after_settle chip batches h) ≡
+    pub late_settled : (batches total : ℕ)
+        → late_of chip (held_after_settle chip batches total h) ≡
         record (late_of chip h) {
           pending = 0;
           events = 0;
           reach = chip.reach (late_of chip h).chip (late_of chip h).memory;
           batches = batches;
+          total = total;
           records_used = length (late_of chip h).records;
         }
-    late_settled batches =
+    late_settled batches total =
         let made : h.number + h.pending + 0 ≡ h.number + h.pending = omega arith in
         let frames : length (h.frames ++ (pending_samples chip h).frames) + 0 ≡ length h.frames + h.pending = omega (arith, frames_count) in
         let records : length (late_of chip h).records + 0 + 8 * 0 ≡ length (late_of chip h).records = omega arith in
@@ -268,3 +271,50 @@ module _ {S : Type 0} {chip : ChipMeaning S} (laws : IsLawfulChip chip) where
 
     pub late_none_waits : h.pending ≡ 0 → merge (filter (in_mask h.mask) (pending_samples chip h).records) h.ring ≡ []
     late_none_waits none = rw (none, samples_none, is.none_waits none) merge_nothing
+
+    -- what is saved, and what a load leaves: the lists are empty, and so is the ring
+    pub late_chip : h.pending ≡ 0 → (late_of chip h).chip ≡ h.state
+    late_chip none = rw (none, samples_none) refl
+
+    pub late_made : h.pending ≡ 0 → (late_of chip h).made ≡ h.number
+    late_made none = rw none (omega arith)
+
+    pub late_memory : h.pending ≡ 0 → (late_of chip h).memory ≡ h.memory
+    late_memory none = rw (none, samples_none) refl
+
+    held_frames : h.pending ≡ 0 → (late_of chip h).frames ≡ [] → h.frames ≡ []
+    held_frames none empty = rw (none, samples_none, append-nil) at empty
+
+    held_records : h.pending ≡ 0 → (late_of chip h).records ≡ [] → h.records ≡ []
+    held_records none empty = rw (none, samples_none, is.none_waits none, merge_nothing, append-nil) at empty
+
+    pub held_loaded : (state : S) (number : ℕ) (memory : List ℕ) → h.pending ≡ 0 → (late_of chip h).frames ≡ [] → (late_of chip h).records ≡ []
+        → chip.is_valid state ≡ true → number ≤ most_samples_of_chip
+        → IsHeld chip (record h { state = state; number = number; memory = memory })
+    held_loaded state number memory none frames records valid few =
+        record {
+          is_valid = valid;
+          pending = is.pending;
+          number_fits = rw none (omega arith);
+          after_first = rw (is.none_waits none) tt;
+          before_next = rw (is.none_waits none) tt;
+          none_waits = is.none_waits;
+          made_before = rw (held_records none records) tt;
+          frames_fit = is.frames_fit;
+          records_fit = is.records_fit;
+        }
+
+    pub late_loaded : (load : S → S) (number : ℕ) (memory : List ℕ) → h.pending ≡ 0 → (late_of chip h).frames ≡ [] → (late_of chip h).records ≡ []
+        → late_of chip (record h { state = load h.state; number = number; memory = memory }) ≡
+        record (late_of chip h) {
+          chip = load (late_of chip h).chip;
+          memory = memory;
+          made = number;
+          events = 0;
+          reach = chip.reach (load (late_of chip h).chip) memory;
+          frames_used = 0;
+          records_used = 0;
+        }
+    late_loaded load number memory none frames records =
+        let made : number + 0 ≡ number = omega arith in
+        rw (none, is.none_waits none, held_frames none frames, held_records none records) (simp (samples_none, merge_nothing, made) refl)

@@ -20,3 +20,5 @@ pub mod PageMarks
 pub mod PassesOfAWait
 -- RoundsOfAWait: and it makes rounds of steps that only look
 pub mod RoundsOfAWait
+-- TotalOfCalls: over calls that load nothing the chip counts on
+pub mod TotalOfCalls

@@ -97,6 +97,6 @@ module _ {S : Type 0} (chip : ChipMeaning S) where
       let m = bus.machine in
       let none : 0 ≡ samples_in m.clock 0 = omega arith in
       let clock : m.clock ≡ m.clock + 0 = omega arith in
-      (λ i. record (without_calls bus) { chip_batches = kept.batches i; chip_sample = kept.sample i })
+      (λ i. record (without_calls bus) { chip_batches = kept.batches i; chip_sample = kept.sample i; chip_total = kept.total i })
       ∙ sym (waited_none bus)
       ∙ (λ i. bus_after_wait bus (none i) (clock i) (sym (after_ticks_of-none m.io m.clock) i))

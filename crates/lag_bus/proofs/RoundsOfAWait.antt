@@ -12,6 +12,7 @@ use Rattle.lock_step.specs.declared.counts.Counts.{Counts}
 use Rattle.lag_bus.specs.LagEmits.{lag_emits, without_items}
 use Rattle.lag_bus.specs.Late.{Late}
 use Rattle.lag_bus.specs.IsLagging.{lagging_of}
+use Rattle.lock_step.specs.Emits.{CountsOn}
 use Rattle.lock_step.specs.WaitOfRounds.{IsWaitOf}
 use Rattle.lag_bus.specs.Late.{late_with_samples}
 use Rattle.lock_step.specs.ChipMeaning.{ChipMeaning}
@@ -107,6 +108,10 @@ module _ {S : Type 0} (chip : ChipMeaning S) where
     rounds-wait k n d cpu round fits =
         waited-rounds (lagging chip) without_calls (byte_seen chip bus) most (after_wait chip bus) is_waiting k n d (cpu, bus) cpu (refl, wait-none chip bus kept) round fits
 
+  counts-waited : (clock cycles pending total new_clock new_pending new_total : ℕ) → new_clock ≡ clock + cycles → new_pending ≡ pending + samples_in clock cycles → new_total ≡ total
+      → CountsOn (clock / 32) pending total (new_clock / 32) new_pending new_total
+  counts-waited clock cycles pending total new_clock new_pending new_total one two three = record { rises = omega arith; counted = λ fits. omega arith }
+
   -- a bus that waited for rounds
   pub is_wait : (samples : ℕ) (cpu : Cpu) (bus new : Lagging S) (most k n d : ℕ) → IsKept chip bus → AreTimers bus.machine.io → zeros_stay bus.machine.io bus.machine.clock most ≡ true
       → bus.book.pending + samples_in bus.machine.clock most < 64 → (bus.machine.clock + most) / 32 < samples
@@ -121,6 +126,8 @@ module _ {S : Type 0} (chip : ChipMeaning S) where
         cleared = ap (λ (b : Lagging S). without_items b) there.1 ∙ ap (λ (b : Lagging S). without_items b) (sym is);
         frames = ap (λ (b : Lagging S). b.machine.frames) there.1 ∙ ap (λ (b : Lagging S). b.machine.frames) (sym is);
         records = ap (λ (b : Lagging S). b.machine.records) there.1 ∙ ap (λ (b : Lagging S). b.machine.records) (sym is);
+        counts = counts-waited bus.machine.clock (k * d) bus.book.pending bus.book.total new.machine.clock new.book.pending new.book.total
+            clock (ap (λ (b : Lagging S). b.book.pending) is) (ap (λ (b : Lagging S). b.book.total) is);
         calls = ap (λ (b : Lagging S). b.machine.calls) is;
         below = omega arith;
       }
@@ -141,7 +148,8 @@ module _ {S : Type 0} (chip : ChipMeaning S) where
           records = late.records ++ filter (in_mask late.mask) (samples chip.sample (is i) (made i) late.chip late.memory).records;
           calls = calls;
         };
-        book = record { pending = late.pending + is i; events = late.events; reach = late.reach; counts = counts };
+        book = record { pending = late.pending + is i; events = late.events; reach = late.reach; counts = counts; total = late.total };
         chip_batches = batches i;
         chip_sample = number i - (late.pending + is i);
+        chip_total = late.total;
       }

@@ -4,7 +4,7 @@ use Rattle.std.specs.FinSet as set
 use Rattle.aram_core.specs.Pages.{page_of}
 use Rattle.reach_map.specs.declared.ReachPages.{ReachPages}
 use Rattle.dsp_form.specs.Results.{is_result}
-use Rattle.dsp_form.specs.Samples.{next_count}
+use Rattle.dsp_form.specs.Samples.{next_count, count_after}
 use Rattle.lock_step.specs.declared.counts.Counts.{Counts}
 use Rattle.lag_bus.specs.declared.cause.Cause.{Cause}
 use Rattle.lag_bus.specs.declared.cause.Cause.TheVariants.{Register, Memory, Echo, Full, Events, End}
@@ -23,6 +23,8 @@ pub record Book : Type 0 where
   pub reach : ReachPages
   -- the batches so far, by their causes
   pub counts : Counts
+  -- the samples that the chip made in all, those before a load too
+  pub total : ℕ
 
 -- A write to an address has pending samples made first: they may read it, or the echo can write what a voice reads, and then
 -- every address counts.
@@ -73,6 +75,7 @@ settled_book cause book = record book {
   pending = 0;
   events = if book.pending == 0 then book.events else 0;
   counts = if book.pending == 0 then book.counts else counts_with_batch cause book.counts;
+  total = if book.pending == 0 then book.total else count_after book.total book.pending;
 }
 
 -- the book with the reach of a machine
@@ -95,11 +98,16 @@ with_sample chip machine book =
     let more = record book { pending = book.pending + 1 } in
     if more.pending == most_samples_of_batch then with_reach_of chip machine (settled_book Full more) else more
 
--- the book at the opening of a machine
-abbrev pub opened_book : {S : Type 0} → ChipMeaning S → Machine S → Book
-opened_book chip machine = record {
+-- the book after a load that leaves this machine: nothing is pending, the reach is taken anew, and what was counted stays
+abbrev pub book_after_load : {S : Type 0} → ChipMeaning S → Machine S → Book → Book
+book_after_load chip machine book = with_reach_of chip machine (record book { pending = 0; events = 0 })
+
+-- the book at the opening of a machine whose chip made so many samples in all
+abbrev pub opened_book : {S : Type 0} → ChipMeaning S → Machine S → (total : ℕ) → Book
+opened_book chip machine total = record {
   pending = 0;
   events = 0;
   reach = chip.reach machine.chip machine.memory;
   counts = no_counts;
+  total = total;
 }

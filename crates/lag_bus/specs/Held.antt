@@ -16,10 +16,11 @@ use Rattle.lag_bus.specs.Ready.{is_before_sample}
 use Rattle.lag_bus.specs.Late.{Late}
 
 pub record Held (S : Type 0) : Type 0 where
-  -- the chip's state, the samples that it made, and its batches
+  -- the chip's state, the number of its next sample, and the batches and samples that it made in all
   pub state : S
   pub number : ℕ
   pub batches : ℕ
+  pub total : ℕ
   pub memory : List ℕ
   -- the frames and records made, and the events that wait
   pub frames : List Frame
@@ -45,6 +46,7 @@ late_of chip h = record {
   events = length h.ring;
   reach = chip.reach h.state h.memory;
   batches = h.batches;
+  total = h.total;
   frames_used = length h.frames + h.pending;
   records_used = length h.records + length h.ring + 8 * h.pending;
 }

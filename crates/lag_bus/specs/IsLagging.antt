@@ -21,9 +21,10 @@ lagging_of late io clock counts calls = record {
     records = late.records;
     calls = calls;
   };
-  book = record { pending = late.pending; events = late.events; reach = late.reach; counts = counts };
+  book = record { pending = late.pending; events = late.events; reach = late.reach; counts = counts; total = late.total };
   chip_batches = late.batches;
   chip_sample = late.made - late.pending;
+  chip_total = late.total;
 }
 
 pub record IsLagging {S : Type 0} (late : Late S) (counts : Counts) (clock calls : ℕ) : Type 0 where

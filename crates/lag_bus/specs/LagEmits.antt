@@ -16,7 +16,8 @@ lag_emits chip = record {
   records = λ bus. bus.machine.records;
   cleared = without_items;
   pending = λ bus. bus.book.pending;
-  counts = λ bus. (after_settle chip bus).book.counts;
+  total = λ bus. bus.book.total;
+  at_rest = λ bus. without_items (after_settle chip bus);
 }
 
 -- the bus after a drain: what stands before the first pending sample is handed over

@@ -1,5 +1,5 @@
 -- The machine in lock step with the lag book beside it. The book reads the machine and never changes it.
-use Rattle.std.specs.Prelude.{ℕ, ◌-◌, ◌==◌, if◌then◌else◌}
+use Rattle.std.specs.Prelude.{◌≡◌, ◌<◌, ◌≤◌, ℕ, ◌-◌, ◌^◌, ◌==◌, if◌then◌else◌}
 use Rattle.spc700_exec.specs.Bus.{BusMeaning}
 use Rattle.lag_bus.specs.declared.cause.Cause.TheVariants.{End}
 use Rattle.lock_step.specs.ChipMeaning.{ChipMeaning}
@@ -11,21 +11,32 @@ pub record Lagging (S : Type 0) : Type 0 where
   -- the machine as it is once the pending samples are made
   pub machine : Machine S
   pub book : Book
-  -- of the chip in hand itself, the batches that it made and the samples that it made
+  -- of the chip in hand itself, the batches that it made, the number of its next sample, and the samples that it made in all
   pub chip_batches : ℕ
   pub chip_sample : ℕ
+  pub chip_total : ℕ
 
--- A machine with a book. The chip in hand made the batches that the book counts, and all samples but those pending.
+-- A machine with a book. The chip in hand made the batches and samples that the book counts, and its next sample is the first pending one.
 abbrev pub with_book : {S : Type 0} → Machine S → Book → Lagging S
 with_book machine book = record {
   machine = machine;
   book = book;
   chip_batches = book.counts.batches;
   chip_sample = samples_made machine - book.pending;
+  chip_total = book.total;
 }
 
-abbrev pub opened_lagging : {S : Type 0} → ChipMeaning S → Machine S → Lagging S
-opened_lagging chip machine = with_book machine (opened_book chip machine)
+-- What each bus in hand tells of its chip: its numbers are those of the book.
+pub record MatchesBook {S : Type 0} (bus : Lagging S) : Type 0 where
+  pub batches : bus.chip_batches ≡ bus.book.counts.batches
+  pub sample : bus.chip_sample ≡ samples_made bus.machine - bus.book.pending
+  pub total : bus.chip_total ≡ bus.book.total
+  pub pending : bus.book.pending ≤ samples_made bus.machine
+  pub fits : bus.chip_total < 2 ^ 64
+
+-- at its opening, over a chip that made so many samples in all
+abbrev pub opened_lagging : {S : Type 0} → ChipMeaning S → Machine S → (total : ℕ) → Lagging S
+opened_lagging chip machine total = with_book machine (opened_book chip machine total)
 
 -- the book after each of the calls
 abbrev pub book_after_read : {S : Type 0} → ChipMeaning S → Lagging S → (at : ℕ) → Book

@@ -21,9 +21,10 @@ pub record Late (S : Type 0) : Type 0 where
   pub made : ℕ
   pub pending : ℕ
   pub events : ℕ
-  -- the reach before the pending samples, and the batches that the chip made
+  -- the reach before the pending samples, and the batches and the samples that the chip made in all
   pub reach : ReachPages
   pub batches : ℕ
+  pub total : ℕ
   -- the room that frames and records take at most, with those of the pending samples
   pub frames_used : ℕ
   pub records_used : ℕ

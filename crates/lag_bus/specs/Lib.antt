@@ -7,6 +7,8 @@ pub mod Lagging
 pub mod Ready
 -- what the bus emits and hands over that lags
 pub mod LagEmits
+-- what is saved of the bus, and the bus once that is loaded
+pub mod Saved
 -- lists of calls of a bus
 pub mod Calls
 -- That it keeps its laws; no promise speaks of these words:

@@ -54,6 +54,7 @@ without_calls bus = record bus { machine = record bus.machine { calls = 0 } }
 pub record IsKept {S : Type 0} (chip : ChipMeaning S) (bus : Lagging S) : Type 0 where
   pub batches : bus.chip_batches ≡ bus.book.counts.batches
   pub sample : bus.chip_sample ≡ samples_made bus.machine - bus.book.pending
+  pub total : bus.chip_total ≡ bus.book.total
   pub writes : AreWritesWithin chip bus.book.reach bus.book.pending (samples_made bus.machine) bus.machine.chip bus.machine.memory
 
 -- Over cycles in which no counter comes to 1 and fewer samples fall due than one batch has, rounds of steps that only look bring

@@ -4,7 +4,7 @@ ghost use Rattle.std.proofs.Common.{refl};
 ghost use Rattle.aram_core.specs.Memory.{byte_at, with_byte};
 ghost use Rattle.ports_timers.specs.Io.{after_read};
 ghost use Rattle.dsp_form.specs.Results.{is_result};
-ghost use Rattle.dsp_form.specs.Samples.{next_count};
+ghost use Rattle.dsp_form.specs.Samples.{next_count, count_after};
 ghost use Rattle.trace_form.specs.Rooms.{record_room, event_room};
 ghost use Rattle.num_fix.specs.Limits.{most_frames};
 ghost use Rattle.dsp_form.specs.Limits.{most_samples_of_chip, most_samples_of_batch};
@@ -12,9 +12,10 @@ ghost use Rattle.lock_step.specs.Machine.{opened_machine};
 ghost use Rattle.lock_step.specs.LockStep.{writes_register, writes_port, write_records, byte_answered};
 ghost use Rattle.lag_bus.specs.Ready.{ready_frames, ready_records};
 ghost use Rattle.lag_bus.specs.Book.{counts_with_batch, AddsUp, may_be_read, may_be_written};
-ghost use Rattle.lag_bus.specs.Lagging.{lagging, opened_lagging, after_settle};
+ghost use Rattle.lag_bus.specs.Lagging.{lagging, opened_lagging, after_settle, MatchesBook};
+ghost use Rattle.lag_bus.specs.Saved.{CanBeLoaded, saved_bus, loaded_lagging};
 ghost use Rattle.lag_bus.specs.LagEmits.{lag_emits, after_drain};
-ghost use Rattle.lag_bus.specs.LagLaws.{emits_frames, emits_records, frame_each};
+ghost use Rattle.lag_bus.specs.LagLaws.{emits_frames, emits_records, frame_each, counting, beside};
 ghost use Rattle.ports_timers.specs.Zeros.{zeros_stay, AreTimers};
 ghost use Rattle.lag_bus.specs.Waiting.{byte_seen, samples_in};
 
@@ -22,7 +23,9 @@ use crate::OutOfMemory;
 use crate::cause::Cause;
 use crate::counting::{counts_with_batch, no_counts};
 use crate::late::LateChip;
+use crate::saved::BusState;
 use crate::waiting::{counter_is_0, pend_all};
+use aram_core::Aram;
 use idle_rounds::{Looks, try_round};
 use lock_step::{Chip, Counts, DrainedBus};
 use ports_timers::{Io, cycles_of_zeros, tick_through};
@@ -72,6 +75,7 @@ fn settle_for<C: Chip>(late: &mut LateChip<C>, counts: &mut Counts, cause: Cause
       events = 0;
       reach = C.meaning.reach late.old.chip late.old.memory;
       batches = next_count late.old.batches;
+      total = count_after late.old.total late.old.pending;
       records_used = late.new.records_used;
     } }
     ensures room { late.new.records_used ≤ late.old.records_used }
@@ -88,7 +92,8 @@ impl<C: Chip> LagBus<C> {
     pub fn open(alloc: Global, opening: OpenState, chip: C, mask: u8) -> Result<Self, OutOfMemory>
         requires sample { C.sample chip ≡ 0 }
         requires batches { C.batches chip ≡ 0 }
-        ensures { IfOk result (λ bus. bus ≡ opened_lagging C.meaning (opened_machine opening.memory opening.cells opening.rom (C.state chip) mask)) }
+        ensures { let machine = opened_machine opening.memory opening.cells opening.rom (C.state chip) mask in
+            IfOk result (λ bus. bus ≡ opened_lagging C.meaning machine (C.total chip)) }
     {
         // A chip in hand is valid, which this call tells.
         let _sample = chip.sample();
@@ -105,12 +110,14 @@ impl<C: Chip> LagBus<C> {
         })
     }
 
-    /// The chip in hand. It made the batches that are counted, and all samples but those pending.
+    /// The chip in hand. It made the batches and samples that are counted, and its next sample is the first one pending.
     pub fn chip(&self) -> &C
         ensures batches { C.batches result.now ≡ self.now.chip_batches }
         ensures sample { C.sample result.now ≡ self.now.chip_sample }
+        ensures total { C.total result.now ≡ self.now.chip_total }
         ensures counted { C.batches result.now ≡ self.now.book.counts.batches }
         ensures made { C.sample result.now ≡ self.now.machine.clock / 32 - self.now.book.pending }
+        ensures all { C.total result.now ≡ self.now.book.total }
     {
         self.late.chip()
     }
@@ -131,6 +138,52 @@ impl<C: Chip> LagBus<C> {
         ensures sample { self.now.chip_sample ≡ self.now.machine.clock / 32 - self.now.book.pending }
     {
         self.counts
+    }
+
+    /// The samples that the chip in hand made in all, those before a load too. It stays at its type's end.
+    pub fn total(&self) -> u64
+        ensures total { result ≡ self.now.chip_total }
+        ensures chip { MatchesBook self.now }
+    {
+        self.late.total()
+    }
+
+    /// Saves the bus but for its memory, while no sample is pending.
+    pub fn save(&self) -> BusState<C::Saved>
+        requires { self.now.book.pending ≡ 0 }
+        ensures saved { result ≡ saved_bus C.saving self.now.machine }
+        ensures can_be_loaded { CanBeLoaded C.saving result }
+    {
+        BusState {
+            io: self.io,
+            clock: self.clock,
+            chip: self.late.save(),
+        }
+    }
+
+    /// The memory, while no sample is pending.
+    pub fn memory(&self) -> &Aram
+        requires { self.now.book.pending ≡ 0 }
+        ensures { result.now ≡ self.now.machine.memory }
+    {
+        self.late.memory()
+    }
+
+    /// Loads what was saved, of this bus or of another one, over a memory, while no sample is pending and all was drained. The mask
+    /// and the counts stay, and the fixed part of the chip.
+    pub fn load(&mut self, saved: &BusState<C::Saved>, memory: &Aram)
+        requires pending { self.old.book.pending ≡ 0 }
+        requires frames { self.old.machine.frames ≡ [] }
+        requires records { self.old.machine.records ≡ [] }
+        requires saved { CanBeLoaded C.saving saved.now }
+        ensures loaded { self.new ≡ loaded_lagging C.meaning C.saving self.old saved.now memory.now }
+        ensures batches { self.new.chip_batches ≡ self.old.chip_batches }
+        ensures total { self.new.chip_total ≡ self.old.chip_total }
+    {
+        self.late.load(&saved.chip, memory);
+        self.io = saved.io;
+        self.clock = saved.clock;
+        self.calls = 0;
     }
 
     /// A read of F3h.
@@ -439,5 +492,7 @@ impl<C: Chip> DrainedBus for LagBus<C> {
 
     ghost frame_each = { frame_each C.meaning };
 
-    ghost counted_beside = { λ _. refl };
+    ghost counting = { counting C.meaning };
+
+    ghost beside = { beside C.meaning };
 }

@@ -1,9 +1,9 @@
 // A chip with its memory and its output, some samples late. What each access of the bus asks is inlined into it.
-ghost use Rattle.std.specs.Prelude.{ℕ, ◌≡◌, ◌&&◌, ◌+◌, ◌-◌, ◌*◌, ◌<◌, ◌≤◌, ◌++◌, ◌∷◌, [], ◌==◌, true, false, length, if◌then◌else◌, ◌||◌, not};
+ghost use Rattle.std.specs.Prelude.{ℕ, ◌≡◌, ◌&&◌, ◌+◌, ◌-◌, ◌*◌, ◌^◌, ◌<◌, ◌≤◌, ◌++◌, ◌∷◌, [], ◌==◌, true, false, length, if◌then◌else◌, ◌||◌, not};
 ghost use Rattle.std.specs.List.{filter};
 ghost use Rattle.aram_core.specs.Memory.{byte_at, with_byte};
 ghost use Rattle.dsp_form.specs.Results.{is_result};
-ghost use Rattle.dsp_form.specs.Samples.{samples, in_mask, next_count};
+ghost use Rattle.dsp_form.specs.Samples.{samples, in_mask, next_count, count_after};
 ghost use Rattle.lag_bus.specs.Book.{may_be_read, may_be_written, cause_of_read, cause_of_write};
 ghost use Rattle.lag_bus.specs.Late.{late_with_sample, AreWritesWithin};
 ghost use Rattle.trace_form.specs.Rooms.{frame_room, record_room, event_room};
@@ -49,6 +49,7 @@ impl<C: Chip> Model for LateChip<C> {
       state = C.state b.chip;
       number = C.sample b.chip;
       batches = C.batches b.chip;
+      total = C.total b.chip;
       memory = b.memory;
       frames = b.frames;
       records = b.records;
@@ -61,6 +62,7 @@ impl<C: Chip> Model for LateChip<C> {
       state = C.state b.chip;
       number = C.sample b.chip;
       batches = C.batches b.chip;
+      total = C.total b.chip;
       memory = b.memory;
       frames = b.frames;
       records = b.records;
@@ -109,6 +111,7 @@ fn make_batch<C: Chip>(
     ensures state { C.state chip.new ≡ (samples C.meaning.sample n (C.sample chip.old) (C.state chip.old) memory.old).state }
     ensures sample { C.sample chip.new ≡ C.sample chip.old + n }
     ensures batches { C.batches chip.new ≡ (if n == 0 then C.batches chip.old else next_count (C.batches chip.old)) }
+    ensures total { C.total chip.new ≡ count_after (C.total chip.old) n }
     ensures memory { memory.new ≡ (samples C.meaning.sample n (C.sample chip.old) (C.state chip.old) memory.old).memory }
     ensures frames { frames.new ≡ frames.old ++ (samples C.meaning.sample n (C.sample chip.old) (C.state chip.old) memory.old).frames }
     ensures voice_records { let made = samples C.meaning.sample n (C.sample chip.old) (C.state chip.old) memory.old in
@@ -123,6 +126,7 @@ impl<C: Chip> LateChip<C> {
     pub fn chip(&self) -> &C
         ensures batches { C.batches result.now ≡ self.now.batches }
         ensures sample { C.sample result.now ≡ self.now.made - self.now.pending }
+        ensures total { C.total result.now ≡ self.now.total }
     {
         &self.chip
     }
@@ -338,6 +342,7 @@ impl<C: Chip> LateChip<C> {
           events = 0;
           reach = C.meaning.reach self.old.chip self.old.memory;
           batches = if self.old.pending == 0 then self.old.batches else next_count self.old.batches;
+          total = count_after self.old.total self.old.pending;
           records_used = length self.old.records;
         } }
         ensures room { length self.old.records ≤ self.old.records_used }
@@ -373,6 +378,53 @@ impl<C: Chip> LateChip<C> {
         move_records(&mut self.records, records);
     }
 
+    /// Saves the chip while no sample is pending.
+    pub fn save(&self) -> C::Saved
+        requires { self.now.pending ≡ 0 }
+        ensures { result ≡ C.saving.saved self.now.chip self.now.made }
+    {
+        self.chip.save()
+    }
+
+    /// The memory while no sample is pending.
+    pub fn memory(&self) -> &Aram
+        requires { self.now.pending ≡ 0 }
+        ensures { result.now ≡ self.now.memory }
+    {
+        &self.memory
+    }
+
+    /// Loads what was saved of a chip, over a memory, while no sample is pending and all was drained.
+    pub fn load(&mut self, saved: &C::Saved, memory: &Aram)
+        requires pending { self.old.pending ≡ 0 }
+        requires frames { self.old.frames ≡ [] }
+        requires records { self.old.records ≡ [] }
+        requires number { C.saving.number saved.now ≤ most_samples_of_chip }
+        ensures { let loaded = C.saving.loaded self.old.chip saved.now in
+            self.new ≡ record self.old {
+              chip = loaded;
+              memory = memory.now;
+              made = C.saving.number saved.now;
+              events = 0;
+              reach = C.meaning.reach loaded memory.now;
+              frames_used = 0;
+              records_used = 0;
+            } }
+    {
+        self.chip.load(saved);
+        self.memory.copy_from(memory);
+        self.taken = TakenReach::none();
+    }
+
+    /// The samples that the chip made in all, those before a load too.
+    pub fn total(&self) -> u64
+        ensures total { result ≡ self.now.total }
+        ensures fits { self.now.total < 2 ^ 64 }
+        ensures pending { self.now.pending ≤ self.now.made }
+    {
+        self.chip.total()
+    }
+
     /// A chip that has made no sample, over a memory.
     pub fn new(
         chip: C,
@@ -399,6 +451,7 @@ impl<C: Chip> LateChip<C> {
           events = 0;
           reach = C.meaning.reach (C.state chip) memory;
           batches = C.batches chip;
+          total = C.total chip;
           frames_used = 0;
           records_used = 0;
         } }

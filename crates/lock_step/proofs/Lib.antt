@@ -4,3 +4,5 @@ pub mod RecordCounts
 pub mod PassWithoutTick
 -- NoWait: a bus that made no round at once
 pub mod NoWait
+-- ChipCounts: a chip counts on over nothing, and over one stretch after another
+pub mod ChipCounts

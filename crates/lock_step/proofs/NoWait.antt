@@ -4,6 +4,7 @@ use Rattle.spc700_exec.specs.declared.cpu.Cpu.{Cpu}
 use Rattle.spc700_exec.specs.Bus.{BusMeaning}
 use Rattle.lock_step.specs.Emits.{Emits}
 use Rattle.lock_step.specs.WaitOfRounds.{IsWaitOf}
+use Rattle.lock_step.proofs.ChipCounts.{counts_on_none}
 use Rattle.idle_rounds.specs.Looking.{after_n_steps}
 
 no_round : {X : Type 0} (bus : BusMeaning X) (w : Cpu × X) → after_n_steps bus 0 w ≡ w
@@ -20,6 +21,7 @@ no_wait {X} bus emits samples cpu s more =
       cleared = ap (λ (w : Cpu × X). emits.cleared w.1) none;
       frames = ap (λ (w : Cpu × X). emits.frames w.1) none;
       records = ap (λ (w : Cpu × X). emits.records w.1) none;
+      counts = counts_on_none (bus.made s) (emits.pending s) (emits.total s);
       calls = refl;
       below = more;
     }

@@ -1,12 +1,14 @@
 -- The S-DSP as a chip.
-use Rattle.dsp_form.specs.declared.state.DspState.{DspState}
+use Rattle.dsp_form.specs.declared.state.ChipState.{ChipState}
 use Rattle.dsp_form.specs.Sample.{sample}
 use Rattle.dsp_form.specs.Outside.{register_read, register_write}
 use Rattle.dsp_form.specs.Reach.{chip_reach}
 use Rattle.dsp_form.specs.Valid.{is_valid}
+use Rattle.dsp_core.specs.Saved.{SavedDsp, saved_state, loaded_state}
 use Rattle.lock_step.specs.ChipMeaning.{ChipMeaning}
+use Rattle.lock_step.specs.ChipSaving.{ChipSaving}
 
-abbrev pub dsp_chip : ChipMeaning DspState
+abbrev pub dsp_chip : ChipMeaning ChipState
 dsp_chip = record {
   register_read = register_read;
   register_write = register_write;
@@ -14,3 +16,7 @@ dsp_chip = record {
   reach = chip_reach;
   is_valid = is_valid;
 }
+
+-- the table is its fixed part
+abbrev pub dsp_saving : ChipSaving ChipState SavedDsp
+dsp_saving = record { saved = saved_state; loaded = loaded_state; number = λ saved. saved.sample }

@@ -1,20 +1,23 @@
 -- The S-DSP keeps what each chip keeps.
-use Rattle.std.proofs.Common.{◌≡◌, ℕ, ◌+◌, List, [], ◌∷◌, pos, map, true, length, refl, ap, ◌∙◌, arith}
+use Rattle.std.proofs.Common.{◌≡◌, ℕ, ◌+◌, ◌%◌, ◌==◌, nat_le, List, [], ◌∷◌, pos, map, Bool, true, false, if◌then◌else◌, length, refl, ap, ◌∙◌, arith}
 use Rattle.std.proofs.lemmas.Bool.{eq-eqb}
 use Rattle.std.proofs.lemmas.List.{length-map}
 use Rattle.voice_unit.specs.declared.interface.VoiceOut.{VoiceOut}
 use Rattle.voice_unit.specs.Voice.{VoiceState}
 use Rattle.rate_clock.specs.Counter.{counter_at}
-use Rattle.dsp_form.specs.declared.state.DspState.{DspState}
+use Rattle.dsp_form.specs.declared.state.ChipState.{ChipState}
+use Rattle.dsp_form.specs.Outside.{register_write}
+use Rattle.dsp_form.specs.Results.{without_bits}
 use Rattle.dsp_form.specs.Sample.{VoiceResult, results_from, records_from, shared_input, after_poll, after_noise, sample}
 use Rattle.dsp_form.specs.Valid.{is_valid}
-use Rattle.dsp_form.proofs.EightVoices.{length-results_from, voices-before_step}
+use Rattle.dsp_form.proofs.EightVoices.{polled_part, length-results_from, voices-before_step}
 use Rattle.dsp_form.proofs.Valid.{valid_of, is_valid-sample, is_valid-register_write}
 use Rattle.dsp_reach.proofs.Registers.{registers_stay}
 use Rattle.dsp_reach.proofs.Starts.{reach_stays}
 use Rattle.dsp_reach.proofs.Within.{writes_inside, reads_inside}
 use Rattle.lock_step.specs.ChipLaws.{IsLawfulChip, are_voice_records}
-use Rattle.lock_step.specs.DspChip.{dsp_chip}
+use Rattle.lock_step.specs.SavingLaws.{IsLawfulSaving}
+use Rattle.lock_step.specs.DspChip.{dsp_chip, dsp_saving}
 
 -- the records of the voices from v on are those of the voices up to 7 where there are 8 - v
 are_voice_records-records_from : (k v : ℕ) (answers : List VoiceOut) → v + length answers ≡ 8 → are_voice_records k v (records_from k v answers) ≡ true
@@ -23,10 +26,10 @@ are_voice_records-records_from k v [] full = eq-eqb v 8 (omega arith)
 are_voice_records-records_from k v (answer ∷ answers) full =
     rw (eq-eqb k k refl, eq-eqb v v refl) (are_voice_records-records_from k (v + 1) answers (omega arith))
 
-are_voice_records-sample : (k : ℕ) (s : DspState) (memory : List ℕ) → is_valid s ≡ true → are_voice_records k 0 (sample k s memory).records ≡ true
+are_voice_records-sample : (k : ℕ) (s : ChipState) (memory : List ℕ) → is_valid s ≡ true → are_voice_records k 0 (sample k s memory).records ≡ true
 unfolding sample
 are_voice_records-sample k s memory valid =
-    let now : DspState = after_noise (after_poll s k) (counter_at k) in
+    let now : ChipState = after_noise (after_poll s k) (counter_at k) in
     let results : List VoiceResult = results_from (shared_input now memory k) 0 (pos 0) now.hidden.voices in
     let answers : List VoiceOut = map (λ (result : VoiceResult). result.answer) results in
     let all : length answers ≡ length s.hidden.voices =
@@ -45,4 +48,26 @@ dsp_is_lawful = record {
   reads_inside = reads_inside;
   reach_stays = λ s memory at value _ _ free. reach_stays s memory at value free;
   registers_stay = λ n k s memory address _ _ free. registers_stay n k s memory address free;
+}
+
+-- a write of a register and a sample leave the table alone
+table-register_write : (s : ChipState) (address byte : ℕ) → (register_write s address byte).table ≡ s.table
+unfolding register_write
+table-register_write s address byte = by (nat_le 0x80 address) _ _
+  where
+    by : (b : Bool) (registers : List ℕ) (waiting : ℕ) → (if b then s else record s { registers = registers; hidden = record s.hidden { waiting = waiting } }).table ≡ s.table
+    by true registers waiting = refl
+    by false registers waiting = refl
+
+table-sample : (k : ℕ) (s : ChipState) (memory : List ℕ) → (sample k s memory).state.table ≡ s.table
+unfolding sample after_poll after_noise
+table-sample k s memory = polled_part (λ (s : ChipState). s.table) (k % 2 == 0) s (without_bits s.hidden.waiting s.hidden.taken) refl
+
+pub dsp_saves_lawfully : IsLawfulSaving dsp_chip dsp_saving
+dsp_saves_lawfully = record {
+  loads_back = λ s k. refl;
+  number_saved = λ s k. refl;
+  loads_over = λ s v w. refl;
+  write_keeps_fixed = λ s address byte v. λ i. record { registers = v.registers; hidden = v.hidden; table = table-register_write s address byte i };
+  sample_keeps_fixed = λ k s memory v. λ i. record { registers = v.registers; hidden = v.hidden; table = table-sample k s memory i };
 }

@@ -1,18 +1,36 @@
 -- What a bus emits and hands over when it is drained.
-use Rattle.std.specs.Prelude.{◌≡◌, ℕ, ◌+◌, ◌≤◌, List, length}
+use Rattle.std.specs.Prelude.{◌≡◌, ℕ, ◌+◌, ◌-◌, ◌^◌, ◌<◌, ◌≤◌, List, length}
 use Rattle.num_fix.specs.declared.Frame.{Frame}
 use Rattle.trace_form.specs.declared.record.Record.{Record}
 use Rattle.spc700_exec.specs.Bus.{BusMeaning}
-use Rattle.lock_step.specs.declared.counts.Counts.{Counts}
+use Rattle.dsp_form.specs.Samples.{count_after}
 
--- the frames and the records emitted since the last drain, the bus without them and without the number of its calls, the
--- samples of the machine that the chip hasn't made yet, and how often the chip ran, once it has made these
 pub record Emits (B : Type 0) : Type 0 where
+  -- the frames and the records emitted since the last drain, and the bus without them and without the number of its calls
   pub frames : B → List Frame
   pub records : B → List Record
   pub cleared : B → B
+  -- the samples of the machine that the chip hasn't made yet, and the samples that it made in all
   pub pending : B → ℕ
-  pub counts : B → Counts
+  pub total : B → ℕ
+  -- the bus once it has made those that are pending, without what was emitted and without the number of its calls
+  pub at_rest : B → B
+
+-- Of a chip that made so many samples in all, where a bus has made or pending so many of which so many are pending: it then made as
+-- many more as the number of its next sample rose by, up to the end of 64 bits.
+pub record CountsOn (made pending total new_made new_pending new_total : ℕ) : Type 0 where
+  pub rises : made + new_pending ≤ new_made + pending
+  pub counted : total < 2 ^ 64 → new_total ≡ count_after total (new_made + pending - (made + new_pending))
+
+-- the chip beneath a bus between two of its states
+abbrev pub IsCountedOn : {B : Type 0} → BusMeaning B → Emits B → (old new : B) → Type 0
+IsCountedOn bus emits old new = CountsOn (bus.made old) (emits.pending old) (emits.total old) (bus.made new) (emits.pending new) (emits.total new)
+
+-- reads, writes and passes of at most 32 cycles count on what the chip makes
+pub record IsCounting {B : Type 0} (bus : BusMeaning B) (emits : Emits B) : Type 0 where
+  pub read_counts : (b : B) (at : ℕ) → IsCountedOn bus emits b (bus.read b at).1
+  pub write_counts : (b : B) (at value : ℕ) → IsCountedOn bus emits b (bus.write b at value)
+  pub pass_counts : (b : B) (cycles : ℕ) → cycles ≤ 32 → IsCountedOn bus emits b (bus.pass b cycles)
 
 -- reads and writes emit no frame, and a pass of at most 32 cycles emits one for each sample that it makes
 pub record IsFrameEach {B : Type 0} (bus : BusMeaning B) (frames : B → List Frame) : Type 0 where
@@ -20,6 +38,8 @@ pub record IsFrameEach {B : Type 0} (bus : BusMeaning B) (frames : B → List Fr
   pub write_frames : (b : B) (at value : ℕ) → length (frames (bus.write b at value)) ≡ length (frames b)
   pub pass_frames : (b : B) (cycles : ℕ) → cycles ≤ 32 → length (frames (bus.pass b cycles)) + bus.made b ≡ length (frames b) + bus.made (bus.pass b cycles)
 
--- the counts don't depend on what was emitted
-abbrev pub AreCountedBeside : {B : Type 0} → Emits B → Type 0
-AreCountedBeside {B} emits = (b : B) → emits.counts (emits.cleared b) ≡ emits.counts b
+-- what a bus is at rest doesn't depend on what was emitted, nor does what its chip made and has pending
+pub record IsBeside {B : Type 0} (emits : Emits B) : Type 0 where
+  pub at_rest : (b : B) → emits.at_rest (emits.cleared b) ≡ emits.at_rest b
+  pub pending : (b : B) → emits.pending (emits.cleared b) ≡ emits.pending b
+  pub total : (b : B) → emits.total (emits.cleared b) ≡ emits.total b

@@ -1,8 +1,11 @@
 -- What a reader of the promises needs, from a chip up to what is drained:
 -- what contracts see of a chip
 pub mod ChipMeaning
+-- and of what it saves
+pub mod ChipSaving
 -- what each chip keeps
 pub mod ChipLaws
+pub mod SavingLaws
 -- the machine beneath the processor
 pub mod Machine
 -- that machine in lock step: what each call of a bus answers and leaves
@@ -11,7 +14,6 @@ pub mod LockStep
 pub mod Emits
 -- what the machine in lock step emits and counts
 pub mod LockStepEmits
--- the limits that several clauses need
 -- the sample numbers of records
 pub mod SampleNumbers
 -- the S-DSP as a chip

@@ -1,5 +1,6 @@
 -- What the bus emits and counts that makes each sample at once.
 use Rattle.std.specs.Prelude.{[]}
+use Rattle.dsp_form.specs.Samples.{count_after}
 use Rattle.lock_step.specs.declared.counts.Counts.{Counts}
 use Rattle.lock_step.specs.Machine.{Machine}
 use Rattle.lock_step.specs.LockStep.{samples_made}
@@ -21,12 +22,13 @@ lock_step_counts m = record {
   «end» = 0;
 }
 
--- its samples are never pending
+-- its samples are never pending, and its chip made them all
 abbrev pub lock_step_emits : {S : Type 0} → Emits (Machine S)
 lock_step_emits = record {
   frames = λ m. m.frames;
   records = λ m. m.records;
   cleared = drained_machine;
   pending = λ m. 0;
-  counts = lock_step_counts;
+  total = λ m. count_after 0 (samples_made m);
+  at_rest = drained_machine;
 }

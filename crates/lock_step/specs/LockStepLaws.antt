@@ -8,8 +8,9 @@ use Rattle.spc700_exec.specs.Emitting.{IsEmitting}
 use Rattle.lock_step.specs.ChipMeaning.{ChipMeaning}
 use Rattle.lock_step.specs.Machine.{Machine}
 use Rattle.lock_step.specs.LockStep.{lock_step, after_sample, crosses_sample}
-use Rattle.lock_step.specs.Emits.{IsFrameEach}
-use Rattle.lock_step.specs.LockStepEmits.{drained_machine}
+use Rattle.dsp_form.specs.Samples.{count_after}
+use Rattle.lock_step.specs.Emits.{IsFrameEach, CountsOn, IsCounting, IsBeside}
+use Rattle.lock_step.specs.LockStepEmits.{drained_machine, lock_step_emits}
 
 module _ {S : Type 0} (chip : ChipMeaning S) where
   abbrev machine_after_pass : (m : Machine S) (cycles : ℕ) (made : Machine S) → Machine S
@@ -77,3 +78,16 @@ module _ {S : Type 0} (chip : ChipMeaning S) where
     write_frames = λ m at value. refl;
     pass_frames = λ m cycles few. frames_of_pass m cycles (crosses_sample m.clock cycles) refl few;
   }
+
+  all_counted : (made new_made : ℕ) → made ≤ new_made → CountsOn made 0 (count_after 0 made) new_made 0 (count_after 0 new_made)
+  all_counted made new_made later = record { rises = omega arith; counted = λ fits. omega arith }
+
+  pub counting : IsCounting (lock_step chip) lock_step_emits
+  counting = record {
+    read_counts = λ m at. all_counted (m.clock / 32) (m.clock / 32) (omega arith);
+    write_counts = λ m at value. all_counted (m.clock / 32) (m.clock / 32) (omega arith);
+    pass_counts = λ m cycles few. all_counted (m.clock / 32) ((m.clock + cycles) / 32) (omega arith);
+  }
+
+  pub beside : IsBeside (lock_step_emits {S = S})
+  beside = record { at_rest = λ m. refl; pending = λ m. refl; total = λ m. refl }

@@ -1,9 +1,11 @@
 // The sound chip that a bus is handed.
 ghost use Rattle.std.specs.Prelude.{◌≡◌, ℕ, ◌+◌, ◌*◌, ◌≤◌, ◌++◌, ◌==◌, true, length, if◌then◌else◌};
 ghost use Rattle.std.specs.List.{filter};
-ghost use Rattle.dsp_form.specs.Samples.{samples, in_mask, next_count};
+ghost use Rattle.dsp_form.specs.Samples.{samples, in_mask, next_count, count_after};
 ghost use Rattle.lock_step.specs.ChipMeaning.{ChipMeaning};
+ghost use Rattle.lock_step.specs.ChipSaving.{ChipSaving};
 ghost use Rattle.lock_step.specs.ChipLaws.{IsLawfulChip};
+ghost use Rattle.lock_step.specs.SavingLaws.{IsLawfulSaving};
 ghost use Rattle.trace_form.specs.Rooms.{frame_room, record_room};
 ghost use Rattle.dsp_form.specs.Limits.{most_samples_of_batch, most_samples_of_chip};
 
@@ -14,20 +16,29 @@ use trace_form::{Frames, Records};
 /// A sound chip: registers, and samples over a memory. Nothing here makes a chip or copies one, so what a bus emits comes
 /// from the one that it was handed.
 pub trait Chip: Drop {
-    /// What the chip is, beside its two numbers.
+    /// What the chip is, beside its numbers.
     type State;
+
+    /// What is saved of one, with the number of its next sample.
+    type Saved: Copy;
 
     /// The state of the chip.
     ghost state: { Self → Self.State };
 
-    /// The number of samples made, which is the number of the next one.
+    /// The number of the next sample.
     ghost sample: { Self → ℕ };
 
     /// The number of batches made.
     ghost batches: { Self → ℕ };
 
+    /// The number of samples made in all, those before a load too.
+    ghost total: { Self → ℕ };
+
     /// The functions on states by which the calls answer and act.
     ghost meaning: { ChipMeaning Self.State };
+
+    /// And those by which they save and load.
+    ghost saving: { ChipSaving Self.State Self.Saved };
 
     /// The register at an address.
     fn reg_read(&self, addr: u8) -> u8
@@ -37,7 +48,8 @@ pub trait Chip: Drop {
     fn reg_write(&mut self, addr: u8, value: u8)
         ensures state { state self.new ≡ meaning.register_write (state self.old) addr value }
         ensures sample { sample self.new ≡ sample self.old }
-        ensures batches { batches self.new ≡ batches self.old };
+        ensures batches { batches self.new ≡ batches self.old }
+        ensures total { total self.new ≡ total self.old };
 
     /// Makes the next n samples as one batch, and adds their frames and the records of the voices in the mask; bit v of
     /// the mask is voice v.
@@ -56,6 +68,7 @@ pub trait Chip: Drop {
         ensures state { state self.new ≡ (samples meaning.sample n (sample self.old) (state self.old) memory.old).state }
         ensures sample { sample self.new ≡ sample self.old + n }
         ensures batches { batches self.new ≡ (if n == 0 then batches self.old else next_count (batches self.old)) }
+        ensures total { total self.new ≡ count_after (total self.old) n }
         ensures memory { memory.new ≡ (samples meaning.sample n (sample self.old) (state self.old) memory.old).memory }
         ensures frames { frames.new ≡ frames.old ++ (samples meaning.sample n (sample self.old) (state self.old) memory.old).frames }
         ensures records { let made = samples meaning.sample n (sample self.old) (state self.old) memory.old in
@@ -69,10 +82,29 @@ pub trait Chip: Drop {
     fn batches(&self) -> u64
         ensures { result ≡ batches self.now };
 
-    /// The number of samples made, which is the number of the next one.
+    /// The number of samples made in all, those before a load too. It stays at its type's end.
+    fn total(&self) -> u64
+        ensures { result ≡ total self.now };
+
+    /// Saves the chip but for its fixed part, which no call and no sample changes.
+    fn save(&self) -> Self::Saved
+        ensures { result ≡ saving.saved (state self.now) (sample self.now) };
+
+    /// Puts back what was saved, of this chip or of another one. The fixed part stays, and so do the numbers of batches and
+    /// samples made in all.
+    fn load(&mut self, saved: &Self::Saved)
+        ensures state { state self.new ≡ saving.loaded (state self.old) saved.now }
+        ensures sample { sample self.new ≡ saving.number saved.now }
+        ensures batches { batches self.new ≡ batches self.old }
+        ensures total { total self.new ≡ total self.old }
+        ensures is_valid { meaning.is_valid (state self.new) ≡ true };
+
+    /// The number of the next sample: of those made, and with a load of those made before what was saved.
     fn sample(&self) -> u32
         ensures number { result ≡ sample self.now }
         ensures is_valid { meaning.is_valid (state self.now) ≡ true };
 
     ghost lawful: { IsLawfulChip meaning };
+
+    ghost saves_lawfully: { IsLawfulSaving meaning saving };
 }

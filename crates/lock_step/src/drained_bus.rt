@@ -1,7 +1,7 @@
 // A bus that emits frames and records and is drained.
 ghost use Rattle.std.specs.Prelude.{◌≡◌, ◌<◌, ◌≤◌, ◌++◌, [], nat_le};
 ghost use Rattle.spc700_exec.specs.Emitting.{IsEmitting};
-ghost use Rattle.lock_step.specs.Emits.{Emits, IsFrameEach, AreCountedBeside};
+ghost use Rattle.lock_step.specs.Emits.{Emits, IsFrameEach, IsCountedOn, IsCounting, IsBeside};
 ghost use Rattle.num_fix.specs.Limits.{most_frames};
 ghost use Rattle.lock_step.specs.WaitOfRounds.{IsWaitOf};
 
@@ -10,7 +10,8 @@ use trace_form::{Frames, Records};
 
 /// A bus beneath which frames and records are emitted.
 pub trait DrainedBus: Bus {
-    /// What was emitted since the last drain, the bus without it, the pending samples, and how often the chip ran.
+    /// What was emitted since the last drain and the bus without it, the pending samples, the samples that the chip made in all,
+    /// and the bus at rest.
     ghost emits: { Emits Self };
 
     /// The samples of the machine, made or pending.
@@ -34,7 +35,8 @@ pub trait DrainedBus: Bus {
         ensures records { emits.records self.new ≡ emits.records self.old }
         ensures clock { Self.means.clock self.new ≡ Self.means.clock self.old }
         ensures calls { Self.means.calls self.new ≡ Self.means.calls self.old }
-        ensures counts { emits.counts self.new ≡ emits.counts self.old }
+        ensures at_rest { emits.at_rest self.new ≡ emits.at_rest self.old }
+        ensures counted { IsCountedOn Self.means emits self.old self.new }
         ensures pending { emits.pending self.new ≡ 0 };
 
     /// Clears both lists and moves into them what was emitted; with samples pending, what stands before the first of them.
@@ -53,5 +55,7 @@ pub trait DrainedBus: Bus {
 
     ghost frame_each: { IsFrameEach Self.means emits.frames };
 
-    ghost counted_beside: { AreCountedBeside emits };
+    ghost counting: { IsCounting Self.means emits };
+
+    ghost beside: { IsBeside emits };
 }

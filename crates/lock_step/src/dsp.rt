@@ -1,16 +1,18 @@
 // The S-DSP as the chip of a bus. Each call only passes on its own, so that it is inlined.
 ghost use Rattle.std.specs.Prelude.{◌==◌};
-ghost use Rattle.lock_step.specs.DspChip.{dsp_chip};
-ghost use Rattle.lock_step.specs.DspLaws.{dsp_is_lawful};
+ghost use Rattle.lock_step.specs.DspChip.{dsp_chip, dsp_saving};
+ghost use Rattle.lock_step.specs.DspLaws.{dsp_is_lawful, dsp_saves_lawfully};
 
 use crate::chip::Chip;
 use aram_core::Aram;
-use dsp_core::{Dsp, DspState};
+use dsp_core::{ChipState, Dsp, DspState};
 use reach_map::ReachPages;
 use trace_form::{Frames, Records};
 
 impl Chip for Dsp {
-    type State = DspState;
+    type State = ChipState;
+
+    type Saved = DspState;
 
     ghost state = { λ d. d.state };
 
@@ -18,7 +20,11 @@ impl Chip for Dsp {
 
     ghost batches = { λ d. d.batches };
 
+    ghost total = { λ d. d.total };
+
     ghost meaning = { dsp_chip };
+
+    ghost saving = { dsp_saving };
 
     #[inline]
     fn reg_read(&self, addr: u8) -> u8 {
@@ -52,9 +58,24 @@ impl Chip for Dsp {
     }
 
     #[inline]
+    fn total(&self) -> u64 {
+        self.total()
+    }
+
+    fn save(&self) -> DspState {
+        self.save()
+    }
+
+    fn load(&mut self, saved: &DspState) {
+        self.load(saved);
+    }
+
+    #[inline]
     fn sample(&self) -> u32 {
         self.sample()
     }
 
     ghost lawful = { dsp_is_lawful };
+
+    ghost saves_lawfully = { dsp_saves_lawfully };
 }

@@ -10,7 +10,7 @@ use Rattle.lock_step.specs.LockStepLaws.{frame_each}
 use Rattle.render_core.specs.MachineRun.{after_run}
 use Rattle.render_core.proofs.FrameEachSample.{length-frames-after_run}
 
-lock_step-lawful : {S : Type 0} (chip : ChipMeaning S) → IsLawful (lock_step chip)
+pub lock_step-lawful : {S : Type 0} (chip : ChipMeaning S) → IsLawful (lock_step chip)
 lock_step-lawful chip = record {
   read_calls = λ _ _. refl;
   read_clock = λ _ _. refl;

@@ -18,7 +18,11 @@ module _ {S I : Type 0} (bus : BusMeaning S) (lawful : IsLawful bus) (cleared : 
   abbrev AreAhead : (before : List I) (w v : Whole S) → Type 0
   AreAhead before w v = (w.0 ≡ v.0) × IsAhead cleared items before w.1 v.1
 
-  made-cleared : (s t : S) → cleared s ≡ cleared t → bus.made s ≡ bus.made t
+  -- a whole machine with its bus at rest
+  abbrev pub resting : (at_rest : S → S) → Whole S → Whole S
+  resting at_rest w = (w.0, at_rest w.1)
+
+  pub made-cleared : (s t : S) → cleared s ≡ cleared t → bus.made s ≡ bus.made t
   made-cleared s t same = lawful.samples s ∙ ap (λ (k : ℕ). k / 32) (clock-cleared bus cleared items law s t same) ∙ sym (lawful.samples t)
 
   AreAhead-step : (before : List I) (w v : Whole S) → AreAhead before w v → AreAhead before (after_step bus w) (after_step bus v)
@@ -52,12 +56,14 @@ module _ {S I : Type 0} (bus : BusMeaning S) (lawful : IsLawful bus) (cleared : 
         let ahead : AreAhead got (cpu, s) (cpu, t) = (refl, record { same = sym same; front = split }) in
         (AreAhead-run got (cpu, s) (cpu, t) ahead).1.front
 
-    -- nor does it change what doesn't depend on the items
-    pub counts-after_run-drained : {N : Type 0} (counts : S → N) → ((s : S) → counts (cleared s) ≡ counts s) → (cpu : Cpu) (s t : S) (got : List I) → items s ≡ got ++ items t → cleared t ≡ cleared s
-        → counts (after_run bus samples (cpu, s)).1 ≡ counts (after_run bus samples (cpu, t)).1
-    counts-after_run-drained counts beside cpu s t got split same =
+    -- nor does it change the machine at rest at the end of the run
+    pub end-after_run-drained : (at_rest : S → S) → ((s : S) → at_rest (cleared s) ≡ at_rest s) → (cpu : Cpu) (s t : S) (got : List I) → items s ≡ got ++ items t → cleared t ≡ cleared s
+        → resting at_rest (after_run bus samples (cpu, s)) ≡ resting at_rest (after_run bus samples (cpu, t))
+    end-after_run-drained at_rest beside cpu s t got split same =
         let ahead : AreAhead got (cpu, s) (cpu, t) = (refl, record { same = sym same; front = split }) in
-        sym (beside _) ∙ ap counts (AreAhead-run got (cpu, s) (cpu, t) ahead).1.same ∙ beside _
+        let run = AreAhead-run got (cpu, s) (cpu, t) ahead in
+        let rest = sym (beside _) ∙ ap at_rest run.1.same ∙ beside _ in
+        λ i. (run.0 i, rest i)
 
     -- a bus that is settled once the samples are made, and then drained
     module _ (cpu : Cpu) (next settled drained : S) (got : List I) (kept : items settled ≡ items next) (clock : bus.clock settled ≡ bus.clock next) (still : bus.made next < samples → settled ≡ next)
@@ -77,15 +83,16 @@ module _ {S I : Type 0} (bus : BusMeaning S) (lawful : IsLawful bus) (cleared : 
             ∙ sym kept ∙ split ∙ ap (λ (w : Whole S). got ++ items w.1) (sym (after_run-reached bus lawful samples (cpu, drained) all_drained))
       ]
 
-      pub counts-after_run-settled : {N : Type 0} (counts : S → N) → ((s : S) → counts (cleared s) ≡ counts s) → counts settled ≡ counts next
-          → counts (after_run bus samples (cpu, next)).1 ≡ counts (after_run bus samples (cpu, drained)).1
-      counts-after_run-settled counts beside told = elim (lt_or (bus.made next) samples) [
-        | inl more ↦ counts-after_run-drained counts beside cpu next drained got (ap items (sym (still more)) ∙ split) (same ∙ ap cleared (still more))
+      pub end-after_run-settled : (at_rest : S → S) → ((s : S) → at_rest (cleared s) ≡ at_rest s) → at_rest settled ≡ at_rest next
+          → resting at_rest (after_run bus samples (cpu, next)) ≡ resting at_rest (after_run bus samples (cpu, drained))
+      end-after_run-settled at_rest beside told = elim (lt_or (bus.made next) samples) [
+        | inl more ↦ end-after_run-drained at_rest beside cpu next drained got (ap items (sym (still more)) ∙ split) (same ∙ ap cleared (still more))
         | inr all ↦
             let all_drained : samples ≤ bus.made drained = subst (λ (n : ℕ). samples ≤ n) (sym made-drained) all in
-            ap (λ (w : Whole S). counts w.1) (after_run-reached bus lawful samples (cpu, next) all)
-            ∙ sym told ∙ sym (beside settled) ∙ ap counts (sym same) ∙ beside drained
-            ∙ ap (λ (w : Whole S). counts w.1) (sym (after_run-reached bus lawful samples (cpu, drained) all_drained))
+            let rest = sym told ∙ sym (beside settled) ∙ ap at_rest (sym same) ∙ beside drained in
+            ap (resting at_rest) (after_run-reached bus lawful samples (cpu, next) all)
+            ∙ ap (λ (s : S). (cpu, s)) rest
+            ∙ ap (resting at_rest) (sym (after_run-reached bus lawful samples (cpu, drained) all_drained))
       ]
 
 pub records_before-append : (samples : ℕ) (xs ys : List Record) → records_before samples (xs ++ ys) ≡ records_before samples xs ++ records_before samples ys

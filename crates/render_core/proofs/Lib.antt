@@ -18,3 +18,9 @@ pub mod LaggingRun
 pub mod NextPiece
 -- RunAfterWait: a run goes on after rounds that were made at once.
 pub mod RunAfterWait
+-- CountedSteps: between two states of a bus its chip counts on.
+pub mod CountedSteps
+-- WholeRuns: what holds of every whole machine that is saved, loaded and run.
+pub mod WholeRuns
+-- AtLength: a render at its length.
+pub mod AtLength

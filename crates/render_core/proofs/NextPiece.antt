@@ -1,16 +1,19 @@
 -- The next piece of a render, from what a run of the machine with the lag book gives.
-use Rattle.std.proofs.Common.{◌≡◌, ℕ, ◌+◌, ◌*◌, ◌<◌, Bool, true, false, List, [], ◌++◌, length, refl, ap, sym, ◌∙◌, arith}
+use Rattle.std.proofs.Common.{◌≡◌, ℕ, ◌+◌, ◌*◌, ◌/◌, ◌^◌, ◌<◌, ◌≤◌, nat_le, Bool, true, false, List, [], ◌++◌, length, refl, ap, sym, ◌∙◌, arith}
 use Rattle.num_fix.specs.declared.Frame.{Frame}
 use Rattle.trace_form.specs.declared.record.Record.{Record}
 use Rattle.spc700_exec.specs.declared.cpu.Cpu.{Cpu}
 use Rattle.lock_step.specs.ChipMeaning.{ChipMeaning}
-use Rattle.lag_bus.specs.Lagging.{Lagging, lagging, after_settle}
+use Rattle.lock_step.specs.Emits.{IsCountedOn}
+use Rattle.lag_bus.specs.Lagging.{Lagging, lagging, after_settle, MatchesBook}
 use Rattle.lag_bus.specs.LagEmits.{lag_emits}
 use Rattle.render_core.specs.MachineRun.{Whole, after_run}
-use Rattle.render_core.specs.Items.{run_frames, run_records}
-use Rattle.render_core.specs.RunCounts.{run_counts}
+use Rattle.render_core.specs.Items.{run_frames, run_records, end_of_run}
 use Rattle.render_core.specs.RenderState.{IsNextPiece}
-use Rattle.render_core.proofs.LaggingRun.{run_frames-lagging, run_records-lagging, counts-settled}
+use Rattle.lag_bus.proofs.TotalOfCalls.{samples_of_count}
+use Rattle.spc700_exec.specs.Bus.{IsLawful}
+use Rattle.render_core.proofs.RunBySteps.{made-after_run}
+use Rattle.render_core.proofs.LaggingRun.{run_frames-lagging, run_records-lagging, end_of_run-lagging, counts-settled}
 
 -- where something is to come unless it is the last one, nothing is to come only after the last one
 last_from_none : (is_last : Bool) (frames : List Frame) → (is_last ≡ false → 0 < length frames) → frames ≡ [] → is_last ≡ true
@@ -27,17 +30,22 @@ module _ {S : Type 0} (chip : ChipMeaning S) (samples : ℕ) (cpu next_cpu : Cpu
   abbrev records_from : Cpu → Lagging S → List Record
   records_from cpu bus = run_records (lagging chip) (lag_emits chip) samples (cpu, bus)
 
+  abbrev end_from : Cpu → Lagging S → Whole (Lagging S)
+  end_from cpu bus = end_of_run (lagging chip) (lag_emits chip) samples (cpu, bus)
+
   pub is_next_piece : (frames : frames_from cpu bus ≡ given ++ frames_from next_cpu next) → (records : records_from cpu bus ≡ written ++ records_from next_cpu next)
-      → run_counts chip samples (cpu, bus) ≡ run_counts chip samples (next_cpu, next)
+      → end_from cpu bus ≡ end_from next_cpu next → IsCountedOn (lagging chip) (lag_emits chip) bus next → MatchesBook bus → MatchesBook next
       → (is_last ≡ true → after_run (lagging chip) samples (next_cpu, next) ≡ (next_cpu, next)) → (is_last ≡ true → next.book.pending ≡ 0)
       → (is_last ≡ true → frames_from next_cpu next ≡ []) → (is_last ≡ true → records_from next_cpu next ≡ [])
       → (is_last ≡ false → 0 < length given + length written) → (is_last ≡ false → 0 < length (frames_from next_cpu next))
-      → (is_last ≡ false → bus.machine.clock < next.machine.clock) → (is_last ≡ false → next.machine.clock < 32 * samples)
+      → (is_last ≡ false → bus.machine.clock < next.machine.clock) → (is_last ≡ false → next.machine.clock < 32 * samples) → is_last ≡ nat_le samples (next.machine.clock / 32)
       → IsNextPiece chip (record { cpu = cpu; bus = bus; samples = samples; frames = old_frames; records = old_records })
       (record { cpu = next_cpu; bus = next; samples = samples; frames = given; records = written }) given written is_last
-  is_next_piece frames records counts over settled frames_done records_done some more later below =
+  is_next_piece frames records ends counted matches next_matches over settled frames_done records_done some more later below at_length =
       let seen = run_frames-lagging chip samples next_cpu next in
       let seen_records = run_records-lagging chip samples next_cpu next in
+      let fits : bus.book.total < 2 ^ 64 = rw (← matches.total) matches.fits in
+      let made = samples_of_count (bus.machine.clock / 32) bus.book.pending bus.book.total (next.machine.clock / 32) next.book.pending next.book.total counted matches.pending fits in
       record {
         frames = run_frames-lagging chip samples cpu bus ∙ frames ∙ ap (λ (rest : List Frame). given ++ rest) (sym seen);
         records = run_records-lagging chip samples cpu bus ∙ records ∙ ap (λ (rest : List Record). written ++ rest) (sym seen_records);
@@ -48,7 +56,27 @@ module _ {S : Type 0} (chip : ChipMeaning S) (samples : ℕ) (cpu next_cpu : Cpu
         some = some;
         later = later;
         below = below;
-        counts = sym counts;
+        counts = sym (ap (λ (w : Whole (Lagging S)). w.1.book.counts) ends);
         counted = λ is. sym (ap (λ (w : Whole (Lagging S)). (after_settle chip w.1).book.counts) (over is) ∙ counts-settled chip next (settled is));
         samples = refl;
+        whole = end_of_run-lagging chip samples next_cpu next ∙ sym (ap (λ (w : Whole (Lagging S)). (w.0, w.1.machine)) ends) ∙ sym (end_of_run-lagging chip samples cpu bus);
+        at_length = at_length;
+        rises = rw (matches.sample, next_matches.sample) made.0;
+        total = rw (matches.sample, next_matches.sample, matches.total, next_matches.total) made.1;
       }
+
+-- no more samples are made than wanted
+module _ {S : Type 0} (chip : ChipMeaning S) (lawful : IsLawful (lagging chip)) (samples : ℕ) (cpu next_cpu : Cpu) (bus next : Lagging S) where
+  abbrev last : Cpu → Lagging S → Whole (Lagging S)
+  last cpu bus = end_of_run (lagging chip) (lag_emits chip) samples (cpu, bus)
+
+  pub made_at_most : (is_last : Bool) → bus.machine.clock / 32 ≤ samples → last cpu bus ≡ last next_cpu next
+      → (is_last ≡ true → after_run (lagging chip) samples (next_cpu, next) ≡ (next_cpu, next)) → (is_last ≡ false → next.machine.clock < 32 * samples)
+      → next.machine.clock / 32 ≤ samples
+  made_at_most false few ends over below = let less = below refl in omega arith
+  made_at_most true few ends over below =
+      let there : (last next_cpu next).1.machine.clock ≡ next.machine.clock = ap (λ (w : Whole (Lagging S)). w.1.machine.clock) (over refl) in
+      let same : (last cpu bus).1.machine.clock ≡ (last next_cpu next).1.machine.clock = ap (λ (w : Whole (Lagging S)). w.1.machine.clock) ends in
+      let made : (after_run (lagging chip) samples (cpu, bus)).1.machine.clock / 32 ≡ samples = made-after_run (lagging chip) lawful samples (cpu, bus) few in
+      let clock : (after_run (lagging chip) samples (cpu, bus)).1.machine.clock ≡ next.machine.clock = same ∙ there in
+      omega arith

@@ -5,10 +5,11 @@ use Rattle.spc700_exec.specs.Bus.{BusMeaning, IsLawful}
 use Rattle.spc700_exec.specs.Emitting.{IsEmitting}
 use Rattle.spc700_exec.specs.Instruction.{step_outcome}
 use Rattle.spc700_exec.proofs.Bounds.{clock-step_outcome-least}
-use Rattle.lock_step.specs.Emits.{Emits, AreCountedBeside}
+use Rattle.lock_step.specs.Emits.{Emits, IsBeside}
 use Rattle.render_core.specs.MachineRun.{Whole, after_step, after_run}
+use Rattle.render_core.specs.Items.{whole_at_rest, end_of_run}
 use Rattle.render_core.proofs.RunBySteps.{after_run-next}
-use Rattle.render_core.proofs.ItemsBeforeRun.{items-after_run-drained, counts-after_run-drained}
+use Rattle.render_core.proofs.ItemsBeforeRun.{items-after_run-drained, end-after_run-drained}
 use Rattle.idle_rounds.specs.Looking.{after_n_steps}
 use Rattle.lock_step.specs.WaitOfRounds.{IsWaitOf}
 
@@ -51,18 +52,18 @@ module _ {S : Type 0} (bus : BusMeaning S) (lawful : IsLawful bus) (samples : �
         let below = wait.below in
         after_run-steps wait.steps (cpu, old) (omega arith) ∙ ap (λ (c : Cpu). after_run bus samples (c, reached)) wait.registers
 
-    -- a run emits the same after the wait, and comes to the same counts
+    -- a run emits the same after the wait, and comes to the same end
     pub items-after_run-wait : {I : Type 0} (items : S → List I) → IsEmitting bus emits.cleared items → items reached ≡ items new
         → items (after_run bus samples (cpu, old)).1 ≡ items (after_run bus samples (cpu, new)).1
     items-after_run-wait items law same =
         ap (λ (w : Whole S). items w.1) (after_run-reached-wait items law)
         ∙ items-after_run-drained bus lawful emits.cleared items law samples cpu reached new [] same (sym wait.cleared)
 
-    pub counts-after_run-wait : {I : Type 0} (items : S → List I) → IsEmitting bus emits.cleared items → AreCountedBeside emits → items reached ≡ items new
-        → emits.counts (after_run bus samples (cpu, old)).1 ≡ emits.counts (after_run bus samples (cpu, new)).1
-    counts-after_run-wait items law beside same =
-        ap (λ (w : Whole S). emits.counts w.1) (after_run-reached-wait items law)
-        ∙ counts-after_run-drained bus lawful emits.cleared items law samples emits.counts beside cpu reached new [] same (sym wait.cleared)
+    pub end-after_run-wait : {I : Type 0} (items : S → List I) → IsEmitting bus emits.cleared items → IsBeside emits → items reached ≡ items new
+        → end_of_run bus emits samples (cpu, old) ≡ end_of_run bus emits samples (cpu, new)
+    end-after_run-wait items law beside same =
+        ap (whole_at_rest emits) (after_run-reached-wait items law)
+        ∙ end-after_run-drained bus lawful emits.cleared items law samples emits.at_rest beside.at_rest cpu reached new [] same (sym wait.cleared)
 
     pub clock-wait : {I : Type 0} (items : S → List I) → IsEmitting bus emits.cleared items → bus.clock old ≤ bus.clock new
     clock-wait items law =

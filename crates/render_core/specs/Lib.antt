@@ -9,6 +9,10 @@ pub mod Items
 pub mod RunCounts
 -- what contracts see of a render: what is still to come, and the next piece of it
 pub mod RenderState
+-- what is saved of a whole machine, and a render once that is loaded
+pub mod Saved
+-- whole machines that are saved, loaded and run
+pub mod Whole
 -- the fade at the end
 pub mod Fade
 -- laws of these

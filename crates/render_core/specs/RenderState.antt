@@ -1,14 +1,17 @@
 -- What contracts see of a render, and of it the items still to come.
-use Rattle.std.specs.Prelude.{◌≡◌, ℕ, ◌+◌, ◌*◌, ◌<◌, List, [], ◌++◌, length, Bool, true, false, ◌↔◌}
+use Rattle.std.specs.Prelude.{◌≡◌, ℕ, ◌+◌, ◌-◌, ◌*◌, ◌<◌, ◌≤◌, nat_le, List, [], ◌++◌, length, Bool, true, false, ◌↔◌}
 use Rattle.num_fix.specs.declared.Frame.{Frame}
 use Rattle.trace_form.specs.declared.record.Record.{Record}
 use Rattle.spc700_exec.specs.declared.cpu.Cpu.{Cpu}
 use Rattle.lock_step.specs.ChipMeaning.{ChipMeaning}
 use Rattle.lock_step.specs.declared.counts.Counts.{Counts}
 use Rattle.lag_bus.specs.Lagging.{Lagging}
-use Rattle.lock_step.specs.LockStep.{lock_step}
+use Rattle.lock_step.specs.Machine.{Machine}
+use Rattle.lock_step.specs.LockStep.{lock_step, samples_made}
 use Rattle.lock_step.specs.LockStepEmits.{lock_step_emits}
-use Rattle.render_core.specs.Items.{run_frames, run_records}
+use Rattle.dsp_form.specs.Samples.{count_after}
+use Rattle.render_core.specs.MachineRun.{Whole}
+use Rattle.render_core.specs.Items.{run_frames, run_records, end_of_run}
 use Rattle.render_core.specs.RunCounts.{run_counts}
 
 pub record RenderState (S : Type 0) : Type 0 where
@@ -32,6 +35,14 @@ records_to_come chip render = run_records (lock_step chip) lock_step_emits rende
 abbrev pub counts_to_come : {S : Type 0} → ChipMeaning S → RenderState S → Counts
 counts_to_come chip render = run_counts chip render.samples (render.cpu, render.bus)
 
+-- whether it is at its length
+abbrev pub is_at_length : {S : Type 0} → RenderState S → Bool
+is_at_length render = nat_le render.samples (samples_made render.bus.machine)
+
+-- the whole machine there: the one that the machine in lock step reaches from here
+abbrev pub whole_at_length : {S : Type 0} → ChipMeaning S → RenderState S → Whole (Machine S)
+whole_at_length chip render = end_of_run (lock_step chip) lock_step_emits render.samples (render.cpu, render.bus.machine)
+
 -- frames and records that are the next piece between two states of a render, and whether it is the last one
 pub record IsNextPiece {S : Type 0} (chip : ChipMeaning S) (old new : RenderState S) (given : List Frame) (written : List Record) (is_last : Bool) : Type 0 where
   -- the piece, followed by what is then still to come, is what was to come before it
@@ -48,3 +59,9 @@ pub record IsNextPiece {S : Type 0} (chip : ChipMeaning S) (old new : RenderStat
   pub counts : counts_to_come chip new ≡ counts_to_come chip old
   pub counted : is_last ≡ true → new.bus.book.counts ≡ counts_to_come chip new
   pub samples : new.samples ≡ old.samples
+  -- the machine at the length will be the same, and with the last piece it is there
+  pub whole : whole_at_length chip new ≡ whole_at_length chip old
+  pub at_length : is_last ≡ is_at_length new
+  -- the chip made as many samples as the number of its next one rose by
+  pub rises : old.bus.chip_sample ≤ new.bus.chip_sample
+  pub total : new.bus.chip_total ≡ count_after old.bus.chip_total (new.bus.chip_sample - old.bus.chip_sample)

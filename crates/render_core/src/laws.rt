@@ -2,6 +2,7 @@
 ghost use Rattle.render_core.specs.Laws.{GoesOnByAStep, EndsWhereMade, MakesItsSamples, EmitsAFrameASample};
 ghost use Rattle.render_core.specs.Laws.{DrainTakesFrames, DrainTakesRecords, IsEmptyAfterTheLast};
 ghost use Rattle.render_core.specs.Laws.{AreFadedAtTheirPlaces, AreAsManyFaded};
+ghost use Rattle.render_core.specs.Whole.{IsPlayedLawfully};
 
 use lock_step::{Chip, DrainedBus};
 use spc700_exec::Bus;
@@ -27,6 +28,11 @@ pub fn a_drain_takes_what_it_hands_over<B: DrainedBus>(_bus: &B)
 /// Where nothing is to come the next piece is empty, and it is a last one again.
 pub fn pieces_after_the_last_are_empty<C: Chip>(_chip: &C)
     ensures { IsEmptyAfterTheLast C.meaning }
+{}
+
+/// A whole machine that is saved, loaded and run: loads bring back what was saved, and runs go on where others ended.
+pub fn a_whole_machine_is_played_lawfully<C: Chip>(_chip: &C)
+    ensures { IsPlayedLawfully C.meaning C.saving }
 {}
 
 /// Each entry of faded frames is that frame, faded at its place; there are as many as before.

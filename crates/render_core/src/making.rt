@@ -1,9 +1,10 @@
 // One piece, over any bus that emits.
-ghost use Rattle.std.specs.Prelude.{◌≡◌, ◌+◌, ◌*◌, ◌++◌, ◌<◌, ◌≤◌, [], length, true, false};
+ghost use Rattle.std.specs.Prelude.{nat_le, ◌≡◌, ◌+◌, ◌*◌, ◌++◌, ◌<◌, ◌≤◌, [], length, true, false};
 ghost use Rattle.render_core.specs.BetweenSteps.{IsBetweenSteps};
 ghost use Rattle.num_fix.specs.Limits.{most_frames};
 ghost use Rattle.render_core.specs.MachineRun.{after_run};
-ghost use Rattle.render_core.specs.Items.{run_frames, run_records, records_before};
+ghost use Rattle.render_core.specs.Items.{run_frames, run_records, records_before, end_of_run};
+ghost use Rattle.lock_step.specs.Emits.{IsCountedOn};
 
 use lock_step::{DrainedBus, sample_number};
 use spc700_exec::{Cpu, step};
@@ -30,7 +31,8 @@ fn settle_at_end<B: DrainedBus>(bus: &mut B, samples: u32)
     ensures still { B.means.made bus.old < samples → bus.new ≡ bus.old }
     ensures clock { B.means.clock bus.new ≡ B.means.clock bus.old }
     ensures calls { B.means.calls bus.new ≡ B.means.calls bus.old }
-    ensures counts { B.emits.counts bus.new ≡ B.emits.counts bus.old }
+    ensures at_rest { B.emits.at_rest bus.new ≡ B.emits.at_rest bus.old }
+    ensures counted { IsCountedOn B.means B.emits bus.old bus.new }
     ensures pending { samples ≤ B.means.made bus.old → B.emits.pending bus.new ≡ 0 }
 {
     if bus.made() >= samples {
@@ -53,6 +55,7 @@ fn step_on<B: DrainedBus>(cpu: &mut Cpu, bus: &mut B, samples: u32)
     requires more { B.means.made bus.old < samples }
     requires few { samples ≤ most_frames }
     ensures run { after_run B.means samples (cpu.old, bus.old) ≡ after_run B.means samples (cpu.new, bus.new) }
+    ensures counted { IsCountedOn B.means B.emits bus.old bus.new }
     ensures later { B.means.clock bus.old < B.means.clock bus.new }
 {
     step(cpu, bus);
@@ -64,7 +67,8 @@ fn make_rounds<B: DrainedBus>(cpu: &Cpu, bus: &mut B, samples: u32)
     requires few { samples ≤ most_frames }
     ensures frames { B.emits.frames (after_run B.means samples (cpu.now, bus.old)).1 ≡ B.emits.frames (after_run B.means samples (cpu.now, bus.new)).1 }
     ensures records { B.emits.records (after_run B.means samples (cpu.now, bus.old)).1 ≡ B.emits.records (after_run B.means samples (cpu.now, bus.new)).1 }
-    ensures counts { B.emits.counts (after_run B.means samples (cpu.now, bus.old)).1 ≡ B.emits.counts (after_run B.means samples (cpu.now, bus.new)).1 }
+    ensures at_end { end_of_run B.means B.emits samples (cpu.now, bus.old) ≡ end_of_run B.means B.emits samples (cpu.now, bus.new) }
+    ensures counted { IsCountedOn B.means B.emits bus.old bus.new }
     ensures later { B.means.clock bus.old ≤ B.means.clock bus.new }
     ensures more { B.means.made bus.new < samples }
     ensures calls { B.means.calls bus.new ≡ B.means.calls bus.old }
@@ -110,7 +114,8 @@ fn make_rounds_if_due<B: DrainedBus>(cpu: &Cpu, bus: &mut B, samples: u32, pause
     requires few { samples ≤ most_frames }
     ensures frames { B.emits.frames (after_run B.means samples (cpu.now, bus.old)).1 ≡ B.emits.frames (after_run B.means samples (cpu.now, bus.new)).1 }
     ensures records { B.emits.records (after_run B.means samples (cpu.now, bus.old)).1 ≡ B.emits.records (after_run B.means samples (cpu.now, bus.new)).1 }
-    ensures counts { B.emits.counts (after_run B.means samples (cpu.now, bus.old)).1 ≡ B.emits.counts (after_run B.means samples (cpu.now, bus.new)).1 }
+    ensures at_end { end_of_run B.means B.emits samples (cpu.now, bus.old) ≡ end_of_run B.means B.emits samples (cpu.now, bus.new) }
+    ensures counted { IsCountedOn B.means B.emits bus.old bus.new }
     ensures later { B.means.clock bus.old ≤ B.means.clock bus.new }
     ensures more { B.means.made bus.new < samples }
     ensures calls { B.means.calls bus.new ≡ B.means.calls bus.old }
@@ -129,7 +134,8 @@ fn take_steps<B: DrainedBus>(cpu: &mut Cpu, bus: &mut B, samples: u32, pause: &m
     requires few { samples ≤ most_frames }
     ensures frames { B.emits.frames (after_run B.means samples (cpu.old, bus.old)).1 ≡ B.emits.frames (after_run B.means samples (cpu.new, bus.new)).1 }
     ensures records { B.emits.records (after_run B.means samples (cpu.old, bus.old)).1 ≡ B.emits.records (after_run B.means samples (cpu.new, bus.new)).1 }
-    ensures counts { B.emits.counts (after_run B.means samples (cpu.old, bus.old)).1 ≡ B.emits.counts (after_run B.means samples (cpu.new, bus.new)).1 }
+    ensures at_end { end_of_run B.means B.emits samples (cpu.old, bus.old) ≡ end_of_run B.means B.emits samples (cpu.new, bus.new) }
+    ensures counted { IsCountedOn B.means B.emits bus.old bus.new }
     ensures later { B.means.clock bus.old < B.means.clock bus.new }
 {
     make_rounds_if_due(cpu, bus, samples, pause);
@@ -148,7 +154,8 @@ fn step_and_drain<B: DrainedBus>(cpu: &mut Cpu, bus: &mut B, samples: u32, lists
     requires few { samples ≤ most_frames }
     ensures frames { run_frames B.means B.emits samples (cpu.old, bus.old) ≡ lists.new.frames ++ run_frames B.means B.emits samples (cpu.new, bus.new) }
     ensures records { run_records B.means B.emits samples (cpu.old, bus.old) ≡ lists.new.records ++ run_records B.means B.emits samples (cpu.new, bus.new) }
-    ensures counts { B.emits.counts (after_run B.means samples (cpu.old, bus.old)).1 ≡ B.emits.counts (after_run B.means samples (cpu.new, bus.new)).1 }
+    ensures at_end { end_of_run B.means B.emits samples (cpu.old, bus.old) ≡ end_of_run B.means B.emits samples (cpu.new, bus.new) }
+    ensures counted { IsCountedOn B.means B.emits bus.old bus.new }
     ensures idle { IsBetweenSteps B.means B.emits samples bus.new }
     ensures later { B.means.clock bus.old < B.means.clock bus.new }
 {
@@ -171,7 +178,8 @@ pub(crate) fn make_piece<B: DrainedBus>(
     ensures frames { run_frames B.means B.emits samples (cpu.old, bus.old) ≡ lists.new.frames ++ run_frames B.means B.emits samples (cpu.new, bus.new) }
     ensures records { run_records B.means B.emits samples (cpu.old, bus.old) ≡ lists.new.records ++ run_records B.means B.emits samples (cpu.new, bus.new) }
     ensures idle { IsBetweenSteps B.means B.emits samples bus.new }
-    ensures counts { B.emits.counts (after_run B.means samples (cpu.old, bus.old)).1 ≡ B.emits.counts (after_run B.means samples (cpu.new, bus.new)).1 }
+    ensures at_end { end_of_run B.means B.emits samples (cpu.old, bus.old) ≡ end_of_run B.means B.emits samples (cpu.new, bus.new) }
+    ensures counted { IsCountedOn B.means B.emits bus.old bus.new }
     ensures over { result ≡ true → after_run B.means samples (cpu.new, bus.new) ≡ (cpu.new, bus.new) }
     ensures settled { result ≡ true → B.emits.pending bus.new ≡ 0 }
     ensures frames_done { result ≡ true → run_frames B.means B.emits samples (cpu.new, bus.new) ≡ [] }
@@ -180,6 +188,7 @@ pub(crate) fn make_piece<B: DrainedBus>(
     ensures more { result ≡ false → 0 < length (run_frames B.means B.emits samples (cpu.new, bus.new)) }
     ensures later { result ≡ false → B.means.clock bus.old < B.means.clock bus.new }
     ensures below { result ≡ false → B.means.clock bus.new < 32 * samples }
+    ensures at_length { result ≡ nat_le samples (B.means.made bus.new) }
 {
     lists.frames.clear();
     lists.records.clear();

@@ -1,22 +1,25 @@
 // A render, piece by piece.
-ghost use Rattle.std.specs.Prelude.{◌≡◌, ◌+◌, ◌-◌, ◌/◌, ◌<◌, ◌≤◌, [], length, false, IfOk};
+ghost use Rattle.std.specs.Prelude.{◌≡◌, ◌+◌, ◌-◌, ◌/◌, ◌<◌, ◌≤◌, [], length, true, false, IfOk};
 ghost use Rattle.std.specs.Borrow.{sem};
 ghost use Rattle.std.specs.Io.BufRead.{Rests};
 ghost use Rattle.trace_form.specs.Rooms.{frame_room, record_room};
 ghost use Rattle.num_fix.specs.Limits.{most_frames};
 ghost use Rattle.lock_step.specs.LockStep.{lock_step};
 ghost use Rattle.lock_step.specs.LockStepEmits.{lock_step_emits};
-ghost use Rattle.render_core.specs.Items.{run_frames, run_records};
+ghost use Rattle.render_core.specs.Items.{run_frames, run_records, end_of_run};
 ghost use Rattle.render_core.specs.RunCounts.{with_opened_book, run_counts};
 ghost use Rattle.render_core.specs.Opening.{opened_whole, opened_cpu};
-ghost use Rattle.render_core.specs.RenderState.{frames_to_come, records_to_come, counts_to_come, IsNextPiece};
+ghost use Rattle.render_core.specs.RenderState.{frames_to_come, records_to_come, counts_to_come, is_at_length, whole_at_length, IsNextPiece};
+ghost use Rattle.render_core.specs.Saved.{saved_whole, CanBePlayed, loaded_render};
 ghost use Rattle.render_core.specs.contracts.render.Render.{the_row};
 
 use crate::OutOfMemory;
 use crate::making::{Lists, TrialPause, make_piece};
 use crate::piece::Piece;
+use crate::saved::PlayState;
+use aram_core::Aram;
 use lag_bus::LagBus;
-use lock_step::{Chip, Counts};
+use lock_step::{Chip, Counts, DrainedBus};
 use spc_form::{SpcFile, opening};
 use spc700_exec::Cpu;
 use std::alloc::Global;
@@ -35,6 +38,7 @@ pub struct Render<C: Chip> {
 impl<C: Chip> Model for Render<C> {
     ghost use Rattle.std.specs.Prelude.{◌≤◌};
     ghost use Rattle.num_fix.specs.Limits.{most_frames};
+    ghost use Rattle.lock_step.specs.LockStep.{samples_made};
     ghost use Rattle.lag_bus.specs.Lagging.{lagging};
     ghost use Rattle.lag_bus.specs.LagEmits.{lag_emits};
     ghost use Rattle.render_core.specs.BetweenSteps.{IsBetweenSteps};
@@ -54,7 +58,9 @@ impl<C: Chip> Model for Render<C> {
       records = r.lists.records;
     } };
 
-    ghost invariant = { λ r. (r.samples ≤ most_frames) × IsBetweenSteps (lagging C.meaning) (lag_emits C.meaning) r.samples r.bus };
+    ghost invariant = { λ r. (r.samples ≤ most_frames)
+        × IsBetweenSteps (lagging C.meaning) (lag_emits C.meaning) r.samples r.bus
+        × (samples_made r.bus.machine ≤ r.samples) };
 }
 
 /// The registers of a file.
@@ -102,15 +108,18 @@ impl<C: Chip> Render<C> {
         requires few { samples ≤ most_frames }
         requires sample { C.sample chip ≡ 0 }
         requires batches { C.batches chip ≡ 0 }
-        ensures whole { IfOk result (λ render. (render.cpu, render.bus) ≡ with_opened_book C.meaning (opened_whole file.now (C.state chip) mask)) }
+        ensures whole { let whole = opened_whole file.now (C.state chip) mask in
+            IfOk result (λ render. (render.cpu, render.bus) ≡ with_opened_book C.meaning whole (C.total chip)) }
         ensures samples { IfOk result (λ render. render.samples ≡ samples) }
         ensures frames { let whole = opened_whole file.now (C.state chip) mask in
             IfOk result (λ render. frames_to_come C.meaning render ≡ run_frames (lock_step C.meaning) lock_step_emits samples whole) }
         ensures records { let whole = opened_whole file.now (C.state chip) mask in
             IfOk result (λ render. records_to_come C.meaning render ≡ run_records (lock_step C.meaning) lock_step_emits samples whole) }
-        ensures counts { let whole = with_opened_book C.meaning (opened_whole file.now (C.state chip) mask) in
+        ensures counts { let whole = with_opened_book C.meaning (opened_whole file.now (C.state chip) mask) (C.total chip) in
             IfOk result (λ render. counts_to_come C.meaning render ≡ run_counts C.meaning samples whole) }
         ensures count { IfOk result (λ render. length (frames_to_come C.meaning render) ≡ samples) }
+        ensures at_length { let whole = opened_whole file.now (C.state chip) mask in
+            IfOk result (λ render. whole_at_length C.meaning render ≡ end_of_run (lock_step C.meaning) lock_step_emits samples whole) }
     {
         let state = opening(alloc, file)?;
         let bus = LagBus::open(alloc, state, chip, mask)?;
@@ -134,14 +143,18 @@ impl<C: Chip> Render<C> {
     fn make_next(&mut self) -> bool
         ensures { IsNextPiece C.meaning self.old self.new self.new.frames self.new.records result }
     {
-        make_piece(&mut self.cpu, &mut self.bus, self.samples, &mut self.lists)
+        // The bus tells of its chip, before the piece and after it.
+        let _before = self.bus.total();
+        let is_last = make_piece(&mut self.cpu, &mut self.bus, self.samples, &mut self.lists);
+        let _after = self.bus.total();
+        is_last
     }
 
     /// Makes the next piece: steps until a frame or a record was emitted, or all samples are made. It looks only after as many
     /// steps as a drained bus has room for, so that a piece can have more than was emitted first. The pieces in order are the
     /// whole render, each with at most 128 frames and 1,344 records. After the last one each piece is empty and is a last one.
     pub fn next_piece(&mut self) -> Piece<'_>
-        ensures* next { sem 𝓛 (Rests (the_row C.row C.State.row C.Chip) self.entry
+        ensures* next { sem 𝓛 (Rests (the_row C.row C.State.row C.Saved.row C.Chip) self.entry
             (λ new. IsNextPiece C.meaning self.old new result.frames.now result.records.now result.done)) }
         ensures some { result.done ≡ false → 0 < length result.frames.now + length result.records.now }
         ensures few_frames { length result.frames.now ≤ frame_room }
@@ -151,10 +164,78 @@ impl<C: Chip> Render<C> {
         piece_of(self, done)
     }
 
-    /// The chip in hand. It made the batches that are counted, and all samples but those pending.
+    /// Whether the render is at its length: all its frames were given, and no sample is pending. The chip's next sample is then
+    /// the first one after it.
+    pub fn is_done(&self) -> bool
+        ensures done { result ≡ is_at_length self.now }
+        ensures given { result ≡ true → frames_to_come C.meaning self.now ≡ [] }
+        ensures settled { result ≡ true → self.now.bus.book.pending ≡ 0 }
+        ensures sample { result ≡ true → self.now.bus.chip_sample ≡ self.now.samples }
+        ensures whole { result ≡ true → (self.now.cpu, self.now.bus.machine) ≡ whole_at_length C.meaning self.now }
+    {
+        // The bus tells of its chip.
+        let _total = self.bus.total();
+        self.bus.made() >= self.samples
+    }
+
+    /// Saves the machine but for its memory.
+    pub fn save(&self) -> PlayState<C::Saved>
+        requires { is_at_length self.now ≡ true }
+        ensures saved { result ≡ saved_whole C.saving (self.now.cpu, self.now.bus.machine) }
+        ensures can_be_played { CanBePlayed C.saving result }
+    {
+        PlayState {
+            cpu: self.cpu,
+            bus: self.bus.save(),
+        }
+    }
+
+    /// The memory of the machine.
+    pub fn memory(&self) -> &Aram
+        requires { is_at_length self.now ≡ true }
+        ensures { result.now ≡ self.now.bus.machine.memory }
+    {
+        self.bus.memory()
+    }
+
+    /// Loads what was saved, of this render or of another one, over a memory: the length is where it was saved, and no frame is
+    /// to come. The mask stays, the fixed part of the chip, and all that was counted.
+    pub fn load(&mut self, saved: &PlayState<C::Saved>, memory: &Aram)
+        requires done { is_at_length self.old ≡ true }
+        requires saved { CanBePlayed C.saving saved.now }
+        ensures loaded { self.new ≡ loaded_render C.meaning C.saving self.old saved.now memory.now }
+        ensures done { is_at_length self.new ≡ true }
+        ensures given { frames_to_come C.meaning self.new ≡ [] }
+        ensures total { self.new.bus.chip_total ≡ self.old.bus.chip_total }
+    {
+        self.bus.load(&saved.bus, memory);
+        self.cpu = saved.cpu;
+        self.samples = self.bus.made();
+        self.lists.pause = TrialPause::none();
+    }
+
+    /// Sends the render on to a greater length: the frames to come are then those of its machine's run until there.
+    pub fn aim(&mut self, samples: u32)
+        requires done { is_at_length self.old ≡ true }
+        requires later { self.old.samples ≤ samples }
+        requires few { samples ≤ most_frames }
+        ensures { self.new ≡ record self.old { samples = samples } }
+    {
+        self.samples = samples;
+    }
+
+    /// The samples that the chip in hand made in all, those before a load too. It stays at its type's end.
+    pub fn total(&self) -> u64
+        ensures { result ≡ self.now.bus.chip_total }
+    {
+        self.bus.total()
+    }
+
+    /// The chip in hand. It made the batches and samples that are counted, and its next sample is the first one pending.
     pub fn chip(&self) -> &C
         ensures batches { C.batches result.now ≡ self.now.bus.chip_batches }
         ensures sample { C.sample result.now ≡ self.now.bus.chip_sample }
+        ensures total { C.total result.now ≡ self.now.bus.chip_total }
         ensures counted { C.batches result.now ≡ self.now.bus.book.counts.batches }
         ensures made { C.sample result.now ≡ self.now.bus.machine.clock / 32 - self.now.bus.book.pending }
     {

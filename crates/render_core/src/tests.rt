@@ -2,6 +2,7 @@
 ghost use Rattle.std.specs.Prelude.{◌≤◌};
 
 use crate::{Render, faded};
+use aram_core::Aram;
 use dsp_core::Dsp;
 use gauss_table::GaussTable;
 use num_fix::Frame;
@@ -77,6 +78,22 @@ struct Given {
     made: u32,
 }
 
+/// Gives all that is to come of a render.
+fn give_all(
+    render: &mut Render<Dsp>,
+    frames: &mut Vec<Frame>,
+    records: &mut Vec<Record>,
+) -> Result<(), Fail> {
+    'pieces: loop {
+        let piece = render.next_piece();
+        frames.extend_from_slice(piece.frames)?;
+        records.extend_from_slice(piece.records)?;
+        if piece.done {
+            return Ok(());
+        }
+    }
+}
+
 /// Renders so many samples of a file, with the records of voice 0.
 fn rendered(alloc: Global, file: &SpcFile, samples: u32) -> Result<Given, Fail>
     requires { samples ≤ 115200000 }
@@ -85,14 +102,7 @@ fn rendered(alloc: Global, file: &SpcFile, samples: u32) -> Result<Given, Fail>
     let mut render = Render::open(alloc, file, chip, samples, 0x01)?;
     let mut frames = Vec::new(alloc);
     let mut records = Vec::new(alloc);
-    'pieces: loop {
-        let piece = render.next_piece();
-        frames.extend_from_slice(piece.frames)?;
-        records.extend_from_slice(piece.records)?;
-        if piece.done {
-            break;
-        }
-    }
+    give_all(&mut render, &mut frames, &mut records)?;
     let batches = render.counts().batches;
     let made = render.chip().sample();
     Ok(Given {
@@ -182,6 +192,59 @@ fn records_after_the_last_frame_are_dropped(rt: HostRuntime) -> Result<(), Fail>
         let ports = all.records.iter().filter(|item| **item == port).count();
         assert_eq!(rt; ports, written, "{samples}");
     }
+    Ok(())
+}
+
+/// Sends a render that is done on to a length, and gives the frames until there.
+fn frames_until(alloc: Global, render: &mut Render<Dsp>, samples: u32) -> Result<Vec<Frame>, Fail>
+    requires { samples ≤ 115200000 }
+{
+    if render.is_done() && render.chip().sample() <= samples {
+        render.aim(samples);
+    }
+    let mut frames = Vec::new(alloc);
+    let mut records = Vec::new(alloc);
+    give_all(render, &mut frames, &mut records)?;
+    Ok(frames)
+}
+
+/// A render goes from sample 3 to 8, back to 3 and to 8 again. Its chip makes 13 samples in all.
+#[test]
+fn a_render_is_saved_loaded_and_sent_on(rt: HostRuntime) -> Result<(), Fail> {
+    let alloc = rt.alloc();
+    let playing = file(alloc, &SOUND, &[])?;
+    let chip = Dsp::open(alloc, playing.dsp(), GaussTable::straight(alloc)?)?;
+    let mut render = Render::open(alloc, &playing, chip, 3, 0)?;
+    assert_eq!(rt;
+        frames_until(alloc, &mut render, 3)?.as_slice(),
+        [SILENT; 3].as_slice()
+    );
+    if !render.is_done() {
+        panic!(rt; "not at sample 3");
+    }
+    let image = vec![in alloc; 0u8; 0x10000]?;
+    let mut memory = Aram::from_image(alloc, &image)?;
+    memory.copy_from(render.memory());
+    let third = render.save();
+    let rest = [SILENT, SILENT, SILENT, LOUD, LOUD];
+    assert_eq!(rt;
+        frames_until(alloc, &mut render, 8)?.as_slice(),
+        rest.as_slice()
+    );
+    if !render.is_done() {
+        panic!(rt; "not at sample 8");
+    }
+    assert_eq!(rt; render.total(), 8);
+    render.load(&third, &memory);
+    assert_eq!(rt;
+        (render.is_done(), render.chip().sample(), render.total()),
+        (true, 3, 8)
+    );
+    assert_eq!(rt;
+        frames_until(alloc, &mut render, 8)?.as_slice(),
+        rest.as_slice()
+    );
+    assert_eq!(rt; (render.chip().sample(), render.total()), (8, 13));
     Ok(())
 }
 

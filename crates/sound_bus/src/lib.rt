@@ -5,6 +5,6 @@ mod plain;
 #[cfg(test)]
 mod tests;
 
-pub use lag_bus::{LagBus, OutOfMemory};
+pub use lag_bus::{BusState, LagBus, OutOfMemory};
 pub use lock_step::{Chip, Counts, DrainedBus};
 pub use plain::PlainBus;

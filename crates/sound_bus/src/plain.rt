@@ -8,7 +8,7 @@ ghost use Rattle.dsp_form.specs.Limits.{most_samples_of_chip};
 ghost use Rattle.lock_step.specs.Machine.{opened_machine};
 ghost use Rattle.lock_step.specs.LockStep.{bus_answer, after_bus_read, after_bus_write, after_bus_pass, lock_step};
 ghost use Rattle.lock_step.specs.LockStepEmits.{drained_machine, lock_step_emits, lock_step_counts};
-ghost use Rattle.lock_step.specs.LockStepLaws.{emits_frames, emits_records, frame_each};
+ghost use Rattle.lock_step.specs.LockStepLaws.{emits_frames, emits_records, frame_each, counting, beside};
 
 use crate::OutOfMemory;
 use aram_core::Aram;
@@ -232,5 +232,7 @@ impl<C: Chip> DrainedBus for PlainBus<C> {
 
     ghost frame_each = { frame_each C.meaning };
 
-    ghost counted_beside = { λ _. refl };
+    ghost counting = { counting C.meaning };
+
+    ghost beside = { beside C.meaning };
 }

@@ -3,7 +3,7 @@ use Rattle.std.specs.Prelude.{ℕ, ℤ, List}
 use Rattle.num_fix.specs.declared.Frame.{Frame}
 use Rattle.trace_form.specs.declared.record.Record.{Record}
 use Rattle.spc_form.specs.Layout.{dsp_of}
-use Rattle.dsp_form.specs.declared.state.DspState.{DspState}
+use Rattle.dsp_form.specs.declared.state.ChipState.{ChipState}
 use Rattle.dsp_form.specs.Outside.{opened_state}
 use Rattle.lock_step.specs.declared.counts.Counts.{Counts}
 use Rattle.lock_step.specs.DspChip.{dsp_chip}
@@ -16,7 +16,7 @@ use Rattle.render_core.specs.Items.{run_frames, run_records}
 use Rattle.render_core.specs.RunCounts.{with_opened_book, run_counts}
 
 -- the whole machine that the file opens; bit v of the mask lets it emit the records of voice v
-abbrev pub opened_tune : (file : List ℕ) → (table : List ℤ) → (mask : ℕ) → Whole (Machine DspState)
+abbrev pub opened_tune : (file : List ℕ) → (table : List ℤ) → (mask : ℕ) → Whole (Machine ChipState)
 opened_tune file table mask = opened_whole file (opened_state (dsp_of file) table) mask
 
 -- the frames of its run to so many samples
@@ -29,4 +29,4 @@ tune_records file table mask samples = run_records (lock_step dsp_chip) lock_ste
 
 -- and how often the chip ran for them, and why
 abbrev pub tune_counts : (file : List ℕ) → (table : List ℤ) → (mask samples : ℕ) → Counts
-tune_counts file table mask samples = run_counts dsp_chip samples (with_opened_book dsp_chip (opened_tune file table mask))
+tune_counts file table mask samples = run_counts dsp_chip samples (with_opened_book dsp_chip (opened_tune file table mask) 0)

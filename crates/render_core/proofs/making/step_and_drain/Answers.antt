@@ -1,7 +1,9 @@
 use Rattle.std.proofs.Common.{◌∙◌, ◌++◌, List, ap, sym}
 use Rattle.trace_form.specs.declared.record.Record.{Record}
 use Rattle.render_core.specs.Items.{run_records, records_before}
-use Rattle.render_core.proofs.ItemsBeforeRun.{items-after_run-settled, counts-after_run-settled, records_before-append}
+use Rattle.render_core.proofs.ItemsBeforeRun.{items-after_run-settled, end-after_run-settled, records_before-append}
+use Rattle.lock_step.proofs.ChipCounts.{counts_on_then}
+use Rattle.render_core.proofs.CountedSteps.{counted-drained}
 use Rattle.render_core.proofs.making.step_and_drain.Goals as goal
 
 pub returns-clause-frames : goal.returns-clause-frames
@@ -22,10 +24,17 @@ returns-clause-records g c =
     ∙ records_before-append n c.drain.new.records _
     ∙ ap (λ (early : List Record). early ++ run_records g.B.Bus.means g.B.DrainedBus.emits n (c.take_steps.new.cpu, c.drain.new.self)) (sym c.keep_records_before.ensures)
 
-pub returns-clause-counts : goal.returns-clause-counts
-returns-clause-counts g c =
-    c.take_steps.ensures.counts
-    ∙ counts-after_run-settled g.B.Bus.means g.met.B.Bus.lawful g.B.DrainedBus.emits.cleared g.B.DrainedBus.emits.frames g.met.B.DrainedBus.emits_frames c.args.samples
+pub returns-clause-at_end : goal.returns-clause-at_end
+returns-clause-at_end g c =
+    c.take_steps.ensures.at_end
+    ∙ end-after_run-settled g.B.Bus.means g.met.B.Bus.lawful g.B.DrainedBus.emits.cleared g.B.DrainedBus.emits.frames g.met.B.DrainedBus.emits_frames c.args.samples
     c.take_steps.new.cpu c.take_steps.new.bus c.settle_at_end.new.bus c.drain.new.self c.drain.new.frames
     c.settle_at_end.ensures.frames c.settle_at_end.ensures.clock c.settle_at_end.ensures.still c.drain.ensures.frames c.drain.ensures.rest
-    g.B.DrainedBus.emits.counts g.met.B.DrainedBus.counted_beside c.settle_at_end.ensures.counts
+    g.B.DrainedBus.emits.at_rest g.met.B.DrainedBus.beside.at_rest c.settle_at_end.ensures.at_rest
+
+pub returns-clause-counted : goal.returns-clause-counted
+returns-clause-counted g c =
+    counts_on_then c.take_steps.ensures.counted
+    (counts_on_then c.settle_at_end.ensures.counted
+    (counted-drained g.B.Bus.means g.B.DrainedBus.emits g.met.B.DrainedBus.counting g.met.B.Bus.lawful g.B.DrainedBus.emits.frames g.met.B.DrainedBus.emits_frames g.met.B.DrainedBus.beside
+    c.settle_at_end.new.bus c.drain.new.self c.drain.ensures.rest))

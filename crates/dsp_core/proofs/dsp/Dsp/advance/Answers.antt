@@ -11,6 +11,7 @@ samples-init c = record {
   sample = omega arith;
   settings = search rules;
   batches = refl;
+  total = refl;
   memory = rw samples_none refl;
   frames = rw samples_none (sym (append-nil c.args.frames.now));
   records = rw samples_none (sym (append-nil c.args.records.now));
@@ -24,6 +25,7 @@ samples-preserved c = record {
   sample = rw (c.make_one.ensures.chip) (omega (arith, c.samples.invariant.sample));
   settings = rw (c.make_one.ensures.chip, settings_of-sample) c.samples.invariant.settings;
   batches = rw (c.make_one.ensures.chip) c.samples.invariant.batches;
+  total = rw (c.make_one.ensures.chip) c.samples.invariant.total;
   memory = rw (samples_more, c.make_one.ensures.memory, c.samples.invariant.state, c.samples.invariant.memory, c.samples.invariant.sample) refl;
   frames = rw (samples_more, c.make_one.ensures.frames, c.samples.invariant.state, c.samples.invariant.memory, c.samples.invariant.sample, c.samples.invariant.frames, append_assoc) refl;
   records = rw (samples_more, filter-append, c.make_one.ensures.records, c.samples.invariant.state, c.samples.invariant.memory, c.samples.invariant.sample, c.samples.invariant.records, append_assoc) refl;
@@ -32,7 +34,7 @@ samples-preserved c = record {
 }
 
 pub returns-then-n-eq0-clause-state : goal.returns-then-n-eq0-clause-state
-returns-then-n-eq0-clause-state c = rw (c.if-n-eq0.true, samples_none) refl
+returns-then-n-eq0-clause-state c = rw (c.if-n-eq0.true, samples_none, ← c.self.view_is) refl
 
 pub returns-then-n-eq0-clause-memory : goal.returns-then-n-eq0-clause-memory
 returns-then-n-eq0-clause-memory c = rw (c.if-n-eq0.true, samples_none) refl

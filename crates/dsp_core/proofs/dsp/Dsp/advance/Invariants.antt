@@ -13,6 +13,7 @@ invariant-samples l =
       sample : l.self.sample ≡ l.initial.self.sample + l.counter;
       settings : l.settings ≡ settings_of l.self.state.registers;
       batches : l.self.batches ≡ l.initial.self.batches;
+      total : l.self.total ≡ l.initial.self.total;
       memory : l.memory ≡ done.memory;
       frames : l.frames ≡ l.initial.frames ++ done.frames;
       records : l.records ≡ l.initial.records ++ filter (in_mask l.mask) done.records;

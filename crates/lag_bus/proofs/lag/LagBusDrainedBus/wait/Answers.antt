@@ -42,6 +42,7 @@ returns g c =
     let kept : IsKept chip (lagging_of late io clock counts calls) = record {
       batches = c.self.invariant.same_batches;
       sample = ap (λ (n : ℕ). n - late.pending) made;
+      total = refl;
       writes = λ due at few free. subst (λ (n : ℕ). byte_at (samples chip.sample due n late.chip late.memory).memory at ≡ byte_at late.memory at) made (c.ensure_reach.ensures.writes due at few free);
     } in
     let small : AreTimers io = c.cycles_to_wait.ensures.timers in

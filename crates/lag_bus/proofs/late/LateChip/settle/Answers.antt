@@ -10,14 +10,14 @@ merge_into-requires g c =
 pub invariant_of-self : goal.invariant_of-self
 invariant_of-self g c = (
   rw (c.make_batch.ensures.state, c.make_batch.ensures.sample, c.make_batch.ensures.memory, c.make_batch.ensures.frames, c.merge_into.ensures.ring, c.merge_into.ensures.records, c.make_batch.ensures.voice_records)
-      (held_settled g.met.C.Chip.lawful c.self.invariant.0 _),
+      (held_settled g.met.C.Chip.lawful c.self.invariant.0 _ _),
   rw c.forget.ensures tt,
 )
 
 pub returns-clause-made : goal.returns-clause-made
 returns-clause-made g c =
-    rw (c.make_batch.ensures.state, c.make_batch.ensures.sample, c.make_batch.ensures.batches, c.make_batch.ensures.memory, c.make_batch.ensures.frames, c.merge_into.ensures.ring, c.merge_into.ensures.records, c.make_batch.ensures.voice_records, ← c.self.view_is)
-    (late_settled g.met.C.Chip.lawful c.self.invariant.0 _)
+    rw (c.make_batch.ensures.state, c.make_batch.ensures.sample, c.make_batch.ensures.batches, c.make_batch.ensures.total, c.make_batch.ensures.memory, c.make_batch.ensures.frames, c.merge_into.ensures.ring, c.merge_into.ensures.records, c.make_batch.ensures.voice_records, ← c.self.view_is)
+    (late_settled g.met.C.Chip.lawful c.self.invariant.0 _ _)
 
 pub returns-clause-room : goal.returns-clause-room
 returns-clause-room g c = rw (← c.self.view_is) (records_within g.met.C.Chip.lawful c.self.invariant.0)

@@ -1,8 +1,18 @@
-use Rattle.render_core.proofs.NextPiece.{is_next_piece}
+use Rattle.render_core.proofs.NextPiece.{is_next_piece, made_at_most}
+use Rattle.render_core.proofs.LaggingRun.{lagging-lawful}
 use Rattle.render_core.proofs.render.Render.make_next.Goals as goal
+
+pub invariant_of-self : goal.invariant_of-self
+invariant_of-self g c =
+    let e = c.make_piece-is_last.ensures in (
+      c.self.invariant.0,
+      e.idle,
+      made_at_most g.C.Chip.meaning (lagging-lawful g.C.Chip.meaning) c.self.inside.samples c.self.inside.cpu c.make_piece-is_last.new.cpu c.self.inside.bus c.make_piece-is_last.new.bus
+          c.make_piece-is_last.result c.self.invariant.2 e.at_end e.over e.below,
+    )
 
 pub returns : goal.returns
 returns g c =
-    let e = c.make_piece.ensures in
-    rw (← c.self.view_is) (is_next_piece g.C.Chip.meaning c.self.inside.samples c.self.inside.cpu c.make_piece.new.cpu c.self.inside.bus c.make_piece.new.bus _ _ _ _ _
-    e.frames e.records e.counts e.over e.settled e.frames_done e.records_done e.some e.more e.later e.below)
+    let e = c.make_piece-is_last.ensures in
+    rw (← c.self.view_is) (is_next_piece g.C.Chip.meaning c.self.inside.samples c.self.inside.cpu c.make_piece-is_last.new.cpu c.self.inside.bus c.make_piece-is_last.new.bus _ _ _ _ _
+    e.frames e.records e.at_end e.counted c.total-before.ensures.chip c.total-after.ensures.chip e.over e.settled e.frames_done e.records_done e.some e.more e.later e.below e.at_length)

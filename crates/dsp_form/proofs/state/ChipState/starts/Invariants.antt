@@ -1,7 +1,7 @@
 use Rattle.std.proofs.Common.{◌≡◌, ◌≤◌, ◌*◌, ◌++◌, drop}
 use Rattle.arrayvec.specs.ArrayVec.{array_vec_len}
 use Rattle.dsp_form.specs.Reach.{starts_from}
-use Rattle.dsp_form.proofs.state.DspState.starts.Given as goal
+use Rattle.dsp_form.proofs.state.ChipState.starts.Given as goal
 
 abbrev pub invariant-loop-v : goal.invariant-loop-v
 invariant-loop-v l = record {

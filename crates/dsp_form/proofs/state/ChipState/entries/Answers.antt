@@ -2,7 +2,7 @@ use Rattle.std.proofs.Common.{◌≡◌, ℕ, ◌+◌, ◌<◌, ◌++◌, ◌∷
 use Rattle.std.proofs.lemmas.List.{take_more_set}
 use Rattle.voice_unit.specs.Voice.{VoiceState, silent_voice}
 use Rattle.dsp_form.specs.Reach.{entries_from, voice_entry}
-use Rattle.dsp_form.proofs.state.DspState.entries.Goals as goal
+use Rattle.dsp_form.proofs.state.ChipState.entries.Goals as goal
 
 -- the entry of one voice more
 one_more : (registers entries : List ℕ) (voices : List VoiceState) (v entry : ℕ) → v < length voices → v < length entries → entry ≡ voice_entry registers v

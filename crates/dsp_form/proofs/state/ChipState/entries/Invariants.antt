@@ -1,6 +1,6 @@
 use Rattle.std.proofs.Common.{◌≡◌, ◌++◌, take, drop, length}
 use Rattle.dsp_form.specs.Reach.{entries_from}
-use Rattle.dsp_form.proofs.state.DspState.entries.Given as goal
+use Rattle.dsp_form.proofs.state.ChipState.entries.Given as goal
 
 abbrev pub invariant-loop-v : goal.invariant-loop-v
 invariant-loop-v l = record {

@@ -1,0 +1,19 @@
+-- What holds of the fields of all that is saved of a chip.
+use Rattle.std.specs.Prelude.{◌≡◌, List, ℤ, true}
+use Rattle.std.proofs.Common.{sym}
+use Rattle.rate_clock.specs.Counter.{counter_after}
+use Rattle.dsp_form.specs.Valid.{is_valid}
+use Rattle.dsp_core.specs.Saved.{SavedDsp}
+use Rattle.dsp_core.specs.declared.saved.DspState.TheInside.{Inside}
+
+pub record IsSaved (s : Inside) : Type 0 where
+  pub clock : s.clock ≡ counter_after s.number
+  -- over any table
+  pub valid : (table : List ℤ) → is_valid (record { registers = s.registers; hidden = s.hidden; table = table }) ≡ true
+
+-- the clock is that of the number
+abbrev pub inside_of : SavedDsp → Inside
+inside_of s = record { registers = s.registers; hidden = s.hidden; clock = counter_after s.sample; number = s.sample }
+
+pub inside_of-saved : (s : Inside) → IsSaved s → inside_of (record { registers = s.registers; hidden = s.hidden; sample = s.number }) ≡ s
+inside_of-saved s is = λ i. record s { clock = sym is.clock i }

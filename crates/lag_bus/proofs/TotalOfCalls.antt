@@ -1,0 +1,58 @@
+-- Over calls that load nothing the chip of a bus that lags counts on.
+use Rattle.std.proofs.Common.{◌≡◌, ◌<◌, ◌≤◌, ◌-◌, ◌/◌, ◌^◌, ℕ, List, [], ◌∷◌, refl, arith}
+use Rattle.dsp_form.specs.Samples.{count_after}
+use Rattle.lock_step.specs.ChipMeaning.{ChipMeaning}
+use Rattle.lock_step.specs.ChipSaving.{ChipSaving}
+use Rattle.lock_step.specs.Emits.{CountsOn, IsCountedOn}
+use Rattle.lock_step.proofs.ChipCounts.{counts_on_none, counts_on_then}
+use Rattle.lag_bus.specs.Lagging.{Lagging, lagging}
+use Rattle.lag_bus.specs.LagEmits.{lag_emits}
+use Rattle.lag_bus.specs.LagLaws.{counting, counts-settle}
+use Rattle.lag_bus.specs.Calls.{Call, Read, Write, Pass, Settle, Drain, Load, after_calls, lagging_calls, LoadNothing, TotalsSamplesMade}
+
+module _ {S V : Type 0} (chip : ChipMeaning S) (saving : ChipSaving S V) where
+  abbrev later : List (Call V) → Lagging S → Lagging S
+  later calls bus = after_calls (lagging_calls chip saving) calls bus
+
+  counted-calls : (calls : List (Call V)) (bus : Lagging S) → LoadNothing calls → IsCountedOn (lagging chip) (lag_emits chip) bus (later calls bus)
+  counted-calls [] bus few = counts_on_none (bus.machine.clock / 32) bus.book.pending bus.book.total
+  counted-calls (Read at ∷ calls) bus few = counts_on_then ((counting chip).read_counts bus at) (counted-calls calls ((lagging chip).read bus at).1 few)
+  counted-calls (Write at value ∷ calls) bus few = counts_on_then ((counting chip).write_counts bus at value) (counted-calls calls ((lagging chip).write bus at value) few)
+  counted-calls (Pass cycles ∷ calls) bus few = counts_on_then ((counting chip).pass_counts bus cycles few.0) (counted-calls calls ((lagging chip).pass bus cycles) few.1)
+  counted-calls (Settle ∷ calls) bus few = counts_on_then (counts-settle chip bus) (counted-calls calls ((lagging_calls chip saving).settle bus) few)
+  counted-calls (Drain frames records ∷ calls) bus few = counted-calls calls ((lagging_calls chip saving).drain frames records bus) few
+  counted-calls (Load saved memory ∷ calls) bus few = absurd few
+
+  -- what every call leaves has the numbers of its book
+  of_book : (bus : Lagging S) → bus.chip_sample ≡ bus.machine.clock / 32 - bus.book.pending → bus.chip_total ≡ bus.book.total
+      → (calls : List (Call V)) → ((later calls bus).chip_sample ≡ (later calls bus).machine.clock / 32 - (later calls bus).book.pending) × ((later calls bus).chip_total ≡ (later calls bus).book.total)
+  of_book bus sample total [] = (sample, total)
+  of_book bus sample total (Read at ∷ calls) = of_book ((lagging chip).read bus at).1 refl refl calls
+  of_book bus sample total (Write at value ∷ calls) = of_book ((lagging chip).write bus at value) refl refl calls
+  of_book bus sample total (Pass cycles ∷ calls) = of_book ((lagging chip).pass bus cycles) refl refl calls
+  of_book bus sample total (Settle ∷ calls) = of_book ((lagging_calls chip saving).settle bus) refl refl calls
+  of_book bus sample total (Drain frames records ∷ calls) = of_book ((lagging_calls chip saving).drain frames records bus) refl refl calls
+  of_book bus sample total (Load saved memory ∷ calls) = of_book ((lagging_calls chip saving).load saved memory bus) refl refl calls
+
+-- a chip that counts on, by the numbers of its samples
+pub samples_of_count : (made pending total new_made new_pending new_total : ℕ) → CountsOn made pending total new_made new_pending new_total
+    → pending ≤ made → total < 2 ^ 64
+    → (made - pending ≤ new_made - new_pending) × (new_total ≡ count_after total (new_made - new_pending - (made - pending)))
+samples_of_count made pending total new_made new_pending new_total counts few fits =
+    let rises = counts.rises in
+    let all = counts.counted fits in
+    (omega arith, omega arith)
+
+-- the same numbers under other names
+same_numbers : {sample total new_sample new_total first first_total last last_total : ℕ} → sample ≡ first → total ≡ first_total → new_sample ≡ last → new_total ≡ last_total
+    → (first ≤ last) × (last_total ≡ count_after first_total (last - first)) → (sample ≤ new_sample) × (new_total ≡ count_after total (new_sample - sample))
+same_numbers one two three four both = let less = both.0 in let counted = both.1 in (omega arith, omega arith)
+
+pub total-calls : {S V : Type 0} (chip : ChipMeaning S) (saving : ChipSaving S V) → TotalsSamplesMade chip saving
+total-calls chip saving calls bus few matches =
+    let new = later chip saving calls bus in
+    let book = of_book chip saving bus matches.sample matches.total calls in
+    let fits : bus.book.total < 2 ^ 64 = rw (← matches.total) matches.fits in
+    let both = samples_of_count (bus.machine.clock / 32) bus.book.pending bus.book.total (new.machine.clock / 32) new.book.pending new.book.total
+    (counted-calls chip saving calls bus few) matches.pending fits in
+    same_numbers matches.sample matches.total book.0 book.1 both

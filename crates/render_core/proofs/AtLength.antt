@@ -1,0 +1,34 @@
+-- A render at its length: nothing is to come, and its machine is at rest.
+use Rattle.std.proofs.Common.{◌≡◌, ◌≤◌, ◌/◌, ℕ, true, nat_le, [], sym, ◌∙◌, ap, arith}
+use Rattle.std.proofs.lemmas.Bool.Decides.{nat_tests}
+use Rattle.spc700_exec.specs.declared.cpu.Cpu.{Cpu}
+use Rattle.lock_step.specs.ChipMeaning.{ChipMeaning}
+use Rattle.lock_step.specs.Machine.{Machine}
+use Rattle.lock_step.specs.LockStep.{lock_step}
+use Rattle.lock_step.specs.LockStepEmits.{lock_step_emits}
+use Rattle.lag_bus.specs.Lagging.{Lagging, lagging}
+use Rattle.lag_bus.specs.LagEmits.{lag_emits}
+use Rattle.render_core.specs.BetweenSteps.{IsBetweenSteps}
+use Rattle.render_core.specs.MachineRun.{Whole}
+use Rattle.render_core.specs.Items.{run_frames, whole_at_rest, end_of_run}
+use Rattle.render_core.proofs.RunBySteps.{after_run-reached}
+use Rattle.render_core.proofs.FramesFromOpening.{lock_step-lawful}
+
+module _ {S : Type 0} (chip : ChipMeaning S) (samples : ℕ) (cpu : Cpu) (bus : Lagging S) (between : IsBetweenSteps (lagging chip) (lag_emits chip) samples bus) (made : ℕ)
+    (is : made ≡ bus.machine.clock / 32) (there : nat_le samples made ≡ true) where
+  pub all_made : samples ≤ bus.machine.clock / 32
+  all_made = let all : samples ≤ made = grind (arith, nat_tests) in omega arith
+
+  pub none_to_come : run_frames (lock_step chip) lock_step_emits samples (cpu, bus.machine) ≡ []
+  none_to_come =
+      ap (λ (w : Whole (Machine S)). w.1.frames) (after_run-reached (lock_step chip) (lock_step-lawful chip) samples (cpu, bus.machine) all_made)
+      ∙ between.frames all_made
+
+  pub whole_there : (cpu, bus.machine) ≡ end_of_run (lock_step chip) lock_step_emits samples (cpu, bus.machine)
+  whole_there =
+      (λ i. (cpu, record bus.machine { frames = between.frames all_made i; records = between.records all_made i; calls = between.calls i }))
+      ∙ sym (ap (λ (w : Whole (Machine S)). whole_at_rest lock_step_emits w) (after_run-reached (lock_step chip) (lock_step-lawful chip) samples (cpu, bus.machine) all_made))
+
+-- nor is anything to come of a machine that has made all samples and emitted nothing
+pub none_after : {S : Type 0} (chip : ChipMeaning S) (samples : ℕ) (w : Whole (Machine S)) → samples ≤ w.1.clock / 32 → w.1.frames ≡ [] → run_frames (lock_step chip) lock_step_emits samples w ≡ []
+none_after {S} chip samples w all none = ap (λ (x : Whole (Machine S)). x.1.frames) (after_run-reached (lock_step chip) (lock_step-lawful chip) samples w all) ∙ none
