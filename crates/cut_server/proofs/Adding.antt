@@ -13,7 +13,8 @@ use Rattle.cut_form.specs.Checkpoints.{Checkpoint, pages_of, by_places, shared_w
 use Rattle.cut_server.specs.Table.{Saved, saved_mark, saved_marks, memory_in, pages_in, checkpoints_after, times_named, AreWhole, AreApart, RunsInto, AreRuns, IsKept, newest_from}
 use Rattle.cut_server.specs.Placing.{shared_slots, AreOwned, ArePlaced}
 use Rattle.cut_server.proofs.Shared.{length-by_places, length-pages_of, memory_of_pages}
-use Rattle.cut_server.proofs.Naming.{one_if, times-cons, times-push, IsNamedAt, named_place, count_named, apart_places}
+use Rattle.page_pool.proofs.Links.{one_if}
+use Rattle.cut_server.proofs.Naming.{times-cons, times-push, IsNamedAt, named_place, count_named, apart_places}
 use Rattle.cut_server.proofs.Placing.{owned_counted, pages_in-kept}
 
 -- the pages of each mark are owned

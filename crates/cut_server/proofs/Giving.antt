@@ -7,11 +7,10 @@ use Rattle.std.proofs.lemmas.Bool.{cases_Bool, cases_eq}
 use Rattle.std.proofs.lemmas.Bool.Decides.{nat_tests}
 use Rattle.page_pool.specs.declared.slot.Slot.{Slot}
 use Rattle.page_pool.specs.Pool.{free_slot, slot_at, is_free, free_slots, without_owner, after_give}
-use Rattle.page_pool.proofs.Links.{free_slots-set, within_of_owned}
+use Rattle.page_pool.proofs.Links.{one_if, free_slots-set, within_of_owned, owned_test}
 use Rattle.page_pool.proofs.Kept.{given_keeps}
 use Rattle.cut_server.specs.Table.{AreApart}
 use Rattle.cut_server.specs.Placing.{has_one_owner, AreGiven}
-use Rattle.cut_server.proofs.Naming.{one_if}
 
 owners-without : (s : Slot) → 0 < s.owners → (without_owner s).owners + 1 ≡ s.owners
 owners-without s some = elim (cases_Bool (s.owners == 1)) [
@@ -26,9 +25,6 @@ free-without s some = elim (cases_Bool (s.owners == 1)) [
       let others : ((s.owners - 1) == 0) ≡ false = grind (arith, nat_tests, more, some) in
       rw (more, others) refl
 ]
-
-owned_test : (s : Slot) → 0 < s.owners → one_if (is_free s) ≡ 0
-owned_test s owned = let test : nat_eq s.owners 0 ≡ false = grind (arith, nat_tests) in rw test refl
 
 owners-given : (pool : List Slot) (slot : ℕ) → 0 < (slot_at pool slot).owners → (k : ℕ) → (slot_at (after_give pool slot) k).owners + one_if (nat_eq k slot) ≡ (slot_at pool k).owners
 owners-given pool slot some k = elim (cases_eq k slot) [

@@ -7,5 +7,7 @@ pub mod Naming
 pub mod Places
 pub mod Placing
 pub mod Removing
+pub mod Renders
 pub mod Rooms
+pub mod Serving
 pub mod Shared

@@ -1,5 +1,5 @@
 -- The pages of a memory in the slots of a pool.
-use Rattle.std.proofs.Common.{◌≡◌, ℕ, zero, suc, ◌+◌, ◌*◌, ◌<◌, ◌≤◌, Bool, true, nat_eq, if◌then◌else◌, List, [], ◌∷◌, ◌++◌, length, map, take, drop, get_or, refl, sym, ap, ◌∙◌, arith, Some, length-append, length-drop}
+use Rattle.std.proofs.Common.{◌≡◌, ℕ, zero, suc, ◌+◌, ◌*◌, ◌<◌, ◌≤◌, true, nat_eq, List, [], ◌∷◌, ◌++◌, length, map, take, drop, get_or, refl, sym, ap, ◌∙◌, arith, Some, length-append, length-drop}
 use Rattle.std.specs.Prelude.{slice_index}
 use Rattle.std.specs.List.{slice_get, count_by}
 use Rattle.std.proofs.lemmas.List.{length-take-le, take_at, take_all, take_more, flat_map_more, get_or_default, get_or-map, length-map}
@@ -8,6 +8,7 @@ use Rattle.std.proofs.lemmas.Bool.Decides.{nat_tests}
 use Rattle.aram_core.specs.Memory.{with_page}
 use Rattle.page_pool.specs.declared.slot.Slot.{Slot}
 use Rattle.page_pool.specs.Pool.{slot_at}
+use Rattle.page_pool.proofs.Links.{one_if}
 use Rattle.cut_server.specs.declared.table.Mark.{Mark}
 use Rattle.cut_server.specs.Table.{Saved, saved_mark, saved_marks, memory_in, times_named, AreWhole, IsKept}
 
@@ -45,9 +46,6 @@ whole_read (x ∷ xs) zero mark whole within read = ap (λ m. length m.pages) re
 whole_read (x ∷ xs) (suc i) mark whole within read = whole_read xs i mark whole.1 (omega arith) read
 
 -- a page of a live checkpoint has an owner
-abbrev one_if : Bool → ℕ
-one_if b = if b then 1 else 0
-
 named_once : (pages : List ℕ) (p d : ℕ) → p < length pages → 1 ≤ count_by (nat_eq (get_or pages p d)) pages
 named_once pages p d within =
     let page = get_or pages p d in

@@ -1,16 +1,13 @@
 -- How often lists name a slot, and where.
-use Rattle.std.proofs.Common.{◌≡◌, ℕ, zero, suc, ◌+◌, ◌<◌, Bool, true, nat_eq, if◌then◌else◌, List, [], ◌∷◌, ◌++◌, length, get_or, refl, sym, ap, arith, inl, inr}
+use Rattle.std.proofs.Common.{◌≡◌, ℕ, zero, suc, ◌+◌, ◌<◌, true, nat_eq, List, [], ◌∷◌, ◌++◌, length, get_or, refl, sym, ap, arith, inl, inr}
 use Rattle.std.specs.Prelude.{slice_index}
 use Rattle.std.specs.List.{count_by, remove}
 use Rattle.std.proofs.lemmas.List.Sums.{sum_by-cons, sum_by_push, sum_by-remove, get_or-le-sum_by}
 use Rattle.std.proofs.lemmas.Bool.{cases_Bool}
 use Rattle.std.proofs.lemmas.Bool.Decides.{nat_tests}
+use Rattle.page_pool.proofs.Links.{one_if}
 use Rattle.cut_server.specs.declared.table.Mark.{Mark}
 use Rattle.cut_server.specs.Table.{times_named, AreApart}
-
--- 1 where a test holds
-abbrev pub one_if : Bool → ℕ
-one_if b = if b then 1 else 0
 
 pub count-cons : (k x : ℕ) (xs : List ℕ) → count_by (nat_eq k) (x ∷ xs) ≡ one_if (nat_eq k x) + count_by (nat_eq k) xs
 count-cons k x xs = sum_by-cons (λ y. one_if (nat_eq k y)) x xs

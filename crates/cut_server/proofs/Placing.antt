@@ -10,11 +10,11 @@ use Rattle.std.proofs.lemmas.Bool.{cases_Bool, cases_eq, cases_lt}
 use Rattle.std.proofs.lemmas.Bool.Decides.{nat_tests}
 use Rattle.std.proofs.lemmas.Slice.Eq.{bytes_eq-Decides}
 use Rattle.page_pool.specs.declared.slot.Slot.{Slot}
-use Rattle.page_pool.specs.Pool.{free_slot, slot_at, is_free, free_slots, held_slot, with_owner, after_share, after_take, KeepsBytes}
-use Rattle.page_pool.proofs.Links.{free_slots-set, within_of_owned}
+use Rattle.page_pool.specs.Pool.{free_slot, slot_at, free_slots, held_slot, with_owner, after_share, after_take, KeepsBytes}
+use Rattle.page_pool.proofs.Links.{one_if, free_slots-set, within_of_owned, free_test, owned_test}
 use Rattle.page_pool.proofs.Kept.{shared_keeps, taken_keeps}
 use Rattle.cut_form.specs.Checkpoints.{by_places, own_slots}
-use Rattle.cut_server.proofs.Naming.{one_if, IsNamedAt, named_place, apart_places}
+use Rattle.cut_server.proofs.Naming.{IsNamedAt, named_place, apart_places}
 use Rattle.cut_server.proofs.Shared.{length-by_places, slice_get-by_places}
 use Rattle.cut_server.specs.Table.{pages_in, AreApart}
 use Rattle.cut_server.specs.Placing.{shared_slots, AreOwned, IsPlaced, ArePlaced}
@@ -152,12 +152,6 @@ some_same a b same = cc
 
 true_not_false : true ≡ false → ⊥
 true_not_false same = cc
-
-owned_test : (s : Slot) → 0 < s.owners → one_if (is_free s) ≡ 0
-owned_test s owned = let test : nat_eq s.owners 0 ≡ false = grind (arith, nat_tests) in rw test refl
-
-free_test : (s : Slot) → s.owners ≡ 0 → one_if (is_free s) ≡ 1
-free_test s free = rw free refl
 
 -- a slot of the newest wasn't placed at an earlier page
 placed_earlier : (old mid : List Slot) (newest : List ℕ) (pages : List (List ℕ)) (placed : List ℕ) (slot : ℕ) → ArePlaced old mid newest pages placed → AreOwned old 900000 newest → AreApart newest

@@ -11,7 +11,8 @@ use Rattle.cut_form.specs.Checkpoints.{Checkpoint, by_places, own_slots, slots_u
 use Rattle.cut_server.specs.declared.table.Mark.{Mark}
 use Rattle.cut_server.specs.Table.{pages_in, checkpoints_after, times_named, AreWhole, AreApart, RunsInto, AreRuns}
 use Rattle.cut_server.specs.Placing.{has_one_owner}
-use Rattle.cut_server.proofs.Naming.{one_if, times-cons, IsNamedAt, named_place, count_named, apart_places}
+use Rattle.page_pool.proofs.Links.{one_if}
+use Rattle.cut_server.proofs.Naming.{times-cons, IsNamedAt, named_place, count_named, apart_places}
 use Rattle.cut_server.proofs.Shared.{length-by_places}
 
 -- The slots before a row of checkpoints, each named so often: those that the row names again are slots of the one before it.
@@ -211,8 +212,8 @@ used_first : {S : Type 0} {pool : List Slot} {times : ℕ → ℕ} {before : Lis
 used_first {pool = pool} {times} {before} mark [] is =
     let ds = by_places nat_eq mark.pages before in
     let freed : count_by (has_one_owner pool) mark.pages ≡ count_by not ds = freed_last (has_one_owner pool) mark.pages ds (length-by_places nat_eq mark.pages before) (λ p within.
-        let k = slice_index mark.pages p in
-        one_alone_last (slot_at pool k).owners (times k) (get_or ds p false) (omega (arith, is.owners k, times-cons mark [] k, named_there mark.pages is.runs.0 p within)) (among_before is p within).0 (among_before is p within).1) in
+    let k = slice_index mark.pages p in
+    one_alone_last (slot_at pool k).owners (times k) (get_or ds p false) (omega (arith, is.owners k, times-cons mark [] k, named_there mark.pages is.runs.0 p within)) (among_before is p within).0 (among_before is p within).1) in
     omega (arith, freed, used-cons (record { sample = mark.sample; pages = pages_in pool mark.pages; shared = ds }) [])
 used_first {pool = pool} {times} {before} mark (next ∷ rest) is =
     let ds = by_places nat_eq mark.pages before in
@@ -221,9 +222,9 @@ used_first {pool = pool} {times} {before} mark (next ∷ rest) is =
     let over = next_over is in
     let freed : count_by (has_one_owner pool) mark.pages + count_by not (by_places (λ a b. a && b) ns ds) ≡ count_by not ds + count_by not ns =
     freed_between (has_one_owner pool) mark.pages ds ns (length-by_places nat_eq mark.pages before) (length-by_places nat_eq next.pages mark.pages ∙ is.whole.1.0 ∙ sym is.whole.0) (λ p within.
-        let k = slice_index mark.pages p in
-        one_alone (slot_at pool k).owners (times k) (times_named (next ∷ rest) k) (get_or ds p false) (get_or ns p false)
-        (omega (arith, is.owners k, times-cons mark (next ∷ rest) k, named_there mark.pages is.runs.0 p within)) (among_before is p within).0 (among_before is p within).1 (among_after is p within).0 (among_after is p within).1) in
+    let k = slice_index mark.pages p in
+    one_alone (slot_at pool k).owners (times k) (times_named (next ∷ rest) k) (get_or ds p false) (get_or ns p false)
+    (omega (arith, is.owners k, times-cons mark (next ∷ rest) k, named_there mark.pages is.runs.0 p within)) (among_before is p within).0 (among_before is p within).1 (among_after is p within).0 (among_after is p within).1) in
     omega (
       arith,
       freed,

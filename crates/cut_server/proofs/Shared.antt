@@ -1,5 +1,5 @@
 -- Which pages a memory shares with the newest checkpoint.
-use Rattle.std.proofs.Common.{◌≡◌, ℕ, zero, suc, ◌+◌, ◌-◌, ◌<◌, ◌≤◌, Bool, false, not, if◌then◌else◌, List, [], ◌∷◌, ◌*◌, ◌++◌, length, map, take, drop, get_or, refl, sym, ap, ◌∙◌, arith, Some}
+use Rattle.std.proofs.Common.{◌≡◌, ℕ, zero, suc, ◌+◌, ◌-◌, ◌<◌, ◌≤◌, Bool, false, not, List, [], ◌∷◌, ◌*◌, ◌++◌, length, map, take, drop, get_or, refl, sym, ap, ◌∙◌, arith, Some}
 use Rattle.std.specs.List.{slice_get, count_by, flat_map, range_with_len}
 use Rattle.std.specs.Str.{bytes_eq}
 use Rattle.std.proofs.lemmas.List.{length-map, get_or-map, take_all, drop-drop}
@@ -10,6 +10,7 @@ use Rattle.std.proofs.lemmas.List.Sums.{sum_by_more}
 use Rattle.aram_core.specs.Memory.{page_bytes}
 use Rattle.page_pool.specs.declared.slot.Slot.{Slot}
 use Rattle.page_pool.specs.Pool.{slot_at}
+use Rattle.page_pool.proofs.Links.{one_if}
 use Rattle.cut_server.specs.declared.table.Mark.{Mark}
 use Rattle.cut_form.specs.Checkpoints.{Checkpoint, pages_of, by_places, shared_with_newest}
 use Rattle.cut_server.specs.Table.{pages_in, memory_in, checkpoints_after}
@@ -68,9 +69,6 @@ shared_none pool [] memory p none within = slice_get-none (pages_of memory) p (o
 shared_none pool (x ∷ xs) memory p none within = absurd (omega arith)
 
 -- a step of the count
-abbrev one_if : Bool → ℕ
-one_if b = if b then 1 else 0
-
 pub own_more : (shared : List Bool) (p : ℕ) (here : Bool) → p < length shared → Some here ≡ slice_get shared p → count_by not (take (p + 1) shared) ≡ count_by not (take p shared) + one_if (not here)
 own_more shared p here within is =
     let read : get_or shared p false ≡ here = get_or_from_slice_get shared p here false (sym is) in

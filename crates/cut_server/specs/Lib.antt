@@ -1,13 +1,12 @@
 -- What a reader of the promises needs:
--- what contracts see of a server: its player, and its table of checkpoints
+-- what contracts see of a server of cuts
 pub mod Server
+-- the same over any whole machines that are saved, loaded and run
+pub mod ServerState
+pub mod Machines
 -- the table of checkpoints, over a pool of pages
 pub mod Table
--- a player: what a server needs of a render
-pub mod Play
--- Words of the contracts within the crate: how pages are placed and given back, and what a server keeps.
+-- Words of the contracts within the crate: how pages are placed and given back, what a server keeps, and what of its render.
 pub mod Placing
 pub mod IsServed
--- A player that shows that the laws of players can be met:
-pub mod Still
-pub mod StillPlaying
+pub mod Renders

@@ -1,49 +1,51 @@
--- What contracts see of a server of cuts: its player, and its table of checkpoints.
-use Rattle.std.specs.Prelude.{◌≡◌, ℕ, List, [], ◌∷◌, length}
+-- What contracts see of a server of cuts.
+use Rattle.std.specs.Prelude.{ℕ, ◌/◌, List}
 use Rattle.num_fix.specs.declared.Frame.{Frame}
-use Rattle.cut_form.specs.Checkpoints.{pages_of}
-use Rattle.cut_form.specs.CutBook.{CutBook}
-use Rattle.cut_server.specs.Play.{PlayerMeaning, Playing}
-use Rattle.cut_server.specs.Table.{TableState, Saved, saved_of, live_checkpoints}
+use Rattle.lock_step.specs.ChipMeaning.{ChipMeaning}
+use Rattle.lock_step.specs.ChipSaving.{ChipSaving}
+use Rattle.lock_step.specs.Machine.{Machine}
+use Rattle.render_core.specs.declared.saved.PlayState.{PlayState}
+use Rattle.render_core.specs.MachineRun.{Whole}
+use Rattle.render_core.specs.Saved.{saved_whole}
+use Rattle.render_core.specs.Whole.{loaded_whole, whole_after_run, frames_of_run}
+use Rattle.render_core.specs.RenderState.{RenderState, is_at_length}
+use Rattle.cut_server.specs.Machines.{Machines}
+use Rattle.cut_server.specs.ServerState.{Standing, ServerState, machine_at_start, pages_after, frames_after, KeepsStart}
 
-pub record ServerState (W S : Type 0) : Type 0 where
-  pub playing : Playing W
-  pub table : TableState S
-
--- the machine that was saved, over what no sample changes of a machine
-abbrev pub machine_of : {W S : Type 0} → PlayerMeaning W S → W → Saved S → W
-machine_of player w saved = player.loaded w saved.state saved.memory
-
--- the machine that was saved first
-unfoldable pub first_machine : {W S : Type 0} → PlayerMeaning W S → W → List (Saved S) → W
-first_machine player w [] = w
-first_machine player w (saved ∷ rest) = machine_of player w saved
-
--- the machine at the opening: that of the first checkpoint, which is never dropped
-abbrev pub opening : {W S : Type 0} → PlayerMeaning W S → ServerState W S → W
-opening player server = first_machine player server.playing.whole (saved_of server.table)
-
--- where it stands, its checkpoints, and how much it made: its player's own total
-abbrev pub book_of : {W S : Type 0} → ServerState W S → CutBook
-book_of server = record {
-  position = server.playing.samples;
-  live = live_checkpoints server.table;
-  made = server.playing.total;
+-- Its machines are those of a processor over the machine in lock step with its chip.
+unfoldable pub lock_step_machines : {S V : Type 0} → ChipMeaning S → ChipSaving S V → Machines (Whole (Machine S)) (PlayState V)
+lock_step_machines chip saving = record {
+  state = saved_whole saving;
+  memory = λ w. w.1.memory;
+  sample = λ saved. saved.bus.clock / 32;
+  loaded = loaded_whole saving;
+  after_run = whole_after_run chip;
+  run_frames = frames_of_run chip;
 }
 
--- the slots of its pool
-abbrev pub slots_of : {W S : Type 0} → ServerState W S → ℕ
-slots_of server = length server.table.pool
+-- what a render holds at its length
+abbrev pub standing_of : {S : Type 0} → RenderState S → Standing (Whole (Machine S))
+standing_of render = record {
+  samples = render.samples;
+  whole = (render.cpu, render.bus.machine);
+  total = render.bus.chip_total;
+  is_done = is_at_length render;
+}
 
--- the pages of the memory that the run from an opening has once so many samples are made
-abbrev pub pages_after : {W S : Type 0} → PlayerMeaning W S → W → (samples : ℕ) → List (List ℕ)
-pages_after player opening samples = pages_of (player.memory (player.after_run samples opening))
+-- the server of a chip in such states, of which this is saved
+abbrev pub ChipServer : (S V : Type 0) → Type 0
+ChipServer S V = ServerState (Whole (Machine S)) (PlayState V)
 
--- the frames that the run from an opening emits until so many samples are made
-abbrev pub frames_after : {W S : Type 0} → PlayerMeaning W S → W → (samples : ℕ) → List Frame
-frames_after player opening samples = player.run_frames samples opening
+-- The machine at the opening is that of the first checkpoint, which is never dropped. These are it, the pages of the run from it,
+-- and its frames.
+abbrev pub opening : {S V : Type 0} → ChipMeaning S → ChipSaving S V → ChipServer S V → Whole (Machine S)
+opening chip saving server = machine_at_start (lock_step_machines chip saving) server
 
--- what each call keeps of a server
-pub record KeepsTune {W S : Type 0} (player : PlayerMeaning W S) (old new : ServerState W S) : Type 0 where
-  pub opening : opening player new ≡ opening player old
-  pub slots : slots_of new ≡ slots_of old
+abbrev pub pages_at : {S V : Type 0} → ChipMeaning S → ChipSaving S V → ChipServer S V → (samples : ℕ) → List (List ℕ)
+pages_at chip saving server = pages_after (lock_step_machines chip saving) (opening chip saving server)
+
+abbrev pub frames_to : {S V : Type 0} → ChipMeaning S → ChipSaving S V → ChipServer S V → (samples : ℕ) → List Frame
+frames_to chip saving server = frames_after (lock_step_machines chip saving) (opening chip saving server)
+
+abbrev pub KeepsTune : {S V : Type 0} → ChipMeaning S → ChipSaving S V → (old new : ChipServer S V) → Type 0
+KeepsTune chip saving old new = KeepsStart (lock_step_machines chip saving) old new

@@ -19,7 +19,7 @@ pages_in pool slots = map (λ slot. (slot_at pool slot).bytes) slots
 abbrev pub memory_in : List Slot → (slots : List ℕ) → List ℕ
 memory_in pool slots = flat_map (λ slot. (slot_at pool slot).bytes) slots
 
--- the checkpoints of marks behind one with these slots
+-- the checkpoints of marks that follow one with these slots
 abbrev pub checkpoints_after : {S : Type 0} → List Slot → (before : List ℕ) → List (Mark S) → List Checkpoint
 checkpoints_after pool before [] = []
 checkpoints_after pool before (mark ∷ marks) =
@@ -84,7 +84,7 @@ pub record IsKept {S : Type 0} (pool : List Slot) (marks : List (Mark S)) : Type
   pub runs : AreRuns marks
   pub used : free_slots pool + slots_used (live_checkpoints (record { pool = pool; marks = marks })) ≡ length pool
 
--- the slots of the newest of marks behind one with these slots
+-- the slots of the newest of marks that follow one with these slots
 abbrev pub newest_from : {S : Type 0} → (before : List ℕ) → List (Mark S) → List ℕ
 newest_from before [] = before
 newest_from before (mark ∷ marks) = newest_from mark.pages marks

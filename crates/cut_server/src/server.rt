@@ -1,67 +1,78 @@
 // The server of cuts.
-ghost use Rattle.std.specs.Prelude.{◌≡◌, ◌≢◌, ◌+◌, ◌-◌, ◌<◌, ◌≤◌, true, false, length, IfOk, IfErr, OnOk, IsOk, ◌↔◌};
+ghost use Rattle.std.specs.Prelude.{◌≡◌, ◌≢◌, ℕ, ◌+◌, ◌-◌, ◌<◌, ◌≤◌, true, false, length, IfOk, IfErr, OnOk, IsOk, ◌↔◌};
 ghost use Rattle.num_fix.specs.Limits.{most_frames};
 ghost use Rattle.page_pool.specs.Pool.{most_pages};
+ghost use Rattle.lock_step.specs.LockStep.{lock_step};
+ghost use Rattle.lock_step.specs.LockStepEmits.{lock_step_emits};
+ghost use Rattle.render_core.specs.Items.{run_frames};
+ghost use Rattle.render_core.specs.Opening.{opened_whole};
 ghost use Rattle.cut_form.specs.Checkpoints.{most_checkpoints, slots_free, stands_at};
 ghost use Rattle.cut_form.specs.CutBook.{opened_book, after_seek, after_play, counted_book, needed_here, with_live, with_one_here, without_one};
 ghost use Rattle.cut_form.specs.Marks.{room_made, mark_here};
 ghost use Rattle.cut_form.specs.Slices.{slice_of};
+ghost use Rattle.cut_server.specs.Server.{lock_step_machines};
 ghost use Rattle.cut_server.specs.Table.{samples_of, AreOwnersCounted};
-ghost use Rattle.cut_server.specs.Server.{opening, book_of, slots_of, pages_after, frames_after, KeepsTune};
+ghost use Rattle.cut_server.specs.ServerState.{book_of, slots_of};
+ghost use Rattle.cut_server.specs.Server.{opening, pages_at, frames_to, KeepsTune};
 ghost use Rattle.cut_server.specs.IsServed.{GoesOn, GoesBack};
 
 use crate::OutOfMemory;
-use crate::player::Player;
 use crate::running::{run_out, run_out_into};
 use crate::table::Table;
 use aram_core::Aram;
 use cut_form::{Marked, NoPages};
+use lock_step::Chip;
+use render_core::{PlayState, Render};
+use spc_form::SpcFile;
 use std::alloc::Global;
 use std::marker::Model;
 use trace_form::Frames;
 
-/// A player of a tune, with checkpoints to which it can go back. Only `open` takes memory.
+/// A render of a tune, with checkpoints to which it can go back. Only `open` takes memory.
 #[derive(Drop)]
-pub struct Server<P: Player> {
-    player: P,
+pub struct CutServer<C: Chip> {
+    render: Render<C>,
     position: u32,
-    table: Table<P::Saved>,
+    table: Table<PlayState<C::Saved>>,
     scratch: Aram,
 }
 
-impl<P: Player> Model for Server<P> {
-    ghost use Rattle.cut_server.specs.Server.{ServerState};
-    ghost use Rattle.cut_server.specs.IsServed.{IsServed};
+impl<C: Chip> Model for CutServer<C> {
+    ghost use Rattle.cut_server.specs.Server.{standing_of, ChipServer};
+    ghost use Rattle.cut_server.specs.Renders.{IsServing};
 
-    ghost Value = { ServerState P.Whole P.Saved };
+    ghost Value = { ChipServer C.State C.Saved };
 
-    ghost view = { λ s. record { playing = P.playing s.player; table = s.table } };
+    ghost view = { λ s. record { standing = standing_of s.render; table = s.table } };
 
-    ghost invariant = { λ s. IsServed P.meaning (P.playing s.player) s.table s.position };
+    ghost invariant = { λ s. IsServing C.meaning C.saving s.render s.table s.position };
 }
 
-impl<P: Player> Server<P> {
-    /// A server that stands at sample 0, with a checkpoint there, and has so many pages. Its checkpoints are loaded by way of
-    /// the second memory.
+impl<C: Chip> CutServer<C> {
+    /// A server of a file's tune, over a chip that has made no sample, with so many pages. It stands at sample 0 and has a
+    /// checkpoint there.
     pub fn open(
         alloc: Global,
-        player: P,
-        scratch: Aram,
+        file: &SpcFile,
+        chip: C,
         pages: u32,
-    ) -> Result<Server<P>, OutOfMemory>
+    ) -> Result<CutServer<C>, OutOfMemory>
         requires enough { 256 ≤ pages }
         requires few { pages ≤ most_pages }
-        requires done { (P.playing player).is_done ≡ true }
-        requires none_made { (P.playing player).samples ≡ 0 }
-        requires opened { P.meaning.sample (P.meaning.state (P.playing player).whole) ≡ 0 }
-        requires no_work { (P.playing player).total ≡ 0 }
-        ensures opening { IfOk result (λ server. opening P.meaning server ≡ (P.playing player).whole) }
-        ensures book { IfOk result (λ server. book_of server ≡ opened_book (pages_after P.meaning (P.playing player).whole)) }
+        requires sample { C.sample chip ≡ 0 }
+        requires batches { C.batches chip ≡ 0 }
+        requires total { C.total chip ≡ 0 }
+        ensures opening { IfOk result (λ server. opening C.meaning C.saving server ≡ opened_whole file.now (C.state chip) 0) }
+        ensures frames { let whole = opened_whole file.now (C.state chip) 0 in
+            IfOk result (λ server. (n : ℕ) → frames_to C.meaning C.saving server n ≡ run_frames (lock_step C.meaning) lock_step_emits n whole) }
+        ensures book { IfOk result (λ server. book_of server ≡ opened_book (pages_at C.meaning C.saving server)) }
         ensures slots { IfOk result (λ server. slots_of server ≡ pages) }
     {
-        let table = Table::open(alloc, pages, player.save(), player.memory())?;
-        Ok(Server {
-            player,
+        let render = Render::open(alloc, file, chip, 0, 0)?;
+        let table = Table::open(alloc, pages, render.save(), render.memory())?;
+        let scratch = Aram::from_image(alloc, file.memory())?;
+        Ok(CutServer {
+            render,
             position: 0,
             table,
             scratch,
@@ -102,27 +113,27 @@ impl<P: Player> Server<P> {
     pub fn work(&self) -> u64
         ensures { result ≡ (book_of self.now).made }
     {
-        self.player.total()
+        self.render.total()
     }
 
     /// Goes back to a checkpoint.
     fn load(&mut self, index: usize)
         requires { index < length (samples_of self.old.table) }
-        ensures { GoesBack P.meaning self.old self.new index }
+        ensures { GoesBack (lock_step_machines C.meaning C.saving) self.old self.new index }
     {
         let state = self.table.load(index, &mut self.scratch);
         self.position = self.table.sample(index);
-        self.player.load(&state, &self.scratch);
+        self.render.load(&state, &self.scratch);
     }
 
     /// Runs on to a sample.
     fn run(&mut self, at: u32)
-        requires later { self.old.playing.samples ≤ at }
+        requires later { self.old.standing.samples ≤ at }
         requires few { at ≤ most_frames }
-        ensures { GoesOn P.meaning self.old self.new self.old.playing.samples at }
+        ensures { GoesOn (lock_step_machines C.meaning C.saving) self.old self.new self.old.standing.samples at }
     {
-        self.player.aim(at);
-        run_out(&mut self.player);
+        self.render.aim(at);
+        run_out(&mut self.render);
         self.position = at;
     }
 
@@ -131,7 +142,7 @@ impl<P: Player> Server<P> {
     pub fn seek(&mut self, at: u32)
         requires { at ≤ most_frames }
         ensures book { book_of self.new ≡ counted_book (after_seek (book_of self.old) at) }
-        ensures tune { KeepsTune P.meaning self.old self.new }
+        ensures tune { KeepsTune C.meaning C.saving self.old self.new }
     {
         let nearest = self.table.nearest(at);
         let checkpoint = self.table.sample(nearest);
@@ -146,13 +157,13 @@ impl<P: Player> Server<P> {
         requires some { 1 ≤ most }
         requires few { most ≤ 64 }
         requires within { (book_of self.old).position + most ≤ most_frames }
-        ensures frames { frames.new ≡ slice_of (frames_after P.meaning (opening P.meaning self.old)) (book_of self.old).position most }
+        ensures frames { frames.new ≡ slice_of (frames_to C.meaning C.saving self.old) (book_of self.old).position most }
         ensures book { book_of self.new ≡ counted_book (after_play (book_of self.old) most) }
-        ensures tune { KeepsTune P.meaning self.old self.new }
+        ensures tune { KeepsTune C.meaning C.saving self.old self.new }
     {
         frames.clear();
-        self.player.aim(self.position + most);
-        run_out_into(&mut self.player, frames);
+        self.render.aim(self.position + most);
+        run_out_into(&mut self.render, frames);
         self.position += most;
     }
 
@@ -160,21 +171,21 @@ impl<P: Player> Server<P> {
     pub fn checkpoint(&mut self) -> Result<(), NoPages>
         requires none_here { stands_at (book_of self.old).live (book_of self.old).position ≡ false }
         requires few { length (book_of self.old).live < most_checkpoints }
-        ensures taken { OnOk result (book_of self.new ≡ with_one_here (pages_after P.meaning (opening P.meaning self.old)) (book_of self.old)) }
-        ensures need { IfErr result (λ e. e.need ≡ needed_here (pages_after P.meaning (opening P.meaning self.old)) (book_of self.old)) }
+        ensures taken { OnOk result (book_of self.new ≡ with_one_here (pages_at C.meaning C.saving self.old) (book_of self.old)) }
+        ensures need { IfErr result (λ e. e.need ≡ needed_here (pages_at C.meaning C.saving self.old) (book_of self.old)) }
         ensures free { IfErr result (λ e. e.free ≡ slots_free (slots_of self.old) (book_of self.old).live) }
         ensures unchanged { IfErr result (λ e. self.new ≡ self.old) }
-        ensures exactly { let need = needed_here (pages_after P.meaning (opening P.meaning self.old)) (book_of self.old) in
+        ensures exactly { let need = needed_here (pages_at C.meaning C.saving self.old) (book_of self.old) in
             IsOk result ↔ (need ≤ slots_free (slots_of self.old) (book_of self.old).live) }
-        ensures tune { KeepsTune P.meaning self.old self.new }
+        ensures tune { KeepsTune C.meaning C.saving self.old self.new }
     {
-        let need = self.table.needed(self.player.memory());
+        let need = self.table.needed(self.render.memory());
         let free = self.table.free();
         if need > free {
             return Err(NoPages { need, free });
         }
-        let state = self.player.save();
-        self.table.add(self.position, state, self.player.memory());
+        let state = self.render.save();
+        self.table.add(self.position, state, self.render.memory());
         Ok(())
     }
 
@@ -183,7 +194,7 @@ impl<P: Player> Server<P> {
         requires not_opening { sample ≢ 0 }
         requires stands { stands_at (book_of self.old).live sample ≡ true }
         ensures book { book_of self.new ≡ without_one (book_of self.old) sample }
-        ensures tune { KeepsTune P.meaning self.old self.new }
+        ensures tune { KeepsTune C.meaning C.saving self.old self.new }
     {
         if let Some(place) = self.table.place_of(sample) {
             self.table.remove(place);
@@ -193,20 +204,23 @@ impl<P: Player> Server<P> {
     /// Gives checkpoints up until there is room for one at the position; tells how many.
     fn make_room(&mut self) -> u32
         ensures room { let most = length (book_of self.old).live - 1 in
-            record { live = (book_of self.new).live; gave = result } ≡ room_made most (slots_of self.old) (pages_after P.meaning (opening P.meaning self.old) (book_of self.old).position) (record { live = (book_of self.old).live; gave = 0 }) }
+            let pages = pages_at C.meaning C.saving self.old (book_of self.old).position in
+            let room = room_made most (slots_of self.old) pages (record { live = (book_of self.old).live; gave = 0 }) in
+            record { live = (book_of self.new).live; gave = result } ≡ room }
         ensures few { length (book_of self.new).live < most_checkpoints }
         ensures book { book_of self.new ≡ with_live (book_of self.old) (book_of self.new).live }
-        ensures tune { KeepsTune P.meaning self.old self.new }
+        ensures tune { KeepsTune C.meaning C.saving self.old self.new }
     {
-        self.table.make_room(self.player.memory())
+        self.table.make_room(self.render.memory())
     }
 
     /// Takes a checkpoint at the position, unless one stands there. It gives up others for it as long as there is no room,
     /// first those taken first; but never that of sample 0.
     pub fn mark(&mut self) -> Marked
-        ensures book { book_of self.new ≡ with_live (book_of self.old) (mark_here (slots_of self.old) (pages_after P.meaning (opening P.meaning self.old)) (book_of self.old)).live }
-        ensures answer { result ≡ (mark_here (slots_of self.old) (pages_after P.meaning (opening P.meaning self.old)) (book_of self.old)).marked }
-        ensures tune { KeepsTune P.meaning self.old self.new }
+        ensures book { let outcome = mark_here (slots_of self.old) (pages_at C.meaning C.saving self.old) (book_of self.old) in
+            book_of self.new ≡ with_live (book_of self.old) outcome.live }
+        ensures answer { result ≡ (mark_here (slots_of self.old) (pages_at C.meaning C.saving self.old) (book_of self.old)).marked }
+        ensures tune { KeepsTune C.meaning C.saving self.old self.new }
     {
         if self.has(self.position) {
             return Marked::Kept;

@@ -1,8 +1,10 @@
 // The table of checkpoints, over a pool of pages.
-ghost use Rattle.std.specs.Prelude.{◌≡◌, ◌==◌, ℕ, ◌≤◌, ◌+◌, ◌-◌, ◌<◌, ◌++◌, ◌∷◌, [], true, length, vec_len, vec_capacity, IfOk, IfSome, IsNone, ◌↔◌, false, slice_index, slice_get, Some};
+ghost use Rattle.std.specs.Prelude.{◌≡◌, ◌==◌, ◌≤◌, ◌+◌, ◌-◌, ◌<◌, ◌++◌, ◌∷◌, [], false, length, vec_len, vec_capacity, slice_index, slice_get};
+ghost use Rattle.std.specs.Prelude.{IfOk, IfSome, IsNone, Some, ◌↔◌};
 ghost use Rattle.std.specs.List.{list_any, position, remove, remove_range};
 ghost use Rattle.page_pool.specs.Pool.{free_slots};
-ghost use Rattle.cut_form.specs.Checkpoints.{most_checkpoints, pages_of, with_checkpoint, without_checkpoint, without_entry, slots_needed, slots_free, has_room, shared_with_newest, stands_at, nearest};
+ghost use Rattle.cut_form.specs.Checkpoints.{most_checkpoints, pages_of, with_checkpoint, without_checkpoint, without_entry, stands_at, nearest};
+ghost use Rattle.cut_form.specs.Checkpoints.{shared_with_newest, slots_needed, slots_free, has_room};
 ghost use Rattle.cut_form.specs.Marks.{room_made};
 ghost use Rattle.cut_server.specs.Table.{Saved, live_checkpoints, saved_of, samples_of, newest_from, AreOwnersCounted};
 ghost use Rattle.cut_server.specs.IsServed.{BeginAtOpening};
@@ -157,7 +159,8 @@ impl<S: Copy> Table<S> {
     /// Copies the memory of one of them, and tells what else was saved.
     pub(crate) fn load(&self, index: usize, memory: &mut Aram) -> S
         requires { index < length (samples_of self.now) }
-        ensures { slice_get (saved_of self.now) index ≡ Some (record { sample = slice_index (samples_of self.now) index; state = result; memory = memory.new }) }
+        ensures { let sample = slice_index (samples_of self.now) index in
+            slice_get (saved_of self.now) index ≡ Some (record { sample = sample; state = result; memory = memory.new }) }
     {
         let mark = &self.marks[index];
         for page in 0..256 {
@@ -233,7 +236,8 @@ impl<S: Copy> Table<S> {
         ensures saved { saved_of self.new ≡ remove_range (saved_of self.old) 1 (result + 1) }
         ensures few { length (live_checkpoints self.new) < most_checkpoints }
         ensures room { let most = length (live_checkpoints self.old) - 1 in
-            record { live = live_checkpoints self.new; gave = result } ≡ room_made most (length self.old.pool) (pages_of memory.now) (record { live = live_checkpoints self.old; gave = 0 }) }
+            let room = room_made most (length self.old.pool) (pages_of memory.now) (record { live = live_checkpoints self.old; gave = 0 }) in
+            record { live = live_checkpoints self.new; gave = result } ≡ room }
         ensures size { length self.new.pool ≡ length self.old.pool }
     {
         let before = self.len();
