@@ -1,14 +1,15 @@
 -- Only a processor that halts takes its time from the next sample.
-use Rattle.std.proofs.Common.{◌≡◌, ℕ, Bool, true, false, refl}
+use Rattle.std.proofs.Common.{◌≡◌, ℕ, Bool, true, false, if◌then◌else◌, refl}
 use Rattle.spc700_table.specs.declared.Form.{Form}
 use Rattle.spc700_table.specs.declared.Form.TheVariants as F
 use Rattle.spc700_table.specs.declared.OpRow.{OpRow}
-use Rattle.spc700_table.specs.Opcodes.{row_of}
+use Rattle.spc700_table.specs.Opcodes.{row_of, is_in_text_order}
 use Rattle.spc700_exec.specs.declared.cpu.Cpu.{Cpu}
 use Rattle.spc700_exec.specs.declared.operand.Operand.{Operand}
+use Rattle.spc700_exec.specs.declared.operand.Both.{Both}
 use Rattle.spc700_exec.specs.declared.operand.Operand.TheVariants as P
 use Rattle.spc700_exec.specs.Script.{Script}
-use Rattle.spc700_exec.specs.Operands.{addressed, loaded, stored}
+use Rattle.spc700_exec.specs.Operands.{addressed, both_addressed, loaded, stored}
 use Rattle.spc700_exec.specs.Operations.{Operation, operation_of, OnStatus, OnA, OnYa, Branch, BitBranch, CompareBranch, CountBranch, Move, Calculate, Compare, Modify, BitToCarry, BitInPlace, BitTest, WordOnYa, WordStore, WordModify, Push, Pop, Jump, Call, TableCall, Break, Return, InterruptReturn, Halt}
 use Rattle.spc700_exec.specs.Lines.{branched}
 use Rattle.spc700_exec.specs.Instruction.{line_of, step_unless, script}
@@ -70,17 +71,29 @@ module _ (row : OpRow) where
   on_branched true r cpu = tt
   on_branched false r cpu = tt
 
+  on_both : (cpu : Cpu) (next : Both → Cpu → Script) → ((both : Both) (cpu : Cpu) → HaltsToSample (next both cpu)) → HaltsToSample (both_addressed row cpu next)
+  unfolding both_addressed
+  on_both cpu next h = by (is_in_text_order row)
+    where
+      in_order : Script
+      in_order = addressed row.first cpu (λ first cpu. addressed row.second cpu (λ second cpu. next (record { first = first; second = second }) cpu))
+      second_first : Script
+      second_first = addressed row.second cpu (λ second cpu. addressed row.first cpu (λ first cpu. next (record { first = first; second = second }) cpu))
+      by : (b : Bool) → HaltsToSample (if b then in_order else second_first)
+      by true = on_addressed row.first cpu _ (λ first cpu. on_addressed row.second cpu _ (λ second cpu. h _ cpu))
+      by false = on_addressed row.second cpu _ (λ second cpu. on_addressed row.first cpu _ (λ first cpu. h _ cpu))
+
   on_line : (op : Operation) (cpu : Cpu) → HaltsToSample (line_of op row cpu)
   on_line (OnStatus change) cpu = tt
   on_line (OnA change) cpu = tt
   on_line (OnYa change) cpu = tt
   on_line (Branch condition) cpu = λ r. on_branched _ r _
-  on_line (BitBranch on) cpu = on_addressed row.first cpu _ (λ o cpu. λ r. on_loaded o _ _ (λ v. on_branched _ r _))
-  on_line CompareBranch cpu = on_addressed row.first cpu _ (λ o cpu. λ r. on_loaded o _ _ (λ v. on_branched _ r _))
-  on_line CountBranch cpu = on_addressed row.first cpu _ (λ o cpu. λ r. on_loaded o _ _ (λ v. on_stored o _ _ _ (λ cpu. on_branched _ r cpu)))
-  on_line Move cpu = on_addressed row.second cpu _ (λ source cpu. on_addressed row.first cpu _ (λ target cpu. on_loaded source cpu _ (λ v. on_stored target v cpu _ (λ cpu. tt))))
-  on_line (Calculate calculate) cpu = on_addressed row.second cpu _ (λ source cpu. on_addressed row.first cpu _ (λ target cpu. on_loaded source cpu _ (λ b. on_loaded target cpu _ (λ a. on_stored target _ _ _ (λ cpu. tt)))))
-  on_line Compare cpu = on_addressed row.second cpu _ (λ source cpu. on_addressed row.first cpu _ (λ target cpu. on_loaded source cpu _ (λ b. on_loaded target cpu _ (λ a. tt))))
+  on_line (BitBranch on) cpu = on_both cpu _ (λ both cpu. on_loaded both.first _ _ (λ v. on_loaded both.second _ _ (λ r. on_branched _ r _)))
+  on_line CompareBranch cpu = on_both cpu _ (λ both cpu. on_loaded both.first _ _ (λ v. on_loaded both.second _ _ (λ r. on_branched _ r _)))
+  on_line CountBranch cpu = on_both cpu _ (λ both cpu. on_loaded both.first _ _ (λ v. on_loaded both.second _ _ (λ r. on_stored both.first _ _ _ (λ cpu. on_branched _ r cpu))))
+  on_line Move cpu = on_both cpu _ (λ both cpu. on_loaded both.second cpu _ (λ v. on_stored both.first v cpu _ (λ cpu. tt)))
+  on_line (Calculate calculate) cpu = on_both cpu _ (λ both cpu. on_loaded both.second cpu _ (λ b. on_loaded both.first cpu _ (λ a. on_stored both.first _ _ _ (λ cpu. tt))))
+  on_line Compare cpu = on_both cpu _ (λ both cpu. on_loaded both.second cpu _ (λ b. on_loaded both.first cpu _ (λ a. tt)))
   on_line (Modify change) cpu = on_addressed row.first cpu _ (λ o cpu. on_loaded o cpu _ (λ v. on_stored o _ _ _ (λ cpu. tt)))
   on_line (BitToCarry kind) cpu = on_addressed row.second cpu _ (λ o cpu. on_loaded o cpu _ (λ v. tt))
   on_line (BitInPlace kind) cpu = on_addressed row.first cpu _ (λ o cpu. on_loaded o cpu _ (λ v. on_stored o _ cpu _ (λ cpu. tt)))
