@@ -1,11 +1,11 @@
 // Renders over a host in memory.
 ghost use Rattle.command_render.specs.Options.{IsWithinHour};
 
-use crate::{RenderOptions, render};
 use crate::test_support::{
     Frames, Heard, NO_BATCH, ONE_BATCH, expected_report, has_frames, no_options, render_failing,
     render_straight, samples, tune_of, with_trace,
 };
+use crate::{RenderOptions, render};
 use command_tests::{DSP, FIVE, MEMORY, Outcome, Pieces, ROOM, host_with, straight_table};
 use status_lines::Status;
 use std::alloc::Global;

@@ -77,8 +77,10 @@ module _ (row : OpRow) where
     where
       in_order : Script
       in_order = addressed row.first cpu (λ first cpu. addressed row.second cpu (λ second cpu. next (record { first = first; second = second }) cpu))
+
       second_first : Script
       second_first = addressed row.second cpu (λ second cpu. addressed row.first cpu (λ first cpu. next (record { first = first; second = second }) cpu))
+
       by : (b : Bool) → HaltsToSample (if b then in_order else second_first)
       by true = on_addressed row.first cpu _ (λ first cpu. on_addressed row.second cpu _ (λ second cpu. h _ cpu))
       by false = on_addressed row.second cpu _ (λ second cpu. on_addressed row.first cpu _ (λ first cpu. h _ cpu))

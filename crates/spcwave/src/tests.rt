@@ -122,9 +122,9 @@ fn each_word_says_its_command(rt: HostRuntime) -> Result<(), Fail> {
 fn help_is_told(rt: HostRuntime) -> Result<(), Fail> {
     for word in ["help", "--help"] {
         let outcome = run_words(rt.alloc(), &[word], &[])?;
-        let begins = outcome
-            .report()
-            .starts_with(b"spcwave renders SPC music, as the Super Nintendo plays it");
+        let begins = outcome.report().starts_with(
+            b"spcwave renders SPC music, as the Super Nintendo plays it",
+        );
         assert!(rt; outcome.status() == Status::Ok && begins, "{word}");
     }
     Ok(())
