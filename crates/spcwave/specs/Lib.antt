@@ -6,8 +6,6 @@ pub mod Created
 pub mod Options
 -- what a run does: the clauses of the top call
 pub mod Run
--- what comes of what the program is given
-pub mod Given
 -- a host that tells no contents
 pub mod Untold
 -- what the words that were read mean

@@ -85,16 +85,3 @@ pub record Untold (command : Command) (old new : HostState) (status : Status) : 
   pub refused : status ≢ statuses.Ok → status ≢ statuses.WriteFault → LeavesNothing old new
   -- A status without numbers has its line.
   pub complaint : IfTold (plain_end status) (λ end. Complains (end_line end) old new)
-
--- All that a run does.
-pub record IsRun (command : Command) (old new : HostState) (status : Status) : Type 0 where
-  pub content : Content command old new status
-  pub read_fault : ReadFault command old new status
-  pub write_fault : WriteFault command old new status
-  pub memory : Memory command old new status
-  pub status : IsTruthful command old status
-  pub complete_calm : CompletesCalmly command old new status
-  pub complete_inputs : CompletesInputs command old new status
-  pub complete_outputs : CompletesOutputs command old new status
-  pub complete_complaint : CompletesComplaint command old new status
-  pub untold : Untold command old new status

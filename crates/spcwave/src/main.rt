@@ -4,7 +4,6 @@
 #[cfg(test)]
 mod demo_tests;
 mod disk;
-mod given;
 #[cfg(test)]
 mod hostile_tests;
 mod options;
@@ -16,7 +15,10 @@ mod tests;
 mod words;
 
 use crate::disk::DiskHost;
-use crate::given::{Given, run_given};
+use crate::run::run;
+use command_frame::{Refusal, complain};
+use snd_host::Host;
+use status_lines::{Cause, Status, status_for};
 use std::alloc::Global;
 use std::process::ExitCode;
 use std::{env, fs, io};
@@ -33,15 +35,14 @@ fn words_of(alloc: Global, rt: &(impl std::rt::Env + AllocGlobal)) -> io::Result
     Ok(words)
 }
 
-/// What the program is given.
-fn given_of(alloc: Global, rt: &(impl std::rt::Env + AllocGlobal)) -> Given {
-    match words_of(alloc, rt) {
-        Ok(words) => Given::Words(words),
-        Err(error) => match error.kind() {
-            io::ErrorKind::OutOfMemory => Given::NoMemory,
-            _ => Given::NoText,
-        },
-    }
+/// Tells why there are no words: one of them is no text, or there was no memory for them.
+fn refuse_words<H: Host>(host: &mut H, error: io::Error) -> Status {
+    let refusal = match error.kind() {
+        io::ErrorKind::OutOfMemory => Refusal::OutOfMemory,
+        _ => Refusal::Usage,
+    };
+    complain::<H, Cause>(host, Some(refusal));
+    status_for(Some(refusal))
 }
 
 fn main(rt: HostRuntime) -> ExitCode {
@@ -51,8 +52,10 @@ fn main(rt: HostRuntime) -> ExitCode {
         fs::open(&rt, NOTHING),
         fs::open(&rt, NOTHING),
     );
-    let given = given_of(rt.alloc(), &rt);
     let mut host = DiskHost::new(rt.alloc(), &rt, rt.stdout(), rt.stderr());
-    let status = run_given(rt.alloc(), &given, &mut host);
+    let status = match words_of(rt.alloc(), &rt) {
+        Ok(words) => run(rt.alloc(), words.as_slice(), &mut host),
+        Err(error) => refuse_words(&mut host, error),
+    };
     ExitCode::from(status.code())
 }
