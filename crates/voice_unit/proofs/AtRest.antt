@@ -63,6 +63,20 @@ module _ (r : VoiceRegs) (i : VoiceIn) (memory : List ℕ) (k rest : ℕ) (v : V
   unfolding voice_answer after_delay step_header
   looped_at_rest table = let none : v.delay ≡ 0 = at.delay some in rw none refl
 
+-- a voice between two groups reads none
+pub reads_none : (v : VoiceState) (memory : List ℕ) (header loop_to : ℕ) → needs_group v ≡ false → after_reading v memory header loop_to ≡ v
+unfolding after_reading
+reads_none v memory header loop_to between = rw between refl
+
+-- and so it doesn't loop
+pub loops_none : (v : VoiceState) (header : ℕ) → needs_group v ≡ false → is_looped v header ≡ false
+loops_none v header between = rw between refl
+
+-- nor does it leave its block
+pub block-after_pitch : (v : VoiceState) (pitch : ℕ) → (after_pitch v pitch).block ≡ v.block
+unfolding after_pitch
+block-after_pitch v pitch = refl
+
 -- envelope and delay after reading and moving on
 envelope-after_reading : (v : VoiceState) (memory : List ℕ) (header loop_to pitch : ℕ) → (after_pitch (after_reading v memory header loop_to) pitch).envelope ≡ v.envelope
 unfolding after_pitch after_reading at_next_group after_decoding

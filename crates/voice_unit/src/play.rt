@@ -28,6 +28,7 @@ fn mark_loop(loops: &mut [u8; 64], j: u8, looped: bool, voice: u8)
 
 impl Voice {
     /// One sample, of a voice whose envelope rests for so many.
+    #[inline(always)]
     fn play_sample(
         &mut self,
         rest: u16,
@@ -54,7 +55,10 @@ impl Voice {
         if is_keyed(input) {
             return self.play_awake(regs, input, memory, table, clock);
         }
-        self.play_at_rest(rest, regs, input, memory, table)
+        if self.needs_group() {
+            return self.play_at_rest(rest, regs, input, memory, table);
+        }
+        self.play_between(rest, regs, input, table)
     }
 
     /// Makes n samples.

@@ -1,9 +1,9 @@
 //! One sample of a voice over a batch, with a shorter way for a voice whose envelope rests.
 
-ghost use Rattle.std.specs.Prelude.{◌≡◌, ◌<◌, ◌≤◌, ◌+◌, ℕ, true, false};
+ghost use Rattle.std.specs.Prelude.{◌≡◌, ◌<◌, ◌≤◌, ◌+◌, ℕ, List, true, false};
 ghost use Rattle.aram_core.specs.Memory.{byte_at};
 ghost use Rattle.rate_clock.specs.Counter.{counter_at};
-ghost use Rattle.voice_unit.specs.Voice.{voice_step, voice_answer, is_keyed};
+ghost use Rattle.voice_unit.specs.Voice.{voice_step, voice_answer, is_keyed, needs_group};
 ghost use Rattle.envelope.specs.declared.Mode.TheVariants.{Release};
 ghost use Rattle.voice_unit.specs.Rest.{is_silencing, IsSilent, IsAtRest};
 
@@ -72,8 +72,31 @@ impl Voice {
             .rest(regs.adsr1, regs.adsr2, regs.gain, &next)
     }
 
-    /// A whole step.
+    /// A whole step over copies of its input and its clock, so that those of a sample at rest need not stand in memory.
+    #[inline(always)]
     pub(crate) fn play_awake(
+        &mut self,
+        regs: &VoiceRegs,
+        input: &VoiceIn,
+        memory: &Aram,
+        table: &GaussTable,
+        clock: &RateClock,
+    ) -> Played
+        requires pitch { regs.now.pitch < 0x4000 }
+        requires noise { input.now.noise < 0x8000 }
+        ensures voice { self.new ≡ voice_step self.old regs.now input.now memory.now clock.now }
+        ensures out { result.out ≡ (voice_answer self.old regs.now input.now memory.now table.now clock.now).out }
+        ensures looped { result.looped ≡ (voice_answer self.old regs.now input.now memory.now table.now clock.now).looped }
+        ensures rest { (k : ℕ) → clock.now ≡ counter_at k → IsAtRest input.now.reset input.now.koff regs.now memory.now (k + 1) result.rest self.new }
+    {
+        let own_input = *input;
+        let own_clock = *clock;
+        self.play_whole(regs, &own_input, memory, table, &own_clock)
+    }
+
+    /// A whole step.
+    #[inline(never)]
+    fn play_whole(
         &mut self,
         regs: &VoiceRegs,
         input: &VoiceIn,
@@ -97,7 +120,40 @@ impl Voice {
         }
     }
 
+    /// A step of a voice at rest that isn't keyed and reads no group.
+    #[inline(always)]
+    pub(crate) fn play_between(
+        &mut self,
+        rest: u16,
+        regs: &VoiceRegs,
+        input: &VoiceIn,
+        table: &GaussTable,
+    ) -> Played
+        requires pitch { regs.now.pitch < 0x4000 }
+        requires noise { input.now.noise < 0x8000 }
+        requires resting { 0 < rest }
+        requires unkeyed { is_keyed input.now ≡ false }
+        requires between { needs_group self.old ≡ false }
+        ensures voice { (memory : List ℕ) (k : ℕ) → IsAtRest input.now.reset input.now.koff regs.now memory k rest self.old
+            → self.new ≡ voice_step self.old regs.now input.now memory (counter_at k) }
+        ensures out { (memory : List ℕ) (k : ℕ) → IsAtRest input.now.reset input.now.koff regs.now memory k rest self.old
+            → result.out ≡ (voice_answer self.old regs.now input.now memory table.now (counter_at k)).out }
+        ensures looped { (memory : List ℕ) (k : ℕ) → IsAtRest input.now.reset input.now.koff regs.now memory k rest self.old
+            → result.looped ≡ (voice_answer self.old regs.now input.now memory table.now (counter_at k)).looped }
+        ensures rest { (memory : List ℕ) (k : ℕ) → IsAtRest input.now.reset input.now.koff regs.now memory k rest self.old
+            → IsAtRest input.now.reset input.now.koff regs.now memory (k + 1) result.rest self.new }
+    {
+        let out = self.output(input, table);
+        self.move_on(pitch_of(regs, input));
+        Played {
+            out,
+            looped: false,
+            rest: rest - 1,
+        }
+    }
+
     /// A step of a voice at rest that isn't keyed.
+    #[inline(always)]
     pub(crate) fn play_at_rest(
         &mut self,
         rest: u16,

@@ -5,7 +5,7 @@ ghost use Rattle.num_fix.specs.Words.{number_at};
 ghost use Rattle.aram_core.specs.Memory.{byte_at};
 ghost use Rattle.brr_decode.specs.Kept.{with_group};
 ghost use Rattle.voice_unit.specs.Directory.{start_word, loop_word};
-ghost use Rattle.voice_unit.specs.Voice.{silent_voice, pitch_of, step_pitch, step_header, after_delay, interpolation, source_sample, output, is_keyed, after_envelope, is_looped, after_decoding, at_next_group, after_reading, after_pitch, voice_step, voice_answer};
+ghost use Rattle.voice_unit.specs.Voice.{silent_voice, pitch_of, step_pitch, step_header, after_delay, interpolation, source_sample, output, is_keyed, needs_group, after_envelope, is_looped, after_decoding, at_next_group, after_reading, after_pitch, voice_step, voice_answer};
 
 use crate::directory::{loop_word, start_word};
 use crate::interface::{VoiceIn, VoiceOut, VoiceRegs};
@@ -114,6 +114,13 @@ impl Voice {
         ensures { result ≡ self.now.envelope }
     {
         self.envelope
+    }
+
+    /// Whether the position has come to the end of the samples that it may play, so that a group is to be read.
+    pub(crate) fn needs_group(&self) -> bool
+        ensures { result ≡ needs_group self.now }
+    {
+        self.position >= 0x4000
     }
 
     /// The pitch at which a step moves on.
@@ -273,7 +280,7 @@ impl Voice {
         ensures voice { self.new ≡ after_reading self.old memory.now header (loop_word input.now.dir regs.now.srcn memory.now) }
         ensures looped { result ≡ is_looped self.old header }
     {
-        if self.position < 0x4000 {
+        if !self.needs_group() {
             return false;
         }
         let looped = self.offset == LAST_GROUP && header % 2 == 1;
