@@ -52,18 +52,16 @@ fn play(dsp: &mut Dsp, memory: &mut Aram, n: u8, frames: &mut Frames, records: &
     }
 }
 
-/// Whether each record is one of voice 0 that was not keyed.
-fn is_quiet(records: &Records) -> bool {
-    records.as_slice().iter().all(|record| {
-        matches!(
-            record,
-            Record::Voice {
-                voice: 0,
-                keyed: false,
-                ..
-            }
-        )
-    })
+/// Whether a record is one of voice 0 that was not keyed.
+fn is_quiet(record: &Record) -> bool {
+    matches!(
+        record,
+        Record::Voice {
+            voice: 0,
+            keyed: false,
+            ..
+        }
+    )
 }
 
 const SILENCE: Frame = Frame { left: 0, right: 0 };
@@ -73,16 +71,51 @@ const SOUND: Frame = Frame {
     right: 4000,
 };
 
+/// The frames of a source that was keyed in the sample before them.
 const SEVEN: [Frame; 7] = [SILENCE, SILENCE, SILENCE, SILENCE, SILENCE, SOUND, SOUND];
+
+/// What was made in steps, and what the chip then tells.
+#[derive(Drop)]
+struct Made {
+    frames: Vec<Frame>,
+    records: Vec<Record>,
+    /// ENVX and OUTX of voice 0, the second by an address above 7Fh.
+    results: (u8, u8),
+    sample: u32,
+    batches: u64,
+}
+
+/// Makes samples in steps: writes of registers, and then so many samples as one batch.
+fn played(alloc: Global, steps: &[(&[(u8, u8)], u8)]) -> Result<Made, Fail> {
+    let (mut dsp, mut memory) = one_voice(alloc)?;
+    let mut frames = Frames::new(alloc)?;
+    let mut records = Records::new(alloc)?;
+    let mut all_frames = Vec::new(alloc);
+    let mut all_records = Vec::new(alloc);
+    for (writes, n) in steps {
+        for (address, value) in *writes {
+            dsp.reg_write(*address, *value);
+        }
+        if *n <= 64 {
+            play(&mut dsp, &mut memory, *n, &mut frames, &mut records);
+        }
+        all_frames.extend_from_slice(frames.as_slice())?;
+        all_records.extend_from_slice(records.as_slice())?;
+    }
+    Ok(Made {
+        frames: all_frames,
+        records: all_records,
+        results: (dsp.reg_read(0x08), dsp.reg_read(0x89)),
+        sample: dsp.sample(),
+        batches: dsp.batches(),
+    })
+}
 
 #[test]
 fn a_key_on_after_a_poll_is_lost_at_the_next(rt: HostRuntime) -> Result<(), Fail> {
-    let (mut dsp, mut memory) = one_voice(rt.alloc())?;
-    let mut frames = Frames::new(rt.alloc())?;
-    let mut records = Records::new(rt.alloc())?;
-    dsp.reg_write(0x4c, 0x01);
-    play(&mut dsp, &mut memory, 1, &mut frames, &mut records);
-    assert_eq!(rt; frames.as_slice(), [SILENCE].as_slice());
+    let made = played(rt.alloc(), &[(&[(0x4c, 0x01)], 1), (&[(0x4c, 0x01)], 7)])?;
+    assert_eq!(rt; made.frames.get(0), Some(&SILENCE));
+    assert!(rt; made.frames.iter().skip(1).eq(SEVEN.iter()));
     let keyed = Record::Voice {
         sample: 0,
         voice: 0,
@@ -92,46 +125,34 @@ fn a_key_on_after_a_poll_is_lost_at_the_next(rt: HostRuntime) -> Result<(), Fail
         keyed: true,
         looped: false,
     };
-    assert_eq!(rt; records.as_slice(), [keyed].as_slice());
-    dsp.reg_write(0x4c, 0x01);
-    play(&mut dsp, &mut memory, 7, &mut frames, &mut records);
-    assert_eq!(rt; frames.as_slice(), SEVEN.as_slice());
-    assert_eq!(rt; records.as_slice().len(), 7);
-    assert!(rt; is_quiet(&records));
-    // ENVX and OUTX, also by an address above 7Fh
-    assert_eq!(rt; (dsp.reg_read(0x08), dsp.reg_read(0x89)), (127, 15));
-    assert_eq!(rt; (dsp.sample(), dsp.batches()), (8, 2));
+    assert_eq!(rt; made.records.get(0), Some(&keyed));
+    assert_eq!(rt; made.records.len(), 8);
+    assert!(rt; made.records.iter().skip(1).all(is_quiet));
+    assert_eq!(rt; made.results, (127, 15));
+    assert_eq!(rt; (made.sample, made.batches), (8, 2));
     Ok(())
 }
 
 #[test]
 fn a_key_off_at_the_next_poll_releases(rt: HostRuntime) -> Result<(), Fail> {
-    for (is_taken_back, want) in [(true, SEVEN), (false, [SILENCE; 7])] {
-        let (mut dsp, mut memory) = one_voice(rt.alloc())?;
-        let mut frames = Frames::new(rt.alloc())?;
-        let mut records = Records::new(rt.alloc())?;
-        dsp.reg_write(0x4c, 0x01);
-        dsp.reg_write(0x5c, 0x01);
-        play(&mut dsp, &mut memory, 1, &mut frames, &mut records);
-        if is_taken_back {
-            dsp.reg_write(0x5c, 0x00);
-        }
-        play(&mut dsp, &mut memory, 7, &mut frames, &mut records);
-        assert_eq!(rt; frames.as_slice(), want.as_slice());
+    let keys: &[(u8, u8)] = &[(0x4c, 0x01), (0x5c, 0x01)];
+    let taken_back: &[(u8, u8)] = &[(0x5c, 0x00)];
+    for (writes, want) in [(taken_back, SEVEN), (&[], [SILENCE; 7])] {
+        let made = played(rt.alloc(), &[(keys, 1), (writes, 7)])?;
+        assert!(rt; made.frames.iter().skip(1).eq(want.iter()));
     }
     Ok(())
 }
 
 #[test]
 fn the_soft_reset_silences_from_the_next_sample_on(rt: HostRuntime) -> Result<(), Fail> {
-    let (mut dsp, mut memory) = one_voice(rt.alloc())?;
-    let mut frames = Frames::new(rt.alloc())?;
-    let mut records = Records::new(rt.alloc())?;
-    dsp.reg_write(0x4c, 0x01);
-    play(&mut dsp, &mut memory, 8, &mut frames, &mut records);
-    dsp.reg_write(0x6c, 0xa0);
-    play(&mut dsp, &mut memory, 3, &mut frames, &mut records);
-    assert_eq!(rt; frames.as_slice(), [SOUND, SILENCE, SILENCE].as_slice());
+    let made = played(rt.alloc(), &[(&[(0x4c, 0x01)], 8), (&[(0x6c, 0xa0)], 3)])?;
+    assert!(rt;
+        made.frames
+            .iter()
+            .skip(8)
+            .eq([SOUND, SILENCE, SILENCE].iter())
+    );
     Ok(())
 }
 

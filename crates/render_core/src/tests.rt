@@ -1,10 +1,11 @@
 // Worked renders and fades.
-ghost use Rattle.std.specs.Prelude.{◌≤◌};
+ghost use Rattle.std.specs.Prelude.{◌≡◌, ◌≤◌, IfOk};
 
 use crate::{Render, faded};
 use aram_core::Aram;
 use dsp_core::Dsp;
 use gauss_table::GaussTable;
+use lock_step::Chip;
 use num_fix::Frame;
 use spc_form::{SpcFile, read_spc};
 use std::alloc::Global;
@@ -69,6 +70,13 @@ fn file(alloc: Global, sound: &[(usize, &[u8])], program: &[u8]) -> Result<SpcFi
     Ok(read_spc(alloc, &image)?)
 }
 
+/// The chip of a file.
+fn chip_of(alloc: Global, file: &SpcFile) -> Result<Dsp, Fail>
+    ensures { IfOk result (λ chip. (chip.sample ≡ 0) × (chip.batches ≡ 0)) }
+{
+    Ok(Dsp::open(alloc, file.dsp(), GaussTable::straight(alloc)?)?)
+}
+
 /// All frames and records of a render, the number of its batches, and the samples that its chip made.
 #[derive(Drop)]
 struct Given {
@@ -79,8 +87,8 @@ struct Given {
 }
 
 /// Gives all that is to come of a render.
-fn give_all(
-    render: &mut Render<Dsp>,
+fn give_all<C: Chip>(
+    render: &mut Render<C>,
     frames: &mut Vec<Frame>,
     records: &mut Vec<Record>,
 ) -> Result<(), Fail> {
@@ -94,11 +102,12 @@ fn give_all(
     }
 }
 
-/// Renders so many samples of a file, with the records of voice 0.
-fn rendered(alloc: Global, file: &SpcFile, samples: u32) -> Result<Given, Fail>
-    requires { samples ≤ 115200000 }
+/// Renders so many samples of a file over a chip, with the records of voice 0.
+fn render_over<C: Chip>(alloc: Global, file: &SpcFile, chip: C, samples: u32) -> Result<Given, Fail>
+    requires few { samples ≤ 115200000 }
+    requires sample { C.sample chip ≡ 0 }
+    requires batches { C.batches chip ≡ 0 }
 {
-    let chip = Dsp::open(alloc, file.dsp(), GaussTable::straight(alloc)?)?;
     let mut render = Render::open(alloc, file, chip, samples, 0x01)?;
     let mut frames = Vec::new(alloc);
     let mut records = Vec::new(alloc);
@@ -111,6 +120,13 @@ fn rendered(alloc: Global, file: &SpcFile, samples: u32) -> Result<Given, Fail>
         batches,
         made,
     })
+}
+
+/// Renders so many samples of a file, with the records of voice 0.
+fn rendered(alloc: Global, file: &SpcFile, samples: u32) -> Result<Given, Fail>
+    requires { samples ≤ 115200000 }
+{
+    render_over(alloc, file, chip_of(alloc, file)?, samples)
 }
 
 /// A record of voice 0 that plays the block at 0500h.
@@ -195,56 +211,63 @@ fn records_after_the_last_frame_are_dropped(rt: HostRuntime) -> Result<(), Fail>
     Ok(())
 }
 
-/// Sends a render that is done on to a length, and gives the frames until there.
-fn frames_until(alloc: Global, render: &mut Render<Dsp>, samples: u32) -> Result<Vec<Frame>, Fail>
+/// Adds the frames of a render that is sent on to a length, and gives what it then tells: whether it is done, the next sample
+/// of its chip, and the samples made in all.
+fn send_on<C: Chip>(
+    alloc: Global,
+    render: &mut Render<C>,
+    samples: u32,
+    frames: &mut Vec<Frame>,
+) -> Result<(bool, u32, u64), Fail>
     requires { samples ≤ 115200000 }
 {
     if render.is_done() && render.chip().sample() <= samples {
         render.aim(samples);
     }
-    let mut frames = Vec::new(alloc);
     let mut records = Vec::new(alloc);
-    give_all(render, &mut frames, &mut records)?;
-    Ok(frames)
+    give_all(render, frames, &mut records)?;
+    Ok((render.is_done(), render.chip().sample(), render.total()))
+}
+
+/// Sends a render over a chip to sample 3, on to 8, back to 3 and to 8 again.
+fn go_back_and_on<C: Chip>(
+    alloc: Global,
+    file: &SpcFile,
+    chip: C,
+) -> Result<(Vec<Frame>, [(bool, u32, u64); 3]), Fail>
+    requires sample { C.sample chip ≡ 0 }
+    requires batches { C.batches chip ≡ 0 }
+{
+    let image = vec![in alloc; 0u8; 0x10000]?;
+    let mut memory = Aram::from_image(alloc, &image)?;
+    let mut frames = Vec::new(alloc);
+    let mut render = Render::open(alloc, file, chip, 3, 0)?;
+    let third = send_on(alloc, &mut render, 3, &mut frames)?;
+    if !render.is_done() {
+        return Ok((frames, [third; 3]));
+    }
+    memory.copy_from(render.memory());
+    let saved = render.save();
+    let eighth = send_on(alloc, &mut render, 8, &mut frames)?;
+    if render.is_done() {
+        render.load(&saved, &memory);
+    }
+    let again = send_on(alloc, &mut render, 8, &mut frames)?;
+    Ok((frames, [third, eighth, again]))
 }
 
 /// A render goes from sample 3 to 8, back to 3 and to 8 again. Its chip makes 13 samples in all.
 #[test]
 fn a_render_is_saved_loaded_and_sent_on(rt: HostRuntime) -> Result<(), Fail> {
-    let alloc = rt.alloc();
-    let playing = file(alloc, &SOUND, &[])?;
-    let chip = Dsp::open(alloc, playing.dsp(), GaussTable::straight(alloc)?)?;
-    let mut render = Render::open(alloc, &playing, chip, 3, 0)?;
-    assert_eq!(rt;
-        frames_until(alloc, &mut render, 3)?.as_slice(),
-        [SILENT; 3].as_slice()
-    );
-    if !render.is_done() {
-        panic!(rt; "not at sample 3");
-    }
-    let image = vec![in alloc; 0u8; 0x10000]?;
-    let mut memory = Aram::from_image(alloc, &image)?;
-    memory.copy_from(render.memory());
-    let third = render.save();
-    let rest = [SILENT, SILENT, SILENT, LOUD, LOUD];
-    assert_eq!(rt;
-        frames_until(alloc, &mut render, 8)?.as_slice(),
-        rest.as_slice()
-    );
-    if !render.is_done() {
-        panic!(rt; "not at sample 8");
-    }
-    assert_eq!(rt; render.total(), 8);
-    render.load(&third, &memory);
-    assert_eq!(rt;
-        (render.is_done(), render.chip().sample(), render.total()),
-        (true, 3, 8)
-    );
-    assert_eq!(rt;
-        frames_until(alloc, &mut render, 8)?.as_slice(),
-        rest.as_slice()
-    );
-    assert_eq!(rt; (render.chip().sample(), render.total()), (8, 13));
+    let playing = file(rt.alloc(), &SOUND, &[])?;
+    let chip = chip_of(rt.alloc(), &playing)?;
+    let (frames, told) = go_back_and_on(rt.alloc(), &playing, chip)?;
+    assert_eq!(rt; told, [(true, 3, 3), (true, 8, 8), (true, 8, 13)]);
+    let wanted = [
+        SILENT, SILENT, SILENT, SILENT, SILENT, SILENT, LOUD, LOUD, SILENT, SILENT, SILENT, LOUD,
+        LOUD,
+    ];
+    assert_eq!(rt; frames.as_slice(), wanted.as_slice());
     Ok(())
 }
 

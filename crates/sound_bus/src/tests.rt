@@ -1,6 +1,6 @@
 //! Calls of both buses, and runs of the processor over the one that makes each sample at once.
 
-ghost use Rattle.std.specs.Prelude.{◌≡◌, ◌+◌, ◌<◌, IfOk};
+ghost use Rattle.std.specs.Prelude.{◌≡◌, IfOk};
 
 use crate::{Chip, Counts, DrainedBus, LagBus, PlainBus};
 use aram_core::Aram;
@@ -72,126 +72,232 @@ fn opening_of(
     })
 }
 
-/// The bus at such an opening that makes each sample at once.
-fn open_bus(
-    alloc: Global,
-    bytes: &[(u16, &[u8])],
-    registers: &[(usize, u8)],
-    mask: u8,
-) -> Result<PlainBus<Dsp>, Fail>
-    ensures { IfOk result (λ bus. (bus.calls ≡ 0) × (bus.clock ≡ 0)) }
+/// The chip of an opening.
+fn chip_of(alloc: Global, opening: &OpenState) -> Result<Dsp, Fail>
+    ensures { IfOk result (λ chip. (chip.sample ≡ 0) × (chip.batches ≡ 0)) }
 {
-    let opening = opening_of(alloc, bytes, registers)?;
-    let chip = Dsp::open(alloc, &opening.dsp, GaussTable::straight(alloc)?)?;
-    Ok(PlainBus::open(alloc, opening, chip, mask)?)
+    Ok(Dsp::open(alloc, &opening.dsp, GaussTable::straight(alloc)?)?)
 }
 
-/// The bus over the source that makes samples late, at an opening with such registers.
-fn open_lag_bus(alloc: Global, registers: &[(usize, u8)], mask: u8) -> Result<LagBus<Dsp>, Fail>
-    ensures { IfOk result (λ bus. (bus.machine.calls ≡ 0) × (bus.machine.clock ≡ 0)) }
-{
-    let opening = opening_of(alloc, &SOURCE, registers)?;
-    let chip = Dsp::open(alloc, &opening.dsp, GaussTable::straight(alloc)?)?;
-    Ok(LagBus::open(alloc, opening, chip, mask)?)
+/// A call of a bus. A pass is of 32 cycles, one sample.
+#[derive(Clone, Copy)]
+enum Call {
+    Pass,
+    Read(u16),
+    Write(u16, u8),
+    Settle,
+    Drain,
 }
 
-/// A pass of 32 cycles.
-fn pass_32<B: Bus>(bus: &mut B)
-    requires room { B.means.calls bus.old < 64 }
-    requires time { B.means.clock bus.old < 1000000 }
-    ensures calls { B.means.calls bus.new ≡ B.means.calls bus.old + 1 }
-    ensures clock { B.means.clock bus.new ≡ B.means.clock bus.old + 32 }
-{
-    bus.pass(32);
+/// What was emitted.
+#[derive(Drop)]
+struct Emitted {
+    frames: Vec<Frame>,
+    records: Vec<Record>,
 }
 
-fn read<B: Bus>(bus: &mut B, addr: u16) -> u8
-    requires { B.means.calls bus.old < 64 }
-    ensures calls { B.means.calls bus.new ≡ B.means.calls bus.old + 1 }
-    ensures clock { B.means.clock bus.new ≡ B.means.clock bus.old }
-{
-    bus.read(addr)
-}
-
-fn write<B: Bus>(bus: &mut B, addr: u16, value: u8)
-    requires { B.means.calls bus.old < 64 }
-    ensures calls { B.means.calls bus.new ≡ B.means.calls bus.old + 1 }
-    ensures clock { B.means.clock bus.new ≡ B.means.clock bus.old }
-{
-    bus.write(addr, value);
-}
-
-/// The lists that a drain fills: how many frames, whether all are silent, and how many records.
-fn drained<B: DrainedBus>(alloc: Global, bus: &mut B) -> Result<(usize, bool, usize), Fail>
-    ensures calls { IfOk result (λ _. B.means.calls bus.new ≡ 0) }
-{
+/// Drains a bus, and gives the number of frames.
+fn drain<B: DrainedBus>(alloc: Global, bus: &mut B, all: &mut Emitted) -> Result<u8, Fail> {
     let mut frames = Frames::new(alloc)?;
     let mut records = Records::new(alloc)?;
     bus.drain(&mut frames, &mut records);
-    let frames = frames.as_slice();
-    let silent = frames.iter().all(|frame| *frame == SILENCE);
-    Ok((frames.len(), silent, records.as_slice().len()))
+    all.frames.extend_from_slice(frames.as_slice())?;
+    all.records.extend_from_slice(records.as_slice())?;
+    Ok(frames.as_slice().len() as u8)
 }
 
-#[test]
-fn each_call_acts_at_once(rt: HostRuntime) -> Result<(), Fail> {
-    let mut bus = open_bus(rt.alloc(), &SOURCE, &KEYED, 0)?;
-    pass_32(&mut bus);
-    pass_32(&mut bus);
-    pass_32(&mut bus);
-    assert_eq!(rt; bus.pending(), 0);
-    assert_eq!(rt; read(&mut bus, 0x00F3), 0x7F);
-    write(&mut bus, 0x0700, 0x01);
-    assert_eq!(rt; bus.pending(), 0);
-    write(&mut bus, 0x0500, 0xC3);
-    assert_eq!(rt; bus.pending(), 0);
-    assert_eq!(rt; read(&mut bus, 0x0700), 0x01);
-    assert_eq!(rt; read(&mut bus, 0x0500), 0xC3);
-    bus.settle();
-    assert_eq!(rt; (bus.pending(), bus.made(), bus.to_sample()), (0, 3, 32));
-    assert_eq!(rt; drained(rt.alloc(), &mut bus)?, (3, true, 0));
-    assert_eq!(rt; drained(rt.alloc(), &mut bus)?, (0, true, 0));
-    let counts = Counts {
-        batches: 3,
+/// Makes a call, and gives the byte that was read, or the number of frames that were drained, or 0.
+fn make<B: DrainedBus>(
+    alloc: Global,
+    bus: &mut B,
+    call: Call,
+    all: &mut Emitted,
+) -> Result<u8, Fail> {
+    if !bus.has_room() || bus.made() > 1000 {
+        return Ok(0xEE);
+    }
+    match call {
+        Call::Pass => bus.pass(32),
+        Call::Read(address) => return Ok(bus.read(address)),
+        Call::Write(address, value) => bus.write(address, value),
+        Call::Settle => bus.settle(),
+        Call::Drain => return drain(alloc, bus, all),
+    }
+    Ok(0)
+}
+
+/// What came of calls of a bus.
+#[derive(Drop)]
+struct Told {
+    /// Of each call what it gave, and the samples that are pending after it.
+    answers: Vec<(u8, u8)>,
+    emitted: Emitted,
+    counts: Counts,
+    /// The samples of the machine, and the cycles to the next one.
+    time: (u32, u8),
+}
+
+/// Nothing is emitted yet.
+fn nothing(alloc: Global) -> Emitted {
+    Emitted {
+        frames: Vec::new(alloc),
+        records: Vec::new(alloc),
+    }
+}
+
+/// Calls of the bus that makes each sample at once.
+fn call_plain<C: Chip>(
+    alloc: Global,
+    opening: OpenState,
+    chip: C,
+    calls: &[Call],
+) -> Result<Told, Fail>
+    requires sample { C.sample chip ≡ 0 }
+    requires batches { C.batches chip ≡ 0 }
+{
+    let mut bus = PlainBus::open(alloc, opening, chip, 1)?;
+    let mut answers = Vec::new(alloc);
+    let mut emitted = nothing(alloc);
+    for call in calls {
+        let byte = make(alloc, &mut bus, *call, &mut emitted)?;
+        answers.push((byte, bus.pending()))?;
+    }
+    Ok(Told {
+        answers,
+        emitted,
+        counts: bus.counts(),
+        time: (bus.made(), bus.to_sample()),
+    })
+}
+
+/// Calls of the bus that makes samples late.
+fn call_late<C: Chip>(
+    alloc: Global,
+    opening: OpenState,
+    chip: C,
+    calls: &[Call],
+) -> Result<Told, Fail>
+    requires sample { C.sample chip ≡ 0 }
+    requires batches { C.batches chip ≡ 0 }
+{
+    let mut bus = LagBus::open(alloc, opening, chip, 1)?;
+    let mut answers = Vec::new(alloc);
+    let mut emitted = nothing(alloc);
+    for call in calls {
+        let byte = make(alloc, &mut bus, *call, &mut emitted)?;
+        answers.push((byte, bus.pending()))?;
+    }
+    Ok(Told {
+        answers,
+        emitted,
+        counts: bus.counts(),
+        time: (bus.made(), bus.to_sample()),
+    })
+}
+
+/// Three samples pass; then a register is read, a byte is written that no sample reads, one that the next samples read, and
+/// both are read.
+const CALLS: [Call; 11] = [
+    Call::Pass,
+    Call::Pass,
+    Call::Pass,
+    Call::Read(0x00F3),
+    Call::Write(0x0700, 0x01),
+    Call::Write(0x0500, 0xC3),
+    Call::Read(0x0700),
+    Call::Read(0x0500),
+    Call::Settle,
+    Call::Drain,
+    Call::Drain,
+];
+
+/// Counts of so many batches, of which so many were made for a write of memory.
+fn counts_of(batches: u64, memory: u64) -> Counts {
+    Counts {
+        batches,
         register: 0,
-        memory: 0,
+        memory,
         echo: 0,
         full: 0,
         events: 0,
         end: 0,
-    };
-    assert_eq!(rt; bus.counts(), counts);
+    }
+}
+
+/// Whether records are those of voice 0 in the samples 0 to 2.
+fn are_three_of_voice_0(records: &[Record]) -> bool {
+    matches!(
+        records,
+        [
+            Record::Voice {
+                sample: 0,
+                voice: 0,
+                ..
+            },
+            Record::Voice {
+                sample: 1,
+                voice: 0,
+                ..
+            },
+            Record::Voice {
+                sample: 2,
+                voice: 0,
+                ..
+            },
+        ]
+    )
+}
+
+#[test]
+fn each_call_acts_at_once(rt: HostRuntime) -> Result<(), Fail> {
+    let opening = opening_of(rt.alloc(), &SOURCE, &KEYED)?;
+    let chip = chip_of(rt.alloc(), &opening)?;
+    let told = call_plain(rt.alloc(), opening, chip, &CALLS)?;
+    let wanted = [
+        (0, 0),
+        (0, 0),
+        (0, 0),
+        (0x7F, 0),
+        (0, 0),
+        (0, 0),
+        (0x01, 0),
+        (0xC3, 0),
+        (0, 0),
+        (3, 0),
+        (0, 0),
+    ];
+    assert_eq!(rt; told.answers.as_slice(), wanted.as_slice());
+    assert_eq!(rt; told.time, (3, 32));
+    assert_eq!(rt; told.counts, counts_of(3, 0));
+    assert_eq!(rt; told.emitted.frames.as_slice(), [SILENCE; 3].as_slice());
+    assert!(rt; are_three_of_voice_0(told.emitted.records.as_slice()));
     Ok(())
 }
 
 /// The same calls: no sample is made before one of them needs it.
 #[test]
 fn samples_wait_until_they_are_needed(rt: HostRuntime) -> Result<(), Fail> {
-    let mut bus = open_lag_bus(rt.alloc(), &KEYED, 0)?;
-    pass_32(&mut bus);
-    pass_32(&mut bus);
-    pass_32(&mut bus);
-    assert_eq!(rt; bus.pending(), 3);
-    assert_eq!(rt; read(&mut bus, 0x00F3), 0x7F);
-    write(&mut bus, 0x0700, 0x01);
-    assert_eq!(rt; bus.pending(), 3);
-    write(&mut bus, 0x0500, 0xC3);
-    assert_eq!(rt; bus.pending(), 0);
-    assert_eq!(rt; read(&mut bus, 0x0700), 0x01);
-    assert_eq!(rt; read(&mut bus, 0x0500), 0xC3);
-    assert_eq!(rt; (bus.made(), bus.to_sample()), (3, 32));
-    assert_eq!(rt; drained(rt.alloc(), &mut bus)?, (3, true, 0));
-    let counts = Counts {
-        batches: 1,
-        register: 0,
-        memory: 1,
-        echo: 0,
-        full: 0,
-        events: 0,
-        end: 0,
-    };
-    assert_eq!(rt; bus.counts(), counts);
-    assert_eq!(rt; (bus.chip().batches(), bus.chip().sample()), (1, 3));
+    let opening = opening_of(rt.alloc(), &SOURCE, &KEYED)?;
+    let chip = chip_of(rt.alloc(), &opening)?;
+    let told = call_late(rt.alloc(), opening, chip, &CALLS)?;
+    let wanted = [
+        (0, 1),
+        (0, 2),
+        (0, 3),
+        (0x7F, 3),
+        (0, 3),
+        (0, 0),
+        (0x01, 0),
+        (0xC3, 0),
+        (0, 0),
+        (3, 0),
+        (0, 0),
+    ];
+    assert_eq!(rt; told.answers.as_slice(), wanted.as_slice());
+    assert_eq!(rt; told.time, (3, 32));
+    assert_eq!(rt; told.counts, counts_of(1, 1));
+    assert_eq!(rt; told.emitted.frames.as_slice(), [SILENCE; 3].as_slice());
+    assert!(rt; are_three_of_voice_0(told.emitted.records.as_slice()));
     Ok(())
 }
 
@@ -200,26 +306,41 @@ fn samples_wait_until_they_are_needed(rt: HostRuntime) -> Result<(), Fail> {
 #[test]
 fn what_waits_is_handed_over_in_order(rt: HostRuntime) -> Result<(), Fail> {
     let registers = [(0x4C, 0xFF), (0x5D, 0x02), (0x6C, 0x20), (0x6D, 0x80)];
-    let mut bus = open_lag_bus(rt.alloc(), &registers, 0x01)?;
-    pass_32(&mut bus);
-    pass_32(&mut bus);
-    write(&mut bus, 0x0500, 0xC3);
-    pass_32(&mut bus);
-    write(&mut bus, 0x00F4, 0x5A);
-    pass_32(&mut bus);
-    assert_eq!(rt; drained(rt.alloc(), &mut bus)?, (2, true, 2));
-    assert_eq!(rt; bus.pending(), 2);
-    bus.settle();
-    let mut frames = Frames::new(rt.alloc())?;
-    let mut records = Records::new(rt.alloc())?;
-    bus.drain(&mut frames, &mut records);
+    let calls = [
+        Call::Pass,
+        Call::Pass,
+        Call::Write(0x0500, 0xC3),
+        Call::Pass,
+        Call::Write(0x00F4, 0x5A),
+        Call::Pass,
+        Call::Drain,
+        Call::Settle,
+        Call::Drain,
+    ];
+    let opening = opening_of(rt.alloc(), &SOURCE, &registers)?;
+    let chip = chip_of(rt.alloc(), &opening)?;
+    let told = call_late(rt.alloc(), opening, chip, &calls)?;
+    let wanted = [
+        (0, 1),
+        (0, 2),
+        (0, 0),
+        (0, 1),
+        (0, 1),
+        (0, 2),
+        (2, 2),
+        (0, 0),
+        (2, 0),
+    ];
+    assert_eq!(rt; told.answers.as_slice(), wanted.as_slice());
     let port = Record::Port {
         sample: 3,
         port: 0,
         value: 0x5A,
     };
-    match records.as_slice() {
+    match told.emitted.records.as_slice() {
         [
+            Record::Voice { sample: 0, .. },
+            Record::Voice { sample: 1, .. },
             Record::Voice { sample: 2, .. },
             event,
             Record::Voice { sample: 3, .. },
@@ -257,23 +378,23 @@ fn the_dsp_is_a_chip(rt: HostRuntime) -> Result<(), Fail> {
     Ok(())
 }
 
-/// What a run of the processor emits.
-#[derive(Drop)]
-struct Emitted {
-    frames: Vec<Frame>,
-    records: Vec<Record>,
-}
-
 /// Lets the processor make a step.
-fn next(cpu: &mut Cpu, bus: &mut PlainBus<Dsp>, frames: &mut Frames, records: &mut Records) {
-    bus.drain(frames, records);
-    if bus.made() < 1000 {
+fn next<B: DrainedBus>(cpu: &mut Cpu, bus: &mut B) {
+    if bus.has_room() && bus.made() < 1000 {
         step(cpu, bus);
     }
 }
 
-/// Runs a program at 0400h until some samples are made.
-fn run_program(alloc: Global, bus: &mut PlainBus<Dsp>, samples: u32) -> Result<Emitted, Fail> {
+/// Runs a program at 0400h over the bus that makes each sample at once, until some samples are made.
+fn run_program<C: Chip>(
+    alloc: Global,
+    opening: OpenState,
+    chip: C,
+    samples: u32,
+) -> Result<Emitted, Fail>
+    requires sample { C.sample chip ≡ 0 }
+    requires batches { C.batches chip ≡ 0 }
+{
     let mut cpu = Cpu {
         a: 0,
         x: 0,
@@ -283,22 +404,14 @@ fn run_program(alloc: Global, bus: &mut PlainBus<Dsp>, samples: u32) -> Result<E
         psw: 0,
         halted: false,
     };
-    let mut frames = Frames::new(alloc)?;
-    let mut records = Records::new(alloc)?;
-    let mut all = Emitted {
-        frames: Vec::new(alloc),
-        records: Vec::new(alloc),
-    };
+    let mut bus = PlainBus::open(alloc, opening, chip, 0)?;
+    let mut all = nothing(alloc);
     for _ in 0..200 {
         if bus.made() < samples {
-            next(&mut cpu, bus, &mut frames, &mut records);
-            all.frames.extend_from_slice(frames.as_slice())?;
-            all.records.extend_from_slice(records.as_slice())?;
+            next(&mut cpu, &mut bus);
+            drain(alloc, &mut bus, &mut all)?;
         }
     }
-    bus.drain(&mut frames, &mut records);
-    all.frames.extend_from_slice(frames.as_slice())?;
-    all.records.extend_from_slice(records.as_slice())?;
     Ok(all)
 }
 
@@ -337,8 +450,9 @@ fn programs_write_registers_and_ports(rt: HostRuntime) -> Result<(), Fail> {
     ];
     for (code, flg, samples, records) in cases {
         let registers = [(0x6C, flg), (0x6D, if flg == 0 { 0x04 } else { 0xE0 })];
-        let mut bus = open_bus(alloc, &[(0x0400, code)], &registers, 0)?;
-        let all = run_program(alloc, &mut bus, samples)?;
+        let opening = opening_of(alloc, &[(0x0400, code)], &registers)?;
+        let chip = chip_of(alloc, &opening)?;
+        let all = run_program(alloc, opening, chip, samples)?;
         assert_eq!(rt; all.records.as_slice(), records);
         assert!(rt; all.frames.iter().all(|frame| *frame == SILENCE));
         assert_eq!(rt; all.frames.len(), samples as usize);
@@ -356,8 +470,9 @@ fn a_loop_sends_the_envelope_to_a_port(rt: HostRuntime) -> Result<(), Fail> {
         0x0400,
         &[0x8F, 0x08, 0xF2, 0xE4, 0xF3, 0xC4, 0xF4, 0x2F, 0xFA],
     );
-    let mut bus = open_bus(alloc, &[directory, first, second, code], &KEYED, 0)?;
-    let all = run_program(alloc, &mut bus, 8)?;
+    let opening = opening_of(alloc, &[directory, first, second, code], &KEYED)?;
+    let chip = chip_of(alloc, &opening)?;
+    let all = run_program(alloc, opening, chip, 8)?;
     assert_eq!(rt; all.records.len(), 23);
     for (place, record) in all.records.iter().enumerate() {
         let Record::Port {

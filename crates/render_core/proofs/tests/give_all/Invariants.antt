@@ -2,4 +2,4 @@ use Rattle.std.proofs.Common.{◌*◌, ◌-◌}
 use Rattle.render_core.proofs.tests.give_all.Given as goal
 
 abbrev pub decreases-pieces : goal.decreases-pieces
-decreases-pieces l = 32 * l.render.samples - l.render.bus.machine.clock
+decreases-pieces g l = 32 * l.render.samples - l.render.bus.machine.clock
