@@ -17,6 +17,7 @@ COMMANDS = [
     ('asm', ['asm', 'tune.asm', '0400', 'OUT']),
     ('dis', ['dis', 'in.brr', '0400', 'OUT']),
     ('rip', ['rip', 'tune.spc', 'RIP']),
+    ('serve', ['serve', 'tune.spc', 'gauss.table', 'SCRIPT', 'OUT', '--pages', '300']),
     ('help', ['help']),
     ('version', ['version']),
 ]
@@ -43,6 +44,7 @@ def make_inputs(program, folder):
     """The inputs of all commands."""
     for name in ('tune.spc', 'tune.asm', 'gauss.table', 'straight.table'):
         write(os.path.join(folder, name), read(os.path.join(EXAMPLES, name)))
+    write(os.path.join(folder, 'SCRIPT'), b'seek 300\nmark\nplay 100\nseek 300\nplay 50\ndrop 300\nfree\n')
     tune = read(os.path.join(EXAMPLES, 'tune.spc'))
     place = 0x100 + int.from_bytes(tune[0x100 + 0x2004:0x100 + 0x2006], 'little')
     write(os.path.join(folder, 'in.brr'), tune[place:place + 9 * 40])

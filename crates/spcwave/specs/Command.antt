@@ -11,12 +11,13 @@ use Rattle.command_check.specs.Check.{check_answer}
 use Rattle.command_demo.specs.Demo.{demo_answer}
 use Rattle.command_help.specs.Help.{help_answer, version_answer}
 use Rattle.command_render.specs.Options.{Options}
-use Rattle.spcwave.specs.Options.{is_name, options_in, demo_number_in, origin_in, range_in}
+use Rattle.spcwave.specs.Options.{is_name, options_in, demo_number_in, origin_in, range_in, usual_pages, pages_in}
 use Rattle.command_render.specs.Render.{render_answer}
 use Rattle.command_info.specs.Info.{info_answer}
 use Rattle.command_asm.specs.Asm.{asm_answer}
 use Rattle.command_dis.specs.Dis.{dis_answer}
 use Rattle.command_rip.specs.Rip.{rip_answer}
+use Rattle.command_serve.specs.Serve.{serve_answer}
 
 -- a command with its names
 pub data Command : Type 0 where
@@ -43,6 +44,9 @@ pub data Command : Type 0 where
   dis : (input : List ℕ) → (origin : ℕ) → (output : List ℕ) → Command
   -- writes wanted samples of an SPC file under names that begin with the prefix: those of the voices, and those of a range
   rip : (file prefix : List ℕ) → (range : Option (ℕ × ℕ)) → Command
+  -- runs the script of the third name over the SPC file of the first and the table of the second, with so many pages for checkpoints,
+  -- and writes what is played to a sound file of the fourth name
+  serve : (file table script wave : List ℕ) → (pages : ℕ) → Command
 
 -- a command that stands alone: no word comes after it
 abbrev pub alone : Command → List (List ℕ) → Command
@@ -135,6 +139,24 @@ abbrev pub rip_command : List (List ℕ) → Command
 rip_command (file ∷ prefix ∷ words) = if is_name file && is_name prefix then rip_over file prefix words else usage
 rip_command words = usage
 
+-- `serve` with a number of pages, which its word has to say
+abbrev pub serve_with : (file table script wave : List ℕ) → (pages : Option ℕ) → Command
+serve_with file table script wave None = usage
+serve_with file table script wave (Some pages) = serve file table script wave pages
+
+-- `serve` with these names and the words after them: none, or a number of pages
+abbrev pub serve_over : (file table script wave : List ℕ) → (words : List (List ℕ)) → Command
+serve_over file table script wave [] = serve file table script wave usual_pages
+serve_over file table script wave (option ∷ pages ∷ []) =
+    if bytes_eq option (codes "--pages") then serve_with file table script wave (pages_in pages) else usage
+serve_over file table script wave words = usage
+
+-- the words after `serve`
+abbrev pub serve_command : List (List ℕ) → Command
+serve_command (file ∷ table ∷ script ∷ wave ∷ words) =
+    if is_name file && (is_name table && (is_name script && is_name wave)) then serve_over file table script wave words else usage
+serve_command words = usage
+
 -- the command that the words say
 abbrev pub command_of : List (List ℕ) → Command
 command_of [] = usage
@@ -150,6 +172,7 @@ command_of (name ∷ words) =
     else if bytes_eq name (codes "asm") then asm_command words
     else if bytes_eq name (codes "dis") then dis_command words
     else if bytes_eq name (codes "rip") then rip_command words
+    else if bytes_eq name (codes "serve") then serve_command words
     else usage
 
 -- whether a command names an input
@@ -166,6 +189,7 @@ names_input (check number) = false
 names_input (asm input origin output) = true
 names_input (dis input origin output) = true
 names_input (rip file prefix range) = true
+names_input (serve file table script wave pages) = true
 
 -- what a command answers, by what the names hold
 abbrev pub answer_of : Command → Files → Answer Cause
@@ -181,3 +205,4 @@ answer_of (check number) files = check_answer number
 answer_of (asm input origin output) files = asm_answer origin output (files input)
 answer_of (dis input origin output) files = dis_answer origin output (files input)
 answer_of (rip file prefix range) files = rip_answer prefix range (files file)
+answer_of (serve file table script wave pages) files = serve_answer wave pages (files file) (files table) (files script)

@@ -2,6 +2,8 @@
 pub mod Command
 -- the created outputs of a host of real files
 pub mod Created
+-- what comes of what the command line gives
+pub mod Given
 -- the options of `render`, as words say them
 pub mod Options
 -- what a run does: the clauses of the top call

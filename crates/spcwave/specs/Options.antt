@@ -1,4 +1,4 @@
--- The options of `render`, and numbers and addresses, as words say them.
+-- The options of `render`, and numbers, addresses and pages, as words say them.
 use Rattle.std.specs.Prelude.{ℕ, ◌+◌, ◌*◌, ◌==◌, ◌&&◌, not, Bool, false, List, [], ◌∷◌, slice_index, Option, Some, None, Result, Ok, Err, codes, nat_le, if◌then◌else◌}
 use Rattle.std.specs.Option.{option_map}
 use Rattle.std.specs.Str.{bytes_eq}
@@ -6,6 +6,8 @@ use Rattle.hex.specs.Hex.{decode_sized}
 use Rattle.hex.specs.declared.error.FromHexError.{FromHexError}
 use Rattle.number_text.specs.Decimals.{decimal_value, is_number}
 use Rattle.num_fix.specs.Limits.{most_frames}
+use Rattle.page_pool.specs.Pool.{most_pages}
+use Rattle.cut_form.specs.CutBook.{slots_for_cuts}
 use Rattle.command_render.specs.Options.{Options}
 
 abbrev pub no_options : Options
@@ -58,6 +60,18 @@ range_of (Err error) = None
 -- the range that a word says: four hexadecimal digits of either case, two for the first entry and two for the last
 abbrev pub range_in : List ℕ → Option (ℕ × ℕ)
 range_in word = range_of (decode_sized word 2)
+
+-- the fewest pages for the checkpoints of a session, which is those of one memory, and how many it has where no word says so
+abbrev pub fewest_pages : ℕ
+fewest_pages = 256
+
+abbrev pub usual_pages : ℕ
+usual_pages = slots_for_cuts
+
+-- the number of pages that a word says in 1 to 5 digits
+abbrev pub pages_in : List ℕ → Option ℕ
+pages_in word =
+    if is_number 5 word && (nat_le fewest_pages (decimal_value word) && nat_le (decimal_value word) most_pages) then Some (decimal_value word) else None
 
 -- what an option is set to, unless it was set before
 abbrev pub once : {T : Type 0} → (before value : Option T) → Option T

@@ -1,23 +1,27 @@
 -- What the words that were read mean.
+use Rattle.std.specs.Prelude.{◌≤◌}
+use Rattle.page_pool.specs.Pool.{most_pages}
 use Rattle.spcwave.specs.Command as command
+use Rattle.spcwave.specs.Options.{fewest_pages}
 use Rattle.command_render.specs.Options.{options_of, IsWithinHour}
 use Rattle.spcwave.specs.declared.words.Command.{Command}
-use Rattle.spcwave.specs.declared.words.Command.TheVariants.{Usage, Help, Version, Brr, Info, Encode, Render, Demo, Check, Asm, Dis, Rip}
+use Rattle.spcwave.specs.declared.words.Command.TheVariants.{Usage, Help, Version, Brr, Info, Encode, Render, Demo, Check, Asm, Dis, Rip, Serve}
 
--- an hour of frames at most, where a number of samples is given
-abbrev pub AreWithinHour : Command → Type 0
-AreWithinHour Usage = Unit {0}
-AreWithinHour Help = Unit {0}
-AreWithinHour Version = Unit {0}
-AreWithinHour (Brr input output) = Unit {0}
-AreWithinHour (Info input) = Unit {0}
-AreWithinHour (Encode input output looped) = Unit {0}
-AreWithinHour (Render file table wave options) = IsWithinHour options.samples
-AreWithinHour (Demo number output) = Unit {0}
-AreWithinHour (Check number) = Unit {0}
-AreWithinHour (Asm input origin output) = Unit {0}
-AreWithinHour (Dis input origin output) = Unit {0}
-AreWithinHour (Rip file prefix range) = Unit {0}
+-- The numbers are in range: an hour of frames at most, and pages that a pool may have.
+abbrev pub AreInRange : Command → Type 0
+AreInRange Usage = Unit {0}
+AreInRange Help = Unit {0}
+AreInRange Version = Unit {0}
+AreInRange (Brr input output) = Unit {0}
+AreInRange (Info input) = Unit {0}
+AreInRange (Encode input output looped) = Unit {0}
+AreInRange (Render file table wave options) = IsWithinHour options.samples
+AreInRange (Demo number output) = Unit {0}
+AreInRange (Check number) = Unit {0}
+AreInRange (Asm input origin output) = Unit {0}
+AreInRange (Dis input origin output) = Unit {0}
+AreInRange (Rip file prefix range) = Unit {0}
+AreInRange (Serve file table script wave pages) = (fewest_pages ≤ pages) × (pages ≤ most_pages)
 
 abbrev pub meaning_of : Command → command.Command
 meaning_of Usage = command.usage
@@ -32,3 +36,4 @@ meaning_of (Check number) = command.check number
 meaning_of (Asm input origin output) = command.asm input.now origin output.now
 meaning_of (Dis input origin output) = command.dis input.now origin output.now
 meaning_of (Rip file prefix range) = command.rip file.now prefix.now range
+meaning_of (Serve file table script wave pages) = command.serve file.now table.now script.now wave.now pages

@@ -331,7 +331,7 @@ fn sounds_of_no_length_and_of_too_great_a_length_are_refused(rt: HostRuntime) ->
     Ok(())
 }
 
-/// A command over the inputs `SPC`, `TABLE`, `BRR` and `WAV`, and how many of its calls are on inputs.
+/// A command over the inputs of `run_on_all`, and how many of its calls are on inputs.
 const COMMANDS: &[(&[&str], u32)] = &[
     (&["help"], 0),
     (&["version"], 0),
@@ -356,6 +356,10 @@ const COMMANDS: &[(&[&str], u32)] = &[
         ],
         22,
     ),
+    (
+        &["serve", "SPC", "TABLE", "SCRIPT", "OUT", "--pages", "257"],
+        25,
+    ),
 ];
 
 /// Runs a command over these inputs, where the calls of these numbers fail.
@@ -372,6 +376,7 @@ fn run_on_all(alloc: Global, words: &[&str], failing: &[u32]) -> Result<Outcome,
         ("WAV", sound.as_slice()),
         ("BRR", blocks.as_slice()),
         ("SOURCE", b"NOP\n".as_slice()),
+        ("SCRIPT", b"play 3\nmark\nfree\n".as_slice()),
     ];
     run_failing(alloc, words.as_slice(), &inputs, failing)
 }

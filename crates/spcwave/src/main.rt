@@ -4,6 +4,7 @@
 #[cfg(test)]
 mod demo_tests;
 mod disk;
+mod given;
 #[cfg(test)]
 mod hostile_tests;
 mod options;
@@ -15,10 +16,7 @@ mod tests;
 mod words;
 
 use crate::disk::DiskHost;
-use crate::run::run;
-use command_frame::{Refusal, complain};
-use snd_host::Host;
-use status_lines::{Cause, Status, status_for};
+use crate::given::{Given, run_given};
 use std::alloc::Global;
 use std::process::ExitCode;
 use std::{env, fs, io};
@@ -35,14 +33,15 @@ fn words_of(alloc: Global, rt: &(impl std::rt::Env + AllocGlobal)) -> io::Result
     Ok(words)
 }
 
-/// Tells why there are no words: one of them is no text, or there was no memory for them.
-fn refuse_words<H: Host>(host: &mut H, error: io::Error) -> Status {
-    let refusal = match error.kind() {
-        io::ErrorKind::OutOfMemory => Refusal::OutOfMemory,
-        _ => Refusal::Usage,
-    };
-    complain::<H, Cause>(host, Some(refusal));
-    status_for(Some(refusal))
+/// What the command line gives.
+fn given_words(alloc: Global, rt: &(impl std::rt::Env + AllocGlobal)) -> Given {
+    match words_of(alloc, rt) {
+        Ok(words) => Given::Words(words),
+        Err(error) => match error.kind() {
+            io::ErrorKind::OutOfMemory => Given::NoMemory,
+            _ => Given::NoText,
+        },
+    }
 }
 
 fn main(rt: HostRuntime) -> ExitCode {
@@ -53,9 +52,5 @@ fn main(rt: HostRuntime) -> ExitCode {
         fs::open(&rt, NOTHING),
     );
     let mut host = DiskHost::new(rt.alloc(), &rt, rt.stdout(), rt.stderr());
-    let status = match words_of(rt.alloc(), &rt) {
-        Ok(words) => run(rt.alloc(), words.as_slice(), &mut host),
-        Err(error) => refuse_words(&mut host, error),
-    };
-    ExitCode::from(status.code())
+    ExitCode::from(run_given(rt.alloc(), &given_words(rt.alloc(), &rt), &mut host))
 }

@@ -1,7 +1,8 @@
-// The options of `render`, and numbers and addresses.
-ghost use Rattle.std.specs.Prelude.{◌≡◌, map, string_bytes, option_map, true, IfSome};
+// The options of `render`, and numbers, addresses and pages.
+ghost use Rattle.std.specs.Prelude.{◌≡◌, ◌≤◌, map, string_bytes, option_map, true, IfSome};
+ghost use Rattle.page_pool.specs.Pool.{most_pages};
 ghost use Rattle.command_render.specs.Options.{options_of, IsWithinHour};
-ghost use Rattle.spcwave.specs.Options.{is_name, count_in, demo_number_in, name_in, voices_in, origin_in, range_in, options_with, options_in};
+ghost use Rattle.spcwave.specs.Options.{is_name, count_in, demo_number_in, name_in, voices_in, origin_in, range_in, fewest_pages, pages_in, options_with, options_in};
 
 use command_render::RenderOptions;
 use number_text::{decimal_value, is_number};
@@ -11,6 +12,11 @@ const HOUR: u64 = 115_200_000;
 
 /// The greatest number of a demo file.
 const GREATEST_NUMBER: u64 = 4294967295;
+
+/// The fewest and the most pages for the checkpoints of a session.
+const FEWEST_PAGES: u64 = 256;
+
+const MOST_PAGES: u64 = 65536;
 
 /// Whether a word may name a file.
 pub fn is_name(word: &str) -> bool
@@ -48,6 +54,22 @@ pub fn demo_number_in(word: &[u8]) -> Option<u32>
     let number = decimal_value(word);
     if number <= GREATEST_NUMBER {
         Some(number as u32)
+    } else {
+        None
+    }
+}
+
+/// The number of pages that a word says.
+pub fn pages_in(word: &[u8]) -> Option<u32>
+    ensures value { result ≡ pages_in word.now }
+    ensures in_range { IfSome result (λ pages. (fewest_pages ≤ pages) × (pages ≤ most_pages)) }
+{
+    if !is_number(5, word) {
+        return None;
+    }
+    let pages = decimal_value(word);
+    if (FEWEST_PAGES..=MOST_PAGES).contains(&pages) {
+        Some(pages as u32)
     } else {
         None
     }

@@ -17,6 +17,7 @@ use command_help::{help, version};
 use command_info::info;
 use command_render::render;
 use command_rip::rip;
+use command_serve::serve;
 use snd_host::Host;
 use status_lines::{Cause, Status, status_for};
 use std::alloc::Global;
@@ -62,6 +63,13 @@ fn attempt<H: Host>(alloc: Global, words: &[String], host: &mut H) -> Option<Ref
             prefix,
             range,
         } => rip(alloc, host, file, prefix, range),
+        Command::Serve {
+            file,
+            table,
+            script,
+            wave,
+            pages,
+        } => serve(alloc, host, file, (table, script), wave, pages),
     }
 }
 

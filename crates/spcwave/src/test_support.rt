@@ -1,6 +1,7 @@
 // Runs of the program over hosts in memory.
+use crate::given::{Given, run_given};
 use crate::run::run;
-use command_tests::{Outcome, ROOM, host_with, straight_table};
+use command_tests::{Outcome, ROOM, file_of, host_with, straight_table};
 use snd_host::{DripHost, OutFile};
 use status_lines::Status;
 use std::alloc::Global;
@@ -93,6 +94,32 @@ pub fn drips_alike(
 pub fn run_words(alloc: Global, words: &[&str], input: &[u8]) -> Result<Outcome, Fail> {
     let given = list_words(alloc, words)?;
     run_over(alloc, given.as_slice(), &[("IN", input)], ROOM)
+}
+
+/// Runs a script that asks what is free, with these words more.
+pub fn serve_free(alloc: Global, words: &[&str]) -> Result<Outcome, Fail> {
+    let file = file_of(alloc, 66048, &[], &[])?;
+    let table = straight_table(alloc)?;
+    let mut given = Vec::new(alloc);
+    add_words(
+        alloc,
+        &mut given,
+        &["serve", "SPC", "TABLE", "SCRIPT", "OUT"],
+    )?;
+    add_words(alloc, &mut given, words)?;
+    let inputs = [
+        ("SPC", file.as_slice()),
+        ("TABLE", table.as_slice()),
+        ("SCRIPT", b"free".as_slice()),
+    ];
+    run_over(alloc, given.as_slice(), &inputs, ROOM)
+}
+
+/// The number that the process exits with for what the command line gives, and the complaint.
+pub fn give(alloc: Global, given: &Given) -> Result<(u8, Vec<u8>), Fail> {
+    let mut host = host_with(alloc, &[], &[], ROOM)?;
+    let code = run_given(alloc, given, &mut host);
+    Ok((code, Vec::from_slice(alloc, host.output(OutFile(1)))?))
 }
 
 /// Renders a file over a table to `OUT`, which has this room, with these words more.

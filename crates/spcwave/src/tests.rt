@@ -1,5 +1,6 @@
 // Words, and one run of each command that they say.
-use crate::test_support::{list_words, run_failing, run_words};
+use crate::given::Given;
+use crate::test_support::{give, list_words, run_failing, run_words, serve_free};
 use command_tests::Outcome;
 use status_lines::Status;
 use std::test::Fail;
@@ -65,6 +66,17 @@ const WORDS: &[&[&str]] = &[
     &["dis", "IN", "040g", "OUT"],
     &["dis", "IN", "", "OUT"],
     &["dis", "IN", "0400", "-B"],
+    &["serve", "A", "B", "C"],
+    &["serve", "A", "B", "C", "-D"],
+    &["serve", "A", "B", "C", "D", "E"],
+    &["serve", "A", "B", "C", "D", "--pages"],
+    &["serve", "A", "B", "C", "D", "--pages", "255"],
+    &["serve", "A", "B", "C", "D", "--pages", "65537"],
+    &["serve", "A", "B", "C", "D", "--pages", "000256"],
+    &["serve", "A", "B", "C", "D", "--page", "256"],
+    &[
+        "serve", "A", "B", "C", "D", "--pages", "256", "--pages", "256",
+    ],
     &["rip", "A"],
     &["rip", "A", ""],
     &["rip", "A", "-B"],
@@ -98,6 +110,12 @@ const COMMANDS: &[(&[&str], Status, &str)] = &[
     (&["dis", "IN", "fFf7", "OUT"], Status::Ok, "lines 8\n"),
     (&["dis", "IN", "FfF8", "OUT"], Status::CodeLength, ""),
     (&["rip", "IN", "OUT"], Status::SpcLength, ""),
+    (&["serve", "IN", "IN", "IN", "OUT"], Status::SpcLength, ""),
+    (
+        &["serve", "IN", "IN", "IN", "OUT", "--pages", "00256"],
+        Status::SpcLength,
+        "",
+    ),
     (
         &["rip", "IN", "OUT", "--range", "0AfF"],
         Status::SpcLength,
@@ -113,6 +131,34 @@ fn each_word_says_its_command(rt: HostRuntime) -> Result<(), Fail> {
             outcome.status() == *wanted && outcome.report() == report.as_bytes(),
             "{words:?}"
         );
+    }
+    Ok(())
+}
+
+/// A session has 4,096 pages where no word says how many; 256 of them hold the memory of its first checkpoint.
+#[test]
+fn a_session_has_so_many_pages(rt: HostRuntime) -> Result<(), Fail> {
+    let most: &[&str] = &["--pages", "65536"];
+    for (option, report) in [
+        (most, "free 65280 marks 1 made 0\n"),
+        (&[], "free 3840 marks 1 made 0\n"),
+    ] {
+        let outcome = serve_free(rt.alloc(), option)?;
+        assert!(rt; outcome.status() == Status::Ok && outcome.report() == report.as_bytes());
+    }
+    Ok(())
+}
+
+/// What is no text says no command, and with no memory for the words only its line is written.
+#[test]
+fn what_is_given_instead_of_words(rt: HostRuntime) -> Result<(), Fail> {
+    for (given, code, complaint) in [
+        (Given::NoText, 1, "spcwave: words not understood\n"),
+        (Given::NoMemory, 7, "spcwave: out of memory\n"),
+    ] {
+        let (ended, told) = give(rt.alloc(), &given)?;
+        assert_eq!(rt; ended, code);
+        assert_eq!(rt; told.as_slice(), complaint.as_bytes());
     }
     Ok(())
 }

@@ -1,11 +1,16 @@
 // The words of the command line.
-ghost use Rattle.std.specs.Prelude.{◌≡◌, map, string_bytes, option_map, IfSome};
-ghost use Rattle.spcwave.specs.Command.{command_of, alone, brr_command, info_command, encode_command, have_same_name, render_with, render_command, demo_command, check_command, asm_command, dis_command, rip_with, rip_over, rip_command};
+ghost use Rattle.std.specs.Prelude.{◌≡◌, ◌≤◌, map, string_bytes, option_map, IfSome};
+ghost use Rattle.page_pool.specs.Pool.{most_pages};
+ghost use Rattle.spcwave.specs.Command.{command_of, alone, brr_command, info_command, encode_command, have_same_name, render_with, render_command, demo_command, check_command, asm_command, dis_command, rip_with, rip_over, rip_command, serve_with, serve_over, serve_command};
 ghost use Rattle.command_render.specs.Options.{options_of, IsWithinHour};
-ghost use Rattle.spcwave.specs.Words.{meaning_of, AreWithinHour};
+ghost use Rattle.spcwave.specs.Options.{fewest_pages};
+ghost use Rattle.spcwave.specs.Words.{meaning_of, AreInRange};
 
-use crate::options::{demo_number_in, is_name, origin_in, range_in, read_options};
+use crate::options::{demo_number_in, is_name, origin_in, pages_in, range_in, read_options};
 use command_render::RenderOptions;
+
+/// How many pages the checkpoints of a session have where no word says so.
+const USUAL_PAGES: u32 = 4096;
 
 /// A command with its names.
 #[derive(Clone, Copy)]
@@ -53,13 +58,20 @@ pub enum Command<'a> {
         prefix: &'a str,
         range: Option<(u8, u8)>,
     },
+    Serve {
+        file: &'a str,
+        table: &'a str,
+        script: &'a str,
+        wave: &'a str,
+        pages: u32,
+    },
 }
 
 /// Reads the words after a command that stands alone.
 fn read_alone<'a>(command: Command<'a>, words: &[String]) -> Command<'a>
-    requires { AreWithinHour command }
+    requires { AreInRange command }
     ensures meaning { meaning_of result ≡ alone (meaning_of command.entry) (map string_bytes words.now) }
-    ensures within_hour { AreWithinHour result }
+    ensures in_range { AreInRange result }
 {
     if words.is_empty() {
         command
@@ -71,7 +83,7 @@ fn read_alone<'a>(command: Command<'a>, words: &[String]) -> Command<'a>
 /// Reads the words after `brr`.
 fn read_brr(words: &[String]) -> Command<'_>
     ensures meaning { meaning_of result ≡ brr_command (map string_bytes words.now) }
-    ensures within_hour { AreWithinHour result }
+    ensures in_range { AreInRange result }
 {
     match words {
         [input, output] if is_name(input.as_str()) && is_name(output.as_str()) => Command::Brr {
@@ -85,7 +97,7 @@ fn read_brr(words: &[String]) -> Command<'_>
 /// Reads the words after `info`.
 fn read_info(words: &[String]) -> Command<'_>
     ensures meaning { meaning_of result ≡ info_command (map string_bytes words.now) }
-    ensures within_hour { AreWithinHour result }
+    ensures in_range { AreInRange result }
 {
     match words {
         [input] if is_name(input.as_str()) => Command::Info {
@@ -98,7 +110,7 @@ fn read_info(words: &[String]) -> Command<'_>
 /// Reads the words after `encode`.
 fn read_encode(words: &[String]) -> Command<'_>
     ensures meaning { meaning_of result ≡ encode_command (map string_bytes words.now) }
-    ensures within_hour { AreWithinHour result }
+    ensures in_range { AreInRange result }
 {
     match words {
         [input, output] if is_name(input.as_str()) && is_name(output.as_str()) => {
@@ -140,7 +152,7 @@ fn render_with<'a>(
 ) -> Command<'a>
     requires { IfSome options (λ options. IsWithinHour options.samples) }
     ensures meaning { meaning_of result ≡ render_with file.now table.now wave.now (option_map options_of options.entry) }
-    ensures within_hour { AreWithinHour result }
+    ensures in_range { AreInRange result }
 {
     match options {
         Some(options) if !have_same_name(wave, options.trace) => Command::Render {
@@ -156,7 +168,7 @@ fn render_with<'a>(
 /// Reads the words after `render`.
 fn read_render(words: &[String]) -> Command<'_>
     ensures meaning { meaning_of result ≡ render_command (map string_bytes words.now) }
-    ensures within_hour { AreWithinHour result }
+    ensures in_range { AreInRange result }
 {
     match words {
         [file, table, wave, options @ ..]
@@ -175,7 +187,7 @@ fn read_render(words: &[String]) -> Command<'_>
 /// Reads the words after `demo`.
 fn read_demo(words: &[String]) -> Command<'_>
     ensures meaning { meaning_of result ≡ demo_command (map string_bytes words.now) }
-    ensures within_hour { AreWithinHour result }
+    ensures in_range { AreInRange result }
 {
     match words {
         [number, output] if is_name(output.as_str()) => match demo_number_in(number.as_bytes()) {
@@ -192,7 +204,7 @@ fn read_demo(words: &[String]) -> Command<'_>
 /// Reads the words after `check`.
 fn read_check(words: &[String]) -> Command<'_>
     ensures meaning { meaning_of result ≡ check_command (map string_bytes words.now) }
-    ensures within_hour { AreWithinHour result }
+    ensures in_range { AreInRange result }
 {
     match words {
         [number] => match demo_number_in(number.as_bytes()) {
@@ -206,7 +218,7 @@ fn read_check(words: &[String]) -> Command<'_>
 /// Reads the words after `asm`.
 fn read_asm(words: &[String]) -> Command<'_>
     ensures meaning { meaning_of result ≡ asm_command (map string_bytes words.now) }
-    ensures within_hour { AreWithinHour result }
+    ensures in_range { AreInRange result }
 {
     match words {
         [input, origin, output] if is_name(input.as_str()) && is_name(output.as_str()) => {
@@ -226,7 +238,7 @@ fn read_asm(words: &[String]) -> Command<'_>
 /// The command `rip` with these names and a range, which its word has to say.
 fn rip_with<'a>(file: &'a str, prefix: &'a str, range: Option<(u8, u8)>) -> Command<'a>
     ensures meaning { meaning_of result ≡ rip_with file.now prefix.now range }
-    ensures within_hour { AreWithinHour result }
+    ensures in_range { AreInRange result }
 {
     match range {
         Some(range) => Command::Rip {
@@ -241,7 +253,7 @@ fn rip_with<'a>(file: &'a str, prefix: &'a str, range: Option<(u8, u8)>) -> Comm
 /// Reads the words after the names of `rip`.
 fn rip_over<'a>(file: &'a str, prefix: &'a str, words: &[String]) -> Command<'a>
     ensures meaning { meaning_of result ≡ rip_over file.now prefix.now (map string_bytes words.now) }
-    ensures within_hour { AreWithinHour result }
+    ensures in_range { AreInRange result }
 {
     match words {
         [] => Command::Rip {
@@ -259,7 +271,7 @@ fn rip_over<'a>(file: &'a str, prefix: &'a str, words: &[String]) -> Command<'a>
 /// Reads the words after `dis`.
 fn read_dis(words: &[String]) -> Command<'_>
     ensures meaning { meaning_of result ≡ dis_command (map string_bytes words.now) }
-    ensures within_hour { AreWithinHour result }
+    ensures in_range { AreInRange result }
 {
     match words {
         [input, origin, output] if is_name(input.as_str()) && is_name(output.as_str()) => {
@@ -279,7 +291,7 @@ fn read_dis(words: &[String]) -> Command<'_>
 /// Reads the words after `rip`.
 fn read_rip(words: &[String]) -> Command<'_>
     ensures meaning { meaning_of result ≡ rip_command (map string_bytes words.now) }
-    ensures within_hour { AreWithinHour result }
+    ensures in_range { AreInRange result }
 {
     match words {
         [file, prefix, options @ ..] if is_name(file.as_str()) && is_name(prefix.as_str()) => {
@@ -289,10 +301,83 @@ fn read_rip(words: &[String]) -> Command<'_>
     }
 }
 
+/// The command `serve` with these names and a number of pages, which its word has to say.
+fn serve_with<'a>(
+    file: &'a str,
+    table: &'a str,
+    script: &'a str,
+    wave: &'a str,
+    pages: Option<u32>,
+) -> Command<'a>
+    requires { IfSome pages (λ pages. (fewest_pages ≤ pages) × (pages ≤ most_pages)) }
+    ensures meaning { meaning_of result ≡ serve_with file.now table.now script.now wave.now pages }
+    ensures in_range { AreInRange result }
+{
+    match pages {
+        Some(pages) => Command::Serve {
+            file,
+            table,
+            script,
+            wave,
+            pages,
+        },
+        None => Command::Usage,
+    }
+}
+
+/// Reads the words after the names of `serve`.
+fn serve_over<'a>(
+    file: &'a str,
+    table: &'a str,
+    script: &'a str,
+    wave: &'a str,
+    words: &[String],
+) -> Command<'a>
+    ensures meaning { meaning_of result ≡ serve_over file.now table.now script.now wave.now (map string_bytes words.now) }
+    ensures in_range { AreInRange result }
+{
+    match words {
+        [] => Command::Serve {
+            file,
+            table,
+            script,
+            wave,
+            pages: USUAL_PAGES,
+        },
+        [option, pages] if option.as_str() == "--pages" => {
+            serve_with(file, table, script, wave, pages_in(pages.as_bytes()))
+        }
+        _ => Command::Usage,
+    }
+}
+
+/// Reads the words after `serve`.
+fn read_serve(words: &[String]) -> Command<'_>
+    ensures meaning { meaning_of result ≡ serve_command (map string_bytes words.now) }
+    ensures in_range { AreInRange result }
+{
+    match words {
+        [file, table, script, wave, options @ ..]
+            if is_name(file.as_str())
+                && is_name(table.as_str())
+                && is_name(script.as_str())
+                && is_name(wave.as_str()) => {
+            serve_over(
+                file.as_str(),
+                table.as_str(),
+                script.as_str(),
+                wave.as_str(),
+                options,
+            )
+        }
+        _ => Command::Usage,
+    }
+}
+
 /// Reads the words of the command line.
 pub fn read_words(words: &[String]) -> Command<'_>
     ensures meaning { meaning_of result ≡ command_of (map string_bytes words.now) }
-    ensures within_hour { AreWithinHour result }
+    ensures in_range { AreInRange result }
 {
     match words {
         [] => Command::Usage,
@@ -308,6 +393,7 @@ pub fn read_words(words: &[String]) -> Command<'_>
             "asm" => read_asm(rest),
             "dis" => read_dis(rest),
             "rip" => read_rip(rest),
+            "serve" => read_serve(rest),
             _ => Command::Usage,
         },
     }

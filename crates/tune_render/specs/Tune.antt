@@ -5,12 +5,13 @@ use Rattle.trace_form.specs.declared.record.Record.{Record}
 use Rattle.spc_form.specs.Layout.{dsp_of}
 use Rattle.dsp_form.specs.declared.state.ChipState.{ChipState}
 use Rattle.dsp_form.specs.Outside.{opened_state}
+use Rattle.cut_form.specs.Checkpoints.{pages_of}
 use Rattle.lock_step.specs.declared.counts.Counts.{Counts}
 use Rattle.lock_step.specs.DspChip.{dsp_chip}
 use Rattle.lock_step.specs.Machine.{Machine}
 use Rattle.lock_step.specs.LockStep.{lock_step}
 use Rattle.lock_step.specs.LockStepEmits.{lock_step_emits}
-use Rattle.render_core.specs.MachineRun.{Whole}
+use Rattle.render_core.specs.MachineRun.{Whole, after_run}
 use Rattle.render_core.specs.Opening.{opened_whole}
 use Rattle.render_core.specs.Items.{run_frames, run_records}
 use Rattle.render_core.specs.RunCounts.{with_opened_book, run_counts}
@@ -30,3 +31,7 @@ tune_records file table mask samples = run_records (lock_step dsp_chip) lock_ste
 -- and how often the chip ran for them, and why
 abbrev pub tune_counts : (file : List ℕ) → (table : List ℤ) → (mask samples : ℕ) → Counts
 tune_counts file table mask samples = run_counts dsp_chip samples (with_opened_book dsp_chip (opened_tune file table mask) 0)
+
+-- the 256 pages of the memory that its run has once so many samples are made
+abbrev pub tune_pages : (file : List ℕ) → (table : List ℤ) → (samples : ℕ) → List (List ℕ)
+tune_pages file table samples = pages_of (after_run (lock_step dsp_chip) samples (opened_tune file table 0)).1.memory

@@ -1,0 +1,18 @@
+use Rattle.std.proofs.Common.{◌∙◌, sym, ap}
+use Rattle.cut_form.specs.CutBook.{opened_book}
+use Rattle.command_serve.proofs.Tunes.{tune_of_run, wave_of_tune, report_of_tune}
+use Rattle.command_serve.proofs.command.open_session.Goals as goal
+
+pub open-requires-clause-run : goal.open-requires-clause-run
+open-requires-clause-run c = rw c.in_ok-server.ensures.frames (tune_of_run c.args.file.now c.args.table)
+
+pub open-requires-clause-opened : goal.open-requires-clause-opened
+open-requires-clause-opened c = c.in_ok-server.ensures.book ∙ ap opened_book (sym c.in_ok-server.ensures.pages)
+
+pub returns-clause-wave : goal.returns-clause-wave
+returns-clause-wave c =
+    c.in_ok-files.ensures.wave ∙ wave_of_tune _ _ _ _ _ _ c.args.script c.in_ok-server.ensures.frames c.in_ok-server.ensures.pages c.in_ok-server.ensures.slots
+
+pub returns-clause-report : goal.returns-clause-report
+returns-clause-report c =
+    c.in_ok-files.ensures.report ∙ report_of_tune _ _ _ _ c.args.script c.in_ok-server.ensures.pages c.in_ok-server.ensures.slots

@@ -1,0 +1,4 @@
+-- the script that an input holds
+pub mod Scripts
+-- what `serve` answers
+pub mod Serve

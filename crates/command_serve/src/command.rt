@@ -1,0 +1,160 @@
+// The command `serve`: a session over a tune.
+ghost use Rattle.std.specs.Prelude.{◌≡◌, ◌≤◌, ◌++◌, IfOk, true};
+ghost use Rattle.wav_form.specs.Wave.{header_of, stereo_wave};
+ghost use Rattle.lock_step.specs.DspChip.{dsp_chip, dsp_saving};
+ghost use Rattle.page_pool.specs.Pool.{most_pages};
+ghost use Rattle.snd_host.specs.Host.{HostState, Files};
+ghost use Rattle.command_frame.specs.Conduct.{Plans, Prepares, Attempts};
+ghost use Rattle.command_frame.specs.Delivery.{CanDeliver};
+ghost use Rattle.command_frame.specs.Plan.{stream_makes};
+ghost use Rattle.cut_form.specs.Session.{played_cuts};
+ghost use Rattle.cut_form.specs.Slices.{cut_frames};
+ghost use Rattle.script_text.specs.Playing.{played_frames};
+ghost use Rattle.session_files.specs.Report.{report_on};
+ghost use Rattle.session_files.specs.SessionFiles.{to_come_of, report_of};
+ghost use Rattle.tune_render.specs.Tune.{tune_frames};
+ghost use Rattle.command_serve.specs.Serve.{tune_replies, script_answer, table_answer, file_answer, serve_answer};
+
+use crate::script::read_lines;
+use command_frame::{OutOfMemory, Refusal, StreamedPlan, carry_stream};
+use dsp_core::Dsp;
+use gauss_table::GaussTable;
+use input_files::{read_file, read_table};
+use script_text::ScriptLines;
+use session_files::SessionFiles;
+use snd_host::Host;
+use spc_form::SpcFile;
+use status_lines::Cause;
+use std::alloc::Global;
+use tune_render::open_server;
+use wav_form::header;
+
+/// Opens the session of a script over a file and a table.
+fn open_session(
+    alloc: Global,
+    file: &SpcFile,
+    table: GaussTable,
+    script: ScriptLines,
+    pages: u32,
+) -> Result<SessionFiles<Dsp>, OutOfMemory>
+    requires enough { 256 ≤ pages }
+    requires few { pages ≤ most_pages }
+    ensures wave { IfOk result (λ files. header_of 2 (played_frames 0 0 script) ++ (to_come_of dsp_chip dsp_saving files).first
+        ≡ stereo_wave (cut_frames (tune_frames file.now table 0) (played_cuts (tune_replies pages file.now table script)))) }
+    ensures report { IfOk result (λ files. report_of dsp_chip dsp_saving files ≡ report_on (tune_replies pages file.now table script)) }
+{
+    let server = open_server(alloc, file, table, pages)?;
+    let files = SessionFiles::open(alloc, server, script)?;
+    Ok(files)
+}
+
+/// Makes the plan for a file, a table and a script. The size of the sound file is known from the script.
+fn plan<'a>(
+    alloc: Global,
+    file: &SpcFile,
+    table: GaussTable,
+    script: ScriptLines,
+    wave: &'a str,
+    pages: u32,
+) -> Result<StreamedPlan<'a, SessionFiles<Dsp>>, Refusal<Cause>>
+    requires enough { 256 ≤ pages }
+    requires few { pages ≤ most_pages }
+    ensures { let answer = script_answer wave.now pages file.now table script in
+        Plans (stream_makes (to_come_of dsp_chip dsp_saving) (report_of dsp_chip dsp_saving)) answer result }
+{
+    let samples = script.samples();
+    let Ok(source) = open_session(alloc, file, table, script, pages) else {
+        return Err(Refusal::OutOfMemory);
+    };
+    let Ok(head) = Vec::from_slice(alloc, &header(2, samples)) else {
+        return Err(Refusal::OutOfMemory);
+    };
+    Ok(StreamedPlan {
+        first: wave,
+        second: None,
+        head,
+        source,
+    })
+}
+
+/// Reads the script and makes the plan for it, a file and a table.
+fn prepare_script<'a, H: Host>(
+    alloc: Global,
+    host: &mut H,
+    file: &SpcFile,
+    table: GaussTable,
+    script: &str,
+    wave: &'a str,
+    pages: u32,
+) -> Result<StreamedPlan<'a, SessionFiles<Dsp>>, Refusal<Cause>>
+    requires enough { 256 ≤ pages }
+    requires few { pages ≤ most_pages }
+    ensures { let answer = λ (files : Files). table_answer wave.now pages (files script.now) file.now table in
+        Prepares (stream_makes (to_come_of dsp_chip dsp_saving) (report_of dsp_chip dsp_saving)) answer (H.state host.old) (H.state host.new) result }
+{
+    match read_lines(alloc, host, script) {
+        Ok(lines) => plan(alloc, file, table, lines, wave, pages),
+        Err(refusal) => Err(refusal),
+    }
+}
+
+/// Reads the table and the script and makes the plan for them and a file.
+fn prepare_table<'a, H: Host>(
+    alloc: Global,
+    host: &mut H,
+    file: &SpcFile,
+    inputs: (&str, &str),
+    wave: &'a str,
+    pages: u32,
+) -> Result<StreamedPlan<'a, SessionFiles<Dsp>>, Refusal<Cause>>
+    requires enough { 256 ≤ pages }
+    requires few { pages ≤ most_pages }
+    ensures { let answer = λ (files : Files). file_answer wave.now pages (files inputs.entry.0.now) (files inputs.entry.1.now) file.now in
+        Prepares (stream_makes (to_come_of dsp_chip dsp_saving) (report_of dsp_chip dsp_saving)) answer (H.state host.old) (H.state host.new) result }
+{
+    match read_table(alloc, host, inputs.0) {
+        Ok(table) => prepare_script(alloc, host, file, table, inputs.1, wave, pages),
+        Err(refusal) => Err(refusal),
+    }
+}
+
+/// Reads the file, the table and the script and makes the plan for them.
+fn prepare<'a, H: Host>(
+    alloc: Global,
+    host: &mut H,
+    file: &str,
+    inputs: (&str, &str),
+    wave: &'a str,
+    pages: u32,
+) -> Result<StreamedPlan<'a, SessionFiles<Dsp>>, Refusal<Cause>>
+    requires enough { 256 ≤ pages }
+    requires few { pages ≤ most_pages }
+    ensures { let answer = λ (files : Files). serve_answer wave.now pages (files file.now) (files inputs.entry.0.now) (files inputs.entry.1.now) in
+        Prepares (stream_makes (to_come_of dsp_chip dsp_saving) (report_of dsp_chip dsp_saving)) answer (H.state host.old) (H.state host.new) result }
+{
+    match read_file(alloc, host, file) {
+        Ok(file) => prepare_table(alloc, host, &file, inputs, wave, pages),
+        Err(refusal) => Err(refusal),
+    }
+}
+
+/// Runs the script over the tune of the file and the table, with so many pages for its checkpoints, writes all that is
+/// played to the sound file, and reports a reply to each line. `inputs` are the table and the script.
+pub fn serve<H: Host>(
+    alloc: Global,
+    host: &mut H,
+    file: &str,
+    inputs: (&str, &str),
+    wave: &str,
+    pages: u32,
+) -> Option<Refusal<Cause>>
+    requires outputs { CanDeliver (H.state host.old) }
+    requires enough { 256 ≤ pages }
+    requires few { pages ≤ most_pages }
+    ensures attempts { let answer = λ (files : Files). serve_answer wave.now pages (files file.now) (files inputs.entry.0.now) (files inputs.entry.1.now) in
+        Attempts answer true result (H.state host.old) (H.state host.new) }
+    ensures not_usage { result ≡ Some Refusal.Usage → ⊥ }
+{
+    let prepared = prepare(alloc, host, file, inputs, wave, pages);
+    carry_stream(host, prepared)
+}

@@ -1,0 +1,10 @@
+//! The command `serve`: it runs a script of seeks, plays and marks over a tune, writes what it plays to a sound file, and
+//! replies to each line.
+#![tactic(auto)]
+
+mod command;
+mod script;
+#[cfg(test)]
+mod tests;
+
+pub use command::serve;

@@ -1,0 +1,95 @@
+// Sessions over a host in memory.
+ghost use Rattle.std.specs.Prelude.{◌≤◌};
+
+use crate::serve;
+use command_tests::{FIVE, MEMORY, Outcome, Pieces, ROOM, file_of, host_with, straight_table};
+use status_lines::Status;
+use std::alloc::Global;
+use std::test::Fail;
+
+/// A program that waits for 63 samples, and then ends the block that voice 0 repeats.
+const ENDS_THE_BLOCK: Pieces = &[(
+    MEMORY + 0x0400,
+    b"\xcd\xcb\x1d\x00\x00\xd0\xfb\xe8\xc1\xc5\x00\x06\x2f\xfe",
+)];
+
+/// Runs a script over its tune, with so many pages.
+fn served(alloc: Global, script: &[u8], pages: u32) -> Result<Outcome, Fail>
+    requires enough { 256 ≤ pages }
+    requires few { pages ≤ 65536 }
+{
+    let file = file_of(alloc, 66048, FIVE, ENDS_THE_BLOCK)?;
+    let table = straight_table(alloc)?;
+    let inputs = [
+        ("SPC", file.as_slice()),
+        ("TABLE", table.as_slice()),
+        ("SCRIPT", script),
+    ];
+    let mut host = host_with(alloc, &inputs, &[], ROOM)?;
+    let refusal = serve(alloc, &mut host, "SPC", ("TABLE", "SCRIPT"), "OUT", pages);
+    Ok(Outcome::of(refusal, host))
+}
+
+/// The sound file of so many frames of silence, of 4000 and of silence again.
+fn wave_of(alloc: Global, counts: [u32; 3]) -> Result<Vec<u8>, Fail> {
+    let mut sides = Vec::new(alloc);
+    let mut size = 0u32;
+    for (count, side) in [(counts[0], 0i16), (counts[1], 4000), (counts[2], 0)] {
+        for _ in 0..count {
+            sides.extend_from_slice(&side.to_le_bytes())?;
+            sides.extend_from_slice(&side.to_le_bytes())?;
+            size = size.wrapping_add(4);
+        }
+    }
+    let mut wave = Vec::from_slice(alloc, b"RIFF")?;
+    wave.extend_from_slice(&size.wrapping_add(36).to_le_bytes())?;
+    wave.extend_from_slice(
+        b"WAVEfmt \x10\0\0\0\x01\0\x02\0\0\x7d\0\0\0\xf4\x01\0\x04\0\x10\0data",
+    )?;
+    wave.extend_from_slice(&size.to_le_bytes())?;
+    wave.extend_from_slice(sides.as_slice())?;
+    Ok(wave)
+}
+
+#[test]
+fn sessions_with_few_pages(rt: HostRuntime) -> Result<(), Fail> {
+    let whole = "play 70\nmark\nseek 60\nmark\nfree\ndrop 60\ndrop 0\nfree\n";
+    let told =
+        "played 70 at 70\nmark 70 gave 0\nat 60\nmark 60 gave 1\nfree 1 marks 2 made 130\ndropped 60\nnone 0\n\
+        free 1 marks 1 made 130\n";
+    for (script, pages, report, counts) in [
+        (whole, 257, told, [6, 58, 6]),
+        (
+            "play 70\nmark",
+            256,
+            "played 70 at 70\nno pages need 1 free 0\n",
+            [6, 58, 6],
+        ),
+        (
+            "play 1\nplay 115200000\r\nseek 0\nmark\n",
+            4096,
+            "played 1 at 1\nrefused 115200000\nat 0\nkept 0\n",
+            [1, 0, 0],
+        ),
+        ("seek 007\nplay 2", 256, "at 7\nplayed 2 at 9\n", [0, 2, 0]),
+        ("", 4096, "", [0, 0, 0]),
+    ] {
+        let outcome = served(rt.alloc(), script.as_bytes(), pages)?;
+        let wave = wave_of(rt.alloc(), counts)?;
+        assert!(rt; outcome.is_done(wave.as_slice(), report), "{script}");
+    }
+    Ok(())
+}
+
+#[test]
+fn scripts_with_a_wrong_line(rt: HostRuntime) -> Result<(), Fail> {
+    for (script, line) in [
+        ("seek 115200001", "spcwave: script is wrong at line 1\n"),
+        ("mark\n\nfree\n", "spcwave: script is wrong at line 2\n"),
+        ("seek 7\nplay  1\n", "spcwave: script is wrong at line 2\n"),
+    ] {
+        let outcome = served(rt.alloc(), script.as_bytes(), 256)?;
+        assert!(rt; outcome.is_refused(Status::Script, line), "{script}");
+    }
+    Ok(())
+}

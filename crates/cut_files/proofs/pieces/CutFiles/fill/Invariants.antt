@@ -1,0 +1,15 @@
+use Rattle.std.proofs.Common.{◌≡◌, ◌+◌, ◌≤◌, ◌++◌, length}
+use Rattle.cut_files.specs.CutFiles.{to_come_of, report_of, work_of}
+use Rattle.cut_files.proofs.pieces.CutFiles.fill.Given as goal
+
+-- what was to come is the piece so far and what is to come, and there is room for more
+abbrev pub invariant-pieces : goal.invariant-pieces
+invariant-pieces g l = record {
+  first : l.self.wave ++ (to_come_of g.C.Chip.meaning g.C.Chip.saving l.self).first ≡ (to_come_of g.C.Chip.meaning g.C.Chip.saving l.fn.self).first;
+  room : length l.self.wave + 256 ≤ 131072;
+  report : report_of g.C.Chip.meaning g.C.Chip.saving l.self ≡ report_of g.C.Chip.meaning g.C.Chip.saving l.fn.self;
+  work : work_of l.self ≤ work_of l.fn.self;
+}
+
+abbrev pub decreases-pieces : goal.decreases-pieces
+decreases-pieces g l = work_of l.self

@@ -1,0 +1,42 @@
+// The report on cuts.
+ghost use Rattle.std.specs.Prelude.{◌≡◌, ◌+◌, ◌≤◌, ◌++◌, [], length, decimal};
+ghost use Rattle.cut_form.specs.declared.cut.Cut.{Cut};
+ghost use Rattle.cut_form.specs.Checkpoints.{slots_used};
+ghost use Rattle.cut_form.specs.CutBook.{slots_for_cuts};
+ghost use Rattle.cut_form.specs.Slices.{cut_samples};
+ghost use Rattle.cut_server.specs.ServerState.{book_of, slots_of};
+ghost use Rattle.cut_files.specs.CutFiles.{cuts_report};
+
+use cut_server::CutServer;
+use cut_text::CutList;
+use lock_step::Chip;
+use report_text::ByteRoom;
+
+/// The pages of the pool.
+pub(crate) const PAGES: u32 = 4096;
+
+/// Adds a word and a count.
+fn put_count(report: &mut ByteRoom, word: &[u8], count: u64)
+    requires { length report.old + length word.now + 20 ≤ 131072 }
+    ensures text { report.new ≡ report.old ++ word.now ++ decimal count }
+    ensures len { length report.new ≤ length report.old + length word.now + 20 }
+{
+    report.append(word);
+    report.append(itoa::Buffer::new().format(count).as_bytes());
+}
+
+/// Writes the report on cuts that were played, by the server that played them.
+#[tactic(auto, unfolding(crate::specs::CutFiles::cuts_report))]
+pub(crate) fn tell<C: Chip>(report: &mut ByteRoom, cuts: &CutList, server: &CutServer<C>)
+    requires slots { slots_of server.now ≡ slots_for_cuts }
+    requires used { slots_used (book_of server.now).live ≤ slots_for_cuts }
+    ensures { report.new ≡ cuts_report cuts.now (book_of server.now) }
+{
+    report.clear();
+    put_count(report, b"cuts ", cuts.as_slice().len() as u64);
+    put_count(report, b" samples ", u64::from(cuts.samples()));
+    put_count(report, b" checkpoints ", u64::from(server.count()));
+    put_count(report, b" pages ", u64::from(PAGES - server.free()));
+    put_count(report, b" made ", server.work());
+    report.append(b"\n");
+}

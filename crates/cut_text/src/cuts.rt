@@ -1,0 +1,146 @@
+// The list of cuts that a text says.
+ghost use Rattle.std.specs.Prelude.{◌≡◌, ◌+◌, ◌<◌, ◌≤◌, ◌^◌, ◌∷◌, ◌++◌, [], Some, None, Ok, length, IfOk, IfErr, IfSome, OnOk, if◌then◌else◌};
+ghost use Rattle.num_fix.specs.Limits.{most_frames};
+ghost use Rattle.cut_form.specs.TextLines.{line_words};
+ghost use Rattle.cut_form.specs.CutList.{most_cuts, cut_of_numbers, cut_of_words, cut_list};
+ghost use Rattle.cut_form.specs.Slices.{cut_samples};
+ghost use Rattle.cut_text.specs.Cuts.{EndWithinHour, OneMore, IsWrongAfter, next_cut, fits_after};
+ghost use Rattle.cut_text.specs.Reading.{Tells};
+
+use crate::TextRefusal;
+use crate::lines::{first_line, first_part, number_in};
+use cut_form::Cut;
+use std::alloc::Global;
+use std::marker::Model;
+
+/// The most frames of all cuts, and the last sample that one may end at: an hour.
+const MOST_FRAMES: u32 = 115_200_000;
+
+/// The most cuts.
+const MOST_CUTS: usize = 1000;
+
+/// Up to 1,000 cuts. Each ends within an hour, and together they are an hour at most.
+#[derive(Drop)]
+pub struct CutList {
+    cuts: Vec<Cut>,
+    samples: u32,
+}
+
+impl Model for CutList {
+    ghost use Rattle.std.specs.Prelude.{List};
+    ghost use Rattle.cut_form.specs.declared.cut.Cut.{Cut};
+    ghost use Rattle.cut_text.specs.Cuts.{IsListed};
+
+    ghost Value = { List Cut };
+
+    ghost view = { λ l. l.cuts.items };
+
+    ghost invariant = { λ l. IsListed l.cuts.items l.samples };
+}
+
+impl CutList {
+    /// No cuts.
+    fn new(alloc: Global) -> CutList
+        ensures { result ≡ [] }
+    {
+        CutList {
+            cuts: Vec::new(alloc),
+            samples: 0,
+        }
+    }
+
+    /// The cuts in their order, each of which ends within an hour.
+    pub fn as_slice(&self) -> &[Cut]
+        ensures cuts { result.now ≡ self.now }
+        ensures few { length result.now ≤ most_cuts }
+        ensures within { EndWithinHour result.now }
+    {
+        self.cuts.as_slice()
+    }
+
+    /// How many frames the cuts have together, an hour at most.
+    pub fn samples(&self) -> u32
+        ensures samples { result ≡ cut_samples self.now }
+        ensures few { result ≤ most_frames }
+    {
+        self.samples
+    }
+
+    /// Whether a cut may stand after those of the list.
+    fn fits_after(&self, cut: Cut) -> bool
+        requires start { cut.start < 10 ^ 9 }
+        requires count { cut.count < 10 ^ 9 }
+        ensures { result ≡ fits_after self.now cut }
+    {
+        cut.start + cut.count <= MOST_FRAMES
+            && self.samples + cut.count <= MOST_FRAMES
+            && self.cuts.len() < MOST_CUTS
+    }
+
+    /// Adds the cut of the next line.
+    fn add_line(&mut self, line: &[u8]) -> Result<(), TextRefusal>
+        ensures added { OnOk result (OneMore self.old self.new (next_cut self.old line.now)) }
+        ensures wrong { IfErr result (λ refusal. IsWrongAfter self.old (next_cut self.old line.now) refusal) }
+    {
+        match cut_in(line) {
+            Some(cut) if self.fits_after(cut) => {
+                add(&mut self.cuts, cut)?;
+                self.samples += cut.count;
+                Ok(())
+            }
+            _ => Err(TextRefusal::Wrong(self.cuts.len() as u32 + 1)),
+        }
+    }
+}
+
+/// Adds a cut, if there is memory for it.
+fn add(cuts: &mut Vec<Cut>, cut: Cut) -> Result<(), TextRefusal>
+    ensures added { OnOk result (cuts.new.items ≡ cuts.old.items ++ cut ∷ []) }
+    ensures unchanged { IfErr result (λ refusal. cuts.new.items ≡ cuts.old.items) }
+    ensures memory { IfErr result (λ refusal. refusal ≡ TextRefusal.OutOfMemory) }
+{
+    match cuts.push(cut) {
+        Ok(()) => Ok(()),
+        Err(_) => Err(TextRefusal::OutOfMemory),
+    }
+}
+
+/// The cut of two numbers.
+fn cut_of_numbers(start: Option<u32>, count: Option<u32>) -> Option<Cut>
+    ensures { result ≡ cut_of_numbers start count }
+{
+    Some(Cut {
+        start: start?,
+        count: count?,
+    })
+}
+
+/// The cut that a line says.
+fn cut_in(line: &[u8]) -> Option<Cut>
+    ensures cut { result ≡ cut_of_words (line_words line.now) }
+    ensures start { IfSome result (λ cut. cut.start < 10 ^ 9) }
+    ensures count { IfSome result (λ cut. cut.count < 10 ^ 9) }
+{
+    let (start, rest) = first_part(b' ', line);
+    let (count, rest) = first_part(b' ', rest?);
+    match rest {
+        Some(_) => None,
+        None => cut_of_numbers(number_in(start), number_in(count)),
+    }
+}
+
+/// Reads the cuts that a text lists, one a line: the first sample and, after one space, how many frames.
+pub fn read_cuts(alloc: Global, text: &[u8]) -> Result<CutList, TextRefusal>
+    ensures cuts { IfOk result (λ cuts. cut_list text.now ≡ Ok cuts) }
+    ensures wrong { IfErr result (λ refusal. Tells refusal (cut_list text.now)) }
+{
+    let mut list = CutList::new(alloc);
+    let mut rest = text;
+    'lines: while let Some((line, after)) = first_line(rest) {
+        match list.add_line(line) {
+            Ok(()) => rest = after,
+            Err(refusal) => return Err(refusal),
+        }
+    }
+    Ok(list)
+}

@@ -1,0 +1,68 @@
+// The lines of a text, the words of a line, and the numbers that words are.
+ghost use Rattle.std.specs.Prelude.{◌≡◌, ◌<◌, ◌==◌, ◌∷◌, ◌^◌, [], length, option_copied, position, IfSome, IfNone};
+ghost use Rattle.std.specs.List.{slice_split};
+ghost use Rattle.cut_form.specs.TextLines.{text_lines, without_return, most_digits, number_of_word};
+ghost use Rattle.cut_text.specs.Reading.{parts_left};
+
+use number_text::{decimal_value, is_number};
+
+/// The most digits of a number.
+const MOST_DIGITS: usize = 9;
+
+/// The place of the first such character.
+fn place_of(character: u8, text: &[u8]) -> Option<usize>
+    ensures place { result ≡ position (λ other. other == character) text.now }
+    ensures inside { IfSome result (λ place. place < length text.now) }
+{
+    text.iter().position(|other| *other == character)
+}
+
+/// The first part of a text, and what stands after the character that ends it.
+pub fn first_part(character: u8, text: &[u8]) -> (&[u8], Option<&[u8]>)
+    ensures parts { slice_split (λ other. other == character) text.now ≡ result.0.now ∷ parts_left character (option_copied result.1) }
+    ensures shorter { IfSome result.1 (λ after. length after.now < length text.now) }
+    ensures whole { IfNone result.1 (result.0.now ≡ text.now) }
+{
+    match place_of(character, text) {
+        Some(place) => (text.split_at(place).0, Some(text.split_at(place + 1).1)),
+        None => (text, None),
+    }
+}
+
+/// A line without the carriage return at its end.
+fn without_return(line: &[u8]) -> &[u8]
+    ensures { result.now ≡ without_return line.now }
+{
+    let Some((last, front)) = line.split_last() else {
+        return line;
+    };
+    if *last == b'\r' { front } else { line }
+}
+
+/// The first line of a text and what stands after it, unless nothing is left.
+pub fn first_line(text: &[u8]) -> Option<(&[u8], &[u8])>
+    ensures lines { IfSome result (λ first. text_lines text.now ≡ first.0.now ∷ text_lines first.1.now) }
+    ensures shorter { IfSome result (λ first. length first.1.now < length text.now) }
+    ensures none { IfNone result (text_lines text.now ≡ []) }
+{
+    if text.is_empty() {
+        return None;
+    }
+    let (line, rest) = first_part(b'\n', text);
+    match rest {
+        Some(after) => Some((without_return(line), after)),
+        None => Some((without_return(line), &[])),
+    }
+}
+
+/// The number that a word is, which has 1 to 9 digits.
+pub fn number_in(word: &[u8]) -> Option<u32>
+    ensures number { result ≡ number_of_word word.now }
+    ensures small { IfSome result (λ number. number < 10 ^ 9) }
+{
+    if is_number(MOST_DIGITS, word) {
+        Some(decimal_value(word) as u32)
+    } else {
+        None
+    }
+}

@@ -1,0 +1,10 @@
+//! The lines of a script as they are read from a text.
+#![tactic(auto)]
+
+mod reading;
+mod script;
+#[cfg(test)]
+mod tests;
+
+pub use reading::read_script;
+pub use script::ScriptLines;

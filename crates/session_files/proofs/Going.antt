@@ -1,0 +1,97 @@
+-- What is still to come of a session, once it went on.
+use Rattle.std.proofs.Common.{◌≡◌, ◌∙◌, sym, ap, refl, ℕ, ◌+◌, ◌<◌, ◌≤◌, List, [], ◌∷◌, ◌++◌, length, arith, append_assoc}
+use Rattle.std.specs.List.{flat_map}
+use Rattle.std.proofs.lemmas.Grind.{flat_map-append}
+use Rattle.std.proofs.lemmas.List.Concat.{flat_map-cons}
+use Rattle.num_fix.specs.declared.Frame.{Frame}
+use Rattle.wav_form.specs.Wave.{frame_bytes, header_of, stereo_wave}
+use Rattle.lock_step.specs.ChipMeaning.{ChipMeaning}
+use Rattle.lock_step.specs.ChipSaving.{ChipSaving}
+use Rattle.lock_step.specs.Machine.{Machine}
+use Rattle.render_core.specs.MachineRun.{Whole}
+use Rattle.cut_form.specs.declared.script.ScriptLine.{ScriptLine}
+use Rattle.cut_form.specs.declared.script.Reply.{Reply}
+use Rattle.cut_form.specs.Slices.{cut_frames}
+use Rattle.cut_form.specs.Session.{Session, LineOutcome, replies, played_cuts}
+use Rattle.cut_server.specs.ServerState.{pages_after, frames_after, slots_of}
+use Rattle.cut_server.specs.Server.{ChipServer, lock_step_machines, opening, pages_at, frames_to, KeepsTune}
+use Rattle.session_files.specs.Player.{session_of, left_to_play, Answers}
+use Rattle.session_files.specs.Report.{reply_line, report_on}
+use Rattle.session_files.specs.SessionFiles.{FilesState, replies_to_come, frames_left, GoesOn}
+use Rattle.session_files.proofs.Playing.{frames_first}
+
+-- frames that were played stand with those that were made before
+pub moved : (wave now : List ℕ) (played before after rest later : List Frame) → now ≡ wave ++ flat_map frame_bytes played → played ++ after ≡ before → later ≡ rest
+    → wave ++ flat_map frame_bytes (before ++ rest) ≡ now ++ flat_map frame_bytes (after ++ later)
+moved wave now played before after rest later added split same =
+    ap (λ (l : List Frame). wave ++ flat_map frame_bytes (l ++ rest)) (sym split)
+    ∙ ap (λ (l : List Frame). wave ++ flat_map frame_bytes l) (append_assoc played after rest)
+    ∙ ap (λ (l : List ℕ). wave ++ l) (flat_map-append frame_bytes played (after ++ rest))
+    ∙ sym (append_assoc wave (flat_map frame_bytes played) (flat_map frame_bytes (after ++ rest)))
+    ∙ ap (λ (l : List ℕ). l ++ flat_map frame_bytes (after ++ rest)) (sym added)
+    ∙ ap (λ (l : List Frame). now ++ flat_map frame_bytes (after ++ l)) (sym same)
+
+-- before the first line the header and what is to come are the whole file
+pub whole_wave : (f : ℕ → List Frame) (told now : List Reply) (left : List Frame) (count : ℕ) → left ≡ [] → now ≡ told → count ≡ length (cut_frames f (played_cuts told))
+    → header_of 2 count ++ flat_map frame_bytes (left ++ cut_frames f (played_cuts now)) ≡ stereo_wave (cut_frames f (played_cuts told))
+whole_wave f told now left count none same is =
+    ap (λ (l : List Frame). header_of 2 count ++ flat_map frame_bytes (l ++ cut_frames f (played_cuts now))) none
+    ∙ ap (λ (r : List Reply). header_of 2 count ++ flat_map frame_bytes (cut_frames f (played_cuts r))) same
+    ∙ ap (λ (n : ℕ). header_of 2 n ++ flat_map frame_bytes (cut_frames f (played_cuts told))) is
+
+module _ {S V : Type 0} (chip : ChipMeaning S) (saving : ChipSaving S V) where
+  pub frames_kept : {old new : ChipServer S V} → KeepsTune chip saving old new → frames_to chip saving new ≡ frames_to chip saving old
+  frames_kept tune = ap (frames_after (lock_step_machines chip saving)) tune.start
+
+  told_kept : {old new : ChipServer S V} → KeepsTune chip saving old new → (a b : Session) (k l : List ScriptLine) → b ≡ a → l ≡ k
+      → replies (slots_of new) (pages_at chip saving new) b l ≡ replies (slots_of old) (pages_at chip saving old) a k
+  told_kept {old} {new} tune a b k l same lines =
+      ap (λ (w : Whole (Machine S)). replies (slots_of new) (pages_after (lock_step_machines chip saving) w) b l) tune.start
+      ∙ ap (λ (n : ℕ). replies n (pages_at chip saving old) b l) tune.slots
+      ∙ ap (λ (s : Session). replies (slots_of old) (pages_at chip saving old) s l) same
+      ∙ ap (replies (slots_of old) (pages_at chip saving old) a) lines
+
+  rest_kept : {old new : ChipServer S V} → KeepsTune chip saving old new → (now told : List Reply) → now ≡ told
+      → cut_frames (frames_to chip saving new) (played_cuts now) ≡ cut_frames (frames_to chip saving old) (played_cuts told)
+  rest_kept {old} {new} tune now told same =
+      ap (λ (h : ℕ → List Frame). cut_frames h (played_cuts now)) (frames_kept tune)
+      ∙ ap (λ (r : List Reply). cut_frames (frames_to chip saving old) (played_cuts r)) same
+
+  -- frames were played
+  pub played_on : {old new : FilesState S V} (played : List Frame) → KeepsTune chip saving old.player.server new.player.server → session_of new.player ≡ session_of old.player → new.lines ≡ old.lines → new.told ≡ old.told
+      → played ++ left_to_play chip saving new.player ≡ left_to_play chip saving old.player → new.wave ≡ old.wave ++ flat_map frame_bytes played → new.player.left < old.player.left → GoesOn chip saving old new
+  played_on {old} {new} played tune same lines told split wave less =
+      let later : replies_to_come chip saving new ≡ replies_to_come chip saving old = told_kept tune (session_of old.player) (session_of new.player) old.lines new.lines same lines in
+      record {
+        wave = moved old.wave new.wave played (left_to_play chip saving old.player) (left_to_play chip saving new.player) _ _ wave split (rest_kept tune (replies_to_come chip saving new) (replies_to_come chip saving old) later);
+        report = ap (λ (l : List ℕ). l ++ report_on (replies_to_come chip saving new)) told ∙ ap (λ (r : List Reply). old.told ++ report_on r) later;
+        less_work = omega (arith, less, ap length lines);
+      }
+
+  -- a line was answered
+  pub answered : {old new : FilesState S V} (line : ScriptLine) (reply : Reply) → Answers chip saving line old.player new.player reply → left_to_play chip saving old.player ≡ [] → old.lines ≡ line ∷ new.lines
+      → new.told ≡ old.told ++ reply_line reply → new.wave ≡ old.wave → GoesOn chip saving old new
+  answered {old} {new} line reply answers before lines told wave =
+      let server = old.player.server in
+      let f = frames_to chip saving server in
+      let rest = replies (slots_of server) (pages_at chip saving server) (session_of new.player) new.lines in
+      let all : replies_to_come chip saving old ≡ reply ∷ rest =
+      ap (replies (slots_of server) (pages_at chip saving server) (session_of old.player)) lines
+      ∙ ap (λ (o : LineOutcome). o.reply ∷ replies (slots_of server) (pages_at chip saving server) o.session new.lines) answers.outcome in
+      let later : replies_to_come chip saving new ≡ rest = told_kept answers.tune (session_of new.player) (session_of new.player) new.lines new.lines refl refl in
+      record {
+        wave =
+            ap (λ (l : List Frame). old.wave ++ flat_map frame_bytes (l ++ cut_frames f (played_cuts (replies_to_come chip saving old)))) before
+            ∙ ap (λ (r : List Reply). old.wave ++ flat_map frame_bytes (cut_frames f (played_cuts r))) all
+            ∙ ap (λ (l : List Frame). old.wave ++ flat_map frame_bytes l) (frames_first f reply rest)
+            ∙ ap (λ (l : List Frame). old.wave ++ flat_map frame_bytes (l ++ cut_frames f (played_cuts rest))) (sym answers.frames)
+            ∙ ap (λ (l : List Frame). old.wave ++ flat_map frame_bytes (left_to_play chip saving new.player ++ l)) (sym (rest_kept answers.tune (replies_to_come chip saving new) rest later))
+            ∙ ap (λ (l : List ℕ). l ++ flat_map frame_bytes (frames_left chip saving new)) (sym wave);
+        report =
+            ap (λ (l : List ℕ). l ++ report_on (replies_to_come chip saving new)) told
+            ∙ ap (λ (r : List Reply). (old.told ++ reply_line reply) ++ report_on r) later
+            ∙ append_assoc old.told (reply_line reply) (report_on rest)
+            ∙ ap (λ (l : List ℕ). old.told ++ l) (sym (flat_map-cons reply_line reply rest))
+            ∙ ap (λ (r : List Reply). old.told ++ report_on r) (sym all);
+        less_work = omega (arith, answers.few, ap length lines);
+      }

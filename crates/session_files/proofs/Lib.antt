@@ -1,0 +1,4 @@
+-- Playing: the frames of a session, part by part.
+pub mod Playing
+-- Going: what is still to come of a session, once it went on.
+pub mod Going

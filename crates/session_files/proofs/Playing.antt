@@ -1,0 +1,127 @@
+-- The frames of a session, part by part.
+use Rattle.std.proofs.Common.{◌≡◌, ◌∙◌, sym, ap, refl, ℕ, suc, ◌+◌, ◌-◌, ◌≤◌, Bool, true, false, List, [], ◌∷◌, ◌++◌, length, take, drop, Some, arith, add-one, drop-cons}
+use Rattle.std.specs.List.{slice_get}
+use Rattle.std.specs.Prelude.{not, ◌&&◌, ◌==◌, nat_le, if◌then◌else◌}
+use Rattle.std.proofs.lemmas.List.{drop-append-le, take-append-drop, drop_all, length-append, length-drop}
+use Rattle.std.proofs.lemmas.List.Concat.{flat_map-cons}
+use Rattle.std.proofs.lemmas.Option.{slice_get_within, get_or_from_slice_get}
+use Rattle.num_fix.specs.Limits.{most_frames}
+use Rattle.std.proofs.lemmas.Grind.{flat_map-append}
+use Rattle.cut_form.specs.declared.cut.Cut.{Cut}
+use Rattle.cut_form.specs.declared.script.Reply.{Reply}
+use Rattle.cut_form.specs.declared.script.Reply.TheVariants.{At, Played, Refused, AfterMark, Dropped, NoneAt, Counted}
+use Rattle.cut_form.specs.Slices.{slice_of, cut_frames}
+use Rattle.cut_form.specs.declared.script.ScriptLine.{ScriptLine}
+use Rattle.cut_form.specs.declared.script.ScriptLine.TheVariants.{Seek, Play, Mark, Drop, Free}
+use Rattle.cut_form.specs.Checkpoints.{stands_at}
+use Rattle.cut_form.specs.CutBook.{after_play, without_one}
+use Rattle.cut_form.specs.Session.{Session, LineOutcome, after_line, replies, played_cuts}
+use Rattle.script_text.specs.Playing.{IsWithinHour, played_frames}
+use Rattle.session_files.specs.Runs.{AreOfRun}
+
+-- a list from an entry on
+pub drop_at : {A : Type 0} (xs : List A) (i : ℕ) (x : A) → slice_get xs i ≡ Some x → drop i xs ≡ x ∷ drop (i + 1) xs
+drop_at {A} xs i x is = rw (add-one, drop-cons xs i x (slice_get_within xs i x is)) (ap (λ (y : A). y ∷ drop (suc i) xs) (get_or_from_slice_get xs i x x is))
+
+-- a slice without frames
+pub slice_none : {A : Type 0} (f : ℕ → List A) (at left : ℕ) → AreOfRun f → left ≡ 0 → slice_of f at left ≡ []
+slice_none f at left run none = drop_all at (f (at + left)) (omega (arith, run.count (at + left), none))
+
+-- how many frames a slice has
+pub length-slice : {A : Type 0} (f : ℕ → List A) (at count : ℕ) → AreOfRun f → length (slice_of f at count) ≡ count
+length-slice f at count run = omega (arith, run.count (at + count), length-drop at (f (at + count)))
+
+-- a slice in two parts
+pub slice_parts : {A : Type 0} (f : ℕ → List A) (at most left : ℕ) → AreOfRun f → most ≤ left → slice_of f at most ++ slice_of f (at + most) (left - most) ≡ slice_of f at left
+slice_parts {A} f at most left run within =
+    let all : (at + most) + (left - most) ≡ at + left = omega (arith, within) in
+    let part : take (at + most) (f (at + left)) ≡ f (at + most) = run.grows (at + most) (at + left) (omega (arith, within)) in
+    let few : at ≤ length (take (at + most) (f (at + left))) = omega (arith, ap length part, run.count (at + most)) in
+    ap (λ (l : List A). drop at l ++ drop (at + most) (f ((at + most) + (left - most)))) (sym part)
+    ∙ ap (λ (n : ℕ). drop at (take (at + most) (f (at + left))) ++ drop (at + most) (f n)) all
+    ∙ sym (drop-append-le at (take (at + most) (f (at + left))) (drop (at + most) (f (at + left))) few)
+    ∙ ap (drop at) (take-append-drop (at + most) (f (at + left)))
+
+-- the same once a server has played the first part
+pub played_part : {A : Type 0} (f g : ℕ → List A) (at next most left : ℕ) (played : List A) → AreOfRun f → g ≡ f → next ≡ at + most → most ≤ left → played ≡ slice_of f at most
+    → played ++ slice_of g next (left - most) ≡ slice_of f at left
+played_part {A} f g at next most left played run same there within is =
+    ap (λ (l : List A). l ++ slice_of g next (left - most)) is
+    ∙ ap (λ (h : ℕ → List A). slice_of f at most ++ slice_of h next (left - most)) same
+    ∙ ap (λ (n : ℕ). slice_of f at most ++ slice_of f n (left - most)) there
+    ∙ slice_parts f at most left run within
+
+-- the cuts that replies tell: those of the first, and then of the others
+cuts_first : (reply : Reply) (rest : List Reply) → played_cuts (reply ∷ rest) ≡ played_cuts (reply ∷ []) ++ played_cuts rest
+cuts_first (At at) rest = refl
+cuts_first (Played count at) rest = refl
+cuts_first (Refused count) rest = refl
+cuts_first (AfterMark at marked) rest = refl
+cuts_first (Dropped sample) rest = refl
+cuts_first (NoneAt sample) rest = refl
+cuts_first (Counted left marks made) rest = refl
+
+pub frames_first : {A : Type 0} (f : ℕ → List A) (reply : Reply) (rest : List Reply) → cut_frames f (played_cuts (reply ∷ rest)) ≡ cut_frames f (played_cuts (reply ∷ [])) ++ cut_frames f (played_cuts rest)
+frames_first f reply rest = ap (cut_frames f) (cuts_first reply rest) ∙ flat_map-append (λ (cut : Cut). slice_of f cut.start cut.count) (played_cuts (reply ∷ [])) (played_cuts rest)
+
+-- how many frames cuts have: those of the first, and then of the others
+pub length-cuts : {A : Type 0} (f : ℕ → List A) → AreOfRun f → (cut : Cut) (cuts : List Cut) → length (cut_frames f (cut ∷ cuts)) ≡ cut.count + length (cut_frames f cuts)
+length-cuts f run cut cuts =
+    ap length (flat_map-cons (λ (c : Cut). slice_of f c.start c.count) cut cuts)
+    ∙ length-append (slice_of f cut.start cut.count) (cut_frames f cuts)
+    ∙ ap (λ (n : ℕ). n + length (cut_frames f cuts)) (length-slice f cut.start cut.count run)
+
+-- what comes of one of two outcomes
+length-one_of : {A : Type 0} (f : ℕ → List A) (slots : ℕ) (pages : ℕ → List (List ℕ)) (lines : List ScriptLine) (test : Bool) (one other : LineOutcome) (frames n m : ℕ)
+    → length (cut_frames f (played_cuts (one.reply ∷ replies slots pages one.session lines))) + frames ≡ n
+    → length (cut_frames f (played_cuts (other.reply ∷ replies slots pages other.session lines))) + frames ≡ m
+    → length (cut_frames f (played_cuts ((if test then one else other).reply ∷ replies slots pages (if test then one else other).session lines))) + frames ≡ (if test then n else m)
+length-one_of f slots pages lines true one other frames n m is_yes is_no = is_yes
+length-one_of f slots pages lines false one other frames n m is_yes is_no = is_no
+
+length-either : {A : Type 0} (f : ℕ → List A) (slots : ℕ) (pages : ℕ → List (List ℕ)) (lines : List ScriptLine) (test : Bool) (one other : LineOutcome) (frames n : ℕ)
+    → length (cut_frames f (played_cuts (one.reply ∷ replies slots pages one.session lines))) + frames ≡ n
+    → length (cut_frames f (played_cuts (other.reply ∷ replies slots pages other.session lines))) + frames ≡ n
+    → length (cut_frames f (played_cuts ((if test then one else other).reply ∷ replies slots pages (if test then one else other).session lines))) + frames ≡ n
+length-either f slots pages lines true one other frames n is_yes is_no = is_yes
+length-either f slots pages lines false one other frames n is_yes is_no = is_no
+
+-- How many frames a session plays is known from the lines that seek and play alone.
+pub length-session : {A : Type 0} (f : ℕ → List A) → AreOfRun f → (slots : ℕ) (pages : ℕ → List (List ℕ)) (session : Session) (lines : List ScriptLine)
+    → length (cut_frames f (played_cuts (replies slots pages session lines))) + session.frames ≡ played_frames session.book.position session.frames lines
+length-session f run slots pages session [] = omega arith
+length-session f run slots pages session (Seek at ∷ lines) = length-session f run slots pages (after_line slots pages session (Seek at)).session lines
+length-session f run slots pages session (Play count ∷ lines) =
+    let book = session.book in
+    let one : LineOutcome = record { session = record { book = after_play book count; frames = session.frames + count }; reply = Played count (book.position + count) } in
+    let other : LineOutcome = record { session = session; reply = Refused count } in
+    let rest = replies slots pages one.session lines in
+    let cut : Cut = record { start = (book.position + count) - count; count = count } in
+    let more : (count + length (cut_frames f (played_cuts rest))) + session.frames ≡ length (cut_frames f (played_cuts rest)) + (session.frames + count) = omega arith in
+    length-one_of f slots pages lines (nat_le (book.position + count) most_frames && nat_le (session.frames + count) most_frames) one other session.frames _ _
+    (ap (λ (n : ℕ). n + session.frames) (length-cuts f run cut (played_cuts rest)) ∙ more ∙ length-session f run slots pages one.session lines)
+    (length-session f run slots pages session lines)
+length-session f run slots pages session (Mark ∷ lines) = length-session f run slots pages (after_line slots pages session Mark).session lines
+length-session f run slots pages session (Drop sample ∷ lines) =
+    let one : LineOutcome = record { session = record session { book = without_one session.book sample }; reply = Dropped sample } in
+    let other : LineOutcome = record { session = session; reply = NoneAt sample } in
+    length-either f slots pages lines (not (sample == 0) && stands_at session.book.live sample) one other session.frames _
+    (length-session f run slots pages one.session lines) (length-session f run slots pages session lines)
+length-session f run slots pages session (Free ∷ lines) = length-session f run slots pages session lines
+
+-- A line makes an hour of samples at most.
+made_by_play : (test : Bool) (made count : ℕ) (one other : LineOutcome) → count ≤ most_frames → one.session.book.made ≡ made + count → other.session.book.made ≡ made → (if test then one else other).session.book.made ≤ made + most_frames
+made_by_play true made count one other few is_yes is_no = omega (arith, few, is_yes)
+made_by_play false made count one other few is_yes is_no = omega (arith, is_no)
+
+pub made_by_line : (slots : ℕ) (pages : ℕ → List (List ℕ)) (session : Session) (line : ScriptLine) → IsWithinHour line → (after_line slots pages session line).session.book.made ≤ session.book.made + most_frames
+made_by_line slots pages session (Seek at) within = omega (arith, within)
+made_by_line slots pages session (Play count) within =
+    made_by_play (nat_le (session.book.position + count) most_frames && nat_le (session.frames + count) most_frames) session.book.made count
+    (record { session = record { book = after_play session.book count; frames = session.frames + count }; reply = Played count (session.book.position + count) })
+    (record { session = session; reply = Refused count }) within refl refl
+made_by_line slots pages session Mark within = omega arith
+made_by_line slots pages session (Drop sample) within =
+    made_by_play (not (sample == 0) && stands_at session.book.live sample) session.book.made 0
+    (record { session = record session { book = without_one session.book sample }; reply = Dropped sample }) (record { session = session; reply = NoneAt sample }) (omega arith) (omega arith) refl
+made_by_line slots pages session Free within = omega arith

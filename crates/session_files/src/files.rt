@@ -1,0 +1,196 @@
+// A session as the bytes of its sound file, and its replies, over any chip.
+ghost use Rattle.std.specs.Prelude.{◌≡◌, ◌+◌, ◌*◌, ◌<◌, ◌≤◌, ◌++◌, [], length, true, false, IfOk};
+ghost use Rattle.std.specs.List.{flat_map};
+ghost use Rattle.wav_form.specs.Wave.{frame_bytes, header_of, stereo_wave};
+ghost use Rattle.cut_form.specs.CutBook.{opened_book};
+ghost use Rattle.cut_form.specs.Session.{played_cuts};
+ghost use Rattle.cut_form.specs.Slices.{cut_frames};
+ghost use Rattle.cut_server.specs.ServerState.{book_of};
+ghost use Rattle.cut_server.specs.Server.{pages_at, frames_to};
+ghost use Rattle.script_text.specs.Playing.{played_frames};
+ghost use Rattle.session_files.specs.Runs.{AreOfRun};
+ghost use Rattle.session_files.specs.Player.{left_to_play};
+ghost use Rattle.session_files.specs.Report.{report_on};
+ghost use Rattle.session_files.specs.SessionFiles.{replies_of_server, to_come_of, held_of, report_of, work_of, is_finished, GoesOn};
+
+use crate::OutOfMemory;
+use crate::player::Player;
+use crate::replies::put_line;
+use command_frame::Pieces;
+use cut_server::CutServer;
+use lock_step::Chip;
+use num_fix::Frame;
+use report_text::ByteRoom;
+use script_text::ScriptLines;
+use std::alloc::Global;
+use std::marker::Model;
+use trace_form::Frames;
+use wav_form::put_frame;
+
+/// The bytes of the most frames that are played at once.
+const WAVE_PIECE: usize = 256;
+
+/// The most bytes of a reply's line.
+const REPLY_BYTES: usize = 80;
+
+/// A session over any chip that is turned into the bytes of a sound file, and then into its replies.
+#[derive(Drop)]
+pub struct SessionFiles<C: Chip> {
+    player: Player<C>,
+    script: ScriptLines,
+    next: usize,
+    frames: Frames,
+    wave: ByteRoom,
+    report: Vec<u8>,
+}
+
+impl<C: Chip> Model for SessionFiles<C> {
+    ghost use Rattle.std.specs.Prelude.{◌≤◌, drop, length, vec_capacity};
+    ghost use Rattle.session_files.specs.SessionFiles.{FilesState, IsOnScript};
+
+    ghost Value = { FilesState C.State C.Saved };
+
+    ghost view = { λ f. record {
+      player = f.player;
+      lines = drop f.next f.script;
+      told = f.report.items;
+      wave = f.wave;
+    } };
+
+    ghost invariant = { λ f. (f.next ≤ length f.script) × IsOnScript f.player (drop f.next f.script) f.report.items (vec_capacity f.report) };
+}
+
+/// Adds the bytes of frames.
+fn put_frames(wave: &mut ByteRoom, frames: &[Frame])
+    requires { length wave.old + 4 * length frames.now ≤ 131072 }
+    ensures { wave.new ≡ wave.old ++ flat_map frame_bytes frames.now }
+{
+    for frame in frames {
+        wave.append(&put_frame(*frame));
+    }
+}
+
+/// Adds the bytes of the frames that were played.
+pub fn put_played(wave: &mut ByteRoom, frames: &Frames)
+    requires { length wave.old + 4 * length frames.now ≤ 131072 }
+    ensures { wave.new ≡ wave.old ++ flat_map frame_bytes frames.now }
+{
+    put_frames(wave, frames.as_slice());
+}
+
+impl<C: Chip> SessionFiles<C> {
+    /// The files of a session on a server that stands at its opening. All room is made here, that for the replies too, and
+    /// no later call takes memory.
+    pub fn open(
+        alloc: Global,
+        server: CutServer<C>,
+        script: ScriptLines,
+    ) -> Result<SessionFiles<C>, OutOfMemory>
+        requires run { AreOfRun (frames_to C.meaning C.saving server) }
+        requires opened { book_of server ≡ opened_book (pages_at C.meaning C.saving server) }
+        ensures wave { let told = replies_of_server C.meaning C.saving server script in
+            IfOk result (λ files. header_of 2 (played_frames 0 0 script) ++ (to_come_of C.meaning C.saving files).first
+            ≡ stereo_wave (cut_frames (frames_to C.meaning C.saving server) (played_cuts told))) }
+        ensures report { let told = replies_of_server C.meaning C.saving server script in
+            IfOk result (λ files. report_of C.meaning C.saving files ≡ report_on told) }
+    {
+        let report = Vec::with_capacity(alloc, script.len() * REPLY_BYTES)?;
+        let frames = Frames::new(alloc)?;
+        let wave = ByteRoom::new(alloc)?;
+        let player = Player::new(server);
+        Ok(SessionFiles {
+            player,
+            script,
+            next: 0,
+            frames,
+            wave,
+            report,
+        })
+    }
+
+    /// Whether all lines are answered and played.
+    fn is_finished(&self) -> bool
+        ensures finished { result ≡ is_finished self.now }
+        ensures nothing { result ≡ true → (to_come_of C.meaning C.saving self.now).first ≡ [] }
+    {
+        self.player.left() == 0 && self.next == self.script.len()
+    }
+
+    /// Plays the next frames of the last line.
+    fn play_some(&mut self)
+        requires some { 0 < self.old.player.left }
+        requires room { length self.old.wave + 256 ≤ 131072 }
+        ensures { GoesOn C.meaning C.saving self.old self.new }
+    {
+        self.player.play_some(&mut self.frames);
+        put_played(&mut self.wave, &self.frames);
+    }
+
+    /// Answers the next line.
+    fn answer_next(&mut self)
+        requires played { self.old.player.left ≡ 0 }
+        requires none { left_to_play C.meaning C.saving self.old.player ≡ [] }
+        requires some { 0 < length self.old.lines }
+        ensures { GoesOn C.meaning C.saving self.old self.new }
+    {
+        let line = self.script.line(self.next);
+        let reply = self.player.answer(line);
+        put_line(&mut self.report, reply);
+        self.next += 1;
+    }
+
+    /// Plays the next frames of the last line, or answers the next line.
+    fn step(&mut self)
+        requires more { is_finished self.old ≡ false }
+        requires room { length self.old.wave + 256 ≤ 131072 }
+        ensures { GoesOn C.meaning C.saving self.old self.new }
+    {
+        if self.player.left() > 0 {
+            self.play_some();
+        } else {
+            self.answer_next();
+        }
+    }
+
+    /// Goes on while there is room for more frames.
+    fn fill(&mut self)
+        requires { self.old.wave ≡ [] }
+        ensures first { (to_come_of C.meaning C.saving self.old).first ≡ self.new.wave ++ (to_come_of C.meaning C.saving self.new).first }
+        ensures report { report_of C.meaning C.saving self.new ≡ report_of C.meaning C.saving self.old }
+        ensures less_work { is_finished self.new ≡ false → work_of self.new < work_of self.old }
+    {
+        'lines: while !self.is_finished() && self.wave.has_room(WAVE_PIECE) {
+            self.step();
+        }
+    }
+}
+
+impl<C: Chip> Pieces for SessionFiles<C> {
+    ghost held = { held_of };
+
+    ghost to_come = { to_come_of C.meaning C.saving };
+
+    ghost report = { report_of C.meaning C.saving };
+
+    ghost is_done = { is_finished };
+
+    ghost work = { work_of };
+
+    fn make_next(&mut self) -> bool {
+        self.wave.clear();
+        self.fill();
+        self.is_finished()
+    }
+
+    fn first(&self) -> &[u8] {
+        self.wave.as_slice()
+    }
+
+    fn second(&self) -> &[u8] {
+        &[]
+    }
+
+    fn report(&self) -> &[u8] {
+        self.report.as_slice()
+    }
+}

@@ -1,0 +1,9 @@
+//! What turns a session into the bytes of its sound file, and into its replies. It is made over any chip, and can make none.
+#![tactic(auto)]
+
+mod files;
+mod player;
+mod replies;
+
+pub use files::{SessionFiles, put_played};
+pub use std::alloc::AllocError as OutOfMemory;

@@ -1,0 +1,151 @@
+// A session on a server: each line is answered, and its frames are played piece by piece.
+ghost use Rattle.std.specs.Prelude.{◌≡◌, ◌+◌, ◌≤◌, ◌<◌, ◌++◌, [], length};
+ghost use Rattle.num_fix.specs.Limits.{most_frames};
+ghost use Rattle.cut_form.specs.declared.script.ScriptLine.TheVariants as lines;
+ghost use Rattle.cut_server.specs.ServerState.{book_of, slots_of};
+ghost use Rattle.cut_server.specs.Server.{frames_to, pages_at, KeepsTune};
+ghost use Rattle.script_text.specs.Playing.{IsWithinHour};
+ghost use Rattle.session_files.specs.Runs.{AreOfRun};
+ghost use Rattle.session_files.specs.Player.{PlayerState, session_of, left_to_play, CanAnswer, Answers};
+
+use cut_form::{Reply, ScriptLine};
+use cut_server::CutServer;
+use lock_step::Chip;
+use std::marker::Model;
+use trace_form::Frames;
+
+/// The most frames of a sound.
+const MOST_FRAMES: u32 = 115200000;
+
+/// The most frames that are played at once.
+const PIECE: u32 = 64;
+
+/// A session on a server of cuts. No call takes memory.
+#[derive(Drop)]
+pub(crate) struct Player<C: Chip> {
+    server: CutServer<C>,
+    frames: u32,
+    left: u32,
+}
+
+impl<C: Chip> Model for Player<C> {
+    ghost use Rattle.session_files.specs.Player.{PlayerState, IsPlaying};
+
+    ghost Value = { PlayerState C.State C.Saved };
+
+    ghost view = { λ p. record { server = p.server; frames = p.frames; left = p.left } };
+
+    ghost invariant = { λ p. IsPlaying C.meaning C.saving p.server p.frames p.left };
+}
+
+impl<C: Chip> Player<C> {
+    /// A session at the opening of a server.
+    pub(crate) fn new(server: CutServer<C>) -> Player<C>
+        requires run { AreOfRun (frames_to C.meaning C.saving server) }
+        requires opened { (book_of server).position ≡ 0 }
+        ensures { result ≡ record { server = server; frames = 0; left = 0 } }
+    {
+        Player {
+            server,
+            frames: 0,
+            left: 0,
+        }
+    }
+
+    /// How many frames of the last line are still to be played.
+    pub(crate) fn left(&self) -> u32
+        ensures left { result ≡ self.now.left }
+        ensures none { self.now.left ≡ 0 → left_to_play C.meaning C.saving self.now ≡ [] }
+    {
+        self.left
+    }
+
+    /// Answers a line that goes to a sample.
+    fn seek(&mut self, at: u32) -> Reply
+        requires ready { CanAnswer self.old }
+        requires within { at ≤ most_frames }
+        ensures { Answers C.meaning C.saving (lines.Seek at) self.old self.new result }
+    {
+        self.server.seek(at);
+        Reply::At(at)
+    }
+
+    /// Answers a line that plays: its frames are still to be played then.
+    fn play(&mut self, count: u32) -> Reply
+        requires ready { CanAnswer self.old }
+        requires within { count ≤ most_frames }
+        ensures { Answers C.meaning C.saving (lines.Play count) self.old self.new result }
+    {
+        let at = self.server.at() + count;
+        if at > MOST_FRAMES || self.frames + count > MOST_FRAMES {
+            return Reply::Refused(count);
+        }
+        self.frames += count;
+        self.left = count;
+        Reply::Played { count, at }
+    }
+
+    /// Answers a line that marks.
+    fn mark(&mut self) -> Reply
+        requires { CanAnswer self.old }
+        ensures { Answers C.meaning C.saving lines.Mark self.old self.new result }
+    {
+        let at = self.server.at();
+        let marked = self.server.mark();
+        Reply::AfterMark { at, marked }
+    }
+
+    /// Answers a line that drops the checkpoint at a sample.
+    fn drop_at(&mut self, sample: u32) -> Reply
+        requires { CanAnswer self.old }
+        ensures { Answers C.meaning C.saving (lines.Drop sample) self.old self.new result }
+    {
+        if sample == 0 || !self.server.has(sample) {
+            return Reply::NoneAt(sample);
+        }
+        self.server.drop_at(sample);
+        Reply::Dropped(sample)
+    }
+
+    /// Answers a line that asks what is free.
+    fn count(&self) -> Reply
+        requires { CanAnswer self.now }
+        ensures { Answers C.meaning C.saving lines.Free self.now self.now result }
+    {
+        Reply::Counted {
+            free: self.server.free(),
+            marks: self.server.count(),
+            made: self.server.work(),
+        }
+    }
+
+    /// Answers a line.
+    pub(crate) fn answer(&mut self, line: ScriptLine) -> Reply
+        requires ready { CanAnswer self.old }
+        requires within { IsWithinHour line }
+        ensures { Answers C.meaning C.saving line self.old self.new result }
+    {
+        match line {
+            ScriptLine::Seek(at) => self.seek(at),
+            ScriptLine::Play(count) => self.play(count),
+            ScriptLine::Mark => self.mark(),
+            ScriptLine::Drop(sample) => self.drop_at(sample),
+            ScriptLine::Free => self.count(),
+        }
+    }
+
+    /// Plays the next frames of the last line, up to 64.
+    pub(crate) fn play_some(&mut self, frames: &mut Frames)
+        requires some { 0 < self.old.left }
+        requires counted { (session_of self.old).book.made ≤ 18446744073709551615 }
+        ensures frames { frames.new ++ left_to_play C.meaning C.saving self.new ≡ left_to_play C.meaning C.saving self.old }
+        ensures session { session_of self.new ≡ session_of self.old }
+        ensures tune { KeepsTune C.meaning C.saving self.old.server self.new.server }
+        ensures less { self.new.left < self.old.left }
+        ensures few { length frames.new ≤ 64 }
+    {
+        let most = self.left.min(PIECE);
+        self.server.play(most, frames);
+        self.left -= most;
+    }
+}

@@ -1,0 +1,45 @@
+// The edge of the program: what the command line gives, and what the process exits with.
+ghost use Rattle.snd_host.specs.Host.{HostState};
+ghost use Rattle.spcwave.specs.Run.{HasFewOutputs};
+ghost use Rattle.spcwave.specs.Given.{EndsWith, ExitsWith};
+
+use crate::run::run;
+use command_frame::{Refusal, complain};
+use snd_host::Host;
+use status_lines::{Cause, Status, status_for};
+use std::alloc::Global;
+
+/// What the command line gives after the program's name.
+#[derive(Drop)]
+pub enum Given {
+    Words(Vec<String>),
+    /// A word is no text.
+    NoText,
+    /// There was no memory for the words.
+    NoMemory,
+}
+
+/// Does what was given, and answers how it ended.
+fn end_of<H: Host>(alloc: Global, given: &Given, host: &mut H) -> Status
+    requires { HasFewOutputs (H.state host.old) }
+    ensures { EndsWith given.now (H.state host.old) (H.state host.new) result }
+{
+    match given {
+        Given::Words(words) => run(alloc, words.as_slice(), host),
+        // What is no text says no command, as no words do.
+        Given::NoText => run(alloc, &[], host),
+        Given::NoMemory => {
+            let refusal = Some(Refusal::OutOfMemory);
+            complain::<H, Cause>(host, refusal);
+            status_for(refusal)
+        }
+    }
+}
+
+/// Does what was given, and answers the number that the process exits with.
+pub fn run_given<H: Host>(alloc: Global, given: &Given, host: &mut H) -> u8
+    requires { HasFewOutputs (H.state host.old) }
+    ensures { ExitsWith given.now (H.state host.old) (H.state host.new) result }
+{
+    end_of(alloc, given, host).code()
+}
