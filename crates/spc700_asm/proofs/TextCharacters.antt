@@ -7,7 +7,7 @@ use Rattle.spc700_table.specs.declared.Form.{Form}
 use Rattle.spc700_table.specs.declared.Form.TheVariants as form
 use Rattle.spc700_table.specs.Cycles.{cycle_map, printed_cycles}
 use Rattle.spc700_table.specs.Opcodes.{row_of, columns}
-use Rattle.spc700_asm.specs.Mnemonics.{mnemonic_of}
+use Rattle.spc700_table.specs.Mnemonics.{mnemonic_of}
 use Rattle.spc700_asm.specs.Patterns.{pattern_of}
 use Rattle.spc700_asm.specs.Listing.{byte_text, word_text, bit_text, operand_text}
 use Rattle.spc700_asm.specs.Characters.{capitals}

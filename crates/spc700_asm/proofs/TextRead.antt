@@ -11,7 +11,7 @@ use Rattle.spc700_table.specs.Opcodes.{row_of, columns}
 use Rattle.spc700_asm.specs.declared.pattern.Slot.{Slot}
 use Rattle.spc700_asm.specs.declared.pattern.Slot.TheVariants.{Absent, Register, Byte, Address, Target, MemoryBit, OwnBit, OwnEntry}
 use Rattle.spc700_asm.specs.declared.instruction.Instruction.{Instruction}
-use Rattle.spc700_asm.specs.Mnemonics.{mnemonic_of}
+use Rattle.spc700_table.specs.Mnemonics.{mnemonic_of}
 use Rattle.spc700_asm.specs.Patterns.{Pattern, pattern_of, is_absent}
 use Rattle.spc700_asm.specs.Listing.{operand_text, operand_after, text_of}
 use Rattle.spc700_asm.specs.Operands.{Operand}

@@ -1,5 +1,3 @@
--- the mnemonic of each kind of instruction
-pub mod Mnemonics
 -- how an operand of each form is written: what stands round its number
 pub mod Patterns
 -- an instruction as its line shows it, and its bytes at an address

@@ -4,7 +4,7 @@ use Rattle.std.specs.List.{flat_map}
 use Rattle.number_text.specs.Digits.{two_digits, four_digits}
 use Rattle.spc700_table.specs.declared.Form.{Form}
 use Rattle.spc700_table.specs.Opcodes.{row_of, length_of}
-use Rattle.spc700_asm.specs.Mnemonics.{mnemonic_of}
+use Rattle.spc700_table.specs.Mnemonics.{mnemonic_of}
 use Rattle.spc700_asm.specs.declared.pattern.Slot.{Slot}
 use Rattle.spc700_asm.specs.declared.pattern.Slot.TheVariants.{Absent, Register, Byte, Address, Target, MemoryBit, OwnBit, OwnEntry}
 use Rattle.spc700_asm.specs.declared.instruction.Instruction.{Instruction}

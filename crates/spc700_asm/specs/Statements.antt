@@ -6,7 +6,7 @@ use Rattle.std.specs.Str.{bytes_eq}
 use Rattle.spc700_table.specs.declared.Form.{Form}
 use Rattle.spc700_table.specs.declared.OpRow.{OpRow}
 use Rattle.spc700_table.specs.Opcodes.{row_of}
-use Rattle.spc700_asm.specs.Mnemonics.{mnemonic_of}
+use Rattle.spc700_table.specs.Mnemonics.{mnemonic_of}
 use Rattle.spc700_asm.specs.Patterns.{pattern_of, is_absent}
 use Rattle.spc700_asm.specs.Characters.{is_blank, is_semicolon, is_colon, is_comma, trim, capitals, is_name, number_of}
 use Rattle.spc700_asm.specs.Operands.{Written, Operand, written_of, operand_of, has_form, is_own}

@@ -14,7 +14,6 @@ mod faults;
 mod instruction;
 mod laws;
 mod listing;
-mod mnemonic;
 mod names;
 mod operand;
 mod parts;

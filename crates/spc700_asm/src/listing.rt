@@ -6,11 +6,10 @@ ghost use Rattle.spc700_asm.specs.Listing.{byte_text, word_text, bit_text, slot_
 
 use crate::OutOfMemory;
 use crate::instruction::{Instruction, instruction_at};
-use crate::mnemonic::mnemonic;
 use crate::pattern::{Slot, pattern_for};
 use itoa::Buffer;
 use number_text::{four_digits, two_digits};
-use spc700_table::{Form, length, row};
+use spc700_table::{Form, length, mnemonic, row};
 use std::alloc::Global;
 
 /// Adds a byte.

@@ -10,11 +10,10 @@ ghost use Rattle.spc700_asm.specs.Statements.{fits, owns, is_alike, is_this, all
 ghost use Rattle.spc700_asm.specs.Seen.{written_seen, operand_seen, statement_seen, as_seen};
 
 use crate::characters::{blank_place, is_capitals_of, is_name, place_of, trim};
-use crate::mnemonic::mnemonic;
 use crate::operand::{Operand, Written, operand_in};
 use crate::parts::{are_numbers, are_words};
 use crate::pattern::{Pattern, Slot, pattern_for};
-use spc700_table::{Form, OpRow, row};
+use spc700_table::{Form, OpRow, mnemonic, row};
 
 /// What a line says.
 #[derive(Clone, Copy, Debug)]

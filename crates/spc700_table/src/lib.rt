@@ -1,6 +1,8 @@
 //! The opcodes of the SPC700: what each does, its operands, its length and its cycles.
 #![tactic(auto)]
 
+mod laws;
+mod mnemonics;
 mod rows;
 #[cfg(test)]
 mod tests;
@@ -8,6 +10,8 @@ mod tests;
 ghost use Rattle.std.specs.Prelude.{◌≡◌, ◌≤◌};
 ghost use Rattle.spc700_table.specs.Opcodes.{row_of, length_of, operand_bytes, is_in_text_order};
 
+pub use laws::{bits_and_entries_are_in_range, rows_differ};
+pub use mnemonics::mnemonic;
 use rows::ROWS;
 
 /// What an instruction does: one variant for each mnemonic (Anomie's SPC700 Doc, the instruction list).

@@ -1,10 +1,10 @@
 //! The mnemonics of the instructions.
-ghost use Rattle.std.specs.Prelude.{◌≡◌, ◌≤◌, length};
-ghost use Rattle.spc700_asm.specs.Mnemonics.{mnemonic_of};
+ghost use Rattle.std.specs.Prelude.{◌≡◌};
+ghost use Rattle.spc700_table.specs.Mnemonics.{mnemonic_of};
 
-use spc700_table::Kind;
+use crate::Kind;
 
-/// The mnemonic of a kind of instruction.
+/// The mnemonic of a kind of instruction, in capitals: 2 to 5 letters and digits (Anomie's SPC700 Doc, the instruction list).
 #[tactic(auto, unfolding(crate::specs::Mnemonics::mnemonic_of))]
 pub fn mnemonic(kind: Kind) -> &'static [u8]
     ensures { result.now ≡ mnemonic_of kind }
