@@ -1,6 +1,7 @@
 // Runs of `demo` over a host in memory.
 use crate::demo;
 use command_tests::{Outcome, ROOM, host_with};
+use status_lines::Status;
 use std::alloc::Global;
 use std::test::Fail;
 
@@ -14,8 +15,11 @@ fn demo_of_seven(alloc: Global, failing: &[u32]) -> Result<Outcome, Fail> {
 #[test]
 fn the_demo_file_of_seven_is_made(rt: HostRuntime) -> Result<(), Fail> {
     let outcome = demo_of_seven(rt.alloc(), &[])?;
+    assert!(rt; outcome.status() == Status::Ok && outcome.complaint().is_empty());
+    assert_eq!(rt; outcome.report(), b"bytes 66048\n".as_slice());
     let file = outcome.first();
-    assert!(rt; outcome.is_done(file, "bytes 66048\n") && file.len() == 66048);
+    assert_eq!(rt; file.len(), 66048);
+    assert!(rt; file.starts_with(b"SNES-SPC700 Sound File Data v0.30\x1a\x1a"));
     assert!(rt; file.get(0x1100..0x1102) == Some(b"\x90\xe9".as_slice()));
     Ok(())
 }

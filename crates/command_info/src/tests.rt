@@ -28,13 +28,21 @@ const TAGS: Pieces = &[(0x23, b"\x1a"), (0x2e, b"Theme"), (0x4e, b"a\\\x07")];
 const TAGGED: &str =
     "tags yes\ntitle Theme\ngame a\\x5c\\x07\ndumper \ncomments \ndate \nseconds \nfade \nartist \n";
 
+/// A title, and 60 bytes of extended tags behind the file, which nobody reads.
+const EXTENDED: Pieces = &[(0x23, b"\x1a"), (0x2e, b"Theme"), (66048, b"xid6")];
+
+/// The lines on that title.
+const TITLED: &str =
+    "tags yes\ntitle Theme\ngame \ndumper \ncomments \ndate \nseconds \nfade \nartist \n";
+
 /// Files, and the lines on their tags.
 const SHOWN: &[(usize, Pieces, &str)] = &[
     (65920, &[], "tags no\n"),
     (66048, &[], "tags no\n"),
     (1048576, &[], "tags no\n"),
     (66048, &[(31, b"1")], "tags no\n"),
-    (66108, TAGS, TAGGED),
+    (66048, TAGS, TAGGED),
+    (66108, EXTENDED, TITLED),
 ];
 
 #[test]

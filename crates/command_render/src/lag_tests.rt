@@ -1,6 +1,6 @@
 // Renders in which the S-DSP waits while the program goes on: what is made, and in which batches.
 use crate::test_support::{
-    Heard, ONE_BATCH, expected_report, render_straight, tune_of, with_trace,
+    Heard, ONE_BATCH, expected_report, has_frames, render_straight, tune_of, with_trace,
 };
 use command_tests::{DSP, FIVE, MEMORY, Pieces};
 use std::alloc::Global;
@@ -95,7 +95,7 @@ fn port_writes_past_the_room_of_the_ring_settle(rt: HostRuntime) -> Result<(), F
     let outcome = render_straight(rt.alloc(), file.as_slice(), with_trace(Some(80), None))?;
     let line = "batches 5 register 0 memory 2 echo 0 full 0 events 2 end 1\n";
     let report = expected_report(rt.alloc(), 80, line)?;
-    assert!(rt; outcome.is_done(outcome.first(), report.as_str()));
+    assert!(rt; has_frames(rt.alloc(), &outcome, &[(6, 0), (74, 4000)], report.as_str())?);
     let lines = flood_lines(rt.alloc(), 80)?;
     assert!(rt; outcome.second() == lines.as_bytes());
     Ok(())

@@ -165,22 +165,42 @@ fn a_table_weighs_the_samples(rt: HostRuntime) -> Result<(), Fail> {
     Ok(())
 }
 
-/// Whether the frame of this number in a sound file is this one on both sides. The header is as long as 11 frames.
-fn has_frame(wave: &[u8], at: usize, side: i16) -> bool {
-    let [low, high] = side.to_le_bytes();
-    let frame = wave.chunks_exact(4).nth(11usize.wrapping_add(at));
-    frame == Some([low, high, low, high].as_slice())
-}
-
-/// Places of frames, and what stands there.
-const FADED: &[(usize, i16)] = &[
-    (5, 0),
-    (6, 4000),
-    (31999, 4000),
-    (32000, 3875),
-    (32001, 3750),
-    (32030, 125),
-    (32031, 0),
+/// A second of sound, and a fade of 32 samples, each 125 quieter than the one before it.
+const FADED: Frames = &[
+    (6, 0),
+    (31994, 4000),
+    (1, 3875),
+    (1, 3750),
+    (1, 3625),
+    (1, 3500),
+    (1, 3375),
+    (1, 3250),
+    (1, 3125),
+    (1, 3000),
+    (1, 2875),
+    (1, 2750),
+    (1, 2625),
+    (1, 2500),
+    (1, 2375),
+    (1, 2250),
+    (1, 2125),
+    (1, 2000),
+    (1, 1875),
+    (1, 1750),
+    (1, 1625),
+    (1, 1500),
+    (1, 1375),
+    (1, 1250),
+    (1, 1125),
+    (1, 1000),
+    (1, 875),
+    (1, 750),
+    (1, 625),
+    (1, 500),
+    (1, 375),
+    (1, 250),
+    (1, 125),
+    (1, 0),
 ];
 
 #[test]
@@ -189,12 +209,7 @@ fn tags_give_the_length_and_the_fade(rt: HostRuntime) -> Result<(), Fail> {
     let outcome = render_straight(rt.alloc(), file.as_slice(), no_options())?;
     let line = "batches 501 register 0 memory 0 echo 0 full 500 events 0 end 1\n";
     let report = expected_report(rt.alloc(), 32032, line)?;
-    assert!(rt;
-        outcome.is_done(outcome.first(), report.as_str()) && outcome.first().len() == 128172
-    );
-    for (at, side) in FADED {
-        assert!(rt; has_frame(outcome.first(), *at, *side), "at {at}");
-    }
+    assert!(rt; has_frames(rt.alloc(), &outcome, FADED, report.as_str())?);
     Ok(())
 }
 

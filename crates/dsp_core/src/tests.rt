@@ -19,8 +19,8 @@ fn put_all(memory: &mut Aram, from: u16, bytes: &[u8]) {
     }
 }
 
-/// A chip whose voice 0 is set to play one source, and the memory with that source.
-fn one_voice(alloc: Global) -> Result<(Dsp, Aram), Fail> {
+/// A chip whose voice 0 is set to play one source, with such a KON, and the memory with that source.
+fn keyed_voice(alloc: Global, key_on: u8) -> Result<(Dsp, Aram), Fail> {
     let zeros = vec![in alloc; 0u8; 0x10000]?;
     let mut memory = Aram::from_image(alloc, &zeros)?;
     let block = [0xc3, 0x11, 0x11, 0x11, 0x11, 0x11, 0x11, 0x11, 0x11];
@@ -34,11 +34,17 @@ fn one_voice(alloc: Global) -> Result<(Dsp, Aram), Fail> {
     registers[0x07] = 0x7f;
     registers[0x0c] = 0x7f;
     registers[0x1c] = 0x7f;
+    registers[0x4c] = key_on;
     registers[0x5d] = 0x02;
     registers[0x6c] = 0x20;
     registers[0x6d] = 0xe0;
     let dsp = Dsp::open(alloc, &registers, GaussTable::straight(alloc)?)?;
     Ok((dsp, memory))
+}
+
+/// The same chip, whose voice 0 waits for a key on.
+fn one_voice(alloc: Global) -> Result<(Dsp, Aram), Fail> {
+    keyed_voice(alloc, 0)
 }
 
 /// Makes n samples anew, with the records of voice 0.
@@ -134,10 +140,25 @@ fn a_key_on_after_a_poll_is_lost_at_the_next(rt: HostRuntime) -> Result<(), Fail
 }
 
 #[test]
+fn the_first_sound_is_told_in_the_results(rt: HostRuntime) -> Result<(), Fail> {
+    let (mut dsp, mut memory) = keyed_voice(rt.alloc(), 0x01)?;
+    let mut frames = Frames::new(rt.alloc())?;
+    let mut records = Records::new(rt.alloc())?;
+    play(&mut dsp, &mut memory, 6, &mut frames, &mut records);
+    assert_eq!(rt; frames.as_slice(), [SILENCE; 6].as_slice());
+    assert_eq!(rt; (dsp.reg_read(0x08), dsp.reg_read(0x09)), (0, 0));
+    play(&mut dsp, &mut memory, 1, &mut frames, &mut records);
+    assert_eq!(rt; frames.as_slice(), [SOUND].as_slice());
+    assert_eq!(rt; (dsp.reg_read(0x08), dsp.reg_read(0x09)), (127, 15));
+    Ok(())
+}
+
+#[test]
 fn a_key_off_at_the_next_poll_releases(rt: HostRuntime) -> Result<(), Fail> {
     let keys: &[(u8, u8)] = &[(0x4c, 0x01), (0x5c, 0x01)];
-    let taken_back: &[(u8, u8)] = &[(0x5c, 0x00)];
-    for (writes, want) in [(taken_back, SEVEN), (&[], [SILENCE; 7])] {
+    let again: &[(u8, u8)] = &[(0x4c, 0x01)];
+    let taken_back: &[(u8, u8)] = &[(0x4c, 0x01), (0x5c, 0x00)];
+    for (writes, want) in [(taken_back, SEVEN), (again, [SILENCE; 7])] {
         let made = played(rt.alloc(), &[(keys, 1), (writes, 7)])?;
         assert!(rt; made.frames.iter().skip(1).eq(want.iter()));
     }

@@ -38,6 +38,15 @@ fn timer_2_ticks_every_16_cycles(rt: HostRuntime) {
     assert_eq!(rt; io.read(0xFF), Some(1));
 }
 
+// Over cells of zeros: the ROM is behind memory until control bit 7 shows it.
+#[test]
+fn the_rom_shows_once_it_is_switched_on(rt: HostRuntime) {
+    let mut io = Io::from_cells([0; 16], [0xAA; 64]);
+    assert_eq!(rt; io.read(0xFFC0), None);
+    io.write(0xF1, 0x80);
+    assert_eq!(rt; io.read(0xFFC0), Some(0xAA));
+}
+
 // Each address has F0h + its own number in its cell, so that a read shows whose value it gives.
 #[test]
 fn reads_at_the_ends_of_each_range(rt: HostRuntime) {
