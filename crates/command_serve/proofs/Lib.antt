@@ -1,4 +1,4 @@
--- Tunes: the run of a tune, and a session over it.
+-- Tunes: a session over a tune.
 pub mod Tunes
 -- Scripts: why a script is refused.
 pub mod Scripts

@@ -7,3 +7,4 @@ mod report;
 
 pub use command_frame::OutOfMemory;
 pub use pieces::CutFiles;
+pub use report::PAGES;

@@ -12,8 +12,8 @@ use cut_text::CutList;
 use lock_step::Chip;
 use report_text::ByteRoom;
 
-/// The pages of the pool.
-pub(crate) const PAGES: u32 = 4096;
+/// The pages that the checkpoints of cuts share.
+pub const PAGES: u32 = 4096;
 
 /// Adds a word and a count.
 fn put_count(report: &mut ByteRoom, word: &[u8], count: u64)

@@ -1,5 +1,5 @@
 -- What is still to come of a session, once it went on.
-use Rattle.std.proofs.Common.{◌≡◌, ◌∙◌, sym, ap, refl, ℕ, ◌+◌, ◌<◌, ◌≤◌, List, [], ◌∷◌, ◌++◌, length, arith, append_assoc}
+use Rattle.std.proofs.Common.{◌≡◌, ◌∙◌, sym, ap, refl, ℕ, ◌<◌, List, [], ◌∷◌, ◌++◌, length, arith, append_assoc}
 use Rattle.std.specs.List.{flat_map}
 use Rattle.std.proofs.lemmas.Grind.{flat_map-append}
 use Rattle.std.proofs.lemmas.List.Concat.{flat_map-cons}
@@ -14,7 +14,7 @@ use Rattle.cut_form.specs.declared.script.Reply.{Reply}
 use Rattle.cut_form.specs.Slices.{cut_frames}
 use Rattle.cut_form.specs.Session.{Session, LineOutcome, replies, played_cuts}
 use Rattle.cut_server.specs.ServerState.{pages_after, frames_after, slots_of}
-use Rattle.cut_server.specs.Server.{ChipServer, lock_step_machines, opening, pages_at, frames_to, KeepsTune}
+use Rattle.cut_server.specs.Server.{ChipServer, lock_step_machines, pages_at, frames_to, KeepsTune}
 use Rattle.session_files.specs.Player.{session_of, left_to_play, Answers}
 use Rattle.session_files.specs.Report.{reply_line, report_on}
 use Rattle.session_files.specs.SessionFiles.{FilesState, replies_to_come, frames_left, GoesOn}

@@ -1,5 +1,5 @@
 -- What contracts see of a session on a server.
-use Rattle.std.specs.Prelude.{◌≡◌, ℕ, ◌+◌, ◌-◌, ◌≤◌, List, [], ◌∷◌}
+use Rattle.std.specs.Prelude.{◌≡◌, ℕ, ◌+◌, ◌≤◌, List, [], ◌∷◌}
 use Rattle.num_fix.specs.declared.Frame.{Frame}
 use Rattle.num_fix.specs.Limits.{most_frames}
 use Rattle.lock_step.specs.ChipMeaning.{ChipMeaning}
@@ -7,11 +7,11 @@ use Rattle.lock_step.specs.ChipSaving.{ChipSaving}
 use Rattle.cut_form.specs.declared.script.ScriptLine.{ScriptLine}
 use Rattle.cut_form.specs.declared.script.Reply.{Reply}
 use Rattle.cut_form.specs.CutBook.{after_play}
-use Rattle.cut_form.specs.Session.{Session, LineOutcome, after_line, played_cuts}
+use Rattle.cut_form.specs.Session.{Session, after_line, played_cuts}
 use Rattle.cut_form.specs.Slices.{slice_of, cut_frames}
 use Rattle.cut_server.specs.ServerState.{book_of, slots_of}
 use Rattle.cut_server.specs.Server.{ChipServer, pages_at, frames_to, KeepsTune}
-use Rattle.session_files.specs.Runs.{AreOfRun}
+use Rattle.run_slices.specs.Runs.{AreOfRun}
 
 pub record PlayerState (S V : Type 0) : Type 0 where
   pub server : ChipServer S V

@@ -5,7 +5,7 @@ ghost use Rattle.cut_form.specs.declared.script.ScriptLine.TheVariants as lines;
 ghost use Rattle.cut_server.specs.ServerState.{book_of, slots_of};
 ghost use Rattle.cut_server.specs.Server.{frames_to, pages_at, KeepsTune};
 ghost use Rattle.script_text.specs.Playing.{IsWithinHour};
-ghost use Rattle.session_files.specs.Runs.{AreOfRun};
+ghost use Rattle.run_slices.specs.Runs.{AreOfRun};
 ghost use Rattle.session_files.specs.Player.{PlayerState, session_of, left_to_play, CanAnswer, Answers};
 
 use cut_form::{Reply, ScriptLine};

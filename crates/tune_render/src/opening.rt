@@ -3,6 +3,7 @@ ghost use Rattle.std.specs.Prelude.{◌≡◌, ◌≤◌, length, IfOk};
 ghost use Rattle.num_fix.specs.Limits.{most_frames};
 ghost use Rattle.lock_step.specs.DspChip.{dsp_chip, dsp_saving};
 ghost use Rattle.page_pool.specs.Pool.{most_pages};
+ghost use Rattle.run_slices.specs.Runs.{AreOfRun};
 ghost use Rattle.cut_form.specs.CutBook.{opened_book};
 ghost use Rattle.cut_server.specs.Server.{opening, pages_at, frames_to};
 ghost use Rattle.cut_server.specs.ServerState.{book_of, slots_of};
@@ -49,6 +50,7 @@ pub fn open_server(
     requires few { pages ≤ most_pages }
     ensures opening { IfOk result (λ server. opening dsp_chip dsp_saving server ≡ opened_tune file.now table 0) }
     ensures frames { IfOk result (λ server. frames_to dsp_chip dsp_saving server ≡ tune_frames file.now table 0) }
+    ensures run { IfOk result (λ server. AreOfRun (frames_to dsp_chip dsp_saving server)) }
     ensures pages { IfOk result (λ server. pages_at dsp_chip dsp_saving server ≡ tune_pages file.now table) }
     ensures book { IfOk result (λ server. book_of server ≡ opened_book (tune_pages file.now table)) }
     ensures slots { IfOk result (λ server. slots_of server ≡ pages) }

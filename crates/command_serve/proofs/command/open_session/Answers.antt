@@ -1,10 +1,7 @@
 use Rattle.std.proofs.Common.{◌∙◌, sym, ap}
 use Rattle.cut_form.specs.CutBook.{opened_book}
-use Rattle.command_serve.proofs.Tunes.{tune_of_run, wave_of_tune, report_of_tune}
+use Rattle.command_serve.proofs.Tunes.{wave_of_tune, report_of_tune}
 use Rattle.command_serve.proofs.command.open_session.Goals as goal
-
-pub open-requires-clause-run : goal.open-requires-clause-run
-open-requires-clause-run c = rw c.in_ok-server.ensures.frames (tune_of_run c.args.file.now c.args.table)
 
 pub open-requires-clause-opened : goal.open-requires-clause-opened
 open-requires-clause-opened c = c.in_ok-server.ensures.book ∙ ap opened_book (sym c.in_ok-server.ensures.pages)

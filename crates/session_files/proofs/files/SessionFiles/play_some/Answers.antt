@@ -1,4 +1,4 @@
-use Rattle.std.proofs.Common.{refl, ap, arith}
+use Rattle.std.proofs.Common.{refl}
 use Rattle.session_files.proofs.Going.{played_on}
 use Rattle.session_files.proofs.files.SessionFiles.play_some.Goals as goal
 

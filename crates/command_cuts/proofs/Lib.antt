@@ -1,0 +1,2 @@
+-- Lists: why a list of cuts is refused.
+pub mod Lists

@@ -1,0 +1,20 @@
+-- Why a list of cuts is refused.
+use Rattle.std.proofs.Common.{◌≡◌, inl, ap, rules, ℕ, List, Result, Err}
+use Rattle.cut_form.specs.declared.cut.Cut.{Cut}
+use Rattle.cut_text.specs.declared.refusal.TextRefusal.{TextRefusal}
+use Rattle.cut_text.specs.declared.refusal.TextRefusal.TheVariants.{Wrong}
+use Rattle.cut_text.specs.Reading.{Tells}
+use Rattle.command_frame.specs.declared.refusals.Refusal.TheVariants.{Input}
+use Rattle.status_lines.specs.declared.cause.Cause.TheVariants.{CutList}
+use Rattle.input_files.specs.Reading.{refused_by, Declines}
+use Rattle.command_cuts.specs.Lists.{list_refusal}
+
+pub declines_line : (said : Result (List Cut) ℕ) (refusal : TextRefusal) (line : ℕ) → refusal ≡ Wrong line → Tells refusal said → Declines (refused_by list_refusal said) (Input (CutList line))
+declines_line said refusal line is tells =
+    let wrong : said ≡ Err line = rw is at tells in
+    record {
+      told = inl (ap (refused_by list_refusal) wrong);
+      no_usage = λ other. absurd (cc);
+      no_read = λ other. absurd (cc);
+      no_write = λ other. absurd (cc);
+    }

@@ -1,0 +1,29 @@
+-- What `cuts` answers: the frames of the cuts of a list, each a slice of the tune's run, and the book of the list.
+use Rattle.std.specs.Prelude.{ℕ, ℤ, List, [], None, Option}
+use Rattle.wav_form.specs.Wave.{stereo_wave}
+use Rattle.cut_form.specs.declared.cut.Cut.{Cut}
+use Rattle.cut_form.specs.CutBook.{cut_book}
+use Rattle.cut_form.specs.Slices.{cut_frames}
+use Rattle.command_frame.specs.Answer.{Answer, done}
+use Rattle.command_frame.specs.Stream.{pair}
+use Rattle.status_lines.specs.declared.cause.Cause.{Cause}
+use Rattle.input_files.specs.Reading.{answer_from}
+use Rattle.input_files.specs.Inputs.{file_in, table_in}
+use Rattle.tune_render.specs.Tune.{tune_frames, tune_pages}
+use Rattle.cut_files.specs.CutFiles.{cuts_report}
+use Rattle.command_cuts.specs.Lists.{cuts_in}
+
+-- what cuts answer over a file and a table: their frames are those of the run before any fade
+abbrev pub list_answer : (wave file : List ℕ) → (table : List ℤ) → List Cut → Answer Cause
+list_answer wave file table cuts =
+    done (pair wave None (stereo_wave (cut_frames (tune_frames file table 0) cuts)) []) (cuts_report cuts (cut_book (tune_pages file table) cuts))
+
+-- the same by what the list holds, by what the table holds, and by what the inputs hold: the file comes first
+abbrev pub table_answer : (wave : List ℕ) → (held_list : Option (List ℕ)) → (file : List ℕ) → (table : List ℤ) → Answer Cause
+table_answer wave held_list file table = answer_from (cuts_in held_list) (list_answer wave file table)
+
+abbrev pub file_answer : (wave : List ℕ) → (held_table held_list : Option (List ℕ)) → (file : List ℕ) → Answer Cause
+file_answer wave held_table held_list file = answer_from (table_in held_table) (table_answer wave held_list file)
+
+abbrev pub cuts_answer : (wave : List ℕ) → (held_file held_table held_list : Option (List ℕ)) → Answer Cause
+cuts_answer wave held_file held_table held_list = answer_from (file_in held_file) (file_answer wave held_table held_list)

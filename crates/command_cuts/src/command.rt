@@ -1,0 +1,142 @@
+// The command `cuts`: the cuts of a list, each a slice of a tune's run.
+ghost use Rattle.std.specs.Prelude.{◌≡◌, ◌++◌, IfOk, true};
+ghost use Rattle.wav_form.specs.Wave.{header_of, stereo_wave};
+ghost use Rattle.lock_step.specs.DspChip.{dsp_chip, dsp_saving};
+ghost use Rattle.snd_host.specs.Host.{HostState, Files};
+ghost use Rattle.command_frame.specs.Conduct.{Plans, Prepares, Attempts};
+ghost use Rattle.command_frame.specs.Delivery.{CanDeliver};
+ghost use Rattle.command_frame.specs.Plan.{stream_makes};
+ghost use Rattle.cut_form.specs.CutBook.{cut_book};
+ghost use Rattle.cut_form.specs.Slices.{cut_frames, cut_samples};
+ghost use Rattle.cut_files.specs.CutFiles.{cuts_report, to_come_of, report_of};
+ghost use Rattle.tune_render.specs.Tune.{tune_frames, tune_pages};
+ghost use Rattle.command_cuts.specs.Cuts.{list_answer, table_answer, file_answer, cuts_answer};
+
+use crate::list::read_list;
+use command_frame::{OutOfMemory, Refusal, StreamedPlan, carry_stream};
+use cut_files::{CutFiles, PAGES};
+use cut_text::CutList;
+use dsp_core::Dsp;
+use gauss_table::GaussTable;
+use input_files::{read_file, read_table};
+use snd_host::Host;
+use spc_form::SpcFile;
+use status_lines::Cause;
+use std::alloc::Global;
+use tune_render::open_server;
+use wav_form::header;
+
+/// Opens the cuts of a list over a file and a table.
+fn open_cuts(
+    alloc: Global,
+    file: &SpcFile,
+    table: GaussTable,
+    cuts: CutList,
+) -> Result<CutFiles<Dsp>, OutOfMemory>
+    ensures wave { IfOk result (λ files. header_of 2 (cut_samples cuts) ++ (to_come_of dsp_chip dsp_saving files).first
+        ≡ stereo_wave (cut_frames (tune_frames file.now table 0) cuts)) }
+    ensures report { IfOk result (λ files. report_of dsp_chip dsp_saving files ≡ cuts_report cuts (cut_book (tune_pages file.now table) cuts)) }
+{
+    let server = open_server(alloc, file, table, PAGES)?;
+    let files = CutFiles::open(alloc, server, cuts)?;
+    Ok(files)
+}
+
+/// Makes the plan for a file, a table and cuts. The size of the sound file is known from the cuts.
+fn plan<'a>(
+    alloc: Global,
+    file: &SpcFile,
+    table: GaussTable,
+    cuts: CutList,
+    wave: &'a str,
+) -> Result<StreamedPlan<'a, CutFiles<Dsp>>, Refusal<Cause>>
+    ensures { let answer = list_answer wave.now file.now table cuts in
+        Plans (stream_makes (to_come_of dsp_chip dsp_saving) (report_of dsp_chip dsp_saving)) answer result }
+{
+    let samples = cuts.samples();
+    let Ok(source) = open_cuts(alloc, file, table, cuts) else {
+        return Err(Refusal::OutOfMemory);
+    };
+    let Ok(head) = Vec::from_slice(alloc, &header(2, samples)) else {
+        return Err(Refusal::OutOfMemory);
+    };
+    Ok(StreamedPlan {
+        first: wave,
+        second: None,
+        head,
+        source,
+    })
+}
+
+/// Reads the list and makes the plan for it, a file and a table.
+fn prepare_list<'a, H: Host>(
+    alloc: Global,
+    host: &mut H,
+    file: &SpcFile,
+    table: GaussTable,
+    list: &str,
+    wave: &'a str,
+) -> Result<StreamedPlan<'a, CutFiles<Dsp>>, Refusal<Cause>>
+    ensures { let answer = λ (files : Files). table_answer wave.now (files list.now) file.now table in
+        Prepares (stream_makes (to_come_of dsp_chip dsp_saving) (report_of dsp_chip dsp_saving)) answer (H.state host.old) (H.state host.new) result }
+{
+    match read_list(alloc, host, list) {
+        Ok(cuts) => plan(alloc, file, table, cuts, wave),
+        Err(refusal) => Err(refusal),
+    }
+}
+
+/// Reads the table and the list and makes the plan for them and a file.
+fn prepare_table<'a, H: Host>(
+    alloc: Global,
+    host: &mut H,
+    file: &SpcFile,
+    table: &str,
+    list: &str,
+    wave: &'a str,
+) -> Result<StreamedPlan<'a, CutFiles<Dsp>>, Refusal<Cause>>
+    ensures { let answer = λ (files : Files). file_answer wave.now (files table.now) (files list.now) file.now in
+        Prepares (stream_makes (to_come_of dsp_chip dsp_saving) (report_of dsp_chip dsp_saving)) answer (H.state host.old) (H.state host.new) result }
+{
+    match read_table(alloc, host, table) {
+        Ok(table) => prepare_list(alloc, host, file, table, list, wave),
+        Err(refusal) => Err(refusal),
+    }
+}
+
+/// Reads the file, the table and the list and makes the plan for them.
+fn prepare<'a, H: Host>(
+    alloc: Global,
+    host: &mut H,
+    file: &str,
+    table: &str,
+    list: &str,
+    wave: &'a str,
+) -> Result<StreamedPlan<'a, CutFiles<Dsp>>, Refusal<Cause>>
+    ensures { let answer = λ (files : Files). cuts_answer wave.now (files file.now) (files table.now) (files list.now) in
+        Prepares (stream_makes (to_come_of dsp_chip dsp_saving) (report_of dsp_chip dsp_saving)) answer (H.state host.old) (H.state host.new) result }
+{
+    match read_file(alloc, host, file) {
+        Ok(file) => prepare_table(alloc, host, &file, table, list, wave),
+        Err(refusal) => Err(refusal),
+    }
+}
+
+/// Renders the cuts of the list, of the tune of the file and the table, joined to the sound file, and reports how many they
+/// are, what they took and what was made for them.
+pub fn cuts<H: Host>(
+    alloc: Global,
+    host: &mut H,
+    file: &str,
+    table: &str,
+    list: &str,
+    wave: &str,
+) -> Option<Refusal<Cause>>
+    requires outputs { CanDeliver (H.state host.old) }
+    ensures attempts { let answer = λ (files : Files). cuts_answer wave.now (files file.now) (files table.now) (files list.now) in
+        Attempts answer true result (H.state host.old) (H.state host.new) }
+    ensures not_usage { result ≡ Some Refusal.Usage → ⊥ }
+{
+    let prepared = prepare(alloc, host, file, table, list, wave);
+    carry_stream(host, prepared)
+}

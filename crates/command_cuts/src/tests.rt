@@ -1,0 +1,153 @@
+// Lists of cuts over a host in memory.
+use crate::cuts;
+use command_tests::{FIVE, MEMORY, Outcome, Pieces, ROOM, file_of, host_with, straight_table};
+use status_lines::Status;
+use std::alloc::Global;
+use std::test::Fail;
+
+/// A program that waits for 63 samples, and then ends the block that voice 0 repeats.
+const ENDS_THE_BLOCK: Pieces = &[(
+    MEMORY + 0x0400,
+    b"\xcd\xcb\x1d\x00\x00\xd0\xfb\xe8\xc1\xc5\x00\x06\x2f\xfe",
+)];
+
+/// A program that goes round the pages from 10h on and changes a byte of each, and counts its steps in page 0.
+const CHANGES_241_PAGES: Pieces = &[(
+    MEMORY + 0x0400,
+    b"\x8f\x00\x00\x8f\x10\x01\x8d\x00\xf7\x00\xbc\xd7\x00\x3a\x02\xab\x01\xd0\xf5\x2f\xee",
+)];
+
+/// Frames that are alike, with their number and what both sides have.
+type Runs = &'static [(u32, i16)];
+
+/// Renders the cuts of a list, of file five with these pieces more.
+fn cut_from(alloc: Global, pieces: Pieces, list: &[u8]) -> Result<Outcome, Fail> {
+    let file = file_of(alloc, 66048, FIVE, pieces)?;
+    let table = straight_table(alloc)?;
+    let inputs = [
+        ("SPC", file.as_slice()),
+        ("TABLE", table.as_slice()),
+        ("LIST", list),
+    ];
+    let mut host = host_with(alloc, &inputs, &[], ROOM)?;
+    let refusal = cuts(alloc, &mut host, "SPC", "TABLE", "LIST", "OUT");
+    Ok(Outcome::of(refusal, host))
+}
+
+/// The sound file of these frames.
+fn wave_of(alloc: Global, runs: Runs) -> Result<Vec<u8>, Fail> {
+    let mut sides = Vec::new(alloc);
+    let mut size = 0u32;
+    for (count, side) in runs {
+        for _ in 0..*count {
+            sides.extend_from_slice(&side.to_le_bytes())?;
+            sides.extend_from_slice(&side.to_le_bytes())?;
+            size = size.wrapping_add(4);
+        }
+    }
+    let mut wave = Vec::from_slice(alloc, b"RIFF")?;
+    wave.extend_from_slice(&size.wrapping_add(36).to_le_bytes())?;
+    wave.extend_from_slice(
+        b"WAVEfmt \x10\0\0\0\x01\0\x02\0\0\x7d\0\0\0\xf4\x01\0\x04\0\x10\0data",
+    )?;
+    wave.extend_from_slice(&size.to_le_bytes())?;
+    wave.extend_from_slice(sides.as_slice())?;
+    Ok(wave)
+}
+
+/// A list of so many cuts without frames, each so many samples after the one before.
+fn list_of(alloc: Global, count: u32, distance: u32, last: &str) -> Result<Vec<u8>, Fail> {
+    let mut list = Vec::new(alloc);
+    let mut at = 0u32;
+    for _ in 0..count {
+        at = at.wrapping_add(distance);
+        list.extend_from_slice(itoa::Buffer::new().format(at).as_bytes())?;
+        list.extend_from_slice(b" 0\n")?;
+    }
+    list.extend_from_slice(last.as_bytes())?;
+    Ok(list)
+}
+
+#[test]
+fn cuts_of_a_tune(rt: HostRuntime) -> Result<(), Fail> {
+    let cases: &[(Pieces, &str, Runs, &str)] = &[
+        (
+            &[],
+            "6 2\n0 8",
+            &[(2, 4000), (6, 0), (2, 4000)],
+            "cuts 2 samples 10 checkpoints 2 pages 256 made 16\n",
+        ),
+        (
+            ENDS_THE_BLOCK,
+            "0 1\r\n070 1\r\n60 2\r\n",
+            &[(2, 0), (2, 4000)],
+            "cuts 3 samples 4 checkpoints 3 pages 258 made 133\n",
+        ),
+        (
+            &[],
+            "",
+            &[],
+            "cuts 0 samples 0 checkpoints 1 pages 256 made 0\n",
+        ),
+    ];
+    for (pieces, list, runs, report) in cases {
+        let outcome = cut_from(rt.alloc(), *pieces, list.as_bytes())?;
+        let wave = wave_of(rt.alloc(), *runs)?;
+        assert!(rt; outcome.is_done(wave.as_slice(), report), "{list}");
+    }
+    Ok(())
+}
+
+/// Up to 64 checkpoints are taken, that of sample 0 among them, as long as 4,096 pages are enough: of those that change 241
+/// pages there are 15 more. A last cut goes back to the last of them.
+#[test]
+fn checkpoints_run_out(rt: HostRuntime) -> Result<(), Fail> {
+    let cases: &[(Pieces, u32, u32, &str, &str)] = &[
+        (
+            &[],
+            63,
+            1,
+            "64 0",
+            "cuts 64 samples 0 checkpoints 64 pages 256 made 64\n",
+        ),
+        (
+            CHANGES_241_PAGES,
+            20,
+            400,
+            "6000 1",
+            "cuts 21 samples 1 checkpoints 16 pages 3871 made 8001\n",
+        ),
+        (
+            &[],
+            999,
+            0,
+            "0 1",
+            "cuts 1000 samples 1 checkpoints 1 pages 256 made 1\n",
+        ),
+    ];
+    for (pieces, count, distance, last, report) in cases {
+        let list = list_of(rt.alloc(), *count, *distance, last)?;
+        let outcome = cut_from(rt.alloc(), *pieces, list.as_slice())?;
+        assert!(rt;
+            outcome.status() == Status::Ok && outcome.report() == report.as_bytes(),
+            "{report}"
+        );
+    }
+    Ok(())
+}
+
+#[test]
+fn lists_with_a_wrong_line(rt: HostRuntime) -> Result<(), Fail> {
+    let long = list_of(rt.alloc(), 1000, 0, "0 0")?;
+    let cases: &[(&[u8], &str)] = &[
+        (b"5", "spcwave: cut list is wrong at line 1\n"),
+        (b"115200000 1", "spcwave: cut list is wrong at line 1\n"),
+        (b"7 1\n\n0 1\n", "spcwave: cut list is wrong at line 2\n"),
+        (long.as_slice(), "spcwave: cut list is wrong at line 1001\n"),
+    ];
+    for (list, line) in cases {
+        let outcome = cut_from(rt.alloc(), &[], list)?;
+        assert!(rt; outcome.is_refused(Status::CutList, line), "{line}");
+    }
+    Ok(())
+}

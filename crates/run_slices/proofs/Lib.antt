@@ -1,0 +1,2 @@
+-- Slices: slices of a run, in parts.
+pub mod Slices

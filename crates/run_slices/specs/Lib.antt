@@ -1,0 +1,2 @@
+-- the frames of a run, as they grow
+pub mod Runs
