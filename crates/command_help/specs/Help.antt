@@ -17,6 +17,7 @@ help_text =
     codes "  spcwave asm IN ORIGIN OUT: assemble a program of the SPC700\n" ++
     codes "  spcwave dis IN ORIGIN OUT: list a program of the SPC700\n" ++
     codes "  spcwave rip SPC PREFIX [--range AABB]: write the samples of a tune to WAV files\n" ++
+    codes "  spcwave cuts SPC TABLE LIST WAV: join the cuts of a tune that a list says\n" ++
     codes "  spcwave serve SPC TABLE SCRIPT WAV [--pages N]: seek, play, mark and drop in a tune as a script says\n" ++
     codes "  spcwave help: tell this; --help does so too\n" ++
     codes "  spcwave version: tell the number of the version; --version does so too\n" ++

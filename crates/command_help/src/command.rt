@@ -25,6 +25,7 @@ spcwave renders SPC music, as the Super Nintendo plays it, to WAV files. Its com
 \x20 spcwave asm IN ORIGIN OUT: assemble a program of the SPC700\n\
 \x20 spcwave dis IN ORIGIN OUT: list a program of the SPC700\n\
 \x20 spcwave rip SPC PREFIX [--range AABB]: write the samples of a tune to WAV files\n\
+\x20 spcwave cuts SPC TABLE LIST WAV: join the cuts of a tune that a list says\n\
 \x20 spcwave serve SPC TABLE SCRIPT WAV [--pages N]: seek, play, mark and drop in a tune as a script says\n\
 \x20 spcwave help: tell this; --help does so too\n\
 \x20 spcwave version: tell the number of the version; --version does so too\n\

@@ -17,6 +17,7 @@ use Rattle.command_info.specs.Info.{info_answer}
 use Rattle.command_asm.specs.Asm.{asm_answer}
 use Rattle.command_dis.specs.Dis.{dis_answer}
 use Rattle.command_rip.specs.Rip.{rip_answer}
+use Rattle.command_cuts.specs.Cuts.{cuts_answer}
 use Rattle.command_serve.specs.Serve.{serve_answer}
 
 -- a command with its names
@@ -44,6 +45,9 @@ pub data Command : Type 0 where
   dis : (input : List ℕ) → (origin : ℕ) → (output : List ℕ) → Command
   -- writes wanted samples of an SPC file under names that begin with the prefix: those of the voices, and those of a range
   rip : (file prefix : List ℕ) → (range : Option (ℕ × ℕ)) → Command
+  -- joins the cuts of the list of the third name, of the tune of the SPC file of the first and the table of the second, to a sound
+  -- file of the fourth name
+  cuts : (file table list wave : List ℕ) → Command
   -- runs the script of the third name over the SPC file of the first and the table of the second, with so many pages for checkpoints,
   -- and writes what is played to a sound file of the fourth name
   serve : (file table script wave : List ℕ) → (pages : ℕ) → Command
@@ -139,6 +143,12 @@ abbrev pub rip_command : List (List ℕ) → Command
 rip_command (file ∷ prefix ∷ words) = if is_name file && is_name prefix then rip_over file prefix words else usage
 rip_command words = usage
 
+-- the words after `cuts`
+abbrev pub cuts_command : List (List ℕ) → Command
+cuts_command (file ∷ table ∷ list ∷ wave ∷ []) =
+    if is_name file && (is_name table && (is_name list && is_name wave)) then cuts file table list wave else usage
+cuts_command words = usage
+
 -- `serve` with a number of pages, which its word has to say
 abbrev pub serve_with : (file table script wave : List ℕ) → (pages : Option ℕ) → Command
 serve_with file table script wave None = usage
@@ -172,6 +182,7 @@ command_of (name ∷ words) =
     else if bytes_eq name (codes "asm") then asm_command words
     else if bytes_eq name (codes "dis") then dis_command words
     else if bytes_eq name (codes "rip") then rip_command words
+    else if bytes_eq name (codes "cuts") then cuts_command words
     else if bytes_eq name (codes "serve") then serve_command words
     else usage
 
@@ -189,6 +200,7 @@ names_input (check number) = false
 names_input (asm input origin output) = true
 names_input (dis input origin output) = true
 names_input (rip file prefix range) = true
+names_input (cuts file table list wave) = true
 names_input (serve file table script wave pages) = true
 
 -- what a command answers, by what the names hold
@@ -205,4 +217,5 @@ answer_of (check number) files = check_answer number
 answer_of (asm input origin output) files = asm_answer origin output (files input)
 answer_of (dis input origin output) files = dis_answer origin output (files input)
 answer_of (rip file prefix range) files = rip_answer prefix range (files file)
+answer_of (cuts file table list wave) files = cuts_answer wave (files file) (files table) (files list)
 answer_of (serve file table script wave pages) files = serve_answer wave pages (files file) (files table) (files script)

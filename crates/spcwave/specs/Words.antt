@@ -5,7 +5,7 @@ use Rattle.spcwave.specs.Command as command
 use Rattle.spcwave.specs.Options.{fewest_pages}
 use Rattle.command_render.specs.Options.{options_of, IsWithinHour}
 use Rattle.spcwave.specs.declared.words.Command.{Command}
-use Rattle.spcwave.specs.declared.words.Command.TheVariants.{Usage, Help, Version, Brr, Info, Encode, Render, Demo, Check, Asm, Dis, Rip, Serve}
+use Rattle.spcwave.specs.declared.words.Command.TheVariants.{Usage, Help, Version, Brr, Info, Encode, Render, Demo, Check, Asm, Dis, Rip, Cuts, Serve}
 
 -- The numbers are in range: an hour of frames at most, and pages that a pool may have.
 abbrev pub AreInRange : Command → Type 0
@@ -21,6 +21,7 @@ AreInRange (Check number) = Unit {0}
 AreInRange (Asm input origin output) = Unit {0}
 AreInRange (Dis input origin output) = Unit {0}
 AreInRange (Rip file prefix range) = Unit {0}
+AreInRange (Cuts file table list wave) = Unit {0}
 AreInRange (Serve file table script wave pages) = (fewest_pages ≤ pages) × (pages ≤ most_pages)
 
 abbrev pub meaning_of : Command → command.Command
@@ -36,4 +37,5 @@ meaning_of (Check number) = command.check number
 meaning_of (Asm input origin output) = command.asm input.now origin output.now
 meaning_of (Dis input origin output) = command.dis input.now origin output.now
 meaning_of (Rip file prefix range) = command.rip file.now prefix.now range
+meaning_of (Cuts file table list wave) = command.cuts file.now table.now list.now wave.now
 meaning_of (Serve file table script wave pages) = command.serve file.now table.now script.now wave.now pages

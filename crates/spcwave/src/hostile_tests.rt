@@ -356,6 +356,7 @@ const COMMANDS: &[(&[&str], u32)] = &[
         ],
         22,
     ),
+    (&["cuts", "SPC", "TABLE", "LIST", "OUT"], 25),
     (
         &["serve", "SPC", "TABLE", "SCRIPT", "OUT", "--pages", "257"],
         25,
@@ -376,6 +377,7 @@ fn run_on_all(alloc: Global, words: &[&str], failing: &[u32]) -> Result<Outcome,
         ("WAV", sound.as_slice()),
         ("BRR", blocks.as_slice()),
         ("SOURCE", b"NOP\n".as_slice()),
+        ("LIST", b"2 3\n0 1\n".as_slice()),
         ("SCRIPT", b"play 3\nmark\nfree\n".as_slice()),
     ];
     run_failing(alloc, words.as_slice(), &inputs, failing)

@@ -1,6 +1,7 @@
 //! Renders music of the SPC700 and its S-DSP to sound files: the program, over any host and over real files.
 #![tactic(auto)]
 
+mod cut_words;
 #[cfg(test)]
 mod demo_tests;
 mod disk;

@@ -9,6 +9,7 @@ use crate::words::{Command, read_words};
 use command_asm::asm;
 use command_brr::brr;
 use command_check::check;
+use command_cuts::cuts;
 use command_demo::demo;
 use command_dis::dis;
 use command_encode::encode;
@@ -63,6 +64,12 @@ fn attempt<H: Host>(alloc: Global, words: &[String], host: &mut H) -> Option<Ref
             prefix,
             range,
         } => rip(alloc, host, file, prefix, range),
+        Command::Cuts {
+            file,
+            table,
+            list,
+            wave,
+        } => cuts(alloc, host, file, table, list, wave),
         Command::Serve {
             file,
             table,

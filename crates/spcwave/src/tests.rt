@@ -66,6 +66,9 @@ const WORDS: &[&[&str]] = &[
     &["dis", "IN", "040g", "OUT"],
     &["dis", "IN", "", "OUT"],
     &["dis", "IN", "0400", "-B"],
+    &["cuts", "A", "B", "C"],
+    &["cuts", "A", "B", "C", "-D"],
+    &["cuts", "A", "B", "C", "D", "E"],
     &["serve", "A", "B", "C"],
     &["serve", "A", "B", "C", "-D"],
     &["serve", "A", "B", "C", "D", "E"],
@@ -110,6 +113,7 @@ const COMMANDS: &[(&[&str], Status, &str)] = &[
     (&["dis", "IN", "fFf7", "OUT"], Status::Ok, "lines 8\n"),
     (&["dis", "IN", "FfF8", "OUT"], Status::CodeLength, ""),
     (&["rip", "IN", "OUT"], Status::SpcLength, ""),
+    (&["cuts", "IN", "IN", "IN", "OUT"], Status::SpcLength, ""),
     (&["serve", "IN", "IN", "IN", "OUT"], Status::SpcLength, ""),
     (
         &["serve", "IN", "IN", "IN", "OUT", "--pages", "00256"],

@@ -1,16 +1,12 @@
 // The words of the command line.
-ghost use Rattle.std.specs.Prelude.{◌≡◌, ◌≤◌, map, string_bytes, option_map, IfSome};
-ghost use Rattle.page_pool.specs.Pool.{most_pages};
-ghost use Rattle.spcwave.specs.Command.{command_of, alone, brr_command, info_command, encode_command, have_same_name, render_with, render_command, demo_command, check_command, asm_command, dis_command, rip_with, rip_over, rip_command, serve_with, serve_over, serve_command};
+ghost use Rattle.std.specs.Prelude.{◌≡◌, map, string_bytes, option_map, IfSome};
+ghost use Rattle.spcwave.specs.Command.{command_of, alone, brr_command, info_command, encode_command, have_same_name, render_with, render_command, demo_command, check_command, asm_command, dis_command, rip_with, rip_over, rip_command};
 ghost use Rattle.command_render.specs.Options.{options_of, IsWithinHour};
-ghost use Rattle.spcwave.specs.Options.{fewest_pages};
 ghost use Rattle.spcwave.specs.Words.{meaning_of, AreInRange};
 
-use crate::options::{demo_number_in, is_name, origin_in, pages_in, range_in, read_options};
+use crate::cut_words::{read_cuts, read_serve};
+use crate::options::{demo_number_in, is_name, origin_in, range_in, read_options};
 use command_render::RenderOptions;
-
-/// How many pages the checkpoints of a session have where no word says so.
-const USUAL_PAGES: u32 = 4096;
 
 /// A command with its names.
 #[derive(Clone, Copy)]
@@ -57,6 +53,12 @@ pub enum Command<'a> {
         file: &'a str,
         prefix: &'a str,
         range: Option<(u8, u8)>,
+    },
+    Cuts {
+        file: &'a str,
+        table: &'a str,
+        list: &'a str,
+        wave: &'a str,
     },
     Serve {
         file: &'a str,
@@ -301,79 +303,6 @@ fn read_rip(words: &[String]) -> Command<'_>
     }
 }
 
-/// The command `serve` with these names and a number of pages, which its word has to say.
-fn serve_with<'a>(
-    file: &'a str,
-    table: &'a str,
-    script: &'a str,
-    wave: &'a str,
-    pages: Option<u32>,
-) -> Command<'a>
-    requires { IfSome pages (λ pages. (fewest_pages ≤ pages) × (pages ≤ most_pages)) }
-    ensures meaning { meaning_of result ≡ serve_with file.now table.now script.now wave.now pages }
-    ensures in_range { AreInRange result }
-{
-    match pages {
-        Some(pages) => Command::Serve {
-            file,
-            table,
-            script,
-            wave,
-            pages,
-        },
-        None => Command::Usage,
-    }
-}
-
-/// Reads the words after the names of `serve`.
-fn serve_over<'a>(
-    file: &'a str,
-    table: &'a str,
-    script: &'a str,
-    wave: &'a str,
-    words: &[String],
-) -> Command<'a>
-    ensures meaning { meaning_of result ≡ serve_over file.now table.now script.now wave.now (map string_bytes words.now) }
-    ensures in_range { AreInRange result }
-{
-    match words {
-        [] => Command::Serve {
-            file,
-            table,
-            script,
-            wave,
-            pages: USUAL_PAGES,
-        },
-        [option, pages] if option.as_str() == "--pages" => {
-            serve_with(file, table, script, wave, pages_in(pages.as_bytes()))
-        }
-        _ => Command::Usage,
-    }
-}
-
-/// Reads the words after `serve`.
-fn read_serve(words: &[String]) -> Command<'_>
-    ensures meaning { meaning_of result ≡ serve_command (map string_bytes words.now) }
-    ensures in_range { AreInRange result }
-{
-    match words {
-        [file, table, script, wave, options @ ..]
-            if is_name(file.as_str())
-                && is_name(table.as_str())
-                && is_name(script.as_str())
-                && is_name(wave.as_str()) => {
-            serve_over(
-                file.as_str(),
-                table.as_str(),
-                script.as_str(),
-                wave.as_str(),
-                options,
-            )
-        }
-        _ => Command::Usage,
-    }
-}
-
 /// Reads the words of the command line.
 pub fn read_words(words: &[String]) -> Command<'_>
     ensures meaning { meaning_of result ≡ command_of (map string_bytes words.now) }
@@ -393,6 +322,7 @@ pub fn read_words(words: &[String]) -> Command<'_>
             "asm" => read_asm(rest),
             "dis" => read_dis(rest),
             "rip" => read_rip(rest),
+            "cuts" => read_cuts(rest),
             "serve" => read_serve(rest),
             _ => Command::Usage,
         },
