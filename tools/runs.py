@@ -17,6 +17,7 @@ COMMANDS = [
     ('asm', ['asm', 'tune.asm', '0400', 'OUT']),
     ('dis', ['dis', 'in.brr', '0400', 'OUT']),
     ('rip', ['rip', 'tune.spc', 'RIP']),
+    ('cuts', ['cuts', 'tune.spc', 'gauss.table', 'LIST', 'OUT']),
     ('serve', ['serve', 'tune.spc', 'gauss.table', 'SCRIPT', 'OUT', '--pages', '300']),
     ('help', ['help']),
     ('version', ['version']),
@@ -44,6 +45,7 @@ def make_inputs(program, folder):
     """The inputs of all commands."""
     for name in ('tune.spc', 'tune.asm', 'gauss.table', 'straight.table'):
         write(os.path.join(folder, name), read(os.path.join(EXAMPLES, name)))
+    write(os.path.join(folder, 'LIST'), b'300 100\n0 30\n350 20\n')
     write(os.path.join(folder, 'SCRIPT'), b'seek 300\nmark\nplay 100\nseek 300\nplay 50\ndrop 300\nfree\n')
     tune = read(os.path.join(EXAMPLES, 'tune.spc'))
     place = 0x100 + int.from_bytes(tune[0x100 + 0x2004:0x100 + 0x2006], 'little')
