@@ -1,11 +1,11 @@
 -- The addressing forms and the stack (Anomie's SPC700 Doc, the addressing modes). Each definition in -ed is the beginning
 -- of a script: it makes its accesses and hands what they gave to the script that follows.
-use Rattle.std.specs.Prelude.{ℕ, ◌+◌, ◌-◌, ◌*◌, ◌/◌, ◌%◌, if◌then◌else◌}
+use Rattle.std.specs.Prelude.{ℕ, zero, suc, ◌+◌, ◌-◌, ◌*◌, ◌/◌, ◌%◌, if◌then◌else◌}
 use Rattle.spc700_alu.specs.Flags.{P, flag}
 use Rattle.spc700_table.specs.declared.Form.{Form}
 use Rattle.spc700_table.specs.declared.Form.TheVariants as F
 use Rattle.spc700_table.specs.declared.OpRow.{OpRow}
-use Rattle.spc700_table.specs.Opcodes.{is_in_text_order}
+use Rattle.spc700_table.specs.Opcodes.{operand_bytes, is_in_text_order}
 use Rattle.spc700_exec.specs.declared.cpu.Cpu.{Cpu}
 use Rattle.spc700_exec.specs.declared.operand.Both.{Both}
 use Rattle.spc700_exec.specs.declared.operand.Operand.{Operand}
@@ -24,6 +24,12 @@ fetched cpu next = Read cpu.pc (λ byte. next byte (with_next_pc cpu))
 abbrev pub fetched_word : Cpu → (ℕ → Cpu → Script) → Script
 fetched_word cpu next = fetched cpu (λ low cpu. fetched cpu (λ high cpu. next (low + 0x100 * high) cpu))
 
+-- so many bytes at PC as a number, low byte first: none, one or two
+abbrev pub fetched_bytes : (count : ℕ) → Cpu → (ℕ → Cpu → Script) → Script
+fetched_bytes zero cpu next = next 0 cpu
+fetched_bytes (suc zero) cpu next = fetched cpu next
+fetched_bytes (suc (suc more)) cpu next = fetched_word cpu next
+
 -- the word at two addresses, low then high
 abbrev pub read_word : (low high : ℕ) → (ℕ → Script) → Script
 read_word at_low at_high next = Read at_low (λ low. Read at_high (λ high. next (low + 0x100 * high)))
@@ -40,40 +46,43 @@ next_in_page at = at / 0x100 * 0x100 + (at + 1) % 0x100
 abbrev pub call_entry : ℕ → ℕ
 call_entry n = 0xffde - 2 * n
 
+-- the operand that a form names by the bytes after the opcode; those of a pointer are read
+abbrev pub named : Form → (bytes : ℕ) → Cpu → (Operand → Cpu → Script) → Script
+named F.A bytes cpu next = next A cpu
+named F.X bytes cpu next = next X cpu
+named F.Y bytes cpu next = next Y cpu
+named F.Sp bytes cpu next = next Sp cpu
+named F.Psw bytes cpu next = next Psw cpu
+named F.Ya bytes cpu next = next Implied cpu
+named F.Carry bytes cpu next = next Implied cpu
+named F.None bytes cpu next = next Implied cpu
+named F.Imm i cpu next = next (Value i) cpu
+named F.Rel r cpu next = next (Value r) cpu
+named F.Direct d cpu next = next (At (direct cpu d)) cpu
+named F.DirectX d cpu next = next (At (direct cpu (d + cpu.x))) cpu
+named F.DirectY d cpu next = next (At (direct cpu (d + cpu.y))) cpu
+named F.Abs a cpu next = next (At a) cpu
+named F.AbsX a cpu next = next (At ((a + cpu.x) % 0x10000)) cpu
+named F.AbsY a cpu next = next (At ((a + cpu.y) % 0x10000)) cpu
+named F.PtrX bytes cpu next = next (At (direct cpu cpu.x)) cpu
+named F.PtrY bytes cpu next = next (At (direct cpu cpu.y)) cpu
+named F.PtrXInc bytes cpu next = next (At (direct cpu cpu.x)) (record cpu { x = (cpu.x + 1) % 0x100 })
+named F.IndX d cpu next =
+    let pointer = direct cpu (d + cpu.x) in
+    read_word pointer (next_in_page pointer) (λ a. next (At a) cpu)
+named F.IndY d cpu next =
+    let pointer = direct cpu d in
+    read_word pointer (next_in_page pointer) (λ a. next (At ((a + cpu.y) % 0x10000)) cpu)
+named F.AbsPtrX a cpu next = read_word ((a + cpu.x) % 0x10000) ((a + cpu.x + 1) % 0x10000) (λ a. next (At a) cpu)
+named F.Bit m cpu next = next (BitAt (m % 0x2000) (m / 0x2000)) cpu
+named F.NotBit m cpu next = next (BitAt (m % 0x2000) (m / 0x2000)) cpu
+named (F.DirectBit bit) d cpu next = next (BitAt (direct cpu d) bit) cpu
+named F.Upper u cpu next = next (At (0xff00 + u)) cpu
+named (F.Table n) bytes cpu next = next (At (call_entry n)) cpu
+
 -- the operand bytes of a form and then its pointer bytes are read; it gives the operand
 abbrev pub addressed : Form → Cpu → (Operand → Cpu → Script) → Script
-addressed F.A cpu next = next A cpu
-addressed F.X cpu next = next X cpu
-addressed F.Y cpu next = next Y cpu
-addressed F.Sp cpu next = next Sp cpu
-addressed F.Psw cpu next = next Psw cpu
-addressed F.Ya cpu next = next Implied cpu
-addressed F.Carry cpu next = next Implied cpu
-addressed F.None cpu next = next Implied cpu
-addressed F.Imm cpu next = fetched cpu (λ i cpu. next (Value i) cpu)
-addressed F.Rel cpu next = fetched cpu (λ r cpu. next (Value r) cpu)
-addressed F.Direct cpu next = fetched cpu (λ d cpu. next (At (direct cpu d)) cpu)
-addressed F.DirectX cpu next = fetched cpu (λ d cpu. next (At (direct cpu (d + cpu.x))) cpu)
-addressed F.DirectY cpu next = fetched cpu (λ d cpu. next (At (direct cpu (d + cpu.y))) cpu)
-addressed F.Abs cpu next = fetched_word cpu (λ a cpu. next (At a) cpu)
-addressed F.AbsX cpu next = fetched_word cpu (λ a cpu. next (At ((a + cpu.x) % 0x10000)) cpu)
-addressed F.AbsY cpu next = fetched_word cpu (λ a cpu. next (At ((a + cpu.y) % 0x10000)) cpu)
-addressed F.PtrX cpu next = next (At (direct cpu cpu.x)) cpu
-addressed F.PtrY cpu next = next (At (direct cpu cpu.y)) cpu
-addressed F.PtrXInc cpu next = next (At (direct cpu cpu.x)) (record cpu { x = (cpu.x + 1) % 0x100 })
-addressed F.IndX cpu next =
-    fetched cpu (λ d cpu. let pointer = direct cpu (d + cpu.x) in
-    read_word pointer (next_in_page pointer) (λ a. next (At a) cpu))
-addressed F.IndY cpu next =
-    fetched cpu (λ d cpu. let pointer = direct cpu d in
-    read_word pointer (next_in_page pointer) (λ a. next (At ((a + cpu.y) % 0x10000)) cpu))
-addressed F.AbsPtrX cpu next =
-    fetched_word cpu (λ a cpu. read_word ((a + cpu.x) % 0x10000) ((a + cpu.x + 1) % 0x10000) (λ a. next (At a) cpu))
-addressed F.Bit cpu next = fetched_word cpu (λ m cpu. next (BitAt (m % 0x2000) (m / 0x2000)) cpu)
-addressed F.NotBit cpu next = fetched_word cpu (λ m cpu. next (BitAt (m % 0x2000) (m / 0x2000)) cpu)
-addressed (F.DirectBit bit) cpu next = fetched cpu (λ d cpu. next (BitAt (direct cpu d) bit) cpu)
-addressed F.Upper cpu next = fetched cpu (λ u cpu. next (At (0xff00 + u)) cpu)
-addressed (F.Table n) cpu next = next (At (call_entry n)) cpu
+addressed form cpu next = fetched_bytes (operand_bytes form) cpu (λ bytes cpu. named form bytes cpu next)
 
 -- both operands of an instruction, in the order in which their bytes stand
 unfoldable pub both_addressed : OpRow → Cpu → (Both → Cpu → Script) → Script

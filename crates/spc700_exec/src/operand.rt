@@ -2,16 +2,17 @@
 //!
 //! Everything here is inlined into the arm of its opcode, where the row is a constant: no form is told apart there at run time.
 
-ghost use Rattle.std.specs.Prelude.{◌≡◌, ◌+◌, ◌/◌, ◌%◌, ◌<◌};
+ghost use Rattle.std.specs.Prelude.{◌≡◌, ◌+◌, ◌/◌, ◌%◌, ◌^◌, ◌<◌, ◌≤◌, if◌then◌else◌};
+ghost use Rattle.spc700_table.specs.Opcodes.{operand_bytes};
 ghost use Rattle.spc700_exec.specs.Bus.{byte_read, after_read};
-ghost use Rattle.spc700_exec.specs.Operands.{with_next_pc, direct, next_in_page, addressed, both_addressed, loaded, stored, address_of, bit_of};
+ghost use Rattle.spc700_exec.specs.Operands.{with_next_pc, direct, next_in_page, fetched_bytes, named, addressed, both_addressed, loaded, stored, address_of, bit_of};
 ghost use Rattle.spc700_exec.specs.Pieces.{HasRoom, IsWithin, Gives, GivesValue, GivesCpu, word_read, after_word, after_word_write, FormFits, OperandFits};
 
 use crate::access::{read, write};
 use crate::bus::Bus;
 use crate::cpu::Cpu;
 use spc700_alu::flags::{PAGE, is_set};
-use spc700_table::{Form, OpRow, is_in_text_order};
+use spc700_table::{Form, OpRow, byte_count, is_in_text_order};
 
 /// An operand, once the bytes that name it were read.
 #[derive(Clone, Copy, Debug, PartialEq, Eq)]
@@ -57,18 +58,23 @@ pub fn fetch<B: Bus>(cpu: &mut Cpu, bus: &mut B) -> u8
     byte
 }
 
-/// Two bytes at PC, low then high, and PC goes on.
+/// So many bytes at PC as a number, low byte first, and PC goes on.
 #[inline(always)]
-fn fetch_word<B: Bus>(cpu: &mut Cpu, bus: &mut B) -> u16
-    requires { HasRoom 2 B.means bus.old }
-    ensures word { result ≡ word_read B.means cpu.old.pc ((cpu.old.pc + 1) % 0x10000) bus.old }
-    ensures bus { bus.new ≡ after_word B.means cpu.old.pc ((cpu.old.pc + 1) % 0x10000) bus.old }
-    ensures cpu { cpu.new ≡ with_next_pc (with_next_pc cpu.old) }
+fn fetch_bytes<B: Bus>(cpu: &mut Cpu, bus: &mut B, count: u8) -> u16
+    requires room { HasRoom 2 B.means bus.old }
+    requires few { count ≤ 2 }
+    ensures gives { Gives B.means (fetched_bytes count cpu.old) bus.old result cpu.new bus.new }
+    ensures fits { result < 0x100 ^ count }
     ensures within { IsWithin 2 B.means bus.old bus.new }
 {
-    let low = fetch(cpu, bus);
-    let high = fetch(cpu, bus);
-    low as u16 + 0x100 * high as u16
+    if count == 0 {
+        return 0;
+    }
+    let low = u16::from(fetch(cpu, bus));
+    if count == 1 {
+        return low;
+    }
+    low + 0x100 * u16::from(fetch(cpu, bus))
 }
 
 /// The word at two addresses, low then high.
@@ -115,54 +121,59 @@ fn read_word_in_page<B: Bus>(bus: &mut B, at: u16) -> u16
     read_word(bus, at, next_in_its_page(at))
 }
 
-/// The address of the direct page that the byte at PC names, and PC goes on.
+/// The operand that a form names by the bytes after the opcode. Those of a pointer are read here.
 #[inline(always)]
-fn fetch_direct<B: Bus>(cpu: &mut Cpu, bus: &mut B) -> u16
-    requires { HasRoom 1 B.means bus.old }
-    ensures at { result ≡ direct cpu.old (byte_read B.means cpu.old.pc bus.old) }
-    ensures bus { bus.new ≡ after_read B.means cpu.old.pc bus.old }
-    ensures cpu { cpu.new ≡ with_next_pc cpu.old }
-    ensures within { IsWithin 1 B.means bus.old bus.new }
-{
-    let d = fetch(cpu, bus);
-    direct_address(cpu, d)
-}
-
-/// The same with an index, by which the address lies further on in its page, which wraps.
-#[inline(always)]
-fn fetch_direct_indexed<B: Bus>(cpu: &mut Cpu, bus: &mut B, index: u8) -> u16
-    requires { HasRoom 1 B.means bus.old }
-    ensures at { result ≡ direct cpu.old (byte_read B.means cpu.old.pc bus.old + index) }
-    ensures bus { bus.new ≡ after_read B.means cpu.old.pc bus.old }
-    ensures cpu { cpu.new ≡ with_next_pc cpu.old }
-    ensures within { IsWithin 1 B.means bus.old bus.new }
-{
-    let d = fetch(cpu, bus);
-    direct_address(cpu, d.wrapping_add(index))
-}
-
-/// The address that lies an index further on than the word at PC, and PC goes on.
-#[inline(always)]
-fn fetch_word_indexed<B: Bus>(cpu: &mut Cpu, bus: &mut B, index: u8) -> u16
-    requires { HasRoom 2 B.means bus.old }
-    ensures at { result ≡ (word_read B.means cpu.old.pc ((cpu.old.pc + 1) % 0x10000) bus.old + index) % 0x10000 }
-    ensures bus { bus.new ≡ after_word B.means cpu.old.pc ((cpu.old.pc + 1) % 0x10000) bus.old }
-    ensures cpu { cpu.new ≡ with_next_pc (with_next_pc cpu.old) }
+fn name<B: Bus>(cpu: &mut Cpu, bus: &mut B, form: Form, bytes: u16) -> Operand
+    requires room { HasRoom 2 B.means bus.old }
+    requires form { FormFits form }
+    requires bytes { bytes < 0x100 ^ operand_bytes form }
+    ensures gives { Gives B.means (named form bytes cpu.old) bus.old result cpu.new bus.new }
+    ensures fits { OperandFits result }
     ensures within { IsWithin 2 B.means bus.old bus.new }
 {
-    fetch_word(cpu, bus).wrapping_add(u16::from(index))
-}
-
-/// The operand of a bit of memory, by the word after the opcode.
-#[inline(always)]
-fn bit_operand(m: u16) -> Operand
-    ensures operand { result ≡ Operand.BitAt (m % 0x2000) (m / 0x2000) }
-    ensures fits { OperandFits result }
-{
-    Operand::BitAt(m % 0x2000, (m / 0x2000) as u8)
+    let (x, y) = (cpu.x, cpu.y);
+    let byte = (bytes % 0x100) as u8;
+    match form {
+        Form::A => Operand::A,
+        Form::X => Operand::X,
+        Form::Y => Operand::Y,
+        Form::Sp => Operand::Sp,
+        Form::Psw => Operand::Psw,
+        Form::Ya | Form::Carry | Form::None => Operand::Implied,
+        Form::Imm | Form::Rel => Operand::Value(byte),
+        Form::Direct => Operand::At(direct_address(cpu, byte)),
+        Form::DirectX => Operand::At(direct_address(cpu, byte.wrapping_add(x))),
+        Form::DirectY => Operand::At(direct_address(cpu, byte.wrapping_add(y))),
+        Form::DirectBit(bit) => Operand::BitAt(direct_address(cpu, byte), bit),
+        Form::Upper => Operand::At(0xff00 + u16::from(byte)),
+        Form::Abs => Operand::At(bytes),
+        Form::AbsX => Operand::At(bytes.wrapping_add(u16::from(x))),
+        Form::AbsY => Operand::At(bytes.wrapping_add(u16::from(y))),
+        Form::Bit | Form::NotBit => Operand::BitAt(bytes % 0x2000, (bytes / 0x2000) as u8),
+        Form::PtrX => Operand::At(direct_address(cpu, x)),
+        Form::PtrY => Operand::At(direct_address(cpu, y)),
+        Form::PtrXInc => {
+            cpu.x = x.wrapping_add(1);
+            Operand::At(direct_address(cpu, x))
+        }
+        Form::IndX => {
+            let pointer = direct_address(cpu, byte.wrapping_add(x));
+            Operand::At(read_word_in_page(bus, pointer))
+        }
+        Form::IndY => {
+            let pointer = direct_address(cpu, byte);
+            Operand::At(read_word_in_page(bus, pointer).wrapping_add(u16::from(y)))
+        }
+        Form::AbsPtrX => {
+            let pointer = bytes.wrapping_add(u16::from(x));
+            Operand::At(read_word(bus, pointer, pointer.wrapping_add(1)))
+        }
+        Form::Table(n) => Operand::At(0xffde - 2 * u16::from(n)),
+    }
 }
 
 /// Reads the operand bytes of a form, then its pointer bytes, and gives the operand.
+// The bytes are read in one place, whatever the form: so it is small enough to be inlined.
 #[inline(always)]
 pub fn address<B: Bus>(cpu: &mut Cpu, bus: &mut B, form: Form) -> Operand
     requires room { HasRoom 4 B.means bus.old }
@@ -171,49 +182,21 @@ pub fn address<B: Bus>(cpu: &mut Cpu, bus: &mut B, form: Form) -> Operand
     ensures fits { OperandFits result }
     ensures within { IsWithin 4 B.means bus.old bus.new }
 {
-    let (x, y) = (cpu.x, cpu.y);
-    match form {
-        Form::A => Operand::A,
-        Form::X => Operand::X,
-        Form::Y => Operand::Y,
-        Form::Sp => Operand::Sp,
-        Form::Psw => Operand::Psw,
-        Form::Ya | Form::Carry | Form::None => Operand::Implied,
-        Form::Imm | Form::Rel => Operand::Value(fetch(cpu, bus)),
-        Form::Direct => Operand::At(fetch_direct(cpu, bus)),
-        Form::DirectX => Operand::At(fetch_direct_indexed(cpu, bus, x)),
-        Form::DirectY => Operand::At(fetch_direct_indexed(cpu, bus, y)),
-        Form::DirectBit(bit) => Operand::BitAt(fetch_direct(cpu, bus), bit),
-        Form::Upper => Operand::At(0xff00 + u16::from(fetch(cpu, bus))),
-        Form::Abs => Operand::At(fetch_word(cpu, bus)),
-        Form::AbsX => Operand::At(fetch_word_indexed(cpu, bus, x)),
-        Form::AbsY => Operand::At(fetch_word_indexed(cpu, bus, y)),
-        Form::Bit | Form::NotBit => bit_operand(fetch_word(cpu, bus)),
-        Form::PtrX => Operand::At(direct_address(cpu, x)),
-        Form::PtrY => Operand::At(direct_address(cpu, y)),
-        Form::PtrXInc => {
-            cpu.x = x.wrapping_add(1);
-            Operand::At(direct_address(cpu, x))
-        }
-        Form::IndX => {
-            let pointer = fetch_direct_indexed(cpu, bus, x);
-            Operand::At(read_word_in_page(bus, pointer))
-        }
-        Form::IndY => {
-            let pointer = fetch_direct(cpu, bus);
-            Operand::At(read_word_in_page(bus, pointer).wrapping_add(u16::from(y)))
-        }
-        Form::AbsPtrX => {
-            let pointer = fetch_word_indexed(cpu, bus, x);
-            Operand::At(read_word(bus, pointer, pointer.wrapping_add(1)))
-        }
-        Form::Table(n) => Operand::At(0xffde - 2 * u16::from(n)),
-    }
+    let bytes = fetch_bytes(cpu, bus, byte_count(form));
+    name(cpu, bus, form, bytes)
+}
+
+/// One of two things, by a test.
+#[inline(always)]
+fn chosen<T: Copy>(test: bool, one: T, other: T) -> T
+    ensures { result ≡ (if test then one else other) }
+{
+    if test { one } else { other }
 }
 
 /// Reads the bytes of both operands in the order in which they stand, and gives the operands.
+// Each operand is addressed in one place, whichever comes first.
 #[inline(always)]
-#[tactic(auto, unfolding(crate::specs::Operands::both_addressed))]
 pub fn address_both<B: Bus>(cpu: &mut Cpu, bus: &mut B, row: OpRow) -> Both
     requires room { HasRoom 8 B.means bus.old }
     requires first { FormFits row.first }
@@ -222,14 +205,12 @@ pub fn address_both<B: Bus>(cpu: &mut Cpu, bus: &mut B, row: OpRow) -> Both
     ensures fits { OperandFits result.first }
     ensures within { IsWithin 8 B.means bus.old bus.new }
 {
-    if is_in_text_order(&row) {
-        let first = address(cpu, bus, row.first);
-        let second = address(cpu, bus, row.second);
-        Both { first, second }
-    } else {
-        let second = address(cpu, bus, row.second);
-        let first = address(cpu, bus, row.first);
-        Both { first, second }
+    let in_text_order = is_in_text_order(&row);
+    let earlier = address(cpu, bus, chosen(in_text_order, row.first, row.second));
+    let later = address(cpu, bus, chosen(in_text_order, row.second, row.first));
+    Both {
+        first: chosen(in_text_order, earlier, later),
+        second: chosen(in_text_order, later, earlier),
     }
 }
 
