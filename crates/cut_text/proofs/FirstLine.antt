@@ -1,11 +1,11 @@
 -- The first line of a text.
-use Rattle.std.proofs.Common.{◌≡◌, ℕ, ◌+◌, ◌<◌, ◌++◌, List, [], ◌∷◌, length, map, refl, ap, sym, ◌∙◌, arith}
-use Rattle.std.specs.Prelude.{◌==◌, Option, Some, None, if◌then◌else◌, true, false}
+use Rattle.std.proofs.Common.{◌≡◌, ℕ, ◌+◌, ◌++◌, List, [], ◌∷◌, length, map, refl, ap, sym, ◌∙◌, arith}
+use Rattle.std.specs.Prelude.{◌==◌, Option, Some}
 use Rattle.std.specs.List.{slice_split}
 use Rattle.std.proofs.lemmas.List.Splits.{length-slice_split}
 use Rattle.std.proofs.lemmas.Grind.{common_steps}
 use Rattle.cut_form.specs.TextLines.{text_lines, without_return, without_empty_last}
-use Rattle.cut_text.specs.Reading.{parts_left}
+use Rattle.text_parts.specs.Parts.{parts_left}
 
 -- a part before others is a line
 line_before : (part next : List ℕ) (parts : List (List ℕ)) → without_empty_last (part ∷ (next ∷ parts)) ≡ part ∷ without_empty_last (next ∷ parts)
@@ -22,13 +22,6 @@ pub line_of_more : (text line after : List ℕ) → slice_split (λ character. c
 line_of_more text line after split =
     ap (λ (parts : List (List ℕ)). map without_return (without_empty_last parts)) split
     ∙ lines_ahead line (slice_split (λ character. character == 10) after) _ (length-slice_split (λ character. character == 10) after)
-
--- the last line that lacks its line feed
-pub line_of_rest : (text line : List ℕ) → line ≡ text → 0 < length text → slice_split (λ character. character == 10) text ≡ line ∷ [] →
-    text_lines text ≡ without_return line ∷ text_lines []
-line_of_rest [] line whole some split = absurd (omega (arith, some))
-line_of_rest (x ∷ xs) line whole some split =
-    ap (λ (parts : List (List ℕ)). map without_return (without_empty_last parts)) (split ∙ ap (λ (l : List ℕ). l ∷ []) whole) ∙ ap (λ (l : List ℕ). without_return l ∷ []) (sym whole)
 
 -- the same by the first part of the text and what stands after it
 pub line_of_parts : (text line after : List ℕ) (rest : Option (List ℕ)) → rest ≡ Some after →

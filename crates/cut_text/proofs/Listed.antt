@@ -1,10 +1,10 @@
--- A list that grows by the cut of a line.
+-- A list of cuts that grows by the cut of a line.
 use Rattle.std.proofs.Common.{◌≡◌, ℕ, ◌+◌, ◌≤◌, List, [], ◌∷◌, ◌++◌, length, refl, ap, sym, ◌∙◌, arith}
 use Rattle.std.specs.Prelude.{◌==◌, true, Option, Some, None, Result, Ok, Err}
 use Rattle.std.specs.List.{slice_split}
 use Rattle.std.proofs.lemmas.Grind.{common_steps}
 use Rattle.std.proofs.lemmas.List.Splits.{length-slice_split}
-use Rattle.std.proofs.lemmas.List.{append_assoc, append-nil}
+use Rattle.std.proofs.lemmas.List.{append-nil}
 use Rattle.std.proofs.lemmas.List.Sums.{sum_by_push}
 use Rattle.num_fix.specs.Limits.{most_frames}
 use Rattle.cut_form.specs.declared.cut.Cut.{Cut}
@@ -13,21 +13,14 @@ use Rattle.cut_form.specs.CutList.{most_cuts, cut_of_words, cuts_from, cut_befor
 use Rattle.cut_form.specs.Slices.{cut_samples}
 use Rattle.cut_text.specs.declared.refusal.TextRefusal.{TextRefusal}
 use Rattle.cut_text.specs.declared.refusal.TextRefusal.TheVariants.{Wrong, OutOfMemory}
-use Rattle.cut_text.specs.Cuts.{EndWithinHour, IsListed, fits_after, next_cut, OneMore, IsWrongAfter}
-use Rattle.cut_text.specs.Reading.{Tells, parts_left}
-
--- cuts before those that other lines say
-abbrev pub cuts_before : List Cut → Result (List Cut) ℕ → Result (List Cut) ℕ
-cuts_before cuts (Ok more) = Ok (cuts ++ more)
-cuts_before cuts (Err wrong) = Err wrong
+use Rattle.text_parts.specs.Parts.{parts_left}
+use Rattle.cut_text.specs.Cuts.{EndWithinHour, IsListed, fits_after, next_cut}
+use Rattle.cut_text.specs.Reading.{Tells, OneMore, IsWrongAfter}
+use Rattle.cut_text.proofs.Growing.{list_before, none_before, one_before, length_more}
 
 -- what lines say after a list
 abbrev pub said_after : List Cut → (lines : List (List ℕ)) → Result (List Cut) ℕ
-said_after cuts lines = cuts_before cuts (cuts_from (length cuts + 1) (cut_samples cuts) lines)
-
-none_before : (said : Result (List Cut) ℕ) → said ≡ cuts_before [] said
-none_before (Ok cuts) = refl
-none_before (Err wrong) = refl
+said_after cuts lines = list_before cuts (cuts_from (length cuts + 1) (cut_samples cuts) lines)
 
 pub said_first : (lines : List (List ℕ)) → cuts_from 1 0 lines ≡ said_after [] lines
 said_first lines = none_before (cuts_from 1 0 lines)
@@ -35,27 +28,22 @@ said_first lines = none_before (cuts_from 1 0 lines)
 pub said_last : (cuts : List Cut) → said_after cuts [] ≡ Ok cuts
 said_last cuts = ap Ok (append-nil cuts)
 
-one_before : (old : List Cut) (cut : Cut) (said : Result (List Cut) ℕ) → cuts_before old (cut_before cut said) ≡ cuts_before (old ++ cut ∷ []) said
-one_before old cut (Ok more) = ap Ok (sym (append_assoc old (cut ∷ []) more))
-one_before old cut (Err wrong) = refl
+cut_first : (cut : Cut) (said : Result (List Cut) ℕ) → cut_before cut said ≡ list_before (cut ∷ []) said
+cut_first cut (Ok more) = refl
+cut_first cut (Err wrong) = refl
 
 pub samples_more : (cuts : List Cut) (cut : Cut) → cut_samples (cuts ++ cut ∷ []) ≡ cut_samples cuts + cut.count
 samples_more cuts cut = sum_by_push (λ (c : Cut). c.count) cuts cut
-
-pub length_more : (cuts : List Cut) (cut : Cut) → length (cuts ++ cut ∷ []) ≡ length cuts + 1
-length_more [] cut = refl
-length_more (first ∷ cuts) cut =
-    let rest = length_more cuts cut in
-    omega (arith, rest)
 
 said_cut : (old : List Cut) (line : List ℕ) (lines : List (List ℕ)) (cut : Cut) → next_cut old line ≡ Some cut →
     said_after old (line ∷ lines) ≡ said_after (old ++ cut ∷ []) lines
 said_cut old line lines cut is =
     let step : cuts_from (length old + 1) (cut_samples old) (line ∷ lines) ≡ cut_before cut (cuts_from (length old + 1 + 1) (cut_samples old + cut.count) lines) = rw (is, cuts_from) refl in
-    ap (cuts_before old) step
+    ap (list_before old) step
+    ∙ ap (list_before old) (cut_first cut (cuts_from (length old + 1 + 1) (cut_samples old + cut.count) lines))
     ∙ one_before old cut (cuts_from (length old + 1 + 1) (cut_samples old + cut.count) lines)
-    ∙ ap (λ (n : ℕ). cuts_before (old ++ cut ∷ []) (cuts_from (n + 1) (cut_samples old + cut.count) lines)) (sym (length_more old cut))
-    ∙ ap (λ (n : ℕ). cuts_before (old ++ cut ∷ []) (cuts_from (length (old ++ cut ∷ []) + 1) n lines)) (sym (samples_more old cut))
+    ∙ ap (λ (n : ℕ). list_before (old ++ cut ∷ []) (cuts_from (n + 1) (cut_samples old + cut.count) lines)) (sym (length_more old cut))
+    ∙ ap (λ (n : ℕ). list_before (old ++ cut ∷ []) (cuts_from (length (old ++ cut ∷ []) + 1) n lines)) (sym (samples_more old cut))
 
 grown_is : (old new : List Cut) (line : List ℕ) (lines : List (List ℕ)) (next : Option Cut) → next_cut old line ≡ next → OneMore old new next →
     said_after old (line ∷ lines) ≡ said_after new lines
@@ -68,7 +56,7 @@ said_more old new line lines grown = grown_is old new line lines (next_cut old l
 said_wrong : (old : List Cut) (line : List ℕ) (lines : List (List ℕ)) → next_cut old line ≡ None → said_after old (line ∷ lines) ≡ Err (length old + 1)
 said_wrong old line lines is =
     let step : cuts_from (length old + 1) (cut_samples old) (line ∷ lines) ≡ Err (length old + 1) = rw (is, cuts_from) refl in
-    ap (cuts_before old) step
+    ap (list_before old) step
 
 pub tells_wrong : (old : List Cut) (line : List ℕ) (lines : List (List ℕ)) (said : Result (List Cut) ℕ) (refusal : TextRefusal) →
     said ≡ said_after old (line ∷ lines) → IsWrongAfter old (next_cut old line) refusal → Tells refusal said

@@ -1,12 +1,10 @@
 -- A list of cuts while a text is read: it grows by a cut a line.
-use Rattle.std.specs.Prelude.{◌≡◌, ℕ, ◌+◌, ◌≤◌, ◌&&◌, Bool, nat_le, List, [], ◌∷◌, ◌++◌, length, Option, Some, None}
+use Rattle.std.specs.Prelude.{◌≡◌, ℕ, ◌+◌, ◌≤◌, ◌&&◌, Bool, nat_le, List, [], ◌∷◌, length, Option}
 use Rattle.num_fix.specs.Limits.{most_frames}
 use Rattle.cut_form.specs.declared.cut.Cut.{Cut}
 use Rattle.cut_form.specs.TextLines.{line_words}
 use Rattle.cut_form.specs.CutList.{most_cuts, cut_of_words, allowed_cut}
 use Rattle.cut_form.specs.Slices.{cut_samples}
-use Rattle.cut_text.specs.declared.refusal.TextRefusal.{TextRefusal}
-use Rattle.cut_text.specs.declared.refusal.TextRefusal.TheVariants.{Wrong, OutOfMemory}
 
 -- each cut ends within an hour
 abbrev pub EndWithinHour : List Cut → Type 0
@@ -27,13 +25,3 @@ fits_after cuts cut = nat_le (cut.start + cut.count) most_frames && (nat_le (cut
 -- the cut of the next line after others
 abbrev pub next_cut : List Cut → (line : List ℕ) → Option Cut
 next_cut cuts line = allowed_cut (length cuts + 1) (cut_samples cuts) (cut_of_words (line_words line))
-
--- the list has one more
-abbrev pub OneMore : (old new : List Cut) → Option Cut → Type 0
-OneMore old new None = ⊥
-OneMore old new (Some cut) = new ≡ old ++ cut ∷ []
-
--- a refusal of the line after a list, which has no cut, tells its number
-abbrev pub IsWrongAfter : List Cut → Option Cut → TextRefusal → Type 0
-IsWrongAfter cuts next (Wrong line) = (next ≡ None) × (line ≡ length cuts + 1)
-IsWrongAfter cuts next OutOfMemory = Unit {0}

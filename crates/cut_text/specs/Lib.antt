@@ -1,4 +1,4 @@
--- what a refusal tells
+-- what a refusal tells, and a list that grows line by line
 pub mod Reading
--- a list of cuts that grows line by line
+-- a list of cuts
 pub mod Cuts

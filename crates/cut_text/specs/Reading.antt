@@ -1,15 +1,19 @@
 -- Words of the contracts of readers of texts.
-use Rattle.std.specs.Prelude.{◌≡◌, ℕ, ◌==◌, List, [], Option, Some, None, Result, Err}
-use Rattle.std.specs.List.{slice_split}
+use Rattle.std.specs.Prelude.{◌≡◌, ℕ, ◌+◌, List, [], ◌∷◌, ◌++◌, length, Option, Some, None, Result, Err}
 use Rattle.cut_text.specs.declared.refusal.TextRefusal.{TextRefusal}
 use Rattle.cut_text.specs.declared.refusal.TextRefusal.TheVariants.{Wrong, OutOfMemory}
-
--- the parts of what is left of a text round a character; none where nothing is left
-abbrev pub parts_left : (character : ℕ) → Option (List ℕ) → List (List ℕ)
-parts_left character None = []
-parts_left character (Some text) = slice_split (λ other. other == character) text
 
 -- a refusal for a wrong line has the number of the first one
 abbrev pub Tells : {A : Type 0} → TextRefusal → Result A ℕ → Type 0
 Tells (Wrong line) said = said ≡ Err line
 Tells OutOfMemory said = Unit {0}
+
+-- a list has what the next line says too
+abbrev pub OneMore : {A : Type 0} → (old new : List A) → Option A → Type 0
+OneMore old new None = ⊥
+OneMore old new (Some said) = new ≡ old ++ said ∷ []
+
+-- a refusal of the line after a list of a line each, which says nothing, tells its number
+abbrev pub IsWrongAfter : {A : Type 0} → List A → Option A → TextRefusal → Type 0
+IsWrongAfter said next (Wrong line) = (next ≡ None) × (line ≡ length said + 1)
+IsWrongAfter said next OutOfMemory = Unit {0}

@@ -4,17 +4,18 @@ ghost use Rattle.num_fix.specs.Limits.{most_frames};
 ghost use Rattle.cut_form.specs.TextLines.{line_words};
 ghost use Rattle.cut_form.specs.CutList.{most_cuts, cut_of_numbers, cut_of_words, cut_list};
 ghost use Rattle.cut_form.specs.Slices.{cut_samples};
-ghost use Rattle.cut_text.specs.Cuts.{EndWithinHour, OneMore, IsWrongAfter, next_cut, fits_after};
-ghost use Rattle.cut_text.specs.Reading.{Tells};
+ghost use Rattle.cut_text.specs.Cuts.{EndWithinHour, next_cut, fits_after};
+ghost use Rattle.cut_text.specs.Reading.{Tells, OneMore, IsWrongAfter};
 
-use crate::TextRefusal;
-use crate::lines::{first_line, first_part, number_in};
+use crate::lines::{first_line, number_in};
+use crate::{TextRefusal, add};
 use cut_form::Cut;
 use std::alloc::Global;
 use std::marker::Model;
+use text_parts::first_part;
 
-/// The most frames of all cuts, and the last sample that one may end at: an hour.
-const MOST_FRAMES: u32 = 115_200_000;
+/// The most frames of a sound, and the last sample that a cut may end at: an hour.
+pub const MOST_FRAMES: u32 = 115_200_000;
 
 /// The most cuts.
 const MOST_CUTS: usize = 1000;
@@ -90,18 +91,6 @@ impl CutList {
             }
             _ => Err(TextRefusal::Wrong(self.cuts.len() as u32 + 1)),
         }
-    }
-}
-
-/// Adds a cut, if there is memory for it.
-fn add(cuts: &mut Vec<Cut>, cut: Cut) -> Result<(), TextRefusal>
-    ensures added { OnOk result (cuts.new.items ≡ cuts.old.items ++ cut ∷ []) }
-    ensures unchanged { IfErr result (λ refusal. cuts.new.items ≡ cuts.old.items) }
-    ensures memory { IfErr result (λ refusal. refusal ≡ TextRefusal.OutOfMemory) }
-{
-    match cuts.push(cut) {
-        Ok(()) => Ok(()),
-        Err(_) => Err(TextRefusal::OutOfMemory),
     }
 }
 

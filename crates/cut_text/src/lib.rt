@@ -3,9 +3,11 @@
 
 mod cuts;
 pub mod lines;
+mod lists;
 mod refusal;
 #[cfg(test)]
 mod tests;
 
-pub use cuts::{CutList, read_cuts};
+pub use cuts::{CutList, MOST_FRAMES, read_cuts};
+pub use lists::add;
 pub use refusal::TextRefusal;

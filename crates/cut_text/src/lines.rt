@@ -1,33 +1,12 @@
 // The lines of a text, the words of a line, and the numbers that words are.
-ghost use Rattle.std.specs.Prelude.{◌≡◌, ◌<◌, ◌==◌, ◌∷◌, ◌^◌, [], length, option_copied, position, IfSome, IfNone};
-ghost use Rattle.std.specs.List.{slice_split};
+ghost use Rattle.std.specs.Prelude.{◌≡◌, ◌<◌, ◌∷◌, ◌^◌, [], length, IfSome, IfNone};
 ghost use Rattle.cut_form.specs.TextLines.{text_lines, without_return, most_digits, number_of_word};
-ghost use Rattle.cut_text.specs.Reading.{parts_left};
 
 use number_text::{decimal_value, is_number};
+use text_parts::first_part;
 
 /// The most digits of a number.
 const MOST_DIGITS: usize = 9;
-
-/// The place of the first such character.
-fn place_of(character: u8, text: &[u8]) -> Option<usize>
-    ensures place { result ≡ position (λ other. other == character) text.now }
-    ensures inside { IfSome result (λ place. place < length text.now) }
-{
-    text.iter().position(|other| *other == character)
-}
-
-/// The first part of a text, and what stands after the character that ends it.
-pub fn first_part(character: u8, text: &[u8]) -> (&[u8], Option<&[u8]>)
-    ensures parts { slice_split (λ other. other == character) text.now ≡ result.0.now ∷ parts_left character (option_copied result.1) }
-    ensures shorter { IfSome result.1 (λ after. length after.now < length text.now) }
-    ensures whole { IfNone result.1 (result.0.now ≡ text.now) }
-{
-    match place_of(character, text) {
-        Some(place) => (text.split_at(place).0, Some(text.split_at(place + 1).1)),
-        None => (text, None),
-    }
-}
 
 /// A line without the carriage return at its end.
 fn without_return(line: &[u8]) -> &[u8]

@@ -3,26 +3,19 @@ use Rattle.std.proofs.Common.{◌≡◌, ℕ, ◌+◌, List, [], ◌∷◌, ◌+
 use Rattle.std.specs.Prelude.{◌==◌, Option, Some, None, Result, Ok, Err}
 use Rattle.std.specs.List.{slice_split}
 use Rattle.std.proofs.lemmas.List.Splits.{length-slice_split}
-use Rattle.std.proofs.lemmas.List.{append_assoc, append-nil}
+use Rattle.std.proofs.lemmas.List.{append-nil}
 use Rattle.cut_form.specs.declared.script.ScriptLine.{ScriptLine}
 use Rattle.cut_form.specs.Script.{line_of_words, script_from, line_before}
 use Rattle.cut_text.specs.declared.refusal.TextRefusal.{TextRefusal}
 use Rattle.cut_text.specs.declared.refusal.TextRefusal.TheVariants.{Wrong, OutOfMemory}
-use Rattle.cut_text.specs.Reading.{Tells, parts_left}
-use Rattle.script_text.specs.Lines.{next_line, OneMore, IsWrongAfter}
-
--- lines before those that others say
-abbrev pub lines_before : List ScriptLine → Result (List ScriptLine) ℕ → Result (List ScriptLine) ℕ
-lines_before lines (Ok more) = Ok (lines ++ more)
-lines_before lines (Err wrong) = Err wrong
+use Rattle.text_parts.specs.Parts.{parts_left}
+use Rattle.cut_text.specs.Reading.{Tells, OneMore, IsWrongAfter}
+use Rattle.cut_text.proofs.Growing.{list_before, none_before, one_before, length_more}
+use Rattle.script_text.specs.Lines.{next_line}
 
 -- what a text says after a list
 abbrev pub said_after : List ScriptLine → (rest : List (List ℕ)) → Result (List ScriptLine) ℕ
-said_after lines rest = lines_before lines (script_from (length lines + 1) rest)
-
-none_before : (said : Result (List ScriptLine) ℕ) → said ≡ lines_before [] said
-none_before (Ok lines) = refl
-none_before (Err wrong) = refl
+said_after lines rest = list_before lines (script_from (length lines + 1) rest)
 
 pub said_first : (rest : List (List ℕ)) → script_from 1 rest ≡ said_after [] rest
 said_first rest = none_before (script_from 1 rest)
@@ -30,23 +23,18 @@ said_first rest = none_before (script_from 1 rest)
 pub said_last : (lines : List ScriptLine) → said_after lines [] ≡ Ok lines
 said_last lines = ap Ok (append-nil lines)
 
-one_before : (old : List ScriptLine) (line : ScriptLine) (said : Result (List ScriptLine) ℕ) → lines_before old (line_before line said) ≡ lines_before (old ++ line ∷ []) said
-one_before old line (Ok more) = ap Ok (sym (append_assoc old (line ∷ []) more))
-one_before old line (Err wrong) = refl
-
-length_more : (lines : List ScriptLine) (line : ScriptLine) → length (lines ++ line ∷ []) ≡ length lines + 1
-length_more [] line = refl
-length_more (first ∷ lines) line =
-    let rest = length_more lines line in
-    omega (arith, rest)
+line_first : (line : ScriptLine) (said : Result (List ScriptLine) ℕ) → line_before line said ≡ list_before (line ∷ []) said
+line_first line (Ok more) = refl
+line_first line (Err wrong) = refl
 
 said_line : (old : List ScriptLine) (line : List ℕ) (rest : List (List ℕ)) (said : ScriptLine) → next_line old line ≡ Some said →
     said_after old (line ∷ rest) ≡ said_after (old ++ said ∷ []) rest
 said_line old line rest said is =
     let step : script_from (length old + 1) (line ∷ rest) ≡ line_before said (script_from (length old + 1 + 1) rest) = rw (is, script_from) refl in
-    ap (lines_before old) step
+    ap (list_before old) step
+    ∙ ap (list_before old) (line_first said (script_from (length old + 1 + 1) rest))
     ∙ one_before old said (script_from (length old + 1 + 1) rest)
-    ∙ ap (λ (n : ℕ). lines_before (old ++ said ∷ []) (script_from (n + 1) rest)) (sym (length_more old said))
+    ∙ ap (λ (n : ℕ). list_before (old ++ said ∷ []) (script_from (n + 1) rest)) (sym (length_more old said))
 
 grown_is : (old new : List ScriptLine) (line : List ℕ) (rest : List (List ℕ)) (next : Option ScriptLine) → next_line old line ≡ next → OneMore old new next →
     said_after old (line ∷ rest) ≡ said_after new rest
@@ -59,7 +47,7 @@ said_more old new line rest grown = grown_is old new line rest (next_line old li
 said_wrong : (old : List ScriptLine) (line : List ℕ) (rest : List (List ℕ)) → next_line old line ≡ None → said_after old (line ∷ rest) ≡ Err (length old + 1)
 said_wrong old line rest is =
     let step : script_from (length old + 1) (line ∷ rest) ≡ Err (length old + 1) = rw (is, script_from) refl in
-    ap (lines_before old) step
+    ap (list_before old) step
 
 pub tells_wrong : (old : List ScriptLine) (line : List ℕ) (rest : List (List ℕ)) (said : Result (List ScriptLine) ℕ) (refusal : TextRefusal) →
     said ≡ said_after old (line ∷ rest) → IsWrongAfter old (next_line old line) refusal → Tells refusal said

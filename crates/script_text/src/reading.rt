@@ -11,12 +11,10 @@ ghost use Rattle.script_text.specs.Playing.{IsWithinHour};
 
 use crate::ScriptLines;
 use cut_form::ScriptLine;
-use cut_text::TextRefusal;
-use cut_text::lines::{first_line, first_part, number_in};
+use cut_text::lines::{first_line, number_in};
+use cut_text::{MOST_FRAMES, TextRefusal};
 use std::alloc::Global;
-
-/// The most frames of a sound.
-const MOST_FRAMES: u32 = 115200000;
+use text_parts::first_part;
 
 /// The line that a name alone says.
 fn plain_line(name: &[u8]) -> Option<ScriptLine>

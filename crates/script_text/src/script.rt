@@ -3,16 +3,14 @@ ghost use Rattle.std.specs.Prelude.{◌≡◌, ◌≤◌, ◌<◌, ◌∷◌, �
 ghost use Rattle.num_fix.specs.Limits.{most_frames};
 ghost use Rattle.cut_form.specs.Script.{most_script_lines};
 ghost use Rattle.script_text.specs.Playing.{IsWithinHour, played_frames};
-ghost use Rattle.script_text.specs.Lines.{next_line, OneMore, IsWrongAfter};
+ghost use Rattle.cut_text.specs.Reading.{OneMore, IsWrongAfter};
+ghost use Rattle.script_text.specs.Lines.{next_line};
 
 use crate::reading::line_in;
 use cut_form::ScriptLine;
-use cut_text::TextRefusal;
+use cut_text::{MOST_FRAMES, TextRefusal, add};
 use std::alloc::Global;
 use std::marker::Model;
-
-/// The most frames of a sound.
-const MOST_FRAMES: u32 = 115200000;
 
 /// The most lines.
 const MOST_LINES: usize = 100000;
@@ -34,18 +32,6 @@ impl Model for ScriptLines {
     ghost view = { λ s. s.lines.items };
 
     ghost invariant = { λ s. (length s.lines.items ≤ most_script_lines) × All IsWithinHour s.lines.items };
-}
-
-/// Adds a line, if there is memory for it.
-fn add(lines: &mut Vec<ScriptLine>, line: ScriptLine) -> Result<(), TextRefusal>
-    ensures added { OnOk result (lines.new.items ≡ lines.old.items ++ line ∷ []) }
-    ensures unchanged { IfErr result (λ refusal. lines.new.items ≡ lines.old.items) }
-    ensures memory { IfErr result (λ refusal. refusal ≡ TextRefusal.OutOfMemory) }
-{
-    match lines.push(line) {
-        Ok(()) => Ok(()),
-        Err(_) => Err(TextRefusal::OutOfMemory),
-    }
 }
 
 impl ScriptLines {

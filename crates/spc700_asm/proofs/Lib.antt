@@ -2,8 +2,6 @@
 pub mod Unrolled
 -- so few digits write a small number
 pub mod Powers
--- what stands before and after the first character that passes a test
-pub mod Places
 -- the least opcode whose row passes a test
 pub mod LeastOpcode
 -- the size of items, one after another

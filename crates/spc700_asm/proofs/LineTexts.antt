@@ -10,7 +10,7 @@ use Rattle.spc700_asm.specs.Characters.{is_blank, is_semicolon, is_colon, is_com
 use Rattle.spc700_asm.specs.Operands.{Operand, operand_of}
 use Rattle.spc700_asm.specs.Statements.{code, with_operands, instruction_of, statement_of_word, statement_or_label, text_statement, statement_of}
 use Rattle.spc700_asm.proofs.Fronts.{and_true, front_len}
-use Rattle.spc700_asm.proofs.Places.{before_place, after_place, before_none, after_none}
+use Rattle.text_parts.proofs.Places.{before_place, after_place, before_none, after_none}
 use Rattle.spc700_asm.proofs.Decoding.{drop_front}
 
 -- a test fails of each character

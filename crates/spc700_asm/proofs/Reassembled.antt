@@ -14,7 +14,7 @@ use Rattle.spc700_asm.specs.Statements.{Statement, Nothing, Bytes, Code, stateme
 use Rattle.spc700_asm.specs.Faults.{has_great_number}
 use Rattle.spc700_asm.specs.Assembly.{instruction_bytes, line_bytes, lines_of, assembly}
 use Rattle.spc700_asm.proofs.Unrolled.{all_there}
-use Rattle.spc700_asm.proofs.Places.{split_at_place}
+use Rattle.text_parts.proofs.Places.{split_at_place}
 use Rattle.spc700_asm.proofs.LineTexts.{fails, plain, place_after, take_front, drop_after}
 use Rattle.spc700_asm.proofs.TextCharacters.{byte_characters}
 use Rattle.spc700_asm.proofs.TextRead.{text_read, text_feed}

@@ -5,7 +5,8 @@ use Rattle.std.specs.Option.{option_map}
 use Rattle.std.specs.Prelude.{IfSome, option_and_then}
 use Rattle.std.proofs.lemmas.Bool.Decides.{nat_tests}
 use Rattle.spc700_asm.specs.Statements.{Statement, all_of}
-use Rattle.spc700_asm.specs.Seen.{parts_left, within}
+use Rattle.spc700_asm.specs.Seen.{within}
+use Rattle.text_parts.specs.Parts.{parts_left}
 
 next_size : (each size k m all : ℕ) → size + each * k ≡ all → k ≡ suc m → size + each + each * m ≡ all
 next_size each size k m all is more =

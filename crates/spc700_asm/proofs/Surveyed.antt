@@ -9,7 +9,8 @@ use Rattle.spc700_asm.specs.Labels.{Labels, size_of_line, label_at, labels_of, e
 use Rattle.spc700_asm.specs.Faults.{LineRefusal, first_fault, refusal_or, first_refusal}
 use Rattle.spc700_asm.specs.declared.refusal.LineError.{LineError}
 use Rattle.spc700_asm.specs.declared.refusal.LineError.TheVariants as error
-use Rattle.spc700_asm.specs.Seen.{parts_left, length_left}
+use Rattle.spc700_asm.specs.Seen.{length_left}
+use Rattle.text_parts.specs.Parts.{parts_left}
 use Rattle.spc700_asm.specs.Refusals.{refusal_at}
 use Rattle.spc700_asm.specs.Names.{Holds, IsFault, IsRefusal}
 use Rattle.spc700_asm.proofs.LabelsAppend.{end_of_append, labels_of_append}

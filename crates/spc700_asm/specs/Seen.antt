@@ -1,6 +1,5 @@
 -- Words of the contracts of the parts of reading: what the code holds, without where it lies in memory.
-use Rattle.std.specs.Prelude.{ℕ, ◌+◌, ◌==◌, nat_le, if◌then◌else◌, List, length, [], Option, Some, None}
-use Rattle.std.specs.List.{slice_split}
+use Rattle.std.specs.Prelude.{ℕ, ◌+◌, nat_le, if◌then◌else◌, List, length, Option, Some, None}
 use Rattle.spc700_asm.specs.Operands as source
 use Rattle.spc700_asm.specs.declared.operand.Written.{Written}
 use Rattle.spc700_asm.specs.declared.operand.Written.TheVariants.{Plain, Named}
@@ -22,11 +21,6 @@ operand_seen operand = record { before = operand.before.now; value = written_see
 -- an operand where there is one
 abbrev pub as_seen : Option Operand → Option source.Operand
 as_seen operand = option_map operand_seen operand
-
--- the parts of what is left of a text round a character; none where nothing is left
-abbrev pub parts_left : (character : ℕ) → Option (List ℕ) → List (List ℕ)
-parts_left character None = []
-parts_left character (Some text) = slice_split (λ other. other == character) text
 
 -- the length of what is left, more by one than that of its text
 abbrev pub length_left : Option (List ℕ) → ℕ

@@ -48,14 +48,6 @@ pub fn trim(text: &[u8]) -> &[u8]
     without_last_blanks(without_first_blanks(text))
 }
 
-/// The place of the first such character.
-pub fn place_of(character: u8, text: &[u8]) -> Option<usize>
-    ensures place { result ≡ position (λ other. other == character) text.now }
-    ensures inside { IfSome result (λ place. place < length text.now) }
-{
-    text.iter().position(|other| *other == character)
-}
-
 /// The place of the first blank.
 pub fn blank_place(text: &[u8]) -> Option<usize>
     ensures place { result ≡ position is_blank text.now }

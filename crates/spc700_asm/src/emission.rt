@@ -18,12 +18,12 @@ use crate::faults::size_within;
 use crate::instruction::{Instruction, is_relative};
 use crate::names::Names;
 use crate::operand::{Operand, Written, written_in};
-use crate::parts::first_part;
 use crate::pattern::{Slot, pattern_for};
 use crate::refusal::{AsmRefusal, LineError, LineFault};
 use crate::statement::{Statement, statement_in};
 use spc700_table::{Form, OpRow, byte_count, is_in_text_order, length, row};
 use std::alloc::Global;
+use text_parts::first_part;
 
 /// How far a target is ahead.
 fn distance_ahead(next: u32, target: u16) -> u32

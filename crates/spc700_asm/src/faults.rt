@@ -14,11 +14,11 @@ ghost use Rattle.spc700_asm.specs.Names.{value_in_table, Holds};
 use crate::characters::{number, trim};
 use crate::names::Names;
 use crate::operand::{Operand, Written, written_in};
-use crate::parts::first_part;
 use crate::pattern::{Slot, pattern_for};
 use crate::refusal::LineFault;
 use crate::statement::Statement;
 use spc700_table::{Form, length, row};
+use text_parts::first_part;
 
 /// Whether a number is above the greatest of its place.
 pub fn is_above(greatest: u32, value: Written) -> bool

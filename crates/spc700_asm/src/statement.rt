@@ -9,11 +9,12 @@ ghost use Rattle.spc700_asm.specs.Operands.{is_plain, is_register, is_number, fi
 ghost use Rattle.spc700_asm.specs.Statements.{fits, owns, is_alike, is_this, all_rows, opcode_written, code, with_operands, instruction_of, statement_of_word, label_of, statement_or_label, text_statement, statement_of};
 ghost use Rattle.spc700_asm.specs.Seen.{written_seen, operand_seen, statement_seen, as_seen};
 
-use crate::characters::{blank_place, is_capitals_of, is_name, place_of, trim};
+use crate::characters::{blank_place, is_capitals_of, is_name, trim};
 use crate::operand::{Operand, Written, operand_in};
 use crate::parts::{are_numbers, are_words};
 use crate::pattern::{Pattern, Slot, pattern_for};
 use spc700_table::{Form, OpRow, mnemonic, row};
+use text_parts::place_of;
 
 /// What a line says.
 #[derive(Clone, Copy, Debug)]

@@ -9,10 +9,10 @@ ghost use Rattle.spc700_asm.specs.Names.{Holds, Defines, IsFault, IsRefusal};
 
 use crate::faults::checked_size;
 use crate::names::Names;
-use crate::parts::first_part;
 use crate::refusal::{AsmRefusal, LineError, LineFault};
 use crate::statement::{Statement, statement_in};
 use std::alloc::Global;
+use text_parts::first_part;
 
 /// Defines the name of a statement at an address, where it is one.
 fn define_label<'a>(

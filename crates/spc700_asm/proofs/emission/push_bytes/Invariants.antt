@@ -3,7 +3,8 @@ use Rattle.std.specs.Prelude.{IsSome, option_copied}
 use Rattle.spc700_asm.specs.Characters.{trim, number_of}
 use Rattle.spc700_asm.specs.Statements.{all_of, items_of}
 use Rattle.spc700_asm.specs.Assembly.{with_front, number_bytes}
-use Rattle.spc700_asm.specs.Seen.{parts_left, length_left}
+use Rattle.spc700_asm.specs.Seen.{length_left}
+use Rattle.text_parts.specs.Parts.{parts_left}
 use Rattle.spc700_asm.proofs.emission.push_bytes.Given as goal
 
 -- what was added and the bytes of the items that are left

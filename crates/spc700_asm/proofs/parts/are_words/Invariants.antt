@@ -3,7 +3,8 @@ use Rattle.std.specs.Prelude.{is_some, option_copied}
 use Rattle.spc700_asm.specs.Characters.{trim}
 use Rattle.spc700_asm.specs.Operands.{written_of}
 use Rattle.spc700_asm.specs.Statements.{all_of, items_of}
-use Rattle.spc700_asm.specs.Seen.{parts_left, length_left}
+use Rattle.spc700_asm.specs.Seen.{length_left}
+use Rattle.text_parts.specs.Parts.{parts_left}
 use Rattle.spc700_asm.proofs.parts.are_words.Given as goal
 
 abbrev pub invariant-items : goal.invariant-items

@@ -1,7 +1,7 @@
 use Rattle.std.proofs.Common.{ℕ, sym}
 use Rattle.std.specs.Prelude.{◌==◌}
-use Rattle.spc700_asm.proofs.Places.{split_at_place, split_none}
-use Rattle.spc700_asm.proofs.parts.first_part.Goals as goal
+use Rattle.text_parts.proofs.Places.{split_at_place, split_none}
+use Rattle.text_parts.proofs.first_part.Goals as goal
 
 pub returns-in-Some-clause-parts : goal.returns-in-Some-clause-parts
 returns-in-Some-clause-parts c =

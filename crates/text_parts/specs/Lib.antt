@@ -1,0 +1,2 @@
+-- what is left of a text, in parts
+pub mod Parts

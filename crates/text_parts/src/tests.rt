@@ -1,0 +1,15 @@
+use crate::{first_part, place_of};
+
+#[test]
+fn parts_before_and_after_a_character(rt: HostRuntime) {
+    let rows: [(&[u8], Option<usize>, &[u8], Option<&[u8]>); 4] = [
+        (b"", None, b"", None),
+        (b"one", None, b"one", None),
+        (b",", Some(0), b"", Some(b"")),
+        (b"one,two,", Some(3), b"one", Some(b"two,")),
+    ];
+    for (text, place, part, after) in rows {
+        assert_eq!(rt; place_of(b',', text), place);
+        assert_eq!(rt; first_part(b',', text), (part, after));
+    }
+}
