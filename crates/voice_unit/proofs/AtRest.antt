@@ -1,9 +1,9 @@
 -- A step of a voice at rest that isn't keyed reads on and moves on, and changes nothing else.
-use Rattle.std.proofs.Common.{◌≡◌, ℕ, ◌+◌, ◌-◌, ◌<◌, ◌==◌, Bool, true, false, ◌&&◌, List, ℤ, if◌then◌else◌, ◌⊎◌, inl, inr, refl, ap, sym, ◌∙◌, arith}
+use Rattle.std.proofs.Common.{◌≡◌, ℕ, ◌+◌, ◌-◌, ◌<◌, Bool, true, false, ◌&&◌, List, ℤ, if◌then◌else◌, ◌⊎◌, inl, inr, refl, ap, sym, ◌∙◌, arith}
 use Rattle.std.proofs.lemmas.Bool.{and_parts}
 use Rattle.aram_core.specs.Memory.{byte_at}
 use Rattle.rate_clock.specs.Counter.{counter_at}
-use Rattle.envelope.specs.Envelope.{EnvelopeState, envelope_step}
+use Rattle.envelope.specs.Envelope.{EnvelopeState}
 use Rattle.envelope.specs.declared.Mode.{Mode}
 use Rattle.envelope.specs.declared.Mode.TheVariants.{Release}
 use Rattle.voice_unit.specs.Directory.{loop_word}

@@ -6,3 +6,6 @@ pub mod Twelve
 pub mod Groups
 pub mod AtRest
 pub mod Played
+-- Silence: at level 0 a voice puts out 0. Glided: one sample more of a voice that glides.
+pub mod Silence
+pub mod Glided

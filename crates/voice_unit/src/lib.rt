@@ -3,6 +3,7 @@
 
 mod batch;
 mod directory;
+mod glide;
 mod interface;
 mod level;
 mod play;

@@ -89,14 +89,19 @@ impl Voice {
         let mut rest = 0;
         // a copy, so that what is the same in all samples is worked out once
         let own = *lane;
-        for j in 0..n {
-            let place = usize::from(j);
-            let input = own.input(rows, previous[place], j);
+        let glides = own.lets_glide(rows);
+        let mut j = 0;
+        'samples: while j < n {
+            let to = self.glide(glides, j, n - 1, rest, regs, table, outs);
+            rest -= u16::from(to - j);
+            let place = usize::from(to);
+            let input = own.input(rows, previous[place], to);
             let clock = clocks[place];
             let played = self.play_sample(rest, regs, &input, memory, table, &clock);
             outs[place] = played.out;
-            mark_loop(loops, j, played.looped, own.voice);
+            mark_loop(loops, to, played.looped, own.voice);
             rest = played.rest;
+            j = to + 1;
         }
     }
 

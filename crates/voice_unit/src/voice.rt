@@ -1,10 +1,11 @@
 //! The voice and its step.
 
-ghost use Rattle.std.specs.Prelude.{◌≡◌, ◌+◌, ◌*◌, ◌/◌, ◌%◌, ◌<◌, ◌≤◌, ◌++◌, pos, drop};
+ghost use Rattle.std.specs.Prelude.{◌≡◌, ◌+◌, ◌*◌, ◌/◌, ◌%◌, ◌<◌, ◌≤◌, ◌++◌, pos, false, drop};
 ghost use Rattle.num_fix.specs.Words.{number_at};
 ghost use Rattle.aram_core.specs.Memory.{byte_at};
 ghost use Rattle.brr_decode.specs.Kept.{with_group};
 ghost use Rattle.voice_unit.specs.Directory.{start_word, loop_word};
+ghost use Rattle.voice_unit.specs.declared.interface.VoiceIn.{VoiceIn as Input};
 ghost use Rattle.voice_unit.specs.Voice.{silent_voice, pitch_of, step_pitch, step_header, after_delay, interpolation, source_sample, output, is_keyed, needs_group, after_envelope, is_looped, after_decoding, at_next_group, after_reading, after_pitch, voice_step, voice_answer};
 
 use crate::directory::{loop_word, start_word};
@@ -214,6 +215,17 @@ impl Voice {
             return 0;
         }
         clear_bit0(at_level(self.source_sample(input, table), level))
+    }
+
+    /// The output of a voice that plays its samples. At level 0 it is 0, whatever they are.
+    pub(crate) fn sounding(&self, table: &GaussTable) -> i16
+        ensures { (i : Input) → i.noisy ≡ false → result ≡ output self.now i table.now }
+    {
+        let level = self.level();
+        if level == 0 {
+            return 0;
+        }
+        clear_bit0(at_level(self.interpolation(table), level))
     }
 
     /// Silencing, keys, and the step of the envelope where there is no delay.

@@ -1,11 +1,10 @@
-use Rattle.std.proofs.Common.{rules, ◌≡◌, ◌<◌, ◌-◌, ◌+◌, ◌^◌, ℕ, slice_index, to_z, of_z, refl, ap, sym, ◌∙◌, arith}
+use Rattle.std.proofs.Common.{rules, ◌≡◌, ◌<◌, ◌-◌, ◌+◌, ◌^◌, ℕ, slice_index, to_z, of_z, ap, ◌∙◌, arith}
 use Rattle.std.specs.Int.{w16}
 use Rattle.std.proofs.lemmas.List.{get_or_default}
 use Rattle.num_fix.specs.Words.{number_at}
 use Rattle.rate_clock.specs.Counter.{counter_at}
 use Rattle.voice_unit.specs.Batch.{lane_inputs, answer_of_step}
-use Rattle.voice_unit.specs.Play.{Lane, CountsFrom, IsPlayed, lane_of, answer_at}
-use Rattle.voice_unit.specs.Voice.{VoiceState, voice_answer}
+use Rattle.voice_unit.specs.Play.{lane_of}
 use Rattle.voice_unit.specs.declared.interface.VoiceOut.{VoiceOut}
 use Rattle.voice_unit.proofs.Played.{one_more_played, with_loop-bound}
 use Rattle.voice_unit.proofs.voice.Voice.play.Goals as goal

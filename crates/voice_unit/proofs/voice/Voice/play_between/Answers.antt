@@ -1,4 +1,4 @@
-use Rattle.std.proofs.Common.{rules, ◌≡◌, refl, sym, ◌∙◌, ap, inl, inr}
+use Rattle.std.proofs.Common.{rules, ◌≡◌, sym, ◌∙◌, ap, inr}
 use Rattle.aram_core.specs.Memory.{byte_at}
 use Rattle.voice_unit.specs.Voice.{VoiceState, after_pitch, after_reading, pitch_of}
 use Rattle.voice_unit.specs.Directory.{loop_word}
