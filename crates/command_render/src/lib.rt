@@ -2,8 +2,6 @@
 #![tactic(auto)]
 
 mod command;
-#[cfg(test)]
-mod lag_tests;
 mod options;
 #[cfg(test)]
 mod render_tests;

@@ -6,7 +6,7 @@ use crate::test_support::{
     render_straight, samples, tune_of, with_trace,
 };
 use crate::{RenderOptions, render};
-use command_tests::{DSP, FIVE, MEMORY, Outcome, Pieces, ROOM, host_with, straight_table};
+use command_tests::{DSP, FIVE, MEMORY, Outcome, Pieces, ROOM, file_of, host_with, straight_table};
 use status_lines::Status;
 use std::alloc::Global;
 use std::test::Fail;
@@ -38,8 +38,31 @@ const ECHO: Pieces = &[
 /// Tags: a second, and a fade of a millisecond.
 const TAGS: Pieces = &[(0x23, b"\x1a"), (0xa9, b"001"), (0xac, b"00001")];
 
-/// Silence, and a voice.
-const VOICES: &[Heard] = &[
+/// Three batches of 64 samples, and one of those that are left.
+const FOUR_BATCHES: &str = "batches 4 register 0 memory 0 echo 0 full 3 events 0 end 1\n";
+
+/// The program writes to 0700h in a loop, and the echo to 0300h, where the directory of the samples lies.
+const ENTANGLED: Pieces = &[
+    (DSP + 0x5d, b"\x03"),
+    (DSP + 0x6c, b"\x00\x03"),
+    (MEMORY + 0x0400, b"\xc5\x00\x07\x2f\xfb"),
+];
+
+/// The same with the echo at 0500h.
+const APART: Pieces = &[
+    (DSP + 0x5d, b"\x03"),
+    (DSP + 0x6c, b"\x00\x05"),
+    (MEMORY + 0x0400, b"\xc5\x00\x07\x2f\xfb"),
+];
+
+/// With 63 samples pending, the program ends the block that voice 0 repeats.
+const HEADER: Pieces = &[(
+    MEMORY + 0x0400,
+    b"\xcd\xcb\x1d\x00\x00\xd0\xfb\xe8\xc1\xc5\x00\x06\x2f\xfe",
+)];
+
+/// What is heard.
+const HEARD: &[Heard] = &[
     Heard {
         shows: "no samples",
         sound: &[],
@@ -72,23 +95,8 @@ const VOICES: &[Heard] = &[
         frames: &[(6, 0), (2, 4000)],
         batches: ONE_BATCH,
     },
-];
-
-#[test]
-fn silence_and_a_voice_have_their_frames(rt: HostRuntime) -> Result<(), Fail> {
-    for row in VOICES {
-        assert!(rt; row.holds(rt.alloc())?, "{}", row.shows);
-    }
-    Ok(())
-}
-
-/// Three batches of 64 samples, and one of those that are left.
-const FOUR_BATCHES: &str = "batches 4 register 0 memory 0 echo 0 full 3 events 0 end 1\n";
-
-/// A voice that goes on.
-const LONG: &[Heard] = &[
     Heard {
-        shows: "the program goes on",
+        shows: "a voice goes on",
         sound: FIVE,
         more: &[],
         samples: 200,
@@ -96,7 +104,7 @@ const LONG: &[Heard] = &[
         batches: FOUR_BATCHES,
     },
     Heard {
-        shows: "the program stops",
+        shows: "a voice goes on where the program stops",
         sound: FIVE,
         more: STOP,
         samples: 200,
@@ -104,25 +112,13 @@ const LONG: &[Heard] = &[
         batches: FOUR_BATCHES,
     },
     Heard {
-        shows: "the block repeats itself",
+        shows: "a voice goes on where its block repeats itself",
         sound: FIVE,
         more: RING,
         samples: 200,
         frames: &[(6, 0), (194, 4000)],
         batches: FOUR_BATCHES,
     },
-];
-
-#[test]
-fn a_voice_goes_on_where_the_program_stops(rt: HostRuntime) -> Result<(), Fail> {
-    for row in LONG {
-        assert!(rt; row.holds(rt.alloc())?, "{}", row.shows);
-    }
-    Ok(())
-}
-
-/// A voice of noise, and one with echo.
-const NOISE_AND_ECHO: &[Heard] = &[
     Heard {
         shows: "noise",
         sound: FIVE,
@@ -139,11 +135,35 @@ const NOISE_AND_ECHO: &[Heard] = &[
         frames: &[(6, 0), (1, 4000), (2, 7968)],
         batches: ONE_BATCH,
     },
+    Heard {
+        shows: "the echo in the page of the directory",
+        sound: &[],
+        more: ENTANGLED,
+        samples: 3,
+        frames: &[(3, 0)],
+        batches: "batches 3 register 0 memory 2 echo 0 full 0 events 0 end 1\n",
+    },
+    Heard {
+        shows: "the echo in another page",
+        sound: &[],
+        more: APART,
+        samples: 3,
+        frames: &[(3, 0)],
+        batches: ONE_BATCH,
+    },
+    Heard {
+        shows: "the voice ends after sample 63, as the program has it",
+        sound: FIVE,
+        more: HEADER,
+        samples: 70,
+        frames: &[(6, 0), (58, 4000), (6, 0)],
+        batches: "batches 2 register 0 memory 1 echo 0 full 0 events 0 end 1\n",
+    },
 ];
 
 #[test]
-fn noise_and_echo_have_their_frames(rt: HostRuntime) -> Result<(), Fail> {
-    for row in NOISE_AND_ECHO {
+fn files_have_their_frames_and_their_batches(rt: HostRuntime) -> Result<(), Fail> {
+    for row in HEARD {
         assert!(rt; row.holds(rt.alloc())?, "{}", row.shows);
     }
     Ok(())
@@ -213,59 +233,78 @@ fn tags_give_the_length_and_the_fade(rt: HostRuntime) -> Result<(), Fail> {
     Ok(())
 }
 
-/// Whether a render of this file, over a table of three bytes, is refused with this line.
-fn is_refused(alloc: Global, file: &[u8], wanted: Status, line: &str) -> Result<bool, Fail> {
-    let outcome = render_failing(alloc, file, &[0; 3], with_trace(None, None), &[])?;
-    Ok(outcome.is_refused(wanted, line))
+/// A render that is refused.
+struct Refused {
+    /// The length of the file, and what it has over a quiet one.
+    length: usize,
+    more: Pieces,
+    /// The name under which the table is asked for, and how many zeros it has.
+    name: &'static str,
+    zeros: usize,
+    status: Status,
+    line: &'static str,
+}
+
+/// The file is refused before the table, whose length is wrong in all rows.
+const REFUSED: &[Refused] = &[
+    Refused {
+        length: 100,
+        more: &[],
+        name: "TABLE",
+        zeros: 3,
+        status: Status::SpcLength,
+        line: "spcwave: length 100 is not that of an SPC file\n",
+    },
+    Refused {
+        length: 66048,
+        more: &[(3, b"\0")],
+        name: "TABLE",
+        zeros: 3,
+        status: Status::SpcSignature,
+        line: "spcwave: signature differs at 3\n",
+    },
+    Refused {
+        length: 66048,
+        more: &[],
+        name: "NONE",
+        zeros: 3,
+        status: Status::ReadFault,
+        line: "spcwave: input could not be read\n",
+    },
+    Refused {
+        length: 66048,
+        more: &[],
+        name: "TABLE",
+        zeros: 1023,
+        status: Status::TableLength,
+        line: "spcwave: table has 1023 bytes, not 1024\n",
+    },
+    Refused {
+        length: 66048,
+        more: &[],
+        name: "TABLE",
+        zeros: 1048577,
+        status: Status::InputTooLong,
+        line: "spcwave: input is too long\n",
+    },
+];
+
+/// Whether it is refused so.
+fn is_refused(alloc: Global, row: &Refused) -> Result<bool, Fail> {
+    let file = file_of(alloc, row.length, &[], row.more)?;
+    let table = vec![in alloc; 0u8; row.zeros]?;
+    let inputs = [("SPC", file.as_slice()), ("TABLE", table.as_slice())];
+    let mut host = host_with(alloc, &inputs, &[], ROOM)?;
+    let options = with_trace(None, None);
+    let refusal = render(alloc, &mut host, "SPC", row.name, "OUT", options);
+    Ok(Outcome::of(refusal, host).is_refused(row.status, row.line))
 }
 
 #[test]
-fn the_file_is_refused_before_the_table(rt: HostRuntime) -> Result<(), Fail> {
-    let line = "spcwave: length 100 is not that of an SPC file\n";
-    assert!(rt; is_refused(rt.alloc(), &[0; 100], Status::SpcLength, line)?);
-    let unsigned = tune_of(rt.alloc(), &[], &[(3, b"\0")])?;
-    let line = "spcwave: signature differs at 3\n";
-    assert!(rt; is_refused(rt.alloc(), unsigned.as_slice(), Status::SpcSignature, line)?);
-    Ok(())
-}
-
-#[test]
-fn a_table_that_is_not_there_cannot_be_read(rt: HostRuntime) -> Result<(), Fail> {
-    let file = tune_of(rt.alloc(), &[], &[])?;
-    let mut host = host_with(rt.alloc(), &[("SPC", file.as_slice())], &[], ROOM)?;
-    let refusal = render(
-        rt.alloc(),
-        &mut host,
-        "SPC",
-        "NONE",
-        "OUT",
-        with_trace(None, None),
-    );
-    let outcome = Outcome::of(refusal, host);
-    assert!(rt; outcome.is_refused(Status::ReadFault, "spcwave: input could not be read\n"));
-    Ok(())
-}
-
-/// Renders over a table of so many zeros.
-fn render_over_zeros(alloc: Global, length: usize) -> Result<Outcome, Fail> {
-    let file = tune_of(alloc, &[], &[])?;
-    let table = vec![in alloc; 0u8; length]?;
-    render_failing(
-        alloc,
-        file.as_slice(),
-        table.as_slice(),
-        with_trace(None, None),
-        &[],
-    )
-}
-
-#[test]
-fn tables_of_another_length_are_refused(rt: HostRuntime) -> Result<(), Fail> {
-    let short = render_over_zeros(rt.alloc(), 1023)?;
-    let line = "spcwave: table has 1023 bytes, not 1024\n";
-    assert!(rt; short.is_refused(Status::TableLength, line));
-    let long = render_over_zeros(rt.alloc(), 1048577)?;
-    assert!(rt; long.is_refused(Status::InputTooLong, "spcwave: input is too long\n"));
+fn files_and_then_tables_are_refused(rt: HostRuntime) -> Result<(), Fail> {
+    for row in REFUSED {
+        assert!(rt; is_refused(rt.alloc(), row)?, "{}", row.line);
+    }
     Ok(())
 }
 

@@ -149,7 +149,7 @@ pub struct Traced {
     pub sound: Pieces,
     pub more: Pieces,
     pub samples: u8,
-    pub voices: u8,
+    pub voices: Option<u8>,
     pub frames: Frames,
     pub trace: &'static str,
     pub batches: &'static str,
@@ -161,11 +161,7 @@ impl Traced {
         let count = u32::from(self.samples);
         let file = tune_of(alloc, self.sound, self.more)?;
         let plain = render_straight(alloc, file.as_slice(), samples(count))?;
-        let second = render_straight(
-            alloc,
-            file.as_slice(),
-            with_trace(Some(count), Some(self.voices)),
-        )?;
+        let second = render_straight(alloc, file.as_slice(), with_trace(Some(count), self.voices))?;
         let report = expected_report(alloc, count, self.batches)?;
         Ok(
             has_frames(alloc, &plain, self.frames, report.as_str())?

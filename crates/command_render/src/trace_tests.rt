@@ -3,6 +3,7 @@ use crate::test_support::{
     NO_BATCH, ONE_BATCH, Traced, expected_report, has_frames, render_straight, tune_of, with_trace,
 };
 use command_tests::{DSP, FIVE, MEMORY, Pieces};
+use std::alloc::Global;
 use std::test::Fail;
 
 const WRITE: Pieces = &[(MEMORY + 0x0400, b"\x8f\x6c\xf2\x8f\x20\xf3\x2f\xfe")];
@@ -31,132 +32,6 @@ const LOOPED: &str =
     V 5 0 0 0 0500 --\nV 6 0 2032 4064 0500 --\nV 7 0 2032 4064 0500 --\nV 8 0 2032 4064 0500 --\n\
     V 9 0 2032 4064 0500 --\nV 10 0 2032 4064 0600 -l\nV 11 0 2032 4064 0600 --\n";
 
-/// Traces of the voices.
-const VOICES: &[Traced] = &[
-    Traced {
-        shows: "the voice that loops",
-        sound: FIVE,
-        more: &[],
-        samples: 12,
-        voices: 0x01,
-        frames: &[(6, 0), (6, 4000)],
-        trace: LOOPED,
-        batches: ONE_BATCH,
-    },
-    Traced {
-        shows: "the voice that plays",
-        sound: FIVE,
-        more: &[],
-        samples: 8,
-        voices: 0x01,
-        frames: &[(6, 0), (2, 4000)],
-        trace: LINES,
-        batches: ONE_BATCH,
-    },
-    Traced {
-        shows: "no voice",
-        sound: FIVE,
-        more: &[],
-        samples: 8,
-        voices: 0x00,
-        frames: &[(6, 0), (2, 4000)],
-        trace: "",
-        batches: ONE_BATCH,
-    },
-    Traced {
-        shows: "all voices, and no samples",
-        sound: &[],
-        more: &[],
-        samples: 0,
-        voices: 0xff,
-        frames: &[],
-        trace: "",
-        batches: NO_BATCH,
-    },
-];
-
-#[test]
-fn a_voice_has_a_line_for_each_sample(rt: HostRuntime) -> Result<(), Fail> {
-    for row in VOICES {
-        assert!(rt; row.holds(rt.alloc())?, "{}", row.shows);
-    }
-    Ok(())
-}
-
-/// Traces of what the program writes.
-const WRITES: &[Traced] = &[
-    Traced {
-        shows: "a register is written",
-        sound: &[],
-        more: WRITE,
-        samples: 1,
-        voices: 0x00,
-        frames: &[(1, 0)],
-        trace: "R 0 6c 20\n",
-        batches: ONE_BATCH,
-    },
-    Traced {
-        shows: "a write to an address from 80h on is ignored",
-        sound: &[],
-        more: IGNORED,
-        samples: 1,
-        voices: 0x00,
-        frames: &[(1, 0)],
-        trace: "",
-        batches: ONE_BATCH,
-    },
-    Traced {
-        shows: "echo overwrites the branch before the write to a port",
-        sound: &[],
-        more: OVERWRITTEN,
-        samples: 3,
-        voices: 0x00,
-        frames: &[(3, 0)],
-        trace: "P 1 0 5a\n",
-        batches: "batches 3 register 0 memory 0 echo 2 full 0 events 0 end 1\n",
-    },
-];
-
-#[test]
-fn writes_have_their_lines(rt: HostRuntime) -> Result<(), Fail> {
-    for row in WRITES {
-        assert!(rt; row.holds(rt.alloc())?, "{}", row.shows);
-    }
-    Ok(())
-}
-
-/// A write to a port before the last sample, and after it.
-const LATE: &[Traced] = &[
-    Traced {
-        shows: "before the last sample",
-        sound: &[],
-        more: PORT,
-        samples: 2,
-        voices: 0x00,
-        frames: &[(2, 0)],
-        trace: "P 1 0 5a\n",
-        batches: "batches 2 register 0 memory 1 echo 0 full 0 events 0 end 1\n",
-    },
-    Traced {
-        shows: "after the last sample",
-        sound: &[],
-        more: PORT,
-        samples: 1,
-        voices: 0x00,
-        frames: &[(1, 0)],
-        trace: "",
-        batches: "batches 1 register 0 memory 1 echo 0 full 0 events 0 end 0\n",
-    },
-];
-
-#[test]
-fn a_write_after_the_last_sample_has_none(rt: HostRuntime) -> Result<(), Fail> {
-    for row in LATE {
-        assert!(rt; row.holds(rt.alloc())?, "{}", row.shows);
-    }
-    Ok(())
-}
-
 /// The program reads the envelope of voice 0, and writes it to port 0, again and again.
 const ENVELOPE: Pieces = &[(MEMORY + 0x0400, b"\x8f\x08\xf2\xe4\xf3\xc4\xf4\x2f\xfa")];
 
@@ -166,14 +41,147 @@ const ENVELOPE_LINES: &str =
     P 3 0 00\nP 3 0 00\nP 3 0 00\nP 4 0 00\nP 4 0 00\nP 4 0 00\nP 5 0 00\nP 5 0 00\nP 5 0 00\n\
     P 6 0 00\nP 6 0 00\nP 6 0 00\nP 7 0 7f\nP 7 0 7f\nP 7 0 7f\n";
 
+/// Traces of voices and of what the program writes.
+const TRACED: &[Traced] = &[
+    Traced {
+        shows: "the voice that loops",
+        sound: FIVE,
+        more: &[],
+        samples: 12,
+        voices: Some(0x01),
+        frames: &[(6, 0), (6, 4000)],
+        trace: LOOPED,
+        batches: ONE_BATCH,
+    },
+    Traced {
+        shows: "the voice that plays",
+        sound: FIVE,
+        more: &[],
+        samples: 8,
+        voices: Some(0x01),
+        frames: &[(6, 0), (2, 4000)],
+        trace: LINES,
+        batches: ONE_BATCH,
+    },
+    Traced {
+        shows: "no voice",
+        sound: FIVE,
+        more: &[],
+        samples: 8,
+        voices: Some(0x00),
+        frames: &[(6, 0), (2, 4000)],
+        trace: "",
+        batches: ONE_BATCH,
+    },
+    Traced {
+        shows: "all voices, and no samples",
+        sound: &[],
+        more: &[],
+        samples: 0,
+        voices: Some(0xff),
+        frames: &[],
+        trace: "",
+        batches: NO_BATCH,
+    },
+    Traced {
+        shows: "a register is written",
+        sound: &[],
+        more: WRITE,
+        samples: 1,
+        voices: Some(0x00),
+        frames: &[(1, 0)],
+        trace: "R 0 6c 20\n",
+        batches: ONE_BATCH,
+    },
+    Traced {
+        shows: "a write to an address from 80h on is ignored",
+        sound: &[],
+        more: IGNORED,
+        samples: 1,
+        voices: Some(0x00),
+        frames: &[(1, 0)],
+        trace: "",
+        batches: ONE_BATCH,
+    },
+    Traced {
+        shows: "echo overwrites the branch before the write to a port",
+        sound: &[],
+        more: OVERWRITTEN,
+        samples: 3,
+        voices: Some(0x00),
+        frames: &[(3, 0)],
+        trace: "P 1 0 5a\n",
+        batches: "batches 3 register 0 memory 0 echo 2 full 0 events 0 end 1\n",
+    },
+    Traced {
+        shows: "a write to a port before the last sample",
+        sound: &[],
+        more: PORT,
+        samples: 2,
+        voices: Some(0x00),
+        frames: &[(2, 0)],
+        trace: "P 1 0 5a\n",
+        batches: "batches 2 register 0 memory 1 echo 0 full 0 events 0 end 1\n",
+    },
+    Traced {
+        shows: "a write to a port after the last sample",
+        sound: &[],
+        more: PORT,
+        samples: 1,
+        voices: Some(0x00),
+        frames: &[(1, 0)],
+        trace: "",
+        batches: "batches 1 register 0 memory 1 echo 0 full 0 events 0 end 0\n",
+    },
+    Traced {
+        shows: "a loop sends the envelope to a port",
+        sound: FIVE,
+        more: ENVELOPE,
+        samples: 8,
+        voices: None,
+        frames: &[(6, 0), (2, 4000)],
+        trace: ENVELOPE_LINES,
+        batches: "batches 8 register 5 memory 2 echo 0 full 0 events 0 end 1\n",
+    },
+];
+
 #[test]
-fn a_loop_sends_the_envelope_to_a_port(rt: HostRuntime) -> Result<(), Fail> {
-    let file = tune_of(rt.alloc(), FIVE, ENVELOPE)?;
-    let outcome = render_straight(rt.alloc(), file.as_slice(), with_trace(Some(8), None))?;
-    let line = "batches 8 register 5 memory 2 echo 0 full 0 events 0 end 1\n";
-    let report = expected_report(rt.alloc(), 8, line)?;
-    let frames = &[(6, 0), (2, 4000)];
-    assert!(rt; has_frames(rt.alloc(), &outcome, frames, report.as_str())?);
-    assert!(rt; outcome.second() == ENVELOPE_LINES.as_bytes());
+fn voices_and_writes_have_their_lines(rt: HostRuntime) -> Result<(), Fail> {
+    for row in TRACED {
+        assert!(rt; row.holds(rt.alloc())?, "{}", row.shows);
+    }
+    Ok(())
+}
+
+/// All voices are keyed, and the program writes to port 0 seven times a sample.
+const FLOOD: Pieces = &[
+    (DSP + 0x4c, b"\xff"),
+    (
+        MEMORY + 0x0400,
+        b"\xc4\xf4\xc4\xf4\xc4\xf4\xc4\xf4\xc4\xf4\xc4\xf4\xc4\xf4\x2f\xf0",
+    ),
+];
+
+/// Seven writes of 0 to port 0 in each of so many samples.
+fn flood_lines(alloc: Global, samples: u32) -> Result<String, Fail> {
+    let mut lines = String::new(alloc);
+    for sample in 0..samples {
+        let line = format!(in alloc; "P {sample} 0 00\n")?;
+        for _ in 0..7 {
+            lines.push_str(line.as_str())?;
+        }
+    }
+    Ok(lines)
+}
+
+#[test]
+fn port_writes_past_the_room_of_the_ring_settle(rt: HostRuntime) -> Result<(), Fail> {
+    let file = tune_of(rt.alloc(), FIVE, FLOOD)?;
+    let outcome = render_straight(rt.alloc(), file.as_slice(), with_trace(Some(80), None))?;
+    let line = "batches 5 register 0 memory 2 echo 0 full 0 events 2 end 1\n";
+    let report = expected_report(rt.alloc(), 80, line)?;
+    assert!(rt; has_frames(rt.alloc(), &outcome, &[(6, 0), (74, 4000)], report.as_str())?);
+    let lines = flood_lines(rt.alloc(), 80)?;
+    assert!(rt; outcome.second() == lines.as_bytes());
     Ok(())
 }

@@ -10,20 +10,10 @@ ghost use Rattle.cut_files.specs.CutFiles.{cuts_report};
 use cut_server::CutServer;
 use cut_text::CutList;
 use lock_step::Chip;
-use report_text::ByteRoom;
+use report_text::{ByteRoom, put_count};
 
 /// The pages that the checkpoints of cuts share.
 pub const PAGES: u32 = 4096;
-
-/// Adds a word and a count.
-fn put_count(report: &mut ByteRoom, word: &[u8], count: u64)
-    requires { length report.old + length word.now + 20 ≤ 131072 }
-    ensures text { report.new ≡ report.old ++ word.now ++ decimal count }
-    ensures len { length report.new ≤ length report.old + length word.now + 20 }
-{
-    report.append(word);
-    report.append(itoa::Buffer::new().format(count).as_bytes());
-}
 
 /// Writes the report on cuts that were played, by the server that played them.
 #[tactic(auto, unfolding(crate::specs::CutFiles::cuts_report))]

@@ -1,5 +1,5 @@
 -- What contracts see of a render that is turned into the bytes of a sound file and of a trace, piece by piece, over any chip.
-use Rattle.std.specs.Prelude.{◌≡◌, ℕ, ◌+◌, ◌-◌, ◌*◌, ◌<◌, ◌≤◌, Bool, true, false, List, [], ◌++◌, length, if◌then◌else◌}
+use Rattle.std.specs.Prelude.{◌≡◌, ℕ, ◌+◌, ◌-◌, ◌*◌, ◌≤◌, Bool, true, List, [], length, if◌then◌else◌}
 use Rattle.std.specs.List.{flat_map}
 use Rattle.num_fix.specs.declared.Frame.{Frame}
 use Rattle.num_fix.specs.Limits.{most_frames}

@@ -1,23 +1,14 @@
 // What a render reports: its samples, and how often the chip ran for them, and why.
 ghost use Rattle.std.specs.Prelude.{◌≡◌, ◌+◌, ◌≤◌, ◌++◌, length, decimal};
 ghost use Rattle.render_files.specs.Batches.{batch_line, sound_report};
+ghost use Rattle.report_text.specs.Room.{room_size};
 
 use lock_step::Counts;
-use report_text::ByteRoom;
-
-/// Adds a word and a count.
-fn put_count(report: &mut ByteRoom, word: &[u8], count: u64)
-    requires { length report.old + length word.now + 20 ≤ 131072 }
-    ensures text { report.new ≡ report.old ++ word.now ++ decimal count }
-    ensures len { length report.new ≤ length report.old + length word.now + 20 }
-{
-    report.append(word);
-    report.append(itoa::Buffer::new().format(count).as_bytes());
-}
+use report_text::{ByteRoom, put_count};
 
 /// Adds the line of these counts, at most 200 bytes.
 pub fn put_batches(report: &mut ByteRoom, counts: Counts)
-    requires { length report.old + 200 ≤ 131072 }
+    requires { length report.old + 200 ≤ room_size }
     ensures { report.new ≡ report.old ++ batch_line counts }
 {
     put_count(report, b"batches ", counts.batches);
@@ -32,7 +23,7 @@ pub fn put_batches(report: &mut ByteRoom, counts: Counts)
 
 /// Adds the report on so many samples, made in batches of these counts.
 pub fn put_sound_report(report: &mut ByteRoom, samples: u32, counts: Counts)
-    requires { length report.old + 250 ≤ 131072 }
+    requires { length report.old + 250 ≤ room_size }
     ensures { report.new ≡ report.old ++ sound_report samples counts }
 {
     put_count(report, b"samples ", u64::from(samples));

@@ -8,6 +8,7 @@ ghost use Rattle.render_core.specs.RenderState.{frames_to_come, records_to_come,
 ghost use Rattle.render_files.specs.Batches.{sound_report};
 ghost use Rattle.num_fix.specs.Limits.{most_frames};
 ghost use Rattle.render_files.specs.RenderFiles.{trace_of, to_come_of, held_of, report_of, work_of, IsUnmade};
+ghost use Rattle.report_text.specs.Room.{room_size};
 
 use crate::batches::put_sound_report;
 use command_frame::{OutOfMemory, Pieces};
@@ -66,7 +67,7 @@ impl<C: Chip> Model for RenderFiles<C> {
 
 /// Adds the bytes of frames, the first of which is frame `at` of so many, of which the last `fade` fade.
 fn put_frames(wave: &mut ByteRoom, frames: &[Frame], at: u32, samples: u32, fade: u32)
-    requires room { length wave.old + 4 * length frames.now ≤ 131072 }
+    requires room { length wave.old + 4 * length frames.now ≤ room_size }
     requires inside { at + length frames.now ≤ samples }
     requires within { fade ≤ samples }
     ensures { wave.new ≡ wave.old ++ flat_map frame_bytes (faded_from at samples fade frames.now) }
@@ -80,7 +81,7 @@ fn put_frames(wave: &mut ByteRoom, frames: &[Frame], at: u32, samples: u32, fade
 
 /// Adds the lines of records.
 fn put_lines(trace: &mut ByteRoom, records: &[Record])
-    requires { length trace.old + 48 * length records.now ≤ 131072 }
+    requires { length trace.old + 48 * length records.now ≤ room_size }
     ensures { trace.new ≡ trace.old ++ lines_of records.now }
 {
     for record in records {
@@ -124,8 +125,8 @@ impl<C: Chip> RenderFiles<C> {
 
     /// Adds the next piece of the render, and answers whether it is the last one.
     fn add_piece(&mut self) -> bool
-        requires wave_room { length self.old.wave + 512 ≤ 131072 }
-        requires trace_room { length self.old.trace + 64512 ≤ 131072 }
+        requires wave_room { length self.old.wave + 512 ≤ room_size }
+        requires trace_room { length self.old.trace + 64512 ≤ room_size }
         ensures first { self.old.wave ++ (to_come_of C.meaning self.old).first ≡ self.new.wave ++ (to_come_of C.meaning self.new).first }
         ensures second { self.old.trace ++ (to_come_of C.meaning self.old).second ≡ self.new.trace ++ (to_come_of C.meaning self.new).second }
         ensures first_done { result ≡ true → (to_come_of C.meaning self.new).first ≡ [] }

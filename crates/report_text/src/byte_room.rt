@@ -1,5 +1,6 @@
 // Bytes with a fixed room.
-ghost use Rattle.std.specs.Prelude.{◌≡◌, ◌↔◌, ◌+◌, ◌≤◌, ◌++◌, [], true, length, IfOk};
+ghost use Rattle.std.specs.Prelude.{◌≡◌, ◌↔◌, ◌+◌, ◌≤◌, ◌++◌, [], true, length, decimal, IfOk};
+ghost use Rattle.report_text.specs.Room.{room_size, most_count_digits};
 
 use crate::OutOfMemory;
 use std::alloc::Global;
@@ -17,12 +18,13 @@ pub struct ByteRoom {
 
 impl Model for ByteRoom {
     ghost use Rattle.std.specs.Prelude.{◌≡◌, ◌≤◌, List, ℕ, take, vec_len};
+    ghost use Rattle.report_text.specs.Room.{room_size};
 
     ghost Value = { List ℕ };
 
     ghost view = { λ room. take room.len room.bytes.items };
 
-    ghost invariant = { λ room. (vec_len room.bytes ≡ 131072) × (room.len ≤ 131072) };
+    ghost invariant = { λ room. (vec_len room.bytes ≡ room_size) × (room.len ≤ room_size) };
 }
 
 impl ByteRoom {
@@ -36,8 +38,8 @@ impl ByteRoom {
 
     /// Whether there is room for so many more.
     pub fn has_room(&self, more: usize) -> bool
-        requires { more ≤ 131072 }
-        ensures { (result ≡ true) ↔ (length self.now + more ≤ 131072) }
+        requires { more ≤ room_size }
+        ensures { (result ≡ true) ↔ (length self.now + more ≤ room_size) }
     {
         self.len + more <= ROOM
     }
@@ -51,7 +53,7 @@ impl ByteRoom {
 
     /// Adds bytes at the end.
     pub fn append(&mut self, piece: &[u8])
-        requires { length self.old + length piece.now ≤ 131072 }
+        requires { length self.old + length piece.now ≤ room_size }
         ensures { self.new ≡ self.old ++ piece.now }
     {
         let end = self.len + piece.len();
@@ -65,4 +67,14 @@ impl ByteRoom {
     {
         &self.bytes[..self.len]
     }
+}
+
+/// Adds a word and a count.
+pub fn put_count(report: &mut ByteRoom, word: &[u8], count: u64)
+    requires { length report.old + length word.now + most_count_digits ≤ room_size }
+    ensures text { report.new ≡ report.old ++ word.now ++ decimal count }
+    ensures len { length report.new ≤ length report.old + length word.now + most_count_digits }
+{
+    report.append(word);
+    report.append(itoa::Buffer::new().format(count).as_bytes());
 }

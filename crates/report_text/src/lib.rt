@@ -6,6 +6,6 @@ mod growing;
 #[cfg(test)]
 mod tests;
 
-pub use byte_room::ByteRoom;
+pub use byte_room::{ByteRoom, put_count};
 pub use growing::{put_named, put_number, put_signed, put_text, put_two_digits, put_word};
 pub use std::alloc::AllocError as OutOfMemory;

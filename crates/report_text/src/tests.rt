@@ -1,5 +1,7 @@
 // Numbers and texts of reports.
-use crate::{ByteRoom, put_named, put_number, put_signed, put_text, put_two_digits, put_word};
+use crate::{
+    ByteRoom, put_count, put_named, put_number, put_signed, put_text, put_two_digits, put_word,
+};
 use std::test::Fail;
 
 #[test]
@@ -25,9 +27,9 @@ fn numbers_and_texts_are_printed(rt: HostRuntime) -> Result<(), Fail> {
 fn a_room_takes_bytes_until_it_is_full(rt: HostRuntime) -> Result<(), Fail> {
     let mut room = ByteRoom::new(rt.alloc())?;
     room.append(b"sam");
-    room.append(b"ples");
-    assert_eq!(rt; room.as_slice(), b"samples".as_slice());
-    assert!(rt; room.has_room(131065) && !room.has_room(131066));
+    put_count(&mut room, b"ples ", 18446744073709551615);
+    assert_eq!(rt; room.as_slice(), b"samples 18446744073709551615".as_slice());
+    assert!(rt; room.has_room(131044) && !room.has_room(131045));
     room.clear();
     assert!(rt; room.as_slice().is_empty());
     Ok(())

@@ -12,6 +12,7 @@ ghost use Rattle.run_slices.specs.Runs.{AreOfRun};
 ghost use Rattle.session_files.specs.Player.{left_to_play};
 ghost use Rattle.session_files.specs.Report.{report_on};
 ghost use Rattle.session_files.specs.SessionFiles.{replies_of_server, to_come_of, held_of, report_of, work_of, is_finished, GoesOn};
+ghost use Rattle.report_text.specs.Room.{room_size};
 
 use crate::OutOfMemory;
 use crate::player::Player;
@@ -62,7 +63,7 @@ impl<C: Chip> Model for SessionFiles<C> {
 
 /// Adds the bytes of frames.
 fn put_frames(wave: &mut ByteRoom, frames: &[Frame])
-    requires { length wave.old + 4 * length frames.now ≤ 131072 }
+    requires { length wave.old + 4 * length frames.now ≤ room_size }
     ensures { wave.new ≡ wave.old ++ flat_map frame_bytes frames.now }
 {
     for frame in frames {
@@ -72,7 +73,7 @@ fn put_frames(wave: &mut ByteRoom, frames: &[Frame])
 
 /// Adds the bytes of the frames that were played.
 pub fn put_played(wave: &mut ByteRoom, frames: &Frames)
-    requires { length wave.old + 4 * length frames.now ≤ 131072 }
+    requires { length wave.old + 4 * length frames.now ≤ room_size }
     ensures { wave.new ≡ wave.old ++ flat_map frame_bytes frames.now }
 {
     put_frames(wave, frames.as_slice());
@@ -119,7 +120,7 @@ impl<C: Chip> SessionFiles<C> {
     /// Plays the next frames of the last line.
     fn play_some(&mut self)
         requires some { 0 < self.old.player.left }
-        requires room { length self.old.wave + 256 ≤ 131072 }
+        requires room { length self.old.wave + 256 ≤ room_size }
         ensures { GoesOn C.meaning C.saving self.old self.new }
     {
         self.player.play_some(&mut self.frames);
@@ -142,7 +143,7 @@ impl<C: Chip> SessionFiles<C> {
     /// Plays the next frames of the last line, or answers the next line.
     fn step(&mut self)
         requires more { is_finished self.old ≡ false }
-        requires room { length self.old.wave + 256 ≤ 131072 }
+        requires room { length self.old.wave + 256 ≤ room_size }
         ensures { GoesOn C.meaning C.saving self.old self.new }
     {
         if self.player.left() > 0 {

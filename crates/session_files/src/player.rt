@@ -10,12 +10,10 @@ ghost use Rattle.session_files.specs.Player.{PlayerState, session_of, left_to_pl
 
 use cut_form::{Reply, ScriptLine};
 use cut_server::CutServer;
+use cut_text::MOST_FRAMES;
 use lock_step::Chip;
 use std::marker::Model;
 use trace_form::Frames;
-
-/// The most frames of a sound.
-const MOST_FRAMES: u32 = 115200000;
 
 /// The most frames that are played at once.
 const PIECE: u32 = 64;

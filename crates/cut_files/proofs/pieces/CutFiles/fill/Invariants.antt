@@ -1,4 +1,5 @@
 use Rattle.std.proofs.Common.{◌≡◌, ◌+◌, ◌≤◌, ◌++◌, length}
+use Rattle.report_text.specs.Room.{room_size}
 use Rattle.cut_files.specs.CutFiles.{to_come_of, report_of, work_of}
 use Rattle.cut_files.proofs.pieces.CutFiles.fill.Given as goal
 
@@ -6,7 +7,7 @@ use Rattle.cut_files.proofs.pieces.CutFiles.fill.Given as goal
 abbrev pub invariant-pieces : goal.invariant-pieces
 invariant-pieces g l = record {
   first : l.self.wave ++ (to_come_of g.C.Chip.meaning g.C.Chip.saving l.self).first ≡ (to_come_of g.C.Chip.meaning g.C.Chip.saving l.fn.self).first;
-  room : length l.self.wave + 256 ≤ 131072;
+  room : length l.self.wave + 256 ≤ room_size;
   report : report_of g.C.Chip.meaning g.C.Chip.saving l.self ≡ report_of g.C.Chip.meaning g.C.Chip.saving l.fn.self;
   work : work_of l.self ≤ work_of l.fn.self;
 }
