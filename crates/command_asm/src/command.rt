@@ -5,6 +5,7 @@ ghost use Rattle.command_frame.specs.Conduct.{Plans, Prepares, Attempts};
 ghost use Rattle.command_frame.specs.Delivery.{CanDeliver};
 ghost use Rattle.command_frame.specs.Plan.{plan_makes};
 ghost use Rattle.command_asm.specs.Asm.{fault_told, asm_report, source_answer, asm_answer};
+ghost use Rattle.spc700_asm.specs.Assembly.{most_source};
 
 use command_frame::{OutOfMemory, Plan, PlannedOutput, Refusal, carry_out};
 use input_files::{INPUT_LIMIT, read_input};
@@ -45,7 +46,7 @@ fn plan_source<'a>(
     origin: u16,
     output: &'a str,
 ) -> Result<Plan<'a>, Refusal<Cause>>
-    requires { length source.now ≤ 1048576 }
+    requires { length source.now ≤ most_source }
     ensures { Plans plan_makes (source_answer origin output.now source.now) result }
 {
     let code = match assemble(alloc, source, origin) {

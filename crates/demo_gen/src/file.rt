@@ -47,7 +47,7 @@ fn put_title(file: &mut Vec<u8>, place: usize, number: u32) -> Result<(), OutOfM
 #[tactic(auto, unfolding(crate::specs::Demo::demo_bytes))]
 fn demo_bytes(alloc: Global, number: u32) -> Result<Vec<u8>, OutOfMemory>
     ensures bytes { IfOk result (λ file. file.items ≡ demo_bytes number) }
-    ensures len { IfOk result (λ file. vec_len file ≡ 66048) }
+    ensures len { IfOk result (λ file. vec_len file ≡ kept_length) }
 {
     let mut file = Vec::with_capacity(alloc, 66048)?;
     put_front(&mut file, 0)?;

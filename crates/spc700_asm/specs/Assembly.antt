@@ -17,6 +17,10 @@ use Rattle.spc700_asm.specs.Statements.{Statement, Bytes, Words, Code, all_of, s
 use Rattle.spc700_asm.specs.Labels.{Labels, size_of_line, labels_of, value_of}
 use Rattle.spc700_asm.specs.Faults.{LineRefusal, first_refusal}
 
+-- the most bytes of a source
+abbrev pub most_source : ℕ
+most_source = 1048576
+
 -- the number that is written, or that the name has, if it is defined
 abbrev pub number_written : Labels → Written → Option ℕ
 number_written labels (Plain number) = Some number

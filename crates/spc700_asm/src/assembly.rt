@@ -1,6 +1,6 @@
 //! The bytes of a source.
 ghost use Rattle.std.specs.Prelude.{◌≡◌, ◌≤◌, length, Ok, IfOk, IfErr};
-ghost use Rattle.spc700_asm.specs.Assembly.{assembly};
+ghost use Rattle.spc700_asm.specs.Assembly.{assembly, most_source};
 ghost use Rattle.spc700_asm.specs.Names.{Refuses};
 
 use crate::emission::emit;
@@ -13,7 +13,7 @@ use std::alloc::Global;
 /// It is refused for the least line with one of the faults `Form`, `Number`, `Twice` and `Long`, with the first of them in
 /// this order; where no line has one of these, for the least line with `Name` or `Far`. It may want memory.
 pub fn assemble(alloc: Global, source: &[u8], origin: u16) -> Result<Vec<u8>, AsmRefusal>
-    requires { length source.now ≤ 1048576 }
+    requires { length source.now ≤ most_source }
     ensures bytes { IfOk result (λ bytes. assembly source.now origin ≡ Ok bytes.items) }
     ensures refusal { IfErr result (λ refusal. Refuses refusal (assembly source.now origin)) }
 {
