@@ -4,16 +4,6 @@ use Rattle.std.proofs.lemmas.List.{append-nil}
 use Rattle.snd_host.specs.Host.{HostState, Output, Rose, IsPrefix}
 use Rattle.command_frame.specs.Delivery.{Gains, IsBegun, EndedAreWhole, HaveRooms, all_ended}
 use Rattle.command_frame.specs.Stream.{AreDone, Stops}
-use Rattle.command_frame.proofs.Delivering.{gains_nothing}
-
-pub done_nothing : (a : HostState) → AreDone [] a a
-done_nothing a = record {
-  made = gains_nothing a a refl refl refl;
-  inputs = refl;
-  notes = refl;
-  faults = refl;
-  rooms = λ rooms told. (rooms, told, record { count = refl; report_room = refl; complaint_room = refl; later = λ place. refl });
-}
 
 all_ended-append : (xs ys : List Output) → all_ended (xs ++ ys) ≡ all_ended xs ++ all_ended ys
 all_ended-append [] ys = refl

@@ -2,22 +2,14 @@
 use Rattle.std.proofs.Common.{◌≡◌, Result, Ok, Err, IsOk, IsSome, ℕ, ◌+◌, ◌-◌, ◌≤◌, ◌<◌, Bool, true, false, List, [], ◌∷◌, ◌++◌, length, set, map, Option, Some, None, OnOk, OnErr, refl, sym, ◌∙◌, ap, subst, arith, rules, append_assoc}
 use Rattle.std.specs.Prelude.{slice_get}
 use Rattle.std.proofs.lemmas.List.{append-nil}
-use Rattle.snd_host.specs.Host.{HostState, Given, Output, HasCause, ChangesOutputs, KeepsRooms, WritesAll, IsPrefix, IsOpen}
+use Rattle.snd_host.specs.Host.{HostState, Given, HasCause, ChangesOutputs, KeepsRooms, WritesAll, IsPrefix}
 use Rattle.snd_host.specs.declared.host.Failed.{Failed}
 use Rattle.snd_host.specs.declared.host.OutFile.{OutFile}
 use Rattle.command_frame.specs.declared.streaming.Targets.{Targets}
-use Rattle.command_frame.specs.Delivery.{IsBegun}
 use Rattle.command_frame.specs.Stream.{Both, Stands, Stops, Fills, pair, flags_of, IsSecond, AreTargets, IsOpenAfter, AreOpen, Begins, Puts, Ends, Pumps}
-use Rattle.command_frame.proofs.Places.{ended_are_whole, none_ended, prefix_front, open_of, get_set_other, unended_since}
+use Rattle.command_frame.proofs.Delivering.{begun_all}
+use Rattle.command_frame.proofs.Places.{ended_are_whole, none_ended, prefix_front, get_set_other, unended_since}
 use Rattle.command_frame.proofs.Standing.{stands_at_first, stands_created, next_number, stands_written, stops_written, stands_ended, stops_unwritten, are_done}
-
-pub open_first : (ended : List Bool) (targets : Targets) → AreOpen ended targets → IsOpen ended targets.first.0
-open_first ended targets o = open_of ended targets.first.0 o.low o.first_open
-
-pub open_second : (ended : List Bool) (targets : Targets) (file : OutFile) → targets.second ≡ Some file → AreOpen ended targets → IsOpen ended file.0
-open_second ended targets file is o =
-    let after : IsOpenAfter ended targets.first.0 (Some file) = subst (λ (f : Option OutFile). IsOpenAfter ended targets.first.0 f) is o.second_open in
-    open_of ended file.0 (let low = o.low in let less = after.0 in omega arith) after.1
 
 first_place : (second : Option (List ℕ)) (a : HostState) (targets : Targets) → AreTargets second a targets → targets.first.0 ≡ length a.ended + 2 + 0
 first_place second a targets are = let is = are.first in omega arith
@@ -172,13 +164,6 @@ pub begun_first : (first : List ℕ) (a b : HostState) → ((given : Given) → 
     ChangesOutputs a b → b.faults.notes ≡ a.faults.notes → b.faults.outputs ≡ a.faults.outputs → KeepsRooms a b → Stands (pair first None [] []) (flags_of None false) [] a b
 begun_first first a b tells ended created others notes faults keeps = stands_created [] [] a a b first (stands_at_first a tells) ended created others notes faults keeps
 
--- there is no second output
-pub begins_one : (first : List ℕ) (a b : HostState) (targets : Targets) → targets.second ≡ None → targets.first.0 ≡ length a.ended + 2 → Stands (pair first None [] []) (flags_of None false) [] a b → Begins first None a b (Ok targets)
-begins_one first a b targets none number s = record {
-  ok = (record { first = number; second_number = subst (λ (o : Option OutFile). IsSecond None o (length a.ended + 2)) (sym none) tt }, s);
-  err = tt;
-}
-
 -- the second output could not be created
 pub begin_failed_second : (first name : List ℕ) (a b d : HostState) (e : Failed) → Stands (pair first None [] []) (flags_of None false) [] a b →
     d.given ≡ b.given → d.ended ≡ b.ended → ChangesOutputs b d → d.faults.notes ≡ b.faults.notes → HasCause {T = OutFile} {E = Failed} b.faults.outputs d.faults.outputs (Err e) → KeepsRooms b d →
@@ -204,10 +189,6 @@ begins_both first name a b d targets file is number after s ended created others
   );
   err = tt;
 }
-
-begun_all : (outputs : List Output) → IsBegun outputs outputs
-begun_all [] = tt
-begun_all (o ∷ outputs) = (refl, record { rest = []; split = append-nil o.bytes }, begun_all outputs)
 
 is_steady : (c : HostState) (after : List ℕ) → c.steady ≡ Some after → IsSome c.steady
 is_steady c after told = subst (λ (o : Option (List ℕ)). IsSome o) (sym told) (search rules)
@@ -237,13 +218,6 @@ still_open targets file old new is o ended =
     let low = o.low in
     let less = after.0 in
     rw ended (get_set_other old (targets.first.0 - 2) (file.0 - 2) true (λ same. absurd (omega arith)) ∙ after.1)
-
-pub second_low : (targets : Targets) (file : OutFile) (old : List Bool) → targets.second ≡ Some file → AreOpen old targets → 2 ≤ file.0
-second_low targets file old is o =
-    let after : IsOpenAfter old targets.first.0 (Some file) = subst (λ (f : Option OutFile). IsOpenAfter old targets.first.0 f) is o.second_open in
-    let low = o.low in
-    let less = after.0 in
-    omega arith
 
 module _ (targets : Targets) (file : OutFile) (old mid new : HostState) (x : Unit {0}) (is : targets.second ≡ Some file) (given : mid.given ≡ old.given) (ended : mid.ended ≡ set old.ended (targets.first.0 - 2) true) (others : ChangesOutputs old mid)
     (notes : mid.faults.notes ≡ old.faults.notes) (cause : HasCause {T = Unit {0}} {E = Failed} old.faults.outputs mid.faults.outputs (Ok x)) (keeps : KeepsRooms old mid) where

@@ -13,12 +13,15 @@ const ENDS_THE_BLOCK: Pieces = &[(
     b"\xcd\xcb\x1d\x00\x00\xd0\xfb\xe8\xc1\xc5\x00\x06\x2f\xfe",
 )];
 
-/// Runs a script over its tune, with so many pages.
-fn served(alloc: Global, script: &[u8], pages: u32) -> Result<Outcome, Fail>
+/// A program that counts at 0700h, 224 times in 70 samples.
+const COUNTS: Pieces = &[(MEMORY + 0x0400, b"\xac\x00\x07\x2f\xfb")];
+
+/// Runs a script over file five with these pieces more, with so many pages.
+fn served(alloc: Global, more: Pieces, script: &[u8], pages: u32) -> Result<Outcome, Fail>
     requires enough { 256 ≤ pages }
     requires few { pages ≤ 65536 }
 {
-    let file = file_of(alloc, 66048, FIVE, ENDS_THE_BLOCK)?;
+    let file = file_of(alloc, 66048, FIVE, more)?;
     let table = straight_table(alloc)?;
     let inputs = [
         ("SPC", file.as_slice()),
@@ -74,10 +77,23 @@ fn sessions_with_few_pages(rt: HostRuntime) -> Result<(), Fail> {
         ("seek 007\nplay 2", 256, "at 7\nplayed 2 at 9\n", [0, 2, 0]),
         ("", 4096, "", [0, 0, 0]),
     ] {
-        let outcome = served(rt.alloc(), script.as_bytes(), pages)?;
+        let outcome = served(rt.alloc(), ENDS_THE_BLOCK, script.as_bytes(), pages)?;
         let wave = wave_of(rt.alloc(), counts)?;
         assert!(rt; outcome.is_done(wave.as_slice(), report), "{script}");
     }
+    Ok(())
+}
+
+/// Each mark needs a page, and there are two beside those of the opening: the third mark gives up the first one.
+#[test]
+fn the_oldest_mark_is_given_up(rt: HostRuntime) -> Result<(), Fail> {
+    let script = b"seek 70\nmark\nseek 140\nmark\nseek 210\nmark\ndrop 70\ndrop 140\nfree\n";
+    let report =
+        "at 70\nmark 70 gave 0\nat 140\nmark 140 gave 0\nat 210\nmark 210 gave 1\nnone 70\ndropped 140\n\
+        free 1 marks 2 made 210\n";
+    let outcome = served(rt.alloc(), COUNTS, script.as_slice(), 258)?;
+    let wave = wave_of(rt.alloc(), [0, 0, 0])?;
+    assert!(rt; outcome.is_done(wave.as_slice(), report));
     Ok(())
 }
 
@@ -88,7 +104,7 @@ fn scripts_with_a_wrong_line(rt: HostRuntime) -> Result<(), Fail> {
         ("mark\n\nfree\n", "spcwave: script is wrong at line 2\n"),
         ("seek 7\nplay  1\n", "spcwave: script is wrong at line 2\n"),
     ] {
-        let outcome = served(rt.alloc(), script.as_bytes(), 256)?;
+        let outcome = served(rt.alloc(), ENDS_THE_BLOCK, script.as_bytes(), 256)?;
         assert!(rt; outcome.is_refused(Status::Script, line), "{script}");
     }
     Ok(())

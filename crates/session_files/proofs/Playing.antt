@@ -1,5 +1,5 @@
 -- The frames of a session, part by part.
-use Rattle.std.proofs.Common.{◌≡◌, ◌∙◌, ap, refl, ℕ, suc, ◌+◌, ◌-◌, ◌≤◌, Bool, true, false, List, [], ◌∷◌, ◌++◌, length, drop, Some, arith, add-one, drop-cons}
+use Rattle.std.proofs.Common.{◌≡◌, ◌∙◌, ap, refl, ℕ, suc, ◌+◌, ◌-◌, Bool, true, false, List, [], ◌∷◌, ◌++◌, length, drop, Some, arith, add-one, drop-cons}
 use Rattle.std.specs.List.{slice_get}
 use Rattle.std.specs.Prelude.{not, ◌&&◌, ◌==◌, nat_le, if◌then◌else◌}
 use Rattle.std.proofs.lemmas.Option.{slice_get_within, get_or_from_slice_get}
@@ -14,7 +14,7 @@ use Rattle.cut_form.specs.declared.script.ScriptLine.TheVariants.{Seek, Play, Ma
 use Rattle.cut_form.specs.Checkpoints.{stands_at}
 use Rattle.cut_form.specs.CutBook.{after_play, without_one}
 use Rattle.cut_form.specs.Session.{Session, LineOutcome, after_line, replies, played_cuts}
-use Rattle.script_text.specs.Playing.{IsWithinHour, played_frames}
+use Rattle.script_text.specs.Playing.{played_frames}
 use Rattle.run_slices.specs.Runs.{AreOfRun}
 use Rattle.run_slices.proofs.Slices.{length-cuts}
 
@@ -72,20 +72,3 @@ length-session f run slots pages session (Drop sample ∷ lines) =
     length-either f slots pages lines (not (sample == 0) && stands_at session.book.live sample) one other session.frames _
     (length-session f run slots pages one.session lines) (length-session f run slots pages session lines)
 length-session f run slots pages session (Free ∷ lines) = length-session f run slots pages session lines
-
--- A line makes an hour of samples at most.
-made_by_play : (test : Bool) (made count : ℕ) (one other : LineOutcome) → count ≤ most_frames → one.session.book.made ≡ made + count → other.session.book.made ≡ made → (if test then one else other).session.book.made ≤ made + most_frames
-made_by_play true made count one other few is_yes is_no = omega (arith, few, is_yes)
-made_by_play false made count one other few is_yes is_no = omega (arith, is_no)
-
-pub made_by_line : (slots : ℕ) (pages : ℕ → List (List ℕ)) (session : Session) (line : ScriptLine) → IsWithinHour line → (after_line slots pages session line).session.book.made ≤ session.book.made + most_frames
-made_by_line slots pages session (Seek at) within = omega (arith, within)
-made_by_line slots pages session (Play count) within =
-    made_by_play (nat_le (session.book.position + count) most_frames && nat_le (session.frames + count) most_frames) session.book.made count
-    (record { session = record { book = after_play session.book count; frames = session.frames + count }; reply = Played count (session.book.position + count) })
-    (record { session = session; reply = Refused count }) within refl refl
-made_by_line slots pages session Mark within = omega arith
-made_by_line slots pages session (Drop sample) within =
-    made_by_play (not (sample == 0) && stands_at session.book.live sample) session.book.made 0
-    (record { session = record session { book = without_one session.book sample }; reply = Dropped sample }) (record { session = session; reply = NoneAt sample }) (omega arith) (omega arith) refl
-made_by_line slots pages session Free within = omega arith

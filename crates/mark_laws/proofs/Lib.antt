@@ -1,0 +1,2 @@
+-- what a mark gives up
+pub mod Fewest
