@@ -24,10 +24,11 @@ type Runs = &'static [(u32, i16)];
 fn cut_from(alloc: Global, pieces: Pieces, list: &[u8]) -> Result<Outcome, Fail> {
     let file = file_of(alloc, 66048, FIVE, pieces)?;
     let table = straight_table(alloc)?;
+    let list = Vec::from_slice(alloc, list)?;
     let inputs = [
         ("SPC", file.as_slice()),
         ("TABLE", table.as_slice()),
-        ("LIST", list),
+        ("LIST", list.as_slice()),
     ];
     let mut host = host_with(alloc, &inputs, &[], ROOM)?;
     let refusal = cuts(alloc, &mut host, "SPC", "TABLE", "LIST", "OUT");
