@@ -11,6 +11,9 @@ const ENDS_THE_BLOCK: Pieces = &[(
     b"\xcd\xcb\x1d\x00\x00\xd0\xfb\xe8\xc1\xc5\x00\x06\x2f\xfe",
 )];
 
+/// Tags: a second, and a fade of a millisecond.
+const TAGS: Pieces = &[(0x23, b"\x1a"), (0xa9, b"001"), (0xac, b"00001")];
+
 /// A program that goes round the pages from 10h on and changes a byte of each, and counts its steps in page 0.
 const CHANGES_241_PAGES: Pieces = &[(
     MEMORY + 0x0400,
@@ -83,6 +86,12 @@ fn cuts_of_a_tune(rt: HostRuntime) -> Result<(), Fail> {
             "0 1\r\n070 1\r\n60 2\r\n",
             &[(2, 0), (2, 4000)],
             "cuts 3 samples 4 checkpoints 3 pages 258 made 133\n",
+        ),
+        (
+            TAGS,
+            "32016 1",
+            &[(1, 4000)],
+            "cuts 1 samples 1 checkpoints 2 pages 256 made 32017\n",
         ),
         (
             &[],
