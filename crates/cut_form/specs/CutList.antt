@@ -1,8 +1,8 @@
 -- What a list of cuts says (own).
-use Rattle.std.specs.Prelude.{ℕ, ◌+◌, ◌&&◌, nat_le, if◌then◌else◌, List, [], ◌∷◌, Option, Some, None, Result, Ok, Err}
+use Rattle.std.specs.Prelude.{ℕ, ◌+◌, Bool, ◌&&◌, nat_le, if◌then◌else◌, List, [], ◌∷◌, Option, Some, None, Result, Ok, Err}
 use Rattle.num_fix.specs.Limits.{most_frames}
 use Rattle.cut_form.specs.declared.cut.Cut.{Cut}
-use Rattle.cut_form.specs.TextLines.{text_lines, line_words, number_of_word}
+use Rattle.cut_form.specs.TextLines.{text_lines, line_words, number_of_word, said_before}
 
 -- the most lines of a list
 abbrev pub most_cuts : ℕ
@@ -23,21 +23,19 @@ cut_of_words (start ∷ (count ∷ (more ∷ rest))) = None
 
 -- A cut on the line of a number, after cuts of so many frames, is allowed where it ends within an hour, where all cuts together
 -- are an hour at most, and where the list isn't too long.
+abbrev pub is_allowed : (number before : ℕ) → Cut → Bool
+is_allowed number before cut =
+    nat_le (cut.start + cut.count) most_frames && (nat_le (before + cut.count) most_frames && nat_le number most_cuts)
+
 abbrev pub allowed_cut : (number before : ℕ) → Option Cut → Option Cut
 allowed_cut number before None = None
-allowed_cut number before (Some cut) =
-    if nat_le (cut.start + cut.count) most_frames && (nat_le (before + cut.count) most_frames && nat_le number most_cuts) then Some cut else None
-
--- a cut before others, unless a line of theirs is wrong
-abbrev pub cut_before : Cut → Result (List Cut) ℕ → Result (List Cut) ℕ
-cut_before cut (Ok cuts) = Ok (cut ∷ cuts)
-cut_before cut (Err wrong) = Err wrong
+allowed_cut number before (Some cut) = if is_allowed number before cut then Some cut else None
 
 -- the cuts of lines, of which the first has a number and stands after cuts of so many frames, or the number of the first wrong line
 abbrev pub cuts_from : (number before : ℕ) → List (List ℕ) → Result (List Cut) ℕ
 cuts_from number before [] = Ok []
 cuts_from number before (line ∷ lines) = elim (allowed_cut number before (cut_of_words (line_words line))) as (λ cut. Result (List Cut) ℕ) [
-  | Some cut ↦ cut_before cut (cuts_from (number + 1) (before + cut.count) lines)
+  | Some cut ↦ said_before cut (cuts_from (number + 1) (before + cut.count) lines)
   | None ↦ Err number
 ]
 

@@ -4,7 +4,7 @@ use Rattle.std.specs.Str.{bytes_eq}
 use Rattle.num_fix.specs.Limits.{most_frames}
 use Rattle.cut_form.specs.declared.script.ScriptLine.{ScriptLine}
 use Rattle.cut_form.specs.declared.script.ScriptLine.TheVariants.{Seek, Play, Mark, Drop, Free}
-use Rattle.cut_form.specs.TextLines.{text_lines, line_words, number_of_word}
+use Rattle.cut_form.specs.TextLines.{text_lines, line_words, number_of_word, said_before}
 
 -- the most lines of a script
 abbrev pub most_script_lines : ℕ
@@ -26,16 +26,15 @@ line_of_words (name ∷ (number ∷ [])) =
     else None
 line_of_words (name ∷ (number ∷ (more ∷ rest))) = None
 
--- a line before others, unless one of theirs is wrong
-abbrev pub line_before : ScriptLine → Result (List ScriptLine) ℕ → Result (List ScriptLine) ℕ
-line_before line (Ok lines) = Ok (line ∷ lines)
-line_before line (Err wrong) = Err wrong
+-- what the line of a number says; a script has no more lines than it may have
+abbrev pub line_said : (number : ℕ) → (line : List ℕ) → Option ScriptLine
+line_said number line = if nat_le number most_script_lines then line_of_words (line_words line) else None
 
--- what lines say, the first of which has a number, or the number of the first wrong one; no more of them than a script may have
+-- what lines say, the first of which has a number, or the number of the first wrong one
 abbrev pub script_from : (number : ℕ) → List (List ℕ) → Result (List ScriptLine) ℕ
 script_from number [] = Ok []
-script_from number (line ∷ lines) = elim (if nat_le number most_script_lines then line_of_words (line_words line) else None) as (λ said. Result (List ScriptLine) ℕ) [
-  | Some said ↦ line_before said (script_from (number + 1) lines)
+script_from number (line ∷ lines) = elim (line_said number line) as (λ said. Result (List ScriptLine) ℕ) [
+  | Some said ↦ said_before said (script_from (number + 1) lines)
   | None ↦ Err number
 ]
 

@@ -25,11 +25,15 @@ pub record LineOutcome : Type 0 where
 abbrev pub opened_session : (pages_at : ℕ → List (List ℕ)) → Session
 opened_session pages_at = record { book = opened_book pages_at; frames = 0 }
 
+-- once so many frames more are played
+abbrev pub with_played : Session → (count : ℕ) → Session
+with_played session count = record { book = after_play session.book count; frames = session.frames + count }
+
 -- frames are played where neither their end nor all frames of the session together are more than an hour
 abbrev pub after_play_line : Session → (count : ℕ) → LineOutcome
 after_play_line session count =
     if nat_le (session.book.position + count) most_frames && nat_le (session.frames + count) most_frames
-    then record { session = record { book = after_play session.book count; frames = session.frames + count }; reply = Played count (session.book.position + count) }
+    then record { session = with_played session count; reply = Played count (session.book.position + count) }
     else record { session = session; reply = Refused count }
 
 abbrev pub after_mark_line : (slots : ℕ) → (pages_at : ℕ → List (List ℕ)) → Session → LineOutcome

@@ -1,5 +1,5 @@
 -- The lines of a text, and the words of a line (own).
-use Rattle.std.specs.Prelude.{ℕ, ◌==◌, List, [], ◌∷◌, map, if◌then◌else◌, Option, Some, None}
+use Rattle.std.specs.Prelude.{ℕ, ◌==◌, List, [], ◌∷◌, map, if◌then◌else◌, Option, Some, None, Result, Ok, Err}
 use Rattle.std.specs.List.{slice_split}
 use Rattle.std.specs.Str.{byte}
 use Rattle.number_text.specs.Decimals.{decimal_value, is_number}
@@ -32,3 +32,8 @@ most_digits = 9
 -- the number that a word is
 abbrev pub number_of_word : (word : List ℕ) → Option ℕ
 number_of_word word = if is_number most_digits word then Some (decimal_value word) else None
+
+-- what a line says before what others say, unless one of theirs is wrong, which has a number
+abbrev pub said_before : {A : Type 0} → A → Result (List A) ℕ → Result (List A) ℕ
+said_before said (Ok rest) = Ok (said ∷ rest)
+said_before said (Err wrong) = Err wrong

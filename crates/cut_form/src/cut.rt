@@ -1,5 +1,11 @@
 // A cut of a tune.
 
+/// The most frames of a sound, and the last sample that a cut may end at: an hour.
+pub const MOST_FRAMES: u32 = 115_200_000;
+
+/// The slots of the pool of a list of cuts.
+pub const SLOTS_FOR_CUTS: u32 = 4096;
+
 /// So many frames of a tune from a sample on, before any fade.
 #[derive(Clone, Copy, Debug, PartialEq, Eq)]
 pub struct Cut {

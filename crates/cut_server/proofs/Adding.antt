@@ -10,7 +10,7 @@ use Rattle.page_pool.specs.declared.slot.Slot.{Slot}
 use Rattle.page_pool.specs.Pool.{free_slot, is_free, slot_at, free_slots, KeepsBytes}
 use Rattle.cut_server.specs.declared.table.Mark.{Mark}
 use Rattle.cut_form.specs.Checkpoints.{Checkpoint, pages_of, by_places, shared_with_newest, own_slots, slots_used, with_checkpoint}
-use Rattle.cut_server.specs.Table.{Saved, saved_mark, saved_marks, memory_in, pages_in, checkpoints_after, times_named, AreWhole, AreApart, RunsInto, AreRuns, IsKept, newest_from}
+use Rattle.cut_server.specs.Table.{Saved, saved_mark, saved_marks, memory_in, pages_in, checkpoints_after, times_named, most_named, AreWhole, AreApart, RunsInto, AreRuns, IsKept, newest_from}
 use Rattle.cut_server.specs.Placing.{shared_slots, AreOwned, ArePlaced}
 use Rattle.cut_server.proofs.Shared.{length-by_places, length-pages_of, memory_of_pages}
 use Rattle.page_pool.proofs.Links.{one_if}
@@ -26,7 +26,7 @@ times-le : {S : Type 0} (marks : List (Mark S)) (k : ℕ) → AreWhole marks →
 times-le [] k whole = omega arith
 times-le (mark ∷ marks) k whole = omega (arith, times-cons mark marks k, count_by-le-length (nat_eq k) mark.pages, whole.0, times-le marks k whole.1)
 
-pub owners_few : {S : Type 0} {pool : List Slot} {marks : List (Mark S)} → IsKept pool marks → (k : ℕ) → (slot_at pool k).owners ≤ 900000
+pub owners_few : {S : Type 0} {pool : List Slot} {marks : List (Mark S)} → IsKept pool marks → (k : ℕ) → (slot_at pool k).owners ≤ most_named
 owners_few {marks = marks} kept k = omega (arith, kept.owners k, kept.few, times-le marks k kept.whole)
 
 pub all_owned : {S : Type 0} (pool : List Slot) (most : ℕ) (marks : List (Mark S)) → ((k : ℕ) → times_named marks k ≤ (slot_at pool k).owners) → ((k : ℕ) → (slot_at pool k).owners ≤ most) → AllOwned pool most marks
@@ -42,11 +42,11 @@ unfolding AllOwned
 newest_owned pool most before [] here owned = here
 newest_owned pool most before (mark ∷ marks) here owned = newest_owned pool most mark.pages marks owned.0 owned.1
 
-kept_owned : {S : Type 0} {pool : List Slot} {marks : List (Mark S)} → IsKept pool marks → AllOwned pool 900000 marks
-kept_owned {pool = pool} {marks} kept = all_owned pool 900000 marks (λ k. omega (arith, kept.owners k)) (owners_few kept)
+kept_owned : {S : Type 0} {pool : List Slot} {marks : List (Mark S)} → IsKept pool marks → AllOwned pool most_named marks
+kept_owned {pool = pool} {marks} kept = all_owned pool most_named marks (λ k. omega (arith, kept.owners k)) (owners_few kept)
 
-pub newest_is_owned : {S : Type 0} {pool : List Slot} {marks : List (Mark S)} → IsKept pool marks → AreOwned pool 900000 (newest_from [] marks)
-newest_is_owned {pool = pool} {marks} kept = newest_owned pool 900000 [] marks tt (kept_owned kept)
+pub newest_is_owned : {S : Type 0} {pool : List Slot} {marks : List (Mark S)} → IsKept pool marks → AreOwned pool most_named (newest_from [] marks)
+newest_is_owned {pool = pool} {marks} kept = newest_owned pool most_named [] marks tt (kept_owned kept)
 
 pub newest_apart : {S : Type 0} {pool : List Slot} {marks : List (Mark S)} → IsKept pool marks → AreApart (newest_from [] marks)
 newest_apart {S = S} {marks = marks} kept = last_apart [] marks (λ k. omega arith) kept.runs
@@ -86,16 +86,16 @@ checkpoints-kept old new a b before [] mark keeps was is = refl
 checkpoints-kept old new a b before (x ∷ xs) mark keeps was is = rw (pages_in-kept old new a b x.pages keeps was.0 is.0, checkpoints-kept old new a b x.pages xs mark keeps was.1 is.1) refl
 
 -- the table with one more
-later_owned : {S : Type 0} {old : List Slot} {marks : List (Mark S)} → IsKept old marks → (new : List Slot) (newest : List ℕ) (pages : List (List ℕ)) (slots : List ℕ) → ArePlaced old new newest pages slots → AllOwned new (900000 + length slots) marks
+later_owned : {S : Type 0} {old : List Slot} {marks : List (Mark S)} → IsKept old marks → (new : List Slot) (newest : List ℕ) (pages : List (List ℕ)) (slots : List ℕ) → ArePlaced old new newest pages slots → AllOwned new (most_named + length slots) marks
 later_owned {old = old} {marks} kept new newest pages slots are =
-    all_owned new (900000 + length slots) marks (λ k. omega (arith, are.owners k, kept.owners k)) (λ k. omega (arith, are.owners k, owners_few kept k, count_by-le-length (nat_eq k) slots))
+    all_owned new (most_named + length slots) marks (λ k. omega (arith, are.owners k, kept.owners k)) (λ k. omega (arith, are.owners k, owners_few kept k, count_by-le-length (nat_eq k) slots))
 
 pub saved_added : {S : Type 0} {old : List Slot} {marks : List (Mark S)} → IsKept old marks → (new : List Slot) (newest : List ℕ) (memory : List ℕ) (mark : Mark S) → ArePlaced old new newest (pages_of memory) mark.pages
     → memory_in new mark.pages ≡ memory → saved_marks new (marks ++ mark ∷ []) ≡ saved_marks old marks ++ record { sample = mark.sample; state = mark.state; memory = memory } ∷ []
 saved_added {S = S} {old} {marks} kept new newest memory mark are holds =
     let make : List ℕ → List (Saved S) = λ m. saved_marks old marks ++ record { sample = mark.sample; state = mark.state; memory = m } ∷ [] in
     map_push (saved_mark new) marks mark
-    ∙ ap (λ l. l ++ saved_mark new mark ∷ []) (saved_marks-kept old new 900000 (900000 + length mark.pages) marks are.bytes (kept_owned kept) (later_owned kept new newest (pages_of memory) mark.pages are))
+    ∙ ap (λ l. l ++ saved_mark new mark ∷ []) (saved_marks-kept old new most_named (most_named + length mark.pages) marks are.bytes (kept_owned kept) (later_owned kept new newest (pages_of memory) mark.pages are))
     ∙ ap make holds
 
 pub live_added : {S : Type 0} {old : List Slot} {marks : List (Mark S)} → IsKept old marks → (new : List Slot) (memory : List ℕ) (mark : Mark S) → ArePlaced old new (newest_from [] marks) (pages_of memory) mark.pages → length mark.pages ≡ 256
@@ -107,7 +107,7 @@ live_added {old = old} {marks} kept new memory mark are whole =
     let pages : pages_in new mark.pages ≡ pages_of memory = are.holds ∙ take_all (length mark.pages) (pages_of memory) (omega (arith, length-pages_of memory)) in
     let shared : by_places nat_eq mark.pages newest ≡ shared_with_newest (checkpoints_after old [] marks) (pages_of memory) = are.shared ∙ take_all (length mark.pages) sh (omega arith) ∙ sym (shared_live old marks (pages_of memory)) in
     let make : List (List ℕ) → List Bool → List Checkpoint = λ p s. checkpoints_after old [] marks ++ record { sample = mark.sample; pages = p; shared = s } ∷ [] in
-    checkpoints-kept old new 900000 (900000 + length mark.pages) [] marks mark are.bytes (kept_owned kept) (later_owned kept new newest (pages_of memory) mark.pages are)
+    checkpoints-kept old new most_named (most_named + length mark.pages) [] marks mark are.bytes (kept_owned kept) (later_owned kept new newest (pages_of memory) mark.pages are)
     ∙ ap (λ p. make p (by_places nat_eq mark.pages newest)) pages ∙ ap (λ s. make (pages_of memory) s) shared
 
 pub free_added : {S : Type 0} (old : List Slot) (marks : List (Mark S)) (new : List Slot) (memory : List ℕ) (slots : List ℕ) → ArePlaced old new (newest_from [] marks) (pages_of memory) slots → length slots ≡ 256

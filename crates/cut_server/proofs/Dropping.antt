@@ -6,7 +6,7 @@ use Rattle.page_pool.specs.declared.slot.Slot.{Slot}
 use Rattle.page_pool.specs.Pool.{slot_at, KeepsBytes}
 use Rattle.cut_form.specs.Checkpoints.{slots_used, without_entry}
 use Rattle.cut_server.specs.declared.table.Mark.{Mark}
-use Rattle.cut_server.specs.Table.{saved_mark, saved_marks, checkpoints_after, times_named, AreApart, AreRuns, IsKept}
+use Rattle.cut_server.specs.Table.{saved_mark, saved_marks, checkpoints_after, times_named, most_named, AreApart, AreRuns, IsKept}
 use Rattle.cut_server.specs.Placing.{AreGiven}
 use Rattle.cut_server.proofs.Naming.{times-remove}
 use Rattle.cut_server.proofs.Placing.{pages_in-kept}
@@ -34,17 +34,17 @@ pub record IsDropping {S : Type 0} (old new : List Slot) (marks : List (Mark S))
 owners_dropped : {S : Type 0} {old new : List Slot} {marks : List (Mark S)} {i : ℕ} {mark : Mark S} → IsDropping old new marks i mark → (k : ℕ) → (slot_at new k).owners ≡ times_named (remove marks i) k
 owners_dropped {marks = marks} {i} {mark} is k = omega (arith, is.given.owners k, is.kept.owners k, times-remove marks i mark k is.within is.read)
 
-owned_old : {S : Type 0} {old new : List Slot} {marks : List (Mark S)} {i : ℕ} {mark : Mark S} → IsDropping old new marks i mark → AllOwned old 900000 (remove marks i)
-owned_old {old = old} {marks = marks} {i} {mark} is = all_owned old 900000 (remove marks i) (λ k. omega (arith, is.kept.owners k, times-remove marks i mark k is.within is.read)) (owners_few is.kept)
+owned_old : {S : Type 0} {old new : List Slot} {marks : List (Mark S)} {i : ℕ} {mark : Mark S} → IsDropping old new marks i mark → AllOwned old most_named (remove marks i)
+owned_old {old = old} {marks = marks} {i} {mark} is = all_owned old most_named (remove marks i) (λ k. omega (arith, is.kept.owners k, times-remove marks i mark k is.within is.read)) (owners_few is.kept)
 
-owned_new : {S : Type 0} {old new : List Slot} {marks : List (Mark S)} {i : ℕ} {mark : Mark S} → IsDropping old new marks i mark → AllOwned new 900000 (remove marks i)
-owned_new {new = new} {marks} {i} is = all_owned new 900000 (remove marks i) (λ k. omega (arith, owners_dropped is k)) (λ k. omega (arith, is.given.owners k, owners_few is.kept k))
+owned_new : {S : Type 0} {old new : List Slot} {marks : List (Mark S)} {i : ℕ} {mark : Mark S} → IsDropping old new marks i mark → AllOwned new most_named (remove marks i)
+owned_new {new = new} {marks} {i} is = all_owned new most_named (remove marks i) (λ k. omega (arith, owners_dropped is k)) (λ k. omega (arith, is.given.owners k, owners_few is.kept k))
 
 live_same : {S : Type 0} {old new : List Slot} {marks : List (Mark S)} {i : ℕ} {mark : Mark S} → IsDropping old new marks i mark → checkpoints_after new [] (remove marks i) ≡ checkpoints_after old [] (remove marks i)
-live_same {old = old} {new} {marks} {i} is = checkpoints-same old new 900000 900000 [] (remove marks i) is.given.bytes (owned_old is) (owned_new is)
+live_same {old = old} {new} {marks} {i} is = checkpoints-same old new most_named most_named [] (remove marks i) is.given.bytes (owned_old is) (owned_new is)
 
 pub saved_dropped : {S : Type 0} {old new : List Slot} {marks : List (Mark S)} {i : ℕ} {mark : Mark S} → IsDropping old new marks i mark → saved_marks new (remove marks i) ≡ remove (saved_marks old marks) i
-saved_dropped {old = old} {new} {marks} {i} is = saved_marks-kept old new 900000 900000 (remove marks i) is.given.bytes (owned_old is) (owned_new is) ∙ map_removed (saved_mark old) marks i
+saved_dropped {old = old} {new} {marks} {i} is = saved_marks-kept old new most_named most_named (remove marks i) is.given.bytes (owned_old is) (owned_new is) ∙ map_removed (saved_mark old) marks i
 
 pub live_dropped : {S : Type 0} {old new : List Slot} {marks : List (Mark S)} {i : ℕ} {mark : Mark S} → IsDropping old new marks i mark → checkpoints_after new [] (remove marks i) ≡ without_entry (checkpoints_after old [] marks) i
 live_dropped {old = old} {marks = marks} {i} is = live_same is ∙ live_removed marks i (among_all old marks is.kept.runs is.kept.whole is.kept.owners) is.within

@@ -58,9 +58,6 @@ pub stands_after : {S : Type 0} (pool : List Slot) (before : List ℕ) (marks : 
 stands_after pool before [] sample = refl
 stands_after pool before (mark ∷ marks) sample = ap (λ b. mark.sample == sample || b) (stands_after pool mark.pages marks sample)
 
-pub length-saved : {S : Type 0} (table : TableState S) → length (saved_of table) ≡ length table.marks
-length-saved table = length-map table.marks (saved_mark table.pool)
-
 pub length-samples : {S : Type 0} (table : TableState S) → length (samples_of table) ≡ length table.marks
 length-samples table = length-map table.marks (λ mark. mark.sample)
 

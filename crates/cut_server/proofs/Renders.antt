@@ -1,5 +1,5 @@
 -- The render of a server: its whole machine, where it is loaded and where it runs.
-use Rattle.std.proofs.Common.{◌≡◌, ℕ, ◌-◌, ◌≤◌, List, [], refl, sym, ap, ◌∙◌, arith}
+use Rattle.std.proofs.Common.{◌≡◌, ℕ, ◌-◌, ◌^◌, ◌<◌, ◌≤◌, List, [], refl, sym, ap, ◌∙◌, arith}
 use Rattle.num_fix.specs.Limits.{most_frames}
 use Rattle.dsp_form.specs.Samples.{count_after}
 use Rattle.lock_step.specs.ChipMeaning.{ChipMeaning}
@@ -141,23 +141,5 @@ taken_is {chip = chip} {saving} {render} {table} {at} serving memory is new live
     (live ∙ ap (λ k. with_checkpoint before k (pages_of memory)) (sym serving.served.position) ∙ ap (with_checkpoint before render.samples) (pages_here chip saving render table at serving memory is))
 
 -- While a render runs to its length.
-pub way_begun : {S : Type 0} (chip : ChipMeaning S) (render : RenderState S) → render.bus.chip_total ≤ 18446744073709551615 → IsOnWay chip render render
+pub way_begun : {S : Type 0} (chip : ChipMeaning S) (render : RenderState S) → render.bus.chip_total < 2 ^ 64 → IsOnWay chip render render
 way_begun chip render few = record { samples = refl; whole = refl; rises = omega arith; total = omega (arith, few) }
-
-pub way_on : {S : Type 0} {chip : ChipMeaning S} {old mid new : RenderState S} → IsOnWay chip old mid → IsOnWay chip mid new → IsOnWay chip old new
-way_on first second = record {
-  samples = second.samples ∙ first.samples;
-  whole = second.whole ∙ first.whole;
-  rises = omega (arith, first.rises, second.rises);
-  total = omega (arith, first.rises, second.rises, first.total, second.total);
-}
-
-pub way_ended : {S : Type 0} {chip : ChipMeaning S} {old new : RenderState S} → IsOnWay chip old new → (new.cpu, new.bus.machine) ≡ whole_at_length chip new → new.bus.chip_sample ≡ new.samples → RunsOut chip old new
-way_ended {old = old} way whole sample =
-    let there = sample ∙ way.samples in
-    record {
-      samples = way.samples;
-      whole = whole ∙ way.whole;
-      sample = there;
-      total = way.total ∙ ap (λ k. count_after old.bus.chip_total (k - old.bus.chip_sample)) there;
-    }

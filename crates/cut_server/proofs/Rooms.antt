@@ -65,17 +65,6 @@ pub record MakesRoom {S : Type 0} (pages : List (List ℕ)) (before : ℕ) (old 
       ≡ room_made (length (live_checkpoints old) - 1) (length old.pool) pages (record { live = live_checkpoints old; gave = 0 })
   pub size : length new.pool ≡ length old.pool
 
-pub makes_none : {S : Type 0} (pages : List (List ℕ)) (before : ℕ) (old : TableState S) → before ≡ length (live_checkpoints old) → MakesRoom pages before old old
-makes_none pages before old count =
-    let none : before - length (live_checkpoints old) ≡ 0 = omega (arith, count) in
-    record {
-      count = count;
-      fewer = omega (arith, count);
-      saved = rw none (saved_kept (saved_of old));
-      room = ap (λ gave. room_made (length (live_checkpoints old) - 1) (length old.pool) pages (record { live = live_checkpoints old; gave = gave })) none;
-      size = refl;
-    }
-
 pub makes_more : {S : Type 0} {pages : List (List ℕ)} {before : ℕ} {old mid : TableState S} → MakesRoom pages before old mid → (new : TableState S) → 1 < length (live_checkpoints mid) → has_room (length mid.pool) pages (live_checkpoints mid) ≡ false
     → saved_of new ≡ remove (saved_of mid) 1 → live_checkpoints new ≡ without_entry (live_checkpoints mid) 1 → length new.pool ≡ length mid.pool → MakesRoom pages before old new
 makes_more {pages = pages} {before} {old} {mid} makes new more none saved live size =
@@ -91,20 +80,9 @@ makes_more {pages = pages} {before} {old} {mid} makes new more none saved live s
       size = size ∙ makes.size;
     }
 
-pub room_made_here : {S : Type 0} {pages : List (List ℕ)} {before : ℕ} {old new : TableState S} → MakesRoom pages before old new → (1 < length (live_checkpoints new) → has_room (length new.pool) pages (live_checkpoints new) ≡ true)
-    → record { live = live_checkpoints new; gave = before - length (live_checkpoints new) } ≡ room_made (length (live_checkpoints old) - 1) (length old.pool) pages (record { live = live_checkpoints old; gave = 0 })
-room_made_here {pages = pages} {before} {old} {new} makes ended =
-    sym (room_ended (length old.pool) pages (live_checkpoints new) (before - length (live_checkpoints new)) (λ more. rw (← makes.size) (ended more))) ∙ makes.room
-
 first_of_both : (a b : Bool) → (a && b) ≡ true → a ≡ true
 first_of_both true b both = refl
 first_of_both false b both = cc
-
-pub room_few : (slots : ℕ) (pages : List (List ℕ)) (live : List Checkpoint) → length live ≤ 64 → (1 < length live → has_room slots pages live ≡ true) → length live < 64
-room_few slots pages live few ended = elim (cases_lt 1 (length live)) [
-  | inl more ↦ grind (arith, nat_tests, first_of_both (nat_lt (length live) 64) (nat_le (slots_needed live pages) (slots_free slots live)) (ended more))
-  | inr one ↦ omega (arith, one)
-]
 
 -- where none stood at a sample, none does once others are given up
 stands_in_next : (dropped : Checkpoint) (live : List Checkpoint) (sample : ℕ) → stands_at (next_to_dropped dropped live) sample ≡ stands_at live sample
@@ -133,24 +111,3 @@ none_in_room (suc most) slots pages live gave sample none = elim (cases_Bool (ha
 pub none_left : (most slots : ℕ) (pages : List (List ℕ)) (live : List Checkpoint) (gave sample : ℕ) (room : Room) → room ≡ room_made most slots pages (record { live = live; gave = gave }) → stands_at live sample ≡ false
     → stands_at room.live sample ≡ false
 none_left most slots pages live gave sample room is none = rw is (none_in_room most slots pages live gave sample none)
-
--- a mark, once there is room or all others are given up
-pub mark_made : (slots : ℕ) (pages_at : ℕ → List (List ℕ)) (book : CutBook) (room : Room) → stands_at book.live book.position ≡ false
-    → room ≡ room_made (length book.live - 1) slots (pages_at book.position) (record { live = book.live; gave = 0 }) → mark_here slots pages_at book ≡ mark_in slots (pages_at book.position) book.position room
-mark_made slots pages_at book room none is = rw (none, ← is) refl
-
-pub mark_taken : (slots : ℕ) (pages : List (List ℕ)) (sample : ℕ) (room : Room) → length room.live < 64 → slots_needed room.live pages ≤ slots_free slots room.live
-    → mark_in slots pages sample room ≡ record { live = with_checkpoint room.live sample pages; marked = Taken room.gave }
-mark_taken slots pages sample room few enough =
-    let short : nat_lt (length room.live) 64 ≡ true = grind (arith, nat_tests, few) in
-    let test : nat_le (slots_needed room.live pages) (slots_free slots room.live) ≡ true = grind (arith, nat_tests, enough) in
-    rw (short, test) refl
-
-pub mark_refused : (slots : ℕ) (pages : List (List ℕ)) (sample : ℕ) (room : Room) → (slots_needed room.live pages ≤ slots_free slots room.live → ⊥)
-    → mark_in slots pages sample room ≡ record { live = room.live; marked = NoPages room.gave (slots_needed room.live pages) (slots_free slots room.live) }
-mark_refused slots pages sample room too_few =
-    let test : nat_le (slots_needed room.live pages) (slots_free slots room.live) ≡ false = elim (cases_Bool (nat_le (slots_needed room.live pages) (slots_free slots room.live))) [
-      | inl enough ↦ absurd (too_few (grind (arith, nat_tests, enough)))
-      | inr fewer ↦ fewer
-    ] in
-    rw (test, and_right (nat_lt (length room.live) 64) false refl) refl

@@ -16,10 +16,22 @@ AreOwned pool most (slot ∷ slots) = (0 < (slot_at pool slot).owners) × ((slot
 abbrev pub shared_slots : List Slot → (newest : List ℕ) → (pages : List (List ℕ)) → List Bool
 shared_slots pool newest pages = by_places bytes_eq pages (pages_in pool newest)
 
+-- the slot at a page is that of the newest, which has one owner more
+abbrev pub SharesSlot : (old new : List Slot) → (newest : List ℕ) → (page slot : ℕ) → Type 0
+SharesSlot old new newest page slot = (slot ≡ slice_index newest page) × (page < length newest) × (new ≡ after_share old slot)
+
+-- the slot was free, and holds these bytes
+abbrev pub TakesSlot : (old new : List Slot) → (bytes : List ℕ) → (slot : ℕ) → Type 0
+TakesSlot old new bytes slot = (slot < length old) × (slot_at old slot ≡ free_slot) × (new ≡ after_take old slot bytes)
+
 -- A page was placed: in the slot of the newest, which has one owner more, or in a free one.
 pub record IsPlaced (old new : List Slot) (newest : List ℕ) (pages : List (List ℕ)) (page slot : ℕ) : Type 0 where
-  pub shared : slice_get (shared_slots old newest pages) page ≡ Some true → (slot ≡ slice_index newest page) × (page < length newest) × (new ≡ after_share old slot)
-  pub taken : slice_get (shared_slots old newest pages) page ≡ Some false → (slot < length old) × (slot_at old slot ≡ free_slot) × (new ≡ after_take old slot (slice_index_or pages page []))
+  pub shared : slice_get (shared_slots old newest pages) page ≡ Some true → SharesSlot old new newest page slot
+  pub taken : slice_get (shared_slots old newest pages) page ≡ Some false → TakesSlot old new (slice_index_or pages page []) slot
+
+-- a page has another slot than that of the newest
+abbrev pub HasOtherSlot : (slots newest : List ℕ) → (page : ℕ) → Type 0
+HasOtherSlot slots newest page = page < length newest → slice_index slots page ≢ slice_index newest page
 
 -- The first pages were placed in these slots.
 pub record ArePlaced (old new : List Slot) (newest : List ℕ) (pages : List (List ℕ)) (slots : List ℕ) : Type 0 where
@@ -31,7 +43,7 @@ pub record ArePlaced (old new : List Slot) (newest : List ℕ) (pages : List (Li
   pub size : length new ≡ length old
   -- no slot stands twice, and each that isn't that of the newest was free
   pub apart : AreApart slots
-  pub fresh : (page : ℕ) → page < length slots → (page < length newest → slice_index slots page ≢ slice_index newest page) → (slot_at old (slice_index slots page)).owners ≡ 0
+  pub fresh : (page : ℕ) → page < length slots → HasOtherSlot slots newest page → (slot_at old (slice_index slots page)).owners ≡ 0
 
 -- the slot has one owner alone
 abbrev pub has_one_owner : List Slot → (slot : ℕ) → Bool

@@ -16,7 +16,8 @@ pub record IsAtRest {S : Type 0} (render : RenderState S) : Type 0 where
   pub chip : render.bus.chip_sample ≡ render.samples
 
 -- A server over a render: what it keeps.
-pub record IsServing {S V : Type 0} (chip : ChipMeaning S) (saving : ChipSaving S V) (render : RenderState S) (table : TableState (PlayState V)) (at : ℕ) : Type 0 where
+pub record IsServing {S V : Type 0} (chip : ChipMeaning S) (saving : ChipSaving S V) (render : RenderState S)
+    (table : TableState (PlayState V)) (at : ℕ) : Type 0 where
   pub served : IsServed (lock_step_machines chip saving) (standing_of render) table at
   pub rest : IsAtRest render
 

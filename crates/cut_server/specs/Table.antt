@@ -1,10 +1,10 @@
 -- The table of checkpoints.
-use Rattle.std.specs.Prelude.{◌≡◌, ◌≢◌, ℕ, ◌+◌, ◌<◌, ◌≤◌, nat_eq, List, [], ◌∷◌, length, map, slice_index}
+use Rattle.std.specs.Prelude.{◌≡◌, ◌≢◌, ℕ, ◌+◌, ◌*◌, ◌<◌, ◌≤◌, nat_eq, List, [], ◌∷◌, length, map, slice_index}
 use Rattle.std.specs.List.{flat_map, sum_by, count_by}
 use Rattle.page_pool.specs.declared.slot.Slot.{Slot}
 use Rattle.page_pool.specs.Pool.{slot_at, free_slots}
 use Rattle.cut_server.specs.declared.table.Mark.{Mark}
-use Rattle.cut_form.specs.Checkpoints.{Checkpoint, most_checkpoints, by_places, slots_used}
+use Rattle.cut_form.specs.Checkpoints.{Checkpoint, most_checkpoints, fewest_pages, by_places, slots_used}
 
 -- A pool of pages, and the live checkpoints in the order in which they were taken: of each its sample, what was saved of the
 -- machine, and the page of the pool for each page of its memory.
@@ -51,6 +51,10 @@ samples_of table = map (λ mark. mark.sample) table.marks
 -- how often live checkpoints name a slot
 abbrev pub times_named : {S : Type 0} → List (Mark S) → (slot : ℕ) → ℕ
 times_named marks slot = sum_by (λ mark. count_by (nat_eq slot) mark.pages) marks
+
+-- the most times that they name one
+abbrev pub most_named : ℕ
+most_named = fewest_pages * most_checkpoints
 
 -- each checkpoint has 256 pages
 abbrev pub AreWhole : {S : Type 0} → List (Mark S) → Type 0

@@ -3,7 +3,7 @@ ghost use Rattle.std.specs.Prelude.{◌≡◌, ℕ, ◌≤◌, false, ◌<◌, l
 ghost use Rattle.std.specs.List.{count_by};
 ghost use Rattle.page_pool.specs.Pool.{most_owners, slot_at, free_slots};
 ghost use Rattle.cut_form.specs.Checkpoints.{pages_of, own_slots};
-ghost use Rattle.cut_server.specs.Table.{AreApart};
+ghost use Rattle.cut_server.specs.Table.{most_named, AreApart};
 ghost use Rattle.cut_server.specs.Placing.{shared_slots, AreOwned, IsPlaced, ArePlaced, AreGiven};
 
 use aram_core::Aram;
@@ -29,9 +29,9 @@ fn place(pool: &mut PagePool, newest: &[Page], memory: &Aram, page: usize) -> Pa
 
 /// A page of the pool for each page of a memory.
 pub(crate) fn place_all(pool: &mut PagePool, newest: &[Page], memory: &Aram) -> [Page; 256]
-    requires owned { AreOwned pool.old 900000 newest.now }
+    requires owned { AreOwned pool.old most_named newest.now }
     requires apart { AreApart newest.now }
-    requires few { (slot : ℕ) → (slot_at pool.old slot).owners ≤ 900000 }
+    requires few { (slot : ℕ) → (slot_at pool.old slot).owners ≤ most_named }
     requires free { own_slots (shared_slots pool.old newest.now (pages_of memory.now)) ≤ free_slots pool.old }
     ensures placed { ArePlaced pool.old pool.new newest.now (pages_of memory.now) result }
     ensures whole { length result ≡ 256 }

@@ -6,7 +6,7 @@ ghost use Rattle.lock_step.specs.LockStep.{lock_step};
 ghost use Rattle.lock_step.specs.LockStepEmits.{lock_step_emits};
 ghost use Rattle.render_core.specs.Items.{run_frames};
 ghost use Rattle.render_core.specs.Opening.{opened_whole};
-ghost use Rattle.cut_form.specs.Checkpoints.{most_checkpoints, slots_free, stands_at};
+ghost use Rattle.cut_form.specs.Checkpoints.{most_checkpoints, fewest_pages, slots_free, stands_at};
 ghost use Rattle.cut_form.specs.CutBook.{opened_book, after_seek, after_play, counted_book, needed_here, with_live, with_one_here, without_one};
 ghost use Rattle.cut_form.specs.Marks.{room_made, mark_here};
 ghost use Rattle.cut_form.specs.Slices.{slice_of};
@@ -57,7 +57,7 @@ impl<C: Chip> CutServer<C> {
         chip: C,
         pages: u32,
     ) -> Result<CutServer<C>, OutOfMemory>
-        requires enough { 256 ≤ pages }
+        requires enough { fewest_pages ≤ pages }
         requires few { pages ≤ most_pages }
         requires sample { C.sample chip ≡ 0 }
         requires batches { C.batches chip ≡ 0 }

@@ -2,8 +2,8 @@
 ghost use Rattle.std.specs.Prelude.{◌≡◌, ◌==◌, ◌≤◌, ◌+◌, ◌-◌, ◌<◌, ◌++◌, ◌∷◌, [], false, length, vec_len, vec_capacity, slice_index, slice_get};
 ghost use Rattle.std.specs.Prelude.{IfOk, IfSome, IsNone, Some, ◌↔◌};
 ghost use Rattle.std.specs.List.{list_any, position, remove, remove_range};
-ghost use Rattle.page_pool.specs.Pool.{free_slots};
-ghost use Rattle.cut_form.specs.Checkpoints.{most_checkpoints, pages_of, with_checkpoint, without_checkpoint, without_entry, stands_at, nearest};
+ghost use Rattle.page_pool.specs.Pool.{most_pages, free_slots};
+ghost use Rattle.cut_form.specs.Checkpoints.{most_checkpoints, fewest_pages, pages_of, with_checkpoint, without_checkpoint, without_entry, stands_at, nearest};
 ghost use Rattle.cut_form.specs.Checkpoints.{shared_with_newest, slots_needed, slots_free, has_room};
 ghost use Rattle.cut_form.specs.Marks.{room_made};
 ghost use Rattle.cut_server.specs.Table.{Saved, live_checkpoints, saved_of, samples_of, newest_from, AreOwnersCounted};
@@ -83,11 +83,11 @@ impl<S: Copy> Table<S> {
         state: S,
         memory: &Aram,
     ) -> Result<Table<S>, OutOfMemory>
-        requires enough { 256 ≤ pages }
-        requires few { pages ≤ 65536 }
+        requires enough { fewest_pages ≤ pages }
+        requires few { pages ≤ most_pages }
         ensures saved { IfOk result (λ table. saved_of table ≡ record { sample = 0; state = state; memory = memory.now } ∷ []) }
         ensures live { IfOk result (λ table. live_checkpoints table ≡ with_checkpoint [] 0 (pages_of memory.now)) }
-        ensures free { IfOk result (λ table. free_slots table.pool + 256 ≡ pages) }
+        ensures free { IfOk result (λ table. free_slots table.pool + fewest_pages ≡ pages) }
         ensures size { IfOk result (λ table. length table.pool ≡ pages) }
     {
         let pool = PagePool::new(alloc, pages)?;

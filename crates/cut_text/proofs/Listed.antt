@@ -8,15 +8,15 @@ use Rattle.std.proofs.lemmas.List.{append-nil}
 use Rattle.std.proofs.lemmas.List.Sums.{sum_by_push}
 use Rattle.num_fix.specs.Limits.{most_frames}
 use Rattle.cut_form.specs.declared.cut.Cut.{Cut}
-use Rattle.cut_form.specs.TextLines.{line_words}
-use Rattle.cut_form.specs.CutList.{most_cuts, cut_of_words, cuts_from, cut_before}
+use Rattle.cut_form.specs.TextLines.{line_words, said_before}
+use Rattle.cut_form.specs.CutList.{most_cuts, cut_of_words, cuts_from}
 use Rattle.cut_form.specs.Slices.{cut_samples}
 use Rattle.cut_text.specs.declared.refusal.TextRefusal.{TextRefusal}
 use Rattle.cut_text.specs.declared.refusal.TextRefusal.TheVariants.{Wrong, OutOfMemory}
 use Rattle.text_parts.specs.Parts.{parts_left}
 use Rattle.cut_text.specs.Cuts.{EndWithinHour, IsListed, fits_after, next_cut}
 use Rattle.cut_text.specs.Reading.{Tells, OneMore, IsWrongAfter}
-use Rattle.cut_text.proofs.Growing.{list_before, none_before, one_before, length_more}
+use Rattle.cut_text.proofs.Growing.{list_before, none_before, one_first, one_before, length_more}
 
 -- what lines say after a list
 abbrev pub said_after : List Cut → (lines : List (List ℕ)) → Result (List Cut) ℕ
@@ -28,19 +28,15 @@ said_first lines = none_before (cuts_from 1 0 lines)
 pub said_last : (cuts : List Cut) → said_after cuts [] ≡ Ok cuts
 said_last cuts = ap Ok (append-nil cuts)
 
-cut_first : (cut : Cut) (said : Result (List Cut) ℕ) → cut_before cut said ≡ list_before (cut ∷ []) said
-cut_first cut (Ok more) = refl
-cut_first cut (Err wrong) = refl
-
 pub samples_more : (cuts : List Cut) (cut : Cut) → cut_samples (cuts ++ cut ∷ []) ≡ cut_samples cuts + cut.count
 samples_more cuts cut = sum_by_push (λ (c : Cut). c.count) cuts cut
 
 said_cut : (old : List Cut) (line : List ℕ) (lines : List (List ℕ)) (cut : Cut) → next_cut old line ≡ Some cut →
     said_after old (line ∷ lines) ≡ said_after (old ++ cut ∷ []) lines
 said_cut old line lines cut is =
-    let step : cuts_from (length old + 1) (cut_samples old) (line ∷ lines) ≡ cut_before cut (cuts_from (length old + 1 + 1) (cut_samples old + cut.count) lines) = rw (is, cuts_from) refl in
+    let step : cuts_from (length old + 1) (cut_samples old) (line ∷ lines) ≡ said_before cut (cuts_from (length old + 1 + 1) (cut_samples old + cut.count) lines) = rw (is, cuts_from) refl in
     ap (list_before old) step
-    ∙ ap (list_before old) (cut_first cut (cuts_from (length old + 1 + 1) (cut_samples old + cut.count) lines))
+    ∙ ap (list_before old) (one_first cut (cuts_from (length old + 1 + 1) (cut_samples old + cut.count) lines))
     ∙ one_before old cut (cuts_from (length old + 1 + 1) (cut_samples old + cut.count) lines)
     ∙ ap (λ (n : ℕ). list_before (old ++ cut ∷ []) (cuts_from (n + 1) (cut_samples old + cut.count) lines)) (sym (length_more old cut))
     ∙ ap (λ (n : ℕ). list_before (old ++ cut ∷ []) (cuts_from (length (old ++ cut ∷ []) + 1) n lines)) (sym (samples_more old cut))

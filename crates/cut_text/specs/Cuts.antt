@@ -1,9 +1,9 @@
 -- A list of cuts while a text is read: it grows by a cut a line.
-use Rattle.std.specs.Prelude.{◌≡◌, ℕ, ◌+◌, ◌≤◌, ◌&&◌, Bool, nat_le, List, [], ◌∷◌, length, Option}
+use Rattle.std.specs.Prelude.{◌≡◌, ℕ, ◌+◌, ◌≤◌, Bool, List, [], ◌∷◌, length, Option}
 use Rattle.num_fix.specs.Limits.{most_frames}
 use Rattle.cut_form.specs.declared.cut.Cut.{Cut}
 use Rattle.cut_form.specs.TextLines.{line_words}
-use Rattle.cut_form.specs.CutList.{most_cuts, cut_of_words, allowed_cut}
+use Rattle.cut_form.specs.CutList.{most_cuts, cut_of_words, is_allowed, allowed_cut}
 use Rattle.cut_form.specs.Slices.{cut_samples}
 
 -- each cut ends within an hour
@@ -20,7 +20,7 @@ pub record IsListed (cuts : List Cut) (total : ℕ) : Type 0 where
 
 -- whether a cut may stand after others
 abbrev pub fits_after : List Cut → Cut → Bool
-fits_after cuts cut = nat_le (cut.start + cut.count) most_frames && (nat_le (cut_samples cuts + cut.count) most_frames && nat_le (length cuts + 1) most_cuts)
+fits_after cuts cut = is_allowed (length cuts + 1) (cut_samples cuts) cut
 
 -- the cut of the next line after others
 abbrev pub next_cut : List Cut → (line : List ℕ) → Option Cut

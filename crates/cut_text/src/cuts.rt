@@ -9,13 +9,10 @@ ghost use Rattle.cut_text.specs.Reading.{Tells, OneMore, IsWrongAfter};
 
 use crate::lines::{first_line, number_in};
 use crate::{TextRefusal, add};
-use cut_form::Cut;
+use cut_form::{Cut, MOST_FRAMES};
 use std::alloc::Global;
 use std::marker::Model;
 use text_parts::first_part;
-
-/// The most frames of a sound, and the last sample that a cut may end at: an hour.
-pub const MOST_FRAMES: u32 = 115_200_000;
 
 /// The most cuts.
 const MOST_CUTS: usize = 1000;

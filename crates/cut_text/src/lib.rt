@@ -8,6 +8,6 @@ mod refusal;
 #[cfg(test)]
 mod tests;
 
-pub use cuts::{CutList, MOST_FRAMES, read_cuts};
+pub use cuts::{CutList, read_cuts};
 pub use lists::add;
 pub use refusal::TextRefusal;

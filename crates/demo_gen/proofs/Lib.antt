@@ -1,3 +1,3 @@
--- Steps: lists that are joined, and the state, one step on. Signed: the file begins with the signature.
-pub mod Steps
+-- OneMoreDraw: lists that are joined, and the state, one step on. Signed: the file begins with the signature.
+pub mod OneMoreDraw
 pub mod Signed

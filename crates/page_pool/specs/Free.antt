@@ -28,7 +28,8 @@ IsApart x (y ∷ ys) = (x ≢ y) × IsApart x ys
 abbrev pub IsChain : List Slot → (first n : ℕ) → Type 0
 IsChain slots first zero = Unit {0}
 IsChain slots first (suc n) =
-    (first < length slots) × ((slot_at slots first).owners ≡ 0) × (IsApart first (chain slots (next_of (slot_at slots first)) n) × IsChain slots (next_of (slot_at slots first)) n)
+    let next = next_of (slot_at slots first) in
+    (first < length slots) × ((slot_at slots first).owners ≡ 0) × (IsApart first (chain slots next n) × IsChain slots next n)
 
 -- what a pool keeps of its slots: all free ones stand in one chain
 pub record IsLinked (slots : List Slot) (first free : ℕ) : Type 0 where

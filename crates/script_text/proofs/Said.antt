@@ -5,12 +5,13 @@ use Rattle.std.specs.List.{slice_split}
 use Rattle.std.proofs.lemmas.List.Splits.{length-slice_split}
 use Rattle.std.proofs.lemmas.List.{append-nil}
 use Rattle.cut_form.specs.declared.script.ScriptLine.{ScriptLine}
-use Rattle.cut_form.specs.Script.{line_of_words, script_from, line_before}
+use Rattle.cut_form.specs.Script.{line_of_words, script_from}
+use Rattle.cut_form.specs.TextLines.{said_before}
 use Rattle.cut_text.specs.declared.refusal.TextRefusal.{TextRefusal}
 use Rattle.cut_text.specs.declared.refusal.TextRefusal.TheVariants.{Wrong, OutOfMemory}
 use Rattle.text_parts.specs.Parts.{parts_left}
 use Rattle.cut_text.specs.Reading.{Tells, OneMore, IsWrongAfter}
-use Rattle.cut_text.proofs.Growing.{list_before, none_before, one_before, length_more}
+use Rattle.cut_text.proofs.Growing.{list_before, none_before, one_first, one_before, length_more}
 use Rattle.script_text.specs.Lines.{next_line}
 
 -- what a text says after a list
@@ -23,16 +24,12 @@ said_first rest = none_before (script_from 1 rest)
 pub said_last : (lines : List ScriptLine) → said_after lines [] ≡ Ok lines
 said_last lines = ap Ok (append-nil lines)
 
-line_first : (line : ScriptLine) (said : Result (List ScriptLine) ℕ) → line_before line said ≡ list_before (line ∷ []) said
-line_first line (Ok more) = refl
-line_first line (Err wrong) = refl
-
 said_line : (old : List ScriptLine) (line : List ℕ) (rest : List (List ℕ)) (said : ScriptLine) → next_line old line ≡ Some said →
     said_after old (line ∷ rest) ≡ said_after (old ++ said ∷ []) rest
 said_line old line rest said is =
-    let step : script_from (length old + 1) (line ∷ rest) ≡ line_before said (script_from (length old + 1 + 1) rest) = rw (is, script_from) refl in
+    let step : script_from (length old + 1) (line ∷ rest) ≡ said_before said (script_from (length old + 1 + 1) rest) = rw (is, script_from) refl in
     ap (list_before old) step
-    ∙ ap (list_before old) (line_first said (script_from (length old + 1 + 1) rest))
+    ∙ ap (list_before old) (one_first said (script_from (length old + 1 + 1) rest))
     ∙ one_before old said (script_from (length old + 1 + 1) rest)
     ∙ ap (λ (n : ℕ). list_before (old ++ said ∷ []) (script_from (n + 1) rest)) (sym (length_more old said))
 

@@ -10,9 +10,9 @@ ghost use Rattle.cut_text.specs.Reading.{Tells};
 ghost use Rattle.script_text.specs.Playing.{IsWithinHour};
 
 use crate::ScriptLines;
-use cut_form::ScriptLine;
+use cut_form::{MOST_FRAMES, ScriptLine};
+use cut_text::TextRefusal;
 use cut_text::lines::{first_line, number_in};
-use cut_text::{MOST_FRAMES, TextRefusal};
 use std::alloc::Global;
 use text_parts::first_part;
 

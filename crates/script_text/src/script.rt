@@ -7,8 +7,8 @@ ghost use Rattle.cut_text.specs.Reading.{OneMore, IsWrongAfter};
 ghost use Rattle.script_text.specs.Lines.{next_line};
 
 use crate::reading::line_in;
-use cut_form::ScriptLine;
-use cut_text::{MOST_FRAMES, TextRefusal, add};
+use cut_form::{MOST_FRAMES, ScriptLine};
+use cut_text::{TextRefusal, add};
 use std::alloc::Global;
 use std::marker::Model;
 

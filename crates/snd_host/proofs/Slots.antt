@@ -20,9 +20,6 @@ number_is n not_report not_complaint = omega arith
 pub open_created : (ended : List Bool) (n : ℕ) → n ≢ 0 → n ≢ 1 → IsOpen ended n → slice_get ended (n - 2) ≡ Some false
 open_created ended n not_report not_complaint open_yet = subst (λ (k : ℕ). IsOpen ended k) (number_is n not_report not_complaint) open_yet
 
-pub grown_created : (given : Given) (n : ℕ) (bytes : List ℕ) → n ≢ 0 → n ≢ 1 → given_with given n bytes ≡ record given { created = outputs_with given.created (n - 2) bytes }
-grown_created given n bytes not_report not_complaint = ap (λ (k : ℕ). given_with given k bytes) (number_is n not_report not_complaint)
-
 -- a slot that is replaced by one with more bytes
 pub grown_slots : (slots : List Slot) (place : ℕ) (slot new : Slot) (bytes : List ℕ) → place < length slots → slot ≡ get_or slots place slot → output_of new ≡ record (output_of slot) { bytes = slot.sink.bytes.items ++ bytes } →
     map output_of (set slots place new) ≡ outputs_with (map output_of slots) place bytes

@@ -43,16 +43,28 @@ pub record HostState : Type 0 where
 abbrev pub IfTold : {T : Type 0} → Option T → (T → Type 0) → Type 0
 IfTold {T} told P = (x : T) → told ≡ Some x → P x
 
+-- the greatest value of a count, which has 64 bits
+abbrev pub greatest_count : ℕ
+greatest_count = 2 ^ 64 - 1
+
+-- One output more can be created where fewer than so many were: its number has 32 bits.
+abbrev pub most_outputs : ℕ
+most_outputs = 4294967000
+
+-- the greatest limit up to which an input is read whole
+abbrev pub greatest_limit : ℕ
+greatest_limit = 16777216
+
 -- A count rose: it is greater than before, or it stands at its greatest value.
 abbrev pub Rose : ℕ → ℕ → Type 0
-Rose before now = min (before + 1) (2 ^ 64 - 1) ≤ now
+Rose before now = min (before + 1) greatest_count ≤ now
 
 -- A count never falls, it rises where the call failed, it stays where it didn't, and it stays at its greatest value.
 pub record HasCause {T E : Type 0} (before now : ℕ) (result : Result T E) : Type 0 where
   pub later : before ≤ now
   pub failed : OnErr result (Rose before now)
   pub same : OnOk result (now ≡ before)
-  pub full : before ≡ 2 ^ 64 - 1 → now ≡ before
+  pub full : before ≡ greatest_count → now ≡ before
 
 -- A write to the output of this number counts its failure: 1 is the complaint, whose count is `notes`.
 pub record CountsWrite {T E : Type 0} (file : ℕ) (old new : Faults) (result : Result T E) : Type 0 where

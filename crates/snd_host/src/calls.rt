@@ -1,6 +1,6 @@
 // The two loops over a host: a whole piece is written, and a whole input is read.
 ghost use Rattle.std.specs.Prelude.{◌≡◌, ◌≢◌, ◌+◌, ◌<◌, ◌≤◌, ℕ, List, length, Option, IsSome, IsOk, IsErrOf, IsSomeAnd, IfOk, OnOk, OnErr, slice_index, vec_len};
-ghost use Rattle.snd_host.specs.Host.{HostState, IfTold, IsOpen, ChangesInputs, WritesAll, Rose};
+ghost use Rattle.snd_host.specs.Host.{HostState, IfTold, IsOpen, ChangesInputs, WritesAll, Rose, greatest_limit};
 ghost use Rattle.snd_host.specs.declared.calls.ReadRefusal.TheVariants.{Failed as Fault, OutOfMemory as NoMemory};
 
 use crate::{Failed, Host, OutFile, OutOfMemory};
@@ -52,7 +52,7 @@ pub fn read_whole<H: Host>(
     name: &str,
     limit: usize,
 ) -> Result<Vec<u8>, ReadRefusal>
-    requires { limit ≤ 16777216 }
+    requires { limit ≤ greatest_limit }
 
     ensures whole { IfOk result (λ bytes. IfTold (H.state host.old).holds (λ files. files name.now ≡ Some bytes.items)) }
     ensures bounded { IfOk result (λ bytes. length bytes.items ≤ limit) }

@@ -1,6 +1,6 @@
 // The outside as the program sees it: inputs that are read by name, and outputs that are written in order.
 ghost use Rattle.std.specs.Prelude.{◌≡◌, ◌≢◌, ◌+◌, ◌-◌, ◌<◌, ◌≤◌, ℕ, List, [], ◌∷◌, ◌++◌, length, take, drop, true, false, Option, Some, IsSome, IsOk, IfOk, OnOk, OnErr, slice_get, slice_index, slice_set};
-ghost use Rattle.snd_host.specs.Host.{HostState, Given, IfTold, HasCause, CountsWrite, IsOpen, ChangesInputs, ChangesOutputs, KeepsRooms, Writes};
+ghost use Rattle.snd_host.specs.Host.{HostState, Given, IfTold, HasCause, CountsWrite, IsOpen, ChangesInputs, ChangesOutputs, KeepsRooms, Writes, most_outputs};
 
 /// A call of the host that failed.
 #[derive(Clone, Copy, Debug, PartialEq, Eq)]
@@ -55,7 +55,7 @@ pub trait Host {
 
     /// Empties or makes the named file, and adds an output of this name, without bytes and not ended.
     fn create(&mut self, name: &str) -> Result<OutFile, Failed>
-        requires { length (state self.old).ended < 4294967000 }
+        requires { length (state self.old).ended < most_outputs }
         ensures number { IfOk result (λ file. file.0 ≡ length (state self.old).ended + 2) }
         ensures ended { OnOk result ((state self.new).ended ≡ (state self.old).ended ++ false ∷ []) }
         ensures created { OnOk result (IfTold (state self.old).given (λ given. (state self.new).given ≡

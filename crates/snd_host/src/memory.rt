@@ -209,7 +209,7 @@ impl MemHost {
 // to the rooms.
 impl Host for MemHost {
     ghost use Rattle.std.specs.Prelude.{◌≢◌, ◌-◌, ◌<◌, ◌∷◌, ◌++◌, ◌||◌, not, true, false, nat_lt, length, take, drop, Option, Some, None, IsSome, is_err, IsOk, IfOk, OnOk, OnErr, slice_get, slice_index, slice_set};
-    ghost use Rattle.snd_host.specs.Host.{IfTold, HasCause, CountsWrite, IsOpen, ChangesInputs, ChangesOutputs, KeepsRooms, Writes, rooms_less};
+    ghost use Rattle.snd_host.specs.Host.{IfTold, HasCause, CountsWrite, IsOpen, ChangesInputs, ChangesOutputs, KeepsRooms, Writes, rooms_less, most_outputs};
     ghost use Rattle.snd_host.specs.Memory.{memory_state, tells_each_lem, rooms_of, is_listed, CountsCall, has_input, is_full};
 
     ghost state = { memory_state };
@@ -287,7 +287,7 @@ impl Host for MemHost {
     }
 
     fn create(&mut self, name: &str) -> Result<OutFile, Failed>
-        requires { length (memory_state self.old).ended < 4294967000 }
+        requires { length (memory_state self.old).ended < most_outputs }
         ensures number { IfOk result (λ file. file.0 ≡ length (memory_state self.old).ended + 2) }
         ensures ended { OnOk result ((memory_state self.new).ended ≡ (memory_state self.old).ended ++ false ∷ []) }
         ensures created { OnOk result (IfTold (memory_state self.old).given (λ given.

@@ -1,6 +1,6 @@
 use Rattle.std.proofs.Common.{◌∙◌, ℕ, List, ◌++◌, ap}
 use Rattle.demo_gen.specs.Samples.{directory_entry}
-use Rattle.demo_gen.proofs.Steps.{joined-none, joined-next}
+use Rattle.demo_gen.proofs.OneMoreDraw.{joined-none, joined-next}
 use Rattle.demo_gen.proofs.samples.put_directory.Goals as goal
 
 pub loop-sample-init : goal.loop-sample-init

@@ -1,7 +1,7 @@
 use Rattle.std.proofs.Common.{◌∙◌, ◌+◌, ℕ, [], ◌∷◌, ◌++◌, ap, add-one}
 use Rattle.demo_gen.specs.Draws.{draw}
 use Rattle.demo_gen.specs.Samples.{sample_byte}
-use Rattle.demo_gen.proofs.Steps.{state_after-none, state_after-next, draw-next, joined-none, joined-next}
+use Rattle.demo_gen.proofs.OneMoreDraw.{state_after-none, state_after-next, draw-next, joined-none, joined-next}
 use Rattle.demo_gen.proofs.samples.put_sample_bytes.Goals as goal
 
 pub loop-k-init : goal.loop-k-init

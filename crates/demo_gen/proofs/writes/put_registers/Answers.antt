@@ -1,7 +1,7 @@
 use Rattle.std.proofs.Common.{◌≡◌, ◌∙◌, ◌+◌, ◌*◌, ℕ, suc, [], ◌∷◌, ◌++◌, ap, arith}
 use Rattle.demo_gen.specs.Draws.{draw}
 use Rattle.demo_gen.specs.Writes.{register}
-use Rattle.demo_gen.proofs.Steps.{state_after-none, state_after-next, draw-next, joined-none, joined-next}
+use Rattle.demo_gen.proofs.OneMoreDraw.{state_after-none, state_after-next, draw-next, joined-none, joined-next}
 use Rattle.demo_gen.proofs.writes.put_registers.Goals as goal
 
 pub loop-turn-init : goal.loop-turn-init
