@@ -14,7 +14,8 @@ ghost use Rattle.command_cuts.specs.Cuts.{list_answer, table_answer, file_answer
 
 use crate::list::read_list;
 use command_frame::{OutOfMemory, Refusal, StreamedPlan, carry_stream};
-use cut_files::{CutFiles, PAGES};
+use cut_files::CutFiles;
+use cut_form::SLOTS_FOR_CUTS;
 use cut_text::CutList;
 use dsp_core::Dsp;
 use gauss_table::GaussTable;
@@ -37,7 +38,7 @@ fn open_cuts(
         ≡ stereo_wave (cut_frames (tune_frames file.now table 0) cuts)) }
     ensures report { IfOk result (λ files. report_of dsp_chip dsp_saving files ≡ cuts_report cuts (cut_book (tune_pages file.now table) cuts)) }
 {
-    let server = open_server(alloc, file, table, PAGES)?;
+    let server = open_server(alloc, file, table, SLOTS_FOR_CUTS)?;
     let files = CutFiles::open(alloc, server, cuts)?;
     Ok(files)
 }

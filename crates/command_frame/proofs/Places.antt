@@ -147,11 +147,6 @@ prefix_short xs ys p = let whole : length xs + length p.rest ≡ length ys = sym
 pub prefix_front : (xs ys zs : List ℕ) → IsPrefix (xs ++ ys) zs → IsPrefix xs zs
 prefix_front xs ys zs p = record { rest = ys ++ p.rest; split = sym (append_assoc xs ys p.rest) ∙ p.split }
 
-pub open_of : (ended : List Bool) (n : ℕ) → 2 ≤ n → slice_get ended (n - 2) ≡ Some false → IsOpen ended n
-open_of ended zero low is = absurd (omega arith)
-open_of ended (suc zero) low is = absurd (omega arith)
-open_of ended (suc (suc place)) low is = let same : suc (suc place) - 2 ≡ place = omega arith in subst (λ (k : ℕ). slice_get ended k ≡ Some false) same is
-
 pub get_set_other : (flags : List Bool) (i j : ℕ) (b : Bool) → i ≢ j → slice_get (set flags i b) j ≡ slice_get flags j
 get_set_other [] i j b other = refl
 get_set_other (f ∷ flags) zero zero b other = absurd (other refl)

@@ -14,7 +14,8 @@ pub record NoneRose (old new : HostState) : Type 0 where
   pub outputs : Rose old.faults.outputs new.faults.outputs → ⊥
 
 -- How a command ended, beside its answer a.
-pub record EndsAs {C : Type 0} (a : Answer C) (refusal : Option (Refusal C)) (report : List ℕ) (outputs : List Output) (ended : List Bool) (old new : HostState) : Type 0 where
+pub record EndsAs {C : Type 0} (a : Answer C) (refusal : Option (Refusal C)) (report : List ℕ) (outputs : List Output) (ended : List Bool)
+    (old new : HostState) : Type 0 where
   -- Where it ended as the answer says, all was written and ended.
   pub settled : refusal ≡ refusal_of a → (report ≡ report_of a) × (outputs ≡ outputs_of a) × (ended ≡ all_ended (outputs_of a))
   -- Where an output could not be written, the answer was no refusal, and prefixes stand.
@@ -62,7 +63,8 @@ pub record WritesComplaint (line : List ℕ) (old new : HostState) : Type 0 wher
   pub outputs : new.faults.outputs ≡ old.faults.outputs
 
 -- What a command did, its complaint included. `line` is the line of a refusal.
-pub record Obeys {C : Type 0} (line : Refusal C → List ℕ) (answer : Files → Answer C) (names_input : Bool) (refusal : Option (Refusal C)) (old new : HostState) : Type 0 where
+pub record Obeys {C : Type 0} (line : Refusal C → List ℕ) (answer : Files → Answer C) (names_input : Bool) (refusal : Option (Refusal C))
+    (old new : HostState) : Type 0 where
   pub report : List ℕ
   pub complaint : List ℕ
   pub outputs : List Output
@@ -104,7 +106,13 @@ pub record Prepares {P C : Type 0} (makes : P → Delivery) (answer : Files → 
   pub err : IfErr result (λ refusal. IfTold old.holds (λ files. (answer files ≡ refused refusal) ⊎ (refusal ≡ ReadFault) ⊎ (refusal ≡ OutOfMemory)))
   pub steady : result ≡ Err ReadFault → IsSome old.steady → IfTold old.holds (λ files. answer files ≡ refused ReadFault)
 
+-- a delivery was made, and ended as the refusal says
+abbrev pub IsDelivered : {C : Type 0} → Delivery → (old new : HostState) → Option (Refusal C) → Type 0
+IsDelivered delivery old new refusal =
+    (outcome : Result (Unit {0}) Failed) × (refusal ≡ delivery_refusal outcome) × Delivers delivery.outputs delivery.report old new outcome
+
 -- A plan was carried out, or there was none.
-pub record CarriesOut {P C : Type 0} (makes : P → Delivery) (prepared : Result P (Refusal C)) (old new : HostState) (refusal : Option (Refusal C)) : Type 0 where
-  pub ok : IfOk prepared (λ plan. (outcome : Result (Unit {0}) Failed) × (refusal ≡ delivery_refusal outcome) × Delivers (makes plan).outputs (makes plan).report old new outcome)
+pub record CarriesOut {P C : Type 0} (makes : P → Delivery) (prepared : Result P (Refusal C)) (old new : HostState)
+    (refusal : Option (Refusal C)) : Type 0 where
+  pub ok : IfOk prepared (λ plan. IsDelivered (makes plan) old new refusal)
   pub err : IfErr prepared (λ why. (refusal ≡ Some why) × (new ≡ old))

@@ -1,18 +1,23 @@
 -- What a delivery makes on a host: outputs that are created, written and ended, and then the report.
 use Rattle.std.specs.Prelude.{◌≡◌, ◌≢◌, ℕ, ◌+◌, ◌-◌, ◌≤◌, ◌<◌, Bool, true, List, [], ◌∷◌, ◌++◌, length, map, Some, Result, IsOk, OnOk, OnErr, slice_index}
-use Rattle.snd_host.specs.Host.{HostState, Output, IfTold, Rose, IsPrefix}
+use Rattle.snd_host.specs.Host.{HostState, Given, Output, IfTold, Rose, IsPrefix, most_outputs}
 
 -- Two outputs more have numbers below 2 ^ 32.
 abbrev pub CanDeliver : HostState → Type 0
-CanDeliver state = length state.ended < 4294966999
+CanDeliver state = length state.ended + 1 < most_outputs
 
 -- So many outputs more have numbers below 2 ^ 32.
 abbrev pub CanDeliverAll : (count : ℕ) → HostState → Type 0
-CanDeliverAll count state = length state.ended + count < 4294967000
+CanDeliverAll count state = length state.ended + count < most_outputs
+
+-- what was given, with these bytes after those of the report and of the complaint, and with these outputs after the created ones
+abbrev pub given_more : (report complaint : List ℕ) → (outputs : List Output) → Given → Given
+given_more report complaint outputs given =
+    record { report = given.report ++ report; complaint = given.complaint ++ complaint; created = given.created ++ outputs }
 
 -- Since the old state the report and the complaint grew by these bytes, and these outputs were created, each with a flag that it was ended.
 pub record Gains (report complaint : List ℕ) (outputs : List Output) (flags : List Bool) (old new : HostState) : Type 0 where
-  pub given : IfTold old.given (λ given. new.given ≡ Some (record { report = given.report ++ report; complaint = given.complaint ++ complaint; created = given.created ++ outputs }))
+  pub given : IfTold old.given (λ given. new.given ≡ Some (given_more report complaint outputs given))
   pub ended : new.ended ≡ old.ended ++ flags
   pub holds : new.holds ≡ old.holds
 
@@ -32,7 +37,8 @@ EndedAreWhole (o ∷ begun) (flag ∷ flags) (output ∷ outputs) = (flag ≡ tr
 -- Each of these outputs, the first of which gets the number n, has a room that takes it and a name of at most 200 bytes.
 abbrev pub HaveRooms : List Output → List ℕ → ℕ → Type 0
 HaveRooms [] rooms n = Unit {0}
-HaveRooms (output ∷ outputs) rooms n = (n < length rooms) × (length output.bytes ≤ slice_index rooms n) × (length output.name ≤ 200) × HaveRooms outputs rooms (n + 1)
+HaveRooms (output ∷ outputs) rooms n =
+    (n < length rooms) × (length output.bytes ≤ slice_index rooms n) × (length output.name ≤ 200) × HaveRooms outputs rooms (n + 1)
 
 -- a flag for each of these outputs: it was ended
 abbrev pub all_ended : List Output → List Bool
@@ -43,6 +49,12 @@ pub record CountsFaults {T E : Type 0} (before now : ℕ) (result : Result T E) 
   pub later : before ≤ now
   pub failed : OnErr result (Rose before now)
   pub same : OnOk result (now ≡ before)
+
+-- A host is still steady: the report's room is less by what was reported, and the complaint's is what it was.
+abbrev pub LeavesRooms : (reported rooms : List ℕ) → (new : HostState) → Type 0
+LeavesRooms reported rooms new =
+    (after : List ℕ) × (new.steady ≡ Some after)
+    × (slice_index after 0 ≡ slice_index rooms 0 - length reported) × (slice_index after 1 ≡ slice_index rooms 1)
 
 -- These outputs were created, written and ended, and then the report was written; or a part of that where a call failed.
 pub record Delivers {T E : Type 0} (outputs : List Output) (report : List ℕ) (old new : HostState) (result : Result T E) : Type 0 where
@@ -61,4 +73,4 @@ pub record Delivers {T E : Type 0} (outputs : List Output) (report : List ℕ) (
   -- A steady host with rooms for all of it fails no call,
   pub enough : IfTold old.steady (λ rooms. HaveRooms outputs rooms (length old.ended + 2) → length report ≤ slice_index rooms 0 → IsOk result)
   -- and the complaint keeps its room.
-  pub rooms : IfTold old.steady (λ rooms. (after : List ℕ) × (new.steady ≡ Some after) × (slice_index after 0 ≡ slice_index rooms 0 - length reported) × (slice_index after 1 ≡ slice_index rooms 1))
+  pub rooms : IfTold old.steady (λ rooms. LeavesRooms reported rooms new)

@@ -27,7 +27,7 @@ pub struct ListPlan<P: Pieces + Drop> {
 
 /// Creates an output, writes it and ends it.
 fn fill_one<H: Host, P: Pieces + Drop>(host: &mut H, output: ListedOutput<P>) -> Result<(), Failed>
-    requires { length (H.state host.old).ended + 1 < 4294967000 }
+    requires { CanDeliverAll 1 (H.state host.old) }
     ensures { Fills (listed_output P.to_come output ∷ []) (H.state host.old) (H.state host.new) result }
 {
     let ListedOutput {

@@ -17,7 +17,7 @@ use Rattle.cut_form.specs.Slices.{slice_of, cut_frames, cut_samples}
 use Rattle.cut_server.specs.ServerState.{book_of, slots_of, pages_after}
 use Rattle.cut_server.specs.Server.{ChipServer, lock_step_machines, pages_at, KeepsTune}
 use Rattle.cut_text.specs.Cuts.{EndWithinHour}
-use Rattle.run_slices.specs.Runs.{AreOfRun}
+use Rattle.run_slices.specs.GrowingFrames.{AreOfRun}
 use Rattle.run_slices.proofs.Slices.{slice_none, length-cuts}
 use Rattle.cut_files.specs.CutFiles.{IsInBounds, cuts_report}
 

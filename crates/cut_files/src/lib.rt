@@ -7,4 +7,3 @@ mod report;
 
 pub use command_frame::OutOfMemory;
 pub use pieces::CutFiles;
-pub use report::PAGES;

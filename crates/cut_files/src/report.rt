@@ -7,13 +7,11 @@ ghost use Rattle.cut_form.specs.Slices.{cut_samples};
 ghost use Rattle.cut_server.specs.ServerState.{book_of, slots_of};
 ghost use Rattle.cut_files.specs.CutFiles.{cuts_report};
 
+use cut_form::SLOTS_FOR_CUTS;
 use cut_server::CutServer;
 use cut_text::CutList;
 use lock_step::Chip;
 use report_text::{ByteRoom, put_count};
-
-/// The pages that the checkpoints of cuts share.
-pub const PAGES: u32 = 4096;
 
 /// Writes the report on cuts that were played, by the server that played them.
 #[tactic(auto, unfolding(crate::specs::CutFiles::cuts_report))]
@@ -26,7 +24,11 @@ pub(crate) fn tell<C: Chip>(report: &mut ByteRoom, cuts: &CutList, server: &CutS
     put_count(report, b"cuts ", cuts.as_slice().len() as u64);
     put_count(report, b" samples ", u64::from(cuts.samples()));
     put_count(report, b" checkpoints ", u64::from(server.count()));
-    put_count(report, b" pages ", u64::from(PAGES - server.free()));
+    put_count(
+        report,
+        b" pages ",
+        u64::from(SLOTS_FOR_CUTS - server.free()),
+    );
     put_count(report, b" made ", server.work());
     report.append(b"\n");
 }

@@ -10,7 +10,7 @@ abbrev pub input_limit : ℕ
 input_limit = 1048576
 
 abbrev pub wave_limit : ℕ
-wave_limit = 16777216
+wave_limit = greatest_limit
 
 -- the bytes that an input holds, of which there may be this many; it may not be there
 abbrev pub bytes_in : {C : Type 0} → (limit : ℕ) → (too_long : C) → (held : Option (List ℕ)) → Result (List ℕ) (Refusal C)

@@ -4,7 +4,7 @@ use Rattle.std.proofs.lemmas.List.{drop-append-le, take-append-drop, drop_all, l
 use Rattle.std.proofs.lemmas.List.Concat.{flat_map-cons}
 use Rattle.cut_form.specs.declared.cut.Cut.{Cut}
 use Rattle.cut_form.specs.Slices.{slice_of, cut_frames}
-use Rattle.run_slices.specs.Runs.{AreOfRun}
+use Rattle.run_slices.specs.GrowingFrames.{AreOfRun}
 
 -- a slice without frames
 pub slice_none : {A : Type 0} (f : ℕ → List A) (at left : ℕ) → AreOfRun f → left ≡ 0 → slice_of f at left ≡ []

@@ -1,2 +1,2 @@
 -- the frames of a run, as they grow
-pub mod Runs
+pub mod GrowingFrames

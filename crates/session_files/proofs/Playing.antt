@@ -15,7 +15,7 @@ use Rattle.cut_form.specs.Checkpoints.{stands_at}
 use Rattle.cut_form.specs.CutBook.{after_play, without_one}
 use Rattle.cut_form.specs.Session.{Session, LineOutcome, after_line, replies, played_cuts}
 use Rattle.script_text.specs.Playing.{played_frames}
-use Rattle.run_slices.specs.Runs.{AreOfRun}
+use Rattle.run_slices.specs.GrowingFrames.{AreOfRun}
 use Rattle.run_slices.proofs.Slices.{length-cuts}
 
 -- a list from an entry on

@@ -1,5 +1,5 @@
 -- What contracts see of a session on a server.
-use Rattle.std.specs.Prelude.{◌≡◌, ℕ, ◌+◌, ◌≤◌, List, [], ◌∷◌}
+use Rattle.std.specs.Prelude.{◌≡◌, ℕ, ◌+◌, ◌^◌, ◌<◌, ◌≤◌, List, [], ◌∷◌}
 use Rattle.num_fix.specs.declared.Frame.{Frame}
 use Rattle.num_fix.specs.Limits.{most_frames}
 use Rattle.lock_step.specs.ChipMeaning.{ChipMeaning}
@@ -11,7 +11,7 @@ use Rattle.cut_form.specs.Session.{Session, after_line, played_cuts}
 use Rattle.cut_form.specs.Slices.{slice_of, cut_frames}
 use Rattle.cut_server.specs.ServerState.{book_of, slots_of}
 use Rattle.cut_server.specs.Server.{ChipServer, pages_at, frames_to, KeepsTune}
-use Rattle.run_slices.specs.Runs.{AreOfRun}
+use Rattle.run_slices.specs.GrowingFrames.{AreOfRun}
 
 pub record PlayerState (S V : Type 0) : Type 0 where
   pub server : ChipServer S V
@@ -30,10 +30,11 @@ left_to_play chip saving player = slice_of (frames_to chip saving player.server)
 -- The last line is played, and the count of samples is far from its end.
 pub record CanAnswer {S V : Type 0} (player : PlayerState S V) : Type 0 where
   pub played : player.left ≡ 0
-  pub counted : (book_of player.server).made + most_frames ≤ 18446744073709551615
+  pub counted : (book_of player.server).made + most_frames < 2 ^ 64
 
 -- A line was answered: by the session's own words; the frames that it plays are still to be played.
-pub record Answers {S V : Type 0} (chip : ChipMeaning S) (saving : ChipSaving S V) (line : ScriptLine) (old new : PlayerState S V) (reply : Reply) : Type 0 where
+pub record Answers {S V : Type 0} (chip : ChipMeaning S) (saving : ChipSaving S V) (line : ScriptLine)
+    (old new : PlayerState S V) (reply : Reply) : Type 0 where
   pub outcome : after_line (slots_of old.server) (pages_at chip saving old.server) (session_of old) line ≡ record { session = session_of new; reply = reply }
   pub frames : left_to_play chip saving new ≡ cut_frames (frames_to chip saving old.server) (played_cuts (reply ∷ []))
   pub tune : KeepsTune chip saving old.server new.server

@@ -1,5 +1,5 @@
 -- What contracts see of a session that is turned into the bytes of a sound file and into a report, piece by piece, over any chip.
-use Rattle.std.specs.Prelude.{◌≡◌, ℕ, ◌+◌, ◌*◌, ◌≤◌, ◌<◌, ◌==◌, ◌&&◌, Bool, List, [], ◌++◌, length}
+use Rattle.std.specs.Prelude.{◌≡◌, ℕ, ◌+◌, ◌*◌, ◌^◌, ◌≤◌, ◌<◌, ◌==◌, ◌&&◌, Bool, List, [], ◌++◌, length}
 use Rattle.std.specs.List.{flat_map}
 use Rattle.num_fix.specs.declared.Frame.{Frame}
 use Rattle.num_fix.specs.Limits.{most_frames}
@@ -61,7 +61,7 @@ is_finished files = files.player.left == 0 && length files.lines == 0
 -- What is kept: there is room for the replies to come, and the count of samples doesn't reach its end. No contract cites it.
 pub record IsOnScript {S V : Type 0} (player : PlayerState S V) (lines : List ScriptLine) (told : List ℕ) (room : ℕ) : Type 0 where
   pub enough : length told + most_reply_bytes * length lines ≤ room
-  pub counted : (session_of player).book.made + most_frames * length lines ≤ 18446744073709551615
+  pub counted : (session_of player).book.made + most_frames * length lines < 2 ^ 64
 
 -- Frames were played, or a line was answered: what is made and what is to come are together what they were. No contract that others see cites it.
 pub record GoesOn {S V : Type 0} (chip : ChipMeaning S) (saving : ChipSaving S V) (old new : FilesState S V) : Type 0 where

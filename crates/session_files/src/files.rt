@@ -8,7 +8,7 @@ ghost use Rattle.cut_form.specs.Slices.{cut_frames};
 ghost use Rattle.cut_server.specs.ServerState.{book_of};
 ghost use Rattle.cut_server.specs.Server.{pages_at, frames_to};
 ghost use Rattle.script_text.specs.Playing.{played_frames};
-ghost use Rattle.run_slices.specs.Runs.{AreOfRun};
+ghost use Rattle.run_slices.specs.GrowingFrames.{AreOfRun};
 ghost use Rattle.session_files.specs.Player.{left_to_play};
 ghost use Rattle.session_files.specs.Report.{report_on};
 ghost use Rattle.session_files.specs.SessionFiles.{replies_of_server, to_come_of, held_of, report_of, work_of, is_finished, GoesOn};

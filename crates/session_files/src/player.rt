@@ -1,16 +1,15 @@
 // A session on a server: each line is answered, and its frames are played piece by piece.
-ghost use Rattle.std.specs.Prelude.{◌≡◌, ◌+◌, ◌≤◌, ◌<◌, ◌++◌, [], length};
+ghost use Rattle.std.specs.Prelude.{◌≡◌, ◌+◌, ◌^◌, ◌≤◌, ◌<◌, ◌++◌, [], length};
 ghost use Rattle.num_fix.specs.Limits.{most_frames};
 ghost use Rattle.cut_form.specs.declared.script.ScriptLine.TheVariants as lines;
 ghost use Rattle.cut_server.specs.ServerState.{book_of, slots_of};
 ghost use Rattle.cut_server.specs.Server.{frames_to, pages_at, KeepsTune};
 ghost use Rattle.script_text.specs.Playing.{IsWithinHour};
-ghost use Rattle.run_slices.specs.Runs.{AreOfRun};
+ghost use Rattle.run_slices.specs.GrowingFrames.{AreOfRun};
 ghost use Rattle.session_files.specs.Player.{PlayerState, session_of, left_to_play, CanAnswer, Answers};
 
-use cut_form::{Reply, ScriptLine};
+use cut_form::{MOST_FRAMES, Reply, ScriptLine};
 use cut_server::CutServer;
-use cut_text::MOST_FRAMES;
 use lock_step::Chip;
 use std::marker::Model;
 use trace_form::Frames;
@@ -135,7 +134,7 @@ impl<C: Chip> Player<C> {
     /// Plays the next frames of the last line, up to 64.
     pub(crate) fn play_some(&mut self, frames: &mut Frames)
         requires some { 0 < self.old.left }
-        requires counted { (session_of self.old).book.made ≤ 18446744073709551615 }
+        requires counted { (session_of self.old).book.made < 2 ^ 64 }
         ensures frames { frames.new ++ left_to_play C.meaning C.saving self.new ≡ left_to_play C.meaning C.saving self.old }
         ensures session { session_of self.new ≡ session_of self.old }
         ensures tune { KeepsTune C.meaning C.saving self.old.server self.new.server }

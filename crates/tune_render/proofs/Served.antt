@@ -6,7 +6,7 @@ use Rattle.lock_step.specs.DspChip.{dsp_chip, dsp_saving}
 use Rattle.lock_step.specs.DspLaws.{dsp_saves_lawfully}
 use Rattle.lock_step.specs.Machine.{Machine}
 use Rattle.render_core.specs.MachineRun.{Whole}
-use Rattle.run_slices.specs.Runs.{AreOfRun}
+use Rattle.run_slices.specs.GrowingFrames.{AreOfRun}
 use Rattle.cut_server.specs.Machines.{Machines, AreLawful}
 use Rattle.cut_server.specs.Server.{lock_step_machines}
 use Rattle.cut_server.specs.ServerState.{pages_after, frames_after}

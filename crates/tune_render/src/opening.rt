@@ -3,7 +3,8 @@ ghost use Rattle.std.specs.Prelude.{◌≡◌, ◌≤◌, length, IfOk};
 ghost use Rattle.num_fix.specs.Limits.{most_frames};
 ghost use Rattle.lock_step.specs.DspChip.{dsp_chip, dsp_saving};
 ghost use Rattle.page_pool.specs.Pool.{most_pages};
-ghost use Rattle.run_slices.specs.Runs.{AreOfRun};
+ghost use Rattle.cut_form.specs.Checkpoints.{fewest_pages};
+ghost use Rattle.run_slices.specs.GrowingFrames.{AreOfRun};
 ghost use Rattle.cut_form.specs.CutBook.{opened_book};
 ghost use Rattle.cut_server.specs.Server.{opening, pages_at, frames_to};
 ghost use Rattle.cut_server.specs.ServerState.{book_of, slots_of};
@@ -46,7 +47,7 @@ pub fn open_server(
     table: GaussTable,
     pages: u32,
 ) -> Result<CutServer<Dsp>, OutOfMemory>
-    requires enough { 256 ≤ pages }
+    requires enough { fewest_pages ≤ pages }
     requires few { pages ≤ most_pages }
     ensures opening { IfOk result (λ server. opening dsp_chip dsp_saving server ≡ opened_tune file.now table 0) }
     ensures frames { IfOk result (λ server. frames_to dsp_chip dsp_saving server ≡ tune_frames file.now table 0) }
