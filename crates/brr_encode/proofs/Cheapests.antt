@@ -2,7 +2,7 @@
 use Rattle.std.proofs.Common.{◌≡◌, ℕ, ◌+◌, ◌<◌, ◌≤◌, true, false, nat_lt, None, Some, Option, IfSome, IsSomeAnd, refl, sym, ap, ◌∙◌, arith}
 use Rattle.std.proofs.lemmas.Bool.Decides.{nat_tests}
 use Rattle.brr_encode.specs.Least.{least_place}
-use Rattle.brr_encode.specs.Steps.{IsCheapest}
+use Rattle.brr_encode.specs.EncoderParts.{IsCheapest}
 use Rattle.brr_encode.specs.declared.search.Cheapest.{Cheapest}
 use Rattle.brr_encode.proofs.Leasts.{least_place-zero, least_place-one, least_place-more, least_place-first}
 

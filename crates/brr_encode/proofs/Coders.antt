@@ -4,7 +4,7 @@ use Rattle.num_fix.specs.Words.{number_at}
 use Rattle.brr_encode.specs.Greedy.{greedy_samples, squares}
 use Rattle.brr_encode.specs.Report.{worst}
 use Rattle.brr_encode.specs.Encoding.{best_header, block_samples}
-use Rattle.brr_encode.specs.Steps.{after_target, after_targets, coder_after}
+use Rattle.brr_encode.specs.EncoderParts.{after_target, after_targets, coder_after}
 use Rattle.brr_encode.specs.declared.block.Coder.{Coder}
 
 pub squares_after : (h : ℕ) (coder : Coder) (targets : List ℤ) → (after_targets h coder targets).squares ≡ coder.squares + squares (greedy_samples h coder.last coder.before targets) targets

@@ -2,7 +2,7 @@
 use Rattle.std.proofs.Common.{◌≡◌, ℕ, ◌+◌, ◌*◌, ◌≤◌, ℤ, pos, List, [], ◌∷◌, ◌++◌, length, take, drop, get_or, refl, ap, ◌∙◌, sym, arith, append_assoc}
 use Rattle.brr_encode.specs.Greedy.{nearest_digit, greedy_digits}
 use Rattle.brr_encode.specs.Encoding.{digit_bits, digit_bytes}
-use Rattle.brr_encode.specs.Steps.{after_target, after_targets}
+use Rattle.brr_encode.specs.EncoderParts.{after_target, after_targets}
 use Rattle.brr_encode.specs.declared.block.Coder.{Coder}
 
 -- the first two of a list

@@ -8,7 +8,7 @@ use Rattle.brr_decode.proofs.Samples.{kept_after, length-kept_after, samples_of-
 use Rattle.brr_encode.specs.Greedy.{nearest_sample, greedy_digits, greedy_samples, squares}
 use Rattle.brr_encode.specs.Encoding.{header_at, best_header, end_bits, digit_bytes, block_of, block_samples, blocks_of, padded, encoding}
 use Rattle.brr_encode.specs.Report.{worst, reports_from, reports_of}
-use Rattle.brr_encode.specs.Steps.{after_targets, coder_after, block_report, block_reports, all_reports}
+use Rattle.brr_encode.specs.EncoderParts.{after_targets, coder_after, block_report, block_reports, all_reports}
 use Rattle.brr_encode.specs.declared.block.Coder.{Coder}
 use Rattle.brr_encode.specs.declared.report.BlockReport.{BlockReport}
 use Rattle.brr_encode.proofs.Coders.{after_sixteen}

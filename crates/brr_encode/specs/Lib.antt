@@ -4,10 +4,10 @@
 -- Encoding: the blocks of a list of samples, each under its best header.
 -- Triples: the order in which headers are preferred.
 -- Report: what a block's report says, read off the decoded stream.
--- Steps: words of the contracts of its parts.
+-- EncoderParts: words of the contracts of its parts.
 pub mod Least
 pub mod Greedy
 pub mod Encoding
 pub mod Triples
 pub mod Report
-pub mod Steps
+pub mod EncoderParts

@@ -3,7 +3,7 @@ ghost use Rattle.std.specs.Prelude.{◌≡◌, ◌+◌, ◌*◌, ◌%◌, ◌^�
 ghost use Rattle.brr_encode.specs.Encoding.{digit_bits, digit_bytes};
 ghost use Rattle.brr_encode.specs.Greedy.{greedy_digits, nearest_digit};
 ghost use Rattle.brr_encode.specs.Report.{most_squares};
-ghost use Rattle.brr_encode.specs.Steps.{after_target, after_targets, coder_after};
+ghost use Rattle.brr_encode.specs.EncoderParts.{after_target, after_targets, coder_after};
 
 use crate::OutOfMemory;
 use crate::nearest::nearest;

@@ -2,7 +2,7 @@
 ghost use Rattle.std.specs.Prelude.{◌≡◌, ◌+◌, ◌%◌, ◌∷◌, ◌++◌, ◌≤◌, ◌⊎◌, [], All, length, IfOk, IfErr};
 ghost use Rattle.brr_encode.specs.Encoding.{padded, most_samples, most_blocks, encoded_samples, best_header, block_of, end_bits};
 ghost use Rattle.brr_encode.specs.Report.{reports_of, IsWithin};
-ghost use Rattle.brr_encode.specs.Steps.{after_targets, coder_after, block_report};
+ghost use Rattle.brr_encode.specs.EncoderParts.{after_targets, coder_after, block_report};
 ghost use Rattle.brr_encode.specs.declared.encoder.EncodeRefusal.TheVariants.{OutOfMemory as NoMemory};
 
 use crate::block::{Coder, push_digits};

@@ -1,7 +1,7 @@
 // The digit whose kept sample is nearest a target.
 ghost use Rattle.std.specs.Prelude.{◌≡◌, ◌<◌, nat_lt, if◌then◌else◌};
 ghost use Rattle.brr_encode.specs.Greedy.{distance, nearest_digit, nearest_sample};
-ghost use Rattle.brr_encode.specs.Steps.{IsAt};
+ghost use Rattle.brr_encode.specs.EncoderParts.{IsAt};
 
 use brr_decode::kept_sample;
 

@@ -1,12 +1,12 @@
 // Where a sample starts, how many blocks it has, and how it ends.
 ghost use Rattle.std.specs.Prelude.{◌≡◌, ◌<◌, ◌≤◌, IfSome};
 ghost use Rattle.brr_encode.specs.Encoding.{most_blocks};
-ghost use Rattle.voice_unit.specs.Directory.{start_word, loop_word, entry_address};
 ghost use Rattle.sample_rip.specs.Rip.{last_block, block_at, loop_end, block_count, end_after, found_from, rip_found};
 
 use crate::blocks::{MOST_BLOCKS, block_address, ends_at, loops_at};
 use crate::{RipEnd, RipFound};
 use aram_core::Aram;
+use voice_unit::{loop_word, start_word};
 
 /// The first block with its end bit.
 fn last_block(memory: &Aram, start: u16) -> Option<u32>
@@ -85,23 +85,15 @@ fn found_from(memory: &Aram, start: u16, address: u16) -> RipFound
     }
 }
 
-/// The address of an entry of the directory at page `dir`.
-fn entry_address(dir: u8, entry: u8) -> u16
-    ensures { result ≡ entry_address dir entry }
-{
-    (u16::from(dir) * 256).wrapping_add(u16::from(entry) * 4)
-}
-
 /// The sample of an entry of the directory at page `dir`: blocks from its start word on, each nine bytes further, up to
 /// the first with its end bit, and 7,280 at most.
-#[tactic(auto, unfolding(crate::specs::Rip::rip_found, voice_unit::specs::Directory::start_word, voice_unit::specs::Directory::loop_word))]
+#[tactic(auto, unfolding(crate::specs::Rip::rip_found))]
 pub fn rip(memory: &Aram, dir: u8, entry: u8) -> RipFound
     ensures found { result ≡ rip_found memory.now dir entry }
     ensures some { 0 < result.blocks }
     ensures few { result.blocks ≤ most_blocks }
 {
-    let at = entry_address(dir, entry);
-    let start = memory.word(at);
-    let address = memory.word(at.wrapping_add(2));
+    let start = start_word(dir, entry, memory);
+    let address = loop_word(dir, entry, memory);
     found_from(memory, start, address)
 }

@@ -1,7 +1,7 @@
 use Rattle.std.proofs.Common.{◌≡◌, ◌+◌, ◌*◌, ◌%◌, ◌≤◌, ◌^◌, ◌++◌, length}
 use Rattle.brr_encode.specs.Encoding.{digit_bytes}
 use Rattle.brr_encode.specs.Greedy.{greedy_digits}
-use Rattle.brr_encode.specs.Steps.{after_targets, coder_after}
+use Rattle.brr_encode.specs.EncoderParts.{after_targets, coder_after}
 use Rattle.brr_encode.proofs.block.push_digits.Given as goal
 
 abbrev pub invariant-pairs : goal.invariant-pairs

@@ -4,7 +4,7 @@ use Rattle.std.proofs.lemmas.Bool.Decides.{nat_tests}
 use Rattle.std.proofs.lemmas.List.Elements.{All-nil}
 use Rattle.brr_encode.specs.Report.{IsWithin}
 use Rattle.brr_encode.specs.Encoding.{padded, encoding, blocks_of}
-use Rattle.brr_encode.specs.Steps.{block_reports, all_reports}
+use Rattle.brr_encode.specs.EncoderParts.{block_reports, all_reports}
 use Rattle.brr_encode.proofs.Streams.{blocks_next, reports_next, reports_are_true}
 use Rattle.brr_encode.proofs.encoder.encode.Goals as goal
 

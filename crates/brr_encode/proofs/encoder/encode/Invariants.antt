@@ -2,7 +2,7 @@ use Rattle.std.proofs.Common.{◌≡◌, ◌/◌, ◌%◌, ◌+◌, ◌*◌, ◌
 use Rattle.std.specs.List.{All}
 use Rattle.brr_encode.specs.Report.{IsWithin}
 use Rattle.brr_encode.specs.Encoding.{encoding, blocks_of, most_samples}
-use Rattle.brr_encode.specs.Steps.{block_reports, all_reports}
+use Rattle.brr_encode.specs.EncoderParts.{block_reports, all_reports}
 use Rattle.brr_encode.proofs.encoder.encode.Given as goal
 
 -- the blocks so far, and after them those of the targets that are left, are all blocks

@@ -1,6 +1,6 @@
 use Rattle.brr_encode.specs.Least.{least_place}
 use Rattle.brr_encode.specs.Greedy.{digit_distance}
-use Rattle.brr_encode.specs.Steps.{IsAt}
+use Rattle.brr_encode.specs.EncoderParts.{IsAt}
 use Rattle.brr_encode.proofs.nearest.nearest.Given as goal
 
 abbrev pub invariant-places : goal.invariant-places

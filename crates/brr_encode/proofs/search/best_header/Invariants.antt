@@ -1,6 +1,6 @@
 use Rattle.brr_encode.specs.Encoding.{header_at}
 use Rattle.brr_encode.specs.Greedy.{greedy_squares}
-use Rattle.brr_encode.specs.Steps.{IsCheapest}
+use Rattle.brr_encode.specs.EncoderParts.{IsCheapest}
 use Rattle.brr_encode.proofs.search.best_header.Given as goal
 
 abbrev pub invariant-headers : goal.invariant-headers

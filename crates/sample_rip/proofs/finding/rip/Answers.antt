@@ -1,8 +1,7 @@
 use Rattle.std.proofs.Common.{refl}
-use Rattle.voice_unit.specs.Directory.{start_word, loop_word}
 use Rattle.sample_rip.specs.Rip.{rip_found}
 use Rattle.sample_rip.proofs.finding.rip.Goals as goal
 
 pub returns-clause-found : goal.returns-clause-found
-unfolding rip_found start_word loop_word
-returns-clause-found c = rw (c.found_from.ensures.found, c.word-start.ensures, c.word-address.ensures, c.entry_address-at.ensures) refl
+unfolding rip_found
+returns-clause-found c = rw (c.found_from.ensures.found, c.start_word-start.ensures, c.loop_word-address.ensures) refl
