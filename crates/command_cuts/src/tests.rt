@@ -1,6 +1,8 @@
 // Lists of cuts over a host in memory.
 use crate::cuts;
-use command_tests::{FIVE, MEMORY, Outcome, Pieces, ROOM, file_of, host_with, straight_table};
+use command_tests::{
+    FIVE, Frames, MEMORY, Outcome, Pieces, ROOM, file_of, host_with, straight_table, wave_of,
+};
 use status_lines::Status;
 use std::alloc::Global;
 use std::test::Fail;
@@ -20,9 +22,6 @@ const CHANGES_241_PAGES: Pieces = &[(
     b"\x8f\x00\x00\x8f\x10\x01\x8d\x00\xf7\x00\xbc\xd7\x00\x3a\x02\xab\x01\xd0\xf5\x2f\xee",
 )];
 
-/// Frames that are alike, with their number and what both sides have.
-type Runs = &'static [(u32, i16)];
-
 /// Renders the cuts of a list, of file five with these pieces more.
 fn cut_from(alloc: Global, pieces: Pieces, list: &[u8]) -> Result<Outcome, Fail> {
     let file = file_of(alloc, 66048, FIVE, pieces)?;
@@ -36,27 +35,6 @@ fn cut_from(alloc: Global, pieces: Pieces, list: &[u8]) -> Result<Outcome, Fail>
     let mut host = host_with(alloc, &inputs, &[], ROOM)?;
     let refusal = cuts(alloc, &mut host, "SPC", "TABLE", "LIST", "OUT");
     Ok(Outcome::of(refusal, host))
-}
-
-/// The sound file of these frames.
-fn wave_of(alloc: Global, runs: Runs) -> Result<Vec<u8>, Fail> {
-    let mut sides = Vec::new(alloc);
-    let mut size = 0u32;
-    for (count, side) in runs {
-        for _ in 0..*count {
-            sides.extend_from_slice(&side.to_le_bytes())?;
-            sides.extend_from_slice(&side.to_le_bytes())?;
-            size = size.wrapping_add(4);
-        }
-    }
-    let mut wave = Vec::from_slice(alloc, b"RIFF")?;
-    wave.extend_from_slice(&size.wrapping_add(36).to_le_bytes())?;
-    wave.extend_from_slice(
-        b"WAVEfmt \x10\0\0\0\x01\0\x02\0\0\x7d\0\0\0\xf4\x01\0\x04\0\x10\0data",
-    )?;
-    wave.extend_from_slice(&size.to_le_bytes())?;
-    wave.extend_from_slice(sides.as_slice())?;
-    Ok(wave)
 }
 
 /// A list of so many cuts without frames, each so many samples after the one before.
@@ -74,7 +52,7 @@ fn list_of(alloc: Global, count: u32, distance: u32, last: &str) -> Result<Vec<u
 
 #[test]
 fn cuts_of_a_tune(rt: HostRuntime) -> Result<(), Fail> {
-    let cases: &[(Pieces, &str, Runs, &str)] = &[
+    let cases: &[(Pieces, &str, Frames, &str)] = &[
         (
             &[],
             "6 2\n0 8",

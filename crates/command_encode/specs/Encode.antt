@@ -42,7 +42,8 @@ blocks_answer output samples blocks = done (record { name = output; bytes = bloc
 
 -- what the encoding of samples to this name answers
 abbrev pub encoding_answer : (output : List ℕ) → (looped : Bool) → (samples : List ℤ) → Answer Cause
-encoding_answer output looped samples = answer_from (refused_by (encode_refusal (length samples)) (encoded_samples samples looped)) (blocks_answer output samples)
+encoding_answer output looped samples =
+    answer_from (refused_by (encode_refusal (length samples)) (encoded_samples samples looped)) (blocks_answer output samples)
 
 -- the same by what the bytes of the input are: samples, or no file of one channel
 abbrev pub samples_answer : (output : List ℕ) → (looped : Bool) → Result (List ℤ) WavRefusal → Answer Cause

@@ -3,6 +3,7 @@ ghost use Rattle.std.specs.Prelude.{◌≡◌, ◌≤◌, ◌++◌, IfOk, true};
 ghost use Rattle.wav_form.specs.Wave.{header_of, stereo_wave};
 ghost use Rattle.lock_step.specs.DspChip.{dsp_chip, dsp_saving};
 ghost use Rattle.page_pool.specs.Pool.{most_pages};
+ghost use Rattle.cut_form.specs.Checkpoints.{fewest_pages};
 ghost use Rattle.snd_host.specs.Host.{HostState, Files};
 ghost use Rattle.command_frame.specs.Conduct.{Plans, Prepares, Attempts};
 ghost use Rattle.command_frame.specs.Delivery.{CanDeliver};
@@ -37,7 +38,7 @@ fn open_session(
     script: ScriptLines,
     pages: u32,
 ) -> Result<SessionFiles<Dsp>, OutOfMemory>
-    requires enough { 256 ≤ pages }
+    requires enough { fewest_pages ≤ pages }
     requires few { pages ≤ most_pages }
     ensures wave { IfOk result (λ files. header_of 2 (played_frames 0 0 script) ++ (to_come_of dsp_chip dsp_saving files).first
         ≡ stereo_wave (cut_frames (tune_frames file.now table 0) (played_cuts (tune_replies pages file.now table script)))) }
@@ -57,7 +58,7 @@ fn plan<'a>(
     wave: &'a str,
     pages: u32,
 ) -> Result<StreamedPlan<'a, SessionFiles<Dsp>>, Refusal<Cause>>
-    requires enough { 256 ≤ pages }
+    requires enough { fewest_pages ≤ pages }
     requires few { pages ≤ most_pages }
     ensures { let answer = script_answer wave.now pages file.now table script in
         Plans (stream_makes (to_come_of dsp_chip dsp_saving) (report_of dsp_chip dsp_saving)) answer result }
@@ -87,7 +88,7 @@ fn prepare_script<'a, H: Host>(
     wave: &'a str,
     pages: u32,
 ) -> Result<StreamedPlan<'a, SessionFiles<Dsp>>, Refusal<Cause>>
-    requires enough { 256 ≤ pages }
+    requires enough { fewest_pages ≤ pages }
     requires few { pages ≤ most_pages }
     ensures { let answer = λ (files : Files). table_answer wave.now pages (files script.now) file.now table in
         Prepares (stream_makes (to_come_of dsp_chip dsp_saving) (report_of dsp_chip dsp_saving)) answer (H.state host.old) (H.state host.new) result }
@@ -107,7 +108,7 @@ fn prepare_table<'a, H: Host>(
     wave: &'a str,
     pages: u32,
 ) -> Result<StreamedPlan<'a, SessionFiles<Dsp>>, Refusal<Cause>>
-    requires enough { 256 ≤ pages }
+    requires enough { fewest_pages ≤ pages }
     requires few { pages ≤ most_pages }
     ensures { let answer = λ (files : Files). file_answer wave.now pages (files inputs.entry.0.now) (files inputs.entry.1.now) file.now in
         Prepares (stream_makes (to_come_of dsp_chip dsp_saving) (report_of dsp_chip dsp_saving)) answer (H.state host.old) (H.state host.new) result }
@@ -127,7 +128,7 @@ fn prepare<'a, H: Host>(
     wave: &'a str,
     pages: u32,
 ) -> Result<StreamedPlan<'a, SessionFiles<Dsp>>, Refusal<Cause>>
-    requires enough { 256 ≤ pages }
+    requires enough { fewest_pages ≤ pages }
     requires few { pages ≤ most_pages }
     ensures { let answer = λ (files : Files). serve_answer wave.now pages (files file.now) (files inputs.entry.0.now) (files inputs.entry.1.now) in
         Prepares (stream_makes (to_come_of dsp_chip dsp_saving) (report_of dsp_chip dsp_saving)) answer (H.state host.old) (H.state host.new) result }
@@ -149,7 +150,7 @@ pub fn serve<H: Host>(
     pages: u32,
 ) -> Option<Refusal<Cause>>
     requires outputs { CanDeliver (H.state host.old) }
-    requires enough { 256 ≤ pages }
+    requires enough { fewest_pages ≤ pages }
     requires few { pages ≤ most_pages }
     ensures attempts { let answer = λ (files : Files). serve_answer wave.now pages (files file.now) (files inputs.entry.0.now) (files inputs.entry.1.now) in
         Attempts answer true result (H.state host.old) (H.state host.new) }

@@ -1,8 +1,12 @@
 // Sessions over a host in memory.
 ghost use Rattle.std.specs.Prelude.{◌≤◌};
+ghost use Rattle.page_pool.specs.Pool.{most_pages};
+ghost use Rattle.cut_form.specs.Checkpoints.{fewest_pages};
 
 use crate::serve;
-use command_tests::{FIVE, MEMORY, Outcome, Pieces, ROOM, file_of, host_with, straight_table};
+use command_tests::{
+    FIVE, MEMORY, Outcome, Pieces, ROOM, file_of, host_with, straight_table, wave_of,
+};
 use status_lines::Status;
 use std::alloc::Global;
 use std::test::Fail;
@@ -18,8 +22,8 @@ const COUNTS: Pieces = &[(MEMORY + 0x0400, b"\xac\x00\x07\x2f\xfb")];
 
 /// Runs a script over file five with these pieces more, with so many pages.
 fn served(alloc: Global, more: Pieces, script: &[u8], pages: u32) -> Result<Outcome, Fail>
-    requires enough { 256 ≤ pages }
-    requires few { pages ≤ 65536 }
+    requires enough { fewest_pages ≤ pages }
+    requires few { pages ≤ most_pages }
 {
     let file = file_of(alloc, 66048, FIVE, more)?;
     let table = straight_table(alloc)?;
@@ -34,33 +38,13 @@ fn served(alloc: Global, more: Pieces, script: &[u8], pages: u32) -> Result<Outc
     Ok(Outcome::of(refusal, host))
 }
 
-/// The sound file of so many frames of silence, of 4000 and of silence again.
-fn wave_of(alloc: Global, counts: [u32; 3]) -> Result<Vec<u8>, Fail> {
-    let mut sides = Vec::new(alloc);
-    let mut size = 0u32;
-    for (count, side) in [(counts[0], 0i16), (counts[1], 4000), (counts[2], 0)] {
-        for _ in 0..count {
-            sides.extend_from_slice(&side.to_le_bytes())?;
-            sides.extend_from_slice(&side.to_le_bytes())?;
-            size = size.wrapping_add(4);
-        }
-    }
-    let mut wave = Vec::from_slice(alloc, b"RIFF")?;
-    wave.extend_from_slice(&size.wrapping_add(36).to_le_bytes())?;
-    wave.extend_from_slice(
-        b"WAVEfmt \x10\0\0\0\x01\0\x02\0\0\x7d\0\0\0\xf4\x01\0\x04\0\x10\0data",
-    )?;
-    wave.extend_from_slice(&size.to_le_bytes())?;
-    wave.extend_from_slice(sides.as_slice())?;
-    Ok(wave)
-}
-
 #[test]
 fn sessions_with_few_pages(rt: HostRuntime) -> Result<(), Fail> {
     let whole = "play 70\nmark\nseek 60\nmark\nfree\ndrop 60\ndrop 0\nfree\n";
     let told =
         "played 70 at 70\nmark 70 gave 0\nat 60\nmark 60 gave 1\nfree 1 marks 2 made 130\ndropped 60\nnone 0\n\
         free 1 marks 1 made 130\n";
+    // How many frames of silence are played, of 4000 and of silence again.
     for (script, pages, report, counts) in [
         (whole, 257, told, [6, 58, 6]),
         (
@@ -79,7 +63,8 @@ fn sessions_with_few_pages(rt: HostRuntime) -> Result<(), Fail> {
         ("", 4096, "", [0, 0, 0]),
     ] {
         let outcome = served(rt.alloc(), ENDS_THE_BLOCK, script.as_bytes(), pages)?;
-        let wave = wave_of(rt.alloc(), counts)?;
+        let frames = [(counts[0], 0i16), (counts[1], 4000), (counts[2], 0)];
+        let wave = wave_of(rt.alloc(), &frames)?;
         assert!(rt; outcome.is_done(wave.as_slice(), report), "{script}");
     }
     Ok(())
@@ -93,7 +78,7 @@ fn the_oldest_mark_is_given_up(rt: HostRuntime) -> Result<(), Fail> {
         "at 70\nmark 70 gave 0\nat 140\nmark 140 gave 0\nat 210\nmark 210 gave 1\nnone 70\ndropped 140\n\
         free 1 marks 2 made 210\n";
     let outcome = served(rt.alloc(), COUNTS, script.as_slice(), 258)?;
-    let wave = wave_of(rt.alloc(), [0, 0, 0])?;
+    let wave = wave_of(rt.alloc(), &[])?;
     assert!(rt; outcome.is_done(wave.as_slice(), report));
     Ok(())
 }
