@@ -8,7 +8,7 @@ use Rattle.lock_step.specs.declared.counts.Counts.{Counts}
 use Rattle.gauss_table.specs.StraightTable.{straight_table}
 use Rattle.demo_gen.specs.Demo.{demo_bytes}
 use Rattle.command_frame.specs.Answer.{Answer, done}
-use Rattle.render_files.specs.Batches.{batch_line}
+use Rattle.render_files.specs.RenderReport.{batch_line}
 use Rattle.tune_render.specs.Tune.{tune_frames, tune_counts}
 use Rattle.status_lines.specs.declared.cause.Cause.{Cause}
 use Rattle.command_check.specs.declared.sums.Sums.{Sums}
@@ -45,7 +45,7 @@ pub record AreWithin (frames : ℕ) (sums : Sums) : Type 0 where
 
 abbrev pub check_report : Sums → Counts → List ℕ
 check_report sums counts =
-    codes "samples 320000\nleft " ++ signed_decimal sums.left ++ codes "\nright " ++ signed_decimal sums.right
+    codes "samples " ++ decimal checked_samples ++ codes "\nleft " ++ signed_decimal sums.left ++ codes "\nright " ++ signed_decimal sums.right
     ++ codes "\nmix " ++ decimal sums.mix ++ codes "\n" ++ batch_line counts
 
 -- the frames of the demo file of a number in ten seconds, and the counts of the batches in which they are made

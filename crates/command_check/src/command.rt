@@ -52,7 +52,8 @@ fn report(alloc: Global, sums: Sums, counts: Counts) -> Result<Vec<u8>, OutOfMem
     ensures { IfOk result (λ report. report.items ≡ check_report sums counts) }
 {
     let mut report = Vec::new(alloc);
-    put_signed(&mut report, b"samples 320000\nleft ", sums.left)?;
+    put_named(&mut report, b"samples ", u64::from(SAMPLES))?;
+    put_signed(&mut report, b"\nleft ", sums.left)?;
     put_signed(&mut report, b"\nright ", sums.right)?;
     put_named(&mut report, b"\nmix ", u64::from(sums.mix))?;
     report.extend_from_slice(b"\n")?;

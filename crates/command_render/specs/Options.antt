@@ -22,5 +22,5 @@ options_of options = record {
 }
 
 -- a number of samples that was given is an hour of frames at most
-abbrev pub IsWithinHour : Option ℕ → Type 0
-IsWithinHour samples = IfSome samples (λ samples. samples ≤ most_frames)
+abbrev pub SamplesWithinHour : Option ℕ → Type 0
+SamplesWithinHour samples = IfSome samples (λ samples. samples ≤ most_frames)

@@ -12,7 +12,7 @@ use Rattle.input_files.specs.Reading.{answer_from}
 use Rattle.input_files.specs.Inputs.{file_in, table_in}
 use Rattle.command_render.specs.Options.{Options}
 use Rattle.render_files.specs.RenderFiles.{trace_of}
-use Rattle.render_files.specs.Batches.{sound_report}
+use Rattle.render_files.specs.RenderReport.{sound_report}
 use Rattle.tune_render.specs.Tune.{tune_frames, tune_records, tune_counts}
 use Rattle.status_lines.specs.declared.cause.Cause.{Cause}
 

@@ -7,11 +7,11 @@ ghost use Rattle.snd_host.specs.Host.{HostState, Files};
 ghost use Rattle.command_frame.specs.Conduct.{Plans, Prepares, Attempts};
 ghost use Rattle.command_frame.specs.Delivery.{CanDeliver};
 ghost use Rattle.command_frame.specs.Plan.{stream_makes};
-ghost use Rattle.render_files.specs.Batches.{sound_report};
+ghost use Rattle.render_files.specs.RenderReport.{sound_report};
 ghost use Rattle.num_fix.specs.Limits.{most_frames};
 ghost use Rattle.render_files.specs.RenderFiles.{trace_of, to_come_of, report_of};
 ghost use Rattle.tune_render.specs.Tune.{tune_frames, tune_records, tune_counts};
-ghost use Rattle.command_render.specs.Options.{options_of, IsWithinHour};
+ghost use Rattle.command_render.specs.Options.{options_of, SamplesWithinHour};
 ghost use Rattle.command_render.specs.Render.{length_with, traced_voices, rendering_answer, file_answer, render_answer};
 
 use crate::RenderOptions;
@@ -29,7 +29,7 @@ use wav_form::header;
 
 /// The length of the render and its fade, in frames.
 fn length_with(samples: Option<u32>, file: &SpcFile) -> Length
-    requires { IsWithinHour samples }
+    requires { SamplesWithinHour samples }
     ensures length { result ≡ length_with samples file.now }
     ensures frames { result.frames ≤ most_frames }
     ensures fade { result.fade ≤ result.frames }
@@ -80,7 +80,7 @@ fn plan<'a>(
     wave: &'a str,
     options: RenderOptions<'a>,
 ) -> Result<StreamedPlan<'a, RenderFiles<Dsp>>, Refusal<Cause>>
-    requires { IsWithinHour options.samples }
+    requires { SamplesWithinHour options.samples }
     ensures { let answer = rendering_answer wave.now (options_of options.entry) file.now table in
         Plans (stream_makes (to_come_of dsp_chip) (report_of dsp_chip)) answer result }
 {
@@ -109,7 +109,7 @@ fn prepare_with<'a, H: Host>(
     wave: &'a str,
     options: RenderOptions<'a>,
 ) -> Result<StreamedPlan<'a, RenderFiles<Dsp>>, Refusal<Cause>>
-    requires { IsWithinHour options.samples }
+    requires { SamplesWithinHour options.samples }
     ensures { let answer = λ (files : Files). file_answer wave.now (options_of options.entry) (files table.now) file.now in
         Prepares (stream_makes (to_come_of dsp_chip) (report_of dsp_chip)) answer (H.state host.old) (H.state host.new) result }
 {
@@ -128,7 +128,7 @@ fn prepare<'a, H: Host>(
     wave: &'a str,
     options: RenderOptions<'a>,
 ) -> Result<StreamedPlan<'a, RenderFiles<Dsp>>, Refusal<Cause>>
-    requires { IsWithinHour options.samples }
+    requires { SamplesWithinHour options.samples }
     ensures { let answer = λ (files : Files). render_answer wave.now (options_of options.entry) (files file.now) (files table.now) in
         Prepares (stream_makes (to_come_of dsp_chip) (report_of dsp_chip)) answer (H.state host.old) (H.state host.new) result }
 {
@@ -148,7 +148,7 @@ pub fn render<H: Host>(
     options: RenderOptions<'_>,
 ) -> Option<Refusal<Cause>>
     requires outputs { CanDeliver (H.state host.old) }
-    requires within_hour { IsWithinHour options.samples }
+    requires within_hour { SamplesWithinHour options.samples }
     ensures attempts { let answer = λ (files : Files). render_answer wave.now (options_of options.entry) (files file.now) (files table.now) in
         Attempts answer true result (H.state host.old) (H.state host.new) }
     ensures not_usage { result ≡ Some Refusal.Usage → ⊥ }

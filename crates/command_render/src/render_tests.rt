@@ -1,12 +1,14 @@
 // Renders over a host in memory.
-ghost use Rattle.command_render.specs.Options.{IsWithinHour};
+ghost use Rattle.command_render.specs.Options.{SamplesWithinHour};
 
 use crate::test_support::{
-    Frames, Heard, NO_BATCH, ONE_BATCH, expected_report, has_frames, no_options, render_failing,
+    Heard, NO_BATCH, ONE_BATCH, expected_report, has_frames, no_options, render_failing,
     render_straight, samples, tune_of, with_trace,
 };
 use crate::{RenderOptions, render};
-use command_tests::{DSP, FIVE, MEMORY, Outcome, Pieces, ROOM, file_of, host_with, straight_table};
+use command_tests::{
+    DSP, FIVE, Frames, MEMORY, Outcome, Pieces, ROOM, file_of, host_with, straight_table,
+};
 use status_lines::Status;
 use std::alloc::Global;
 use std::test::Fail;
@@ -310,7 +312,7 @@ fn files_and_then_tables_are_refused(rt: HostRuntime) -> Result<(), Fail> {
 
 /// The first call of a render with these options that leaves what it may not where it fails.
 fn first_lawless_call(alloc: Global, options: RenderOptions<'_>) -> Result<Option<u32>, Fail>
-    requires { IsWithinHour options.samples }
+    requires { SamplesWithinHour options.samples }
 {
     let file = tune_of(alloc, FIVE, &[])?;
     let table = straight_table(alloc)?;

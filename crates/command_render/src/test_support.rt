@@ -1,35 +1,11 @@
 // What the tests of `render` share: renders over a host in memory, and what they have.
 ghost use Rattle.std.specs.Prelude.{◌≡◌, Some, None};
-ghost use Rattle.command_render.specs.Options.{IsWithinHour};
+ghost use Rattle.command_render.specs.Options.{SamplesWithinHour};
 
 use crate::{RenderOptions, render};
-use command_tests::{Outcome, Pieces, ROOM, file_of, host_with, straight_table};
+use command_tests::{Frames, Outcome, Pieces, ROOM, file_of, host_with, straight_table, wave_of};
 use std::alloc::Global;
 use std::test::Fail;
-
-/// Frames that are the same on both sides: how many there are of each, one after another.
-pub type Frames = &'static [(u32, i16)];
-
-/// The sound file of these frames.
-pub fn wave_of(alloc: Global, frames: Frames) -> Result<Vec<u8>, Fail> {
-    let mut sides = Vec::new(alloc);
-    let mut size = 0u32;
-    for (count, side) in frames {
-        for _ in 0..*count {
-            sides.extend_from_slice(&side.to_le_bytes())?;
-            sides.extend_from_slice(&side.to_le_bytes())?;
-            size = size.wrapping_add(4);
-        }
-    }
-    let mut wave = Vec::from_slice(alloc, b"RIFF")?;
-    wave.extend_from_slice(&size.wrapping_add(36).to_le_bytes())?;
-    wave.extend_from_slice(
-        b"WAVEfmt \x10\0\0\0\x01\0\x02\0\0\x7d\0\0\0\xf4\x01\0\x04\0\x10\0data",
-    )?;
-    wave.extend_from_slice(&size.to_le_bytes())?;
-    wave.extend_from_slice(sides.as_slice())?;
-    Ok(wave)
-}
 
 /// No options.
 pub fn no_options() -> RenderOptions<'static>
@@ -72,7 +48,7 @@ pub fn render_failing(
     options: RenderOptions<'_>,
     failing: &[u32],
 ) -> Result<Outcome, Fail>
-    requires { IsWithinHour options.samples }
+    requires { SamplesWithinHour options.samples }
 {
     let inputs = [("SPC", file), ("TABLE", table)];
     let mut host = host_with(alloc, &inputs, failing, ROOM)?;
@@ -86,7 +62,7 @@ pub fn render_straight(
     file: &[u8],
     options: RenderOptions<'_>,
 ) -> Result<Outcome, Fail>
-    requires { IsWithinHour options.samples }
+    requires { SamplesWithinHour options.samples }
 {
     let table = straight_table(alloc)?;
     render_failing(alloc, file, table.as_slice(), options, &[])

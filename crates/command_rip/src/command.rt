@@ -1,6 +1,7 @@
 // The command `rip`: samples of a tune as sound files.
 ghost use Rattle.std.specs.Prelude.{◌≡◌, ◌+◌, ◌<◌, ◌≤◌, ◌++◌, map, length, codes, string_bytes, IfOk, true};
 ghost use Rattle.spc_form.specs.Layout.{dsp_of};
+ghost use Rattle.sample_rip.specs.Entries.{most_entries};
 ghost use Rattle.spc_form.specs.Opening.{opening_memory};
 ghost use Rattle.snd_host.specs.Host.{HostState, Files};
 ghost use Rattle.command_frame.specs.Answer.{done};
@@ -26,7 +27,7 @@ use wav_form::header;
 /// The entries that are wanted, in ascending order.
 fn wanted_in(alloc: Global, file: &SpcFile, range: Option<(u8, u8)>) -> Result<Vec<u8>, OutOfMemory>
     ensures entries { IfOk result (λ entries. entries.items ≡ wanted_in (dsp_of file.now) range) }
-    ensures few { IfOk result (λ entries. length entries.items ≤ 256) }
+    ensures few { IfOk result (λ entries. length entries.items ≤ most_entries) }
 {
     let flags = wanted(file, range);
     let mut entries = Vec::new(alloc);
@@ -113,7 +114,7 @@ fn plan_file<'a>(
     requires memory { state.now.memory ≡ opening_memory file.now }
     requires dsp { state.now.dsp ≡ dsp_of file.now }
     ensures plans { Plans (list_makes to_come_of) (file_answer prefix.now range file.now) result }
-    ensures few { IfOk result (λ plan. length plan.outputs.items ≤ 256) }
+    ensures few { IfOk result (λ plan. length plan.outputs.items ≤ most_entries) }
 {
     let Ok(entries) = wanted_in(alloc, file, range) else {
         return Err(Refusal::OutOfMemory);
@@ -134,7 +135,7 @@ pub fn rip<H: Host>(
     prefix: &str,
     range: Option<(u8, u8)>,
 ) -> Option<Refusal<Cause>>
-    requires { CanDeliverAll 256 (H.state host.old) }
+    requires { CanDeliverAll most_entries (H.state host.old) }
     ensures attempts { let answer = λ (files : Files). rip_answer prefix.now range (files input.now) in
         Attempts answer true result (H.state host.old) (H.state host.new) }
     ensures not_usage { result ≡ Some Refusal.Usage → ⊥ }

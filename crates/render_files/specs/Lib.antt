@@ -1,4 +1,4 @@
 -- what a render reports
-pub mod Batches
+pub mod RenderReport
 -- what contracts see of a render that is turned into files
 pub mod RenderFiles

@@ -10,7 +10,7 @@ use Rattle.lock_step.specs.ChipMeaning.{ChipMeaning}
 use Rattle.render_core.specs.RenderState.{RenderState, frames_to_come, records_to_come, counts_to_come}
 use Rattle.render_core.specs.Fade.{faded_from}
 use Rattle.command_frame.specs.Stream.{Both}
-use Rattle.render_files.specs.Batches.{sound_report}
+use Rattle.render_files.specs.RenderReport.{sound_report}
 
 pub record FilesState (S : Type 0) : Type 0 where
   pub render : RenderState S

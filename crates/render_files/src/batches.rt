@@ -1,6 +1,6 @@
 // What a render reports: its samples, and how often the chip ran for them, and why.
 ghost use Rattle.std.specs.Prelude.{◌≡◌, ◌+◌, ◌≤◌, ◌++◌, length, decimal};
-ghost use Rattle.render_files.specs.Batches.{batch_line, sound_report};
+ghost use Rattle.render_files.specs.RenderReport.{batch_line, sound_report};
 ghost use Rattle.report_text.specs.Room.{room_size};
 
 use lock_step::Counts;

@@ -5,7 +5,7 @@ ghost use Rattle.wav_form.specs.Wave.{frame_bytes, header_of, stereo_wave};
 ghost use Rattle.trace_form.specs.Line.{lines_of};
 ghost use Rattle.render_core.specs.Fade.{faded_from, faded_frames};
 ghost use Rattle.render_core.specs.RenderState.{frames_to_come, records_to_come, counts_to_come};
-ghost use Rattle.render_files.specs.Batches.{sound_report};
+ghost use Rattle.render_files.specs.RenderReport.{sound_report};
 ghost use Rattle.num_fix.specs.Limits.{most_frames};
 ghost use Rattle.render_files.specs.RenderFiles.{trace_of, to_come_of, held_of, report_of, work_of, IsUnmade};
 ghost use Rattle.report_text.specs.Room.{room_size};
