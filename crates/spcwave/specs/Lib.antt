@@ -11,4 +11,4 @@ pub mod Run
 -- a host that tells no contents
 pub mod Untold
 -- what the words that were read mean
-pub mod Words
+pub mod Meaning

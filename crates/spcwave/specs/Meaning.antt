@@ -2,8 +2,8 @@
 use Rattle.std.specs.Prelude.{◌≤◌}
 use Rattle.page_pool.specs.Pool.{most_pages}
 use Rattle.spcwave.specs.Command as command
-use Rattle.spcwave.specs.Options.{fewest_pages}
-use Rattle.command_render.specs.Options.{options_of, IsWithinHour}
+use Rattle.cut_form.specs.Checkpoints.{fewest_pages}
+use Rattle.command_render.specs.Options.{options_of, SamplesWithinHour}
 use Rattle.spcwave.specs.declared.words.Command.{Command}
 use Rattle.spcwave.specs.declared.words.Command.TheVariants.{Usage, Help, Version, Brr, Info, Encode, Render, Demo, Check, Asm, Dis, Rip, Cuts, Serve}
 
@@ -15,7 +15,7 @@ AreInRange Version = Unit {0}
 AreInRange (Brr input output) = Unit {0}
 AreInRange (Info input) = Unit {0}
 AreInRange (Encode input output looped) = Unit {0}
-AreInRange (Render file table wave options) = IsWithinHour options.samples
+AreInRange (Render file table wave options) = SamplesWithinHour options.samples
 AreInRange (Demo number output) = Unit {0}
 AreInRange (Check number) = Unit {0}
 AreInRange (Asm input origin output) = Unit {0}

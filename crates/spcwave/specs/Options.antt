@@ -7,6 +7,7 @@ use Rattle.hex.specs.declared.error.FromHexError.{FromHexError}
 use Rattle.number_text.specs.Decimals.{decimal_value, is_number}
 use Rattle.num_fix.specs.Limits.{most_frames}
 use Rattle.page_pool.specs.Pool.{most_pages}
+use Rattle.cut_form.specs.Checkpoints.{fewest_pages}
 use Rattle.cut_form.specs.CutBook.{slots_for_cuts}
 use Rattle.command_render.specs.Options.{Options}
 
@@ -61,10 +62,7 @@ range_of (Err error) = None
 abbrev pub range_in : List ℕ → Option (ℕ × ℕ)
 range_in word = range_of (decode_sized word 2)
 
--- the fewest pages for the checkpoints of a session, which is those of one memory, and how many it has where no word says so
-abbrev pub fewest_pages : ℕ
-fewest_pages = 256
-
+-- how many pages the checkpoints of a session have where no word says so
 abbrev pub usual_pages : ℕ
 usual_pages = slots_for_cuts
 

@@ -2,17 +2,15 @@
 ghost use Rattle.std.specs.Prelude.{◌≡◌, ◌≤◌, map, string_bytes, IfSome};
 ghost use Rattle.page_pool.specs.Pool.{most_pages};
 ghost use Rattle.spcwave.specs.Command.{cuts_command, serve_with, serve_over, serve_command};
-ghost use Rattle.spcwave.specs.Options.{fewest_pages};
-ghost use Rattle.spcwave.specs.Words.{meaning_of, AreInRange};
+ghost use Rattle.cut_form.specs.Checkpoints.{fewest_pages};
+ghost use Rattle.spcwave.specs.Meaning.{meaning_of, AreInRange};
 
 use crate::options::{is_name, pages_in};
 use crate::words::Command;
-
-/// How many pages the checkpoints of a session have where no word says so.
-const USUAL_PAGES: u32 = 4096;
+use cut_form::SLOTS_FOR_CUTS;
 
 /// Reads the words after `cuts`.
-pub fn read_cuts(words: &[String]) -> Command<'_>
+pub fn read_cuts_command(words: &[String]) -> Command<'_>
     ensures meaning { meaning_of result ≡ cuts_command (map string_bytes words.now) }
     ensures in_range { AreInRange result }
 {
@@ -74,7 +72,7 @@ fn serve_over<'a>(
             table,
             script,
             wave,
-            pages: USUAL_PAGES,
+            pages: SLOTS_FOR_CUTS,
         },
         [option, pages] if option.as_str() == "--pages" => {
             serve_with(file, table, script, wave, pages_in(pages.as_bytes()))
@@ -84,7 +82,7 @@ fn serve_over<'a>(
 }
 
 /// Reads the words after `serve`.
-pub fn read_serve(words: &[String]) -> Command<'_>
+pub fn read_serve_command(words: &[String]) -> Command<'_>
     ensures meaning { meaning_of result ≡ serve_command (map string_bytes words.now) }
     ensures in_range { AreInRange result }
 {

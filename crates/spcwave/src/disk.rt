@@ -185,10 +185,10 @@ mod tests {
     use super::DiskHost;
     use crate::run::run;
     use crate::test_support::{list_words, run_over};
-    use command_tests::{ROOM, straight_table};
+    use command_tests::{Outcome, ROOM, straight_table};
     use status_lines::Status;
     use std::alloc::Global;
-    use std::rt::Files;
+    use std::rt::{Env, Files};
     use std::test::Fail;
     use std::{env, fs};
 
@@ -200,10 +200,9 @@ mod tests {
         complaint: Vec<u8>,
     }
 
-    fn run_on_disk<R: Files>(alloc: Global, files: &R, words: &[&str]) -> Result<Ended, Fail> {
-        let words = list_words(alloc, words)?;
+    fn run_on_disk<R: Files>(alloc: Global, files: &R, words: &[String]) -> Result<Ended, Fail> {
         let mut host = DiskHost::new(alloc, files, Vec::new(alloc), Vec::new(alloc));
-        let status = run(alloc, words.as_slice(), &mut host);
+        let status = run(alloc, words, &mut host);
         Ok(Ended {
             status,
             report: host.report,
@@ -211,54 +210,118 @@ mod tests {
         })
     }
 
-    /// A render of many pieces with a trace, from a file that was written over real files too.
-    #[test]
-    fn a_render_over_real_files_is_that_in_memory(rt: HostRuntime) -> Result<(), Fail> {
-        let alloc = rt.alloc();
-        let id = std::process::id(rt.process());
-        let folder = env::temp_dir(&rt)?;
-        let name = format!(in alloc; "{}/spcwave-{id}", folder.display())?;
-        let tune = format!(in alloc; "{name}.spc")?;
-        let table = format!(in alloc; "{name}.table")?;
-        let wave = format!(in alloc; "{name}.wav")?;
-        let trace = format!(in alloc; "{name}.txt")?;
-        fs::write(&rt, table.as_str(), straight_table(alloc)?.as_slice())?;
-        let made = run_on_disk(alloc, &rt, &["demo", "7", tune.as_str()])?;
+    /// The names of real files, which all begin alike.
+    #[derive(Drop)]
+    struct Names {
+        tune: String,
+        table: String,
+        wave: String,
+        trace: String,
+    }
+
+    /// What the names of this process's files begin with.
+    fn front_of(
+        alloc: Global,
+        rt: &(impl Env + AllocGlobal),
+        process: u32,
+    ) -> Result<String, Fail> {
+        let folder = env::temp_dir(rt)?;
+        Ok(format!(in alloc; "{}/spcwave-{process}", folder.display())?)
+    }
+
+    fn name_of(alloc: Global, front: &str, end: &str) -> Result<String, Fail> {
+        let mut name = String::from_str(alloc, front)?;
+        name.push_str(end)?;
+        Ok(name)
+    }
+
+    fn names_of(alloc: Global, front: &str) -> Result<Names, Fail> {
+        Ok(Names {
+            tune: name_of(alloc, front, ".spc")?,
+            table: name_of(alloc, front, ".table")?,
+            wave: name_of(alloc, front, ".wav")?,
+            trace: name_of(alloc, front, ".txt")?,
+        })
+    }
+
+    /// The words of a render of many pieces with a trace.
+    fn render_words(alloc: Global, names: &Names) -> Result<Vec<String>, Fail> {
         let words = [
             "render",
-            tune.as_str(),
-            table.as_str(),
-            wave.as_str(),
+            names.tune.as_str(),
+            names.table.as_str(),
+            names.wave.as_str(),
             "--samples",
             "1000",
             "--trace",
-            trace.as_str(),
+            names.trace.as_str(),
             "--voices",
             "00",
         ];
-        let ended = run_on_disk(alloc, &rt, &words)?;
-        let file = fs::read(&rt, tune.as_str())?;
-        let weights = fs::read(&rt, table.as_str())?;
-        let frames = fs::read(&rt, wave.as_str())?;
-        let lines = fs::read(&rt, trace.as_str())?;
-        for name in [&tune, &table, &wave, &trace] {
-            fs::remove_file(&rt, name.as_str())?;
-        }
+        list_words(alloc, &words)
+    }
 
-        let given = list_words(alloc, &words)?;
+    /// What the files hold.
+    #[derive(Drop)]
+    struct Held {
+        tune: Vec<u8>,
+        table: Vec<u8>,
+        wave: Vec<u8>,
+        trace: Vec<u8>,
+    }
+
+    fn read_all<R: Files + AllocGlobal>(files: &R, names: &Names) -> Result<Held, Fail> {
+        Ok(Held {
+            tune: fs::read(files, names.tune.as_str())?,
+            table: fs::read(files, names.table.as_str())?,
+            wave: fs::read(files, names.wave.as_str())?,
+            trace: fs::read(files, names.trace.as_str())?,
+        })
+    }
+
+    fn remove_all<R: Files>(files: &R, names: &Names) -> Result<(), Fail> {
+        for name in [&names.tune, &names.table, &names.wave, &names.trace] {
+            fs::remove_file(files, name.as_str())?;
+        }
+        Ok(())
+    }
+
+    /// The same render over a host in memory that has the same inputs.
+    fn render_inside(alloc: Global, names: &Names, held: &Held) -> Result<Outcome, Fail> {
+        let words = render_words(alloc, names)?;
         let inputs = [
-            (tune.as_str(), file.as_slice()),
-            (table.as_str(), weights.as_slice()),
+            (names.tune.as_str(), held.tune.as_slice()),
+            (names.table.as_str(), held.table.as_slice()),
         ];
-        let inside = run_over(alloc, given.as_slice(), &inputs, ROOM)?;
-        assert_eq!(rt; made.status, Status::Ok);
-        assert_eq!(rt; ended.status, Status::Ok);
-        assert_eq!(rt; ended.complaint.len(), 0);
-        assert_eq!(rt; frames.len(), 44 + 4 * 1000);
-        assert!(rt; !lines.is_empty());
-        assert!(rt; frames.as_slice() == inside.first());
-        assert!(rt; lines.as_slice() == inside.second());
-        assert!(rt; ended.report.as_slice() == inside.report());
+        run_over(alloc, words.as_slice(), &inputs, ROOM)
+    }
+
+    /// Whether a run over real files was done and gave what one in memory did.
+    fn is_alike(ended: &Ended, held: &Held, inside: &Outcome) -> bool {
+        ended.status == Status::Ok
+            && ended.complaint.is_empty()
+            && ended.report.as_slice() == inside.report()
+            && held.wave.as_slice() == inside.first()
+            && held.trace.as_slice() == inside.second()
+    }
+
+    /// From a file that was written over real files too.
+    #[test]
+    fn a_render_over_real_files_is_that_in_memory(rt: HostRuntime) -> Result<(), Fail> {
+        let alloc = rt.alloc();
+        let front = front_of(alloc, &rt, std::process::id(rt.process()))?;
+        let names = names_of(alloc, front.as_str())?;
+        fs::write(&rt, names.table.as_str(), straight_table(alloc)?.as_slice())?;
+        let demo = list_words(alloc, &["demo", "7", names.tune.as_str()])?;
+        let made = run_on_disk(alloc, &rt, demo.as_slice())?;
+        let words = render_words(alloc, &names)?;
+        let ended = run_on_disk(alloc, &rt, words.as_slice())?;
+        let held = read_all(&rt, &names)?;
+        remove_all(&rt, &names)?;
+        let inside = render_inside(alloc, &names, &held)?;
+        assert!(rt; made.status == Status::Ok);
+        assert!(rt; held.wave.len() == 44 + 4 * 1000 && !held.trace.is_empty());
+        assert!(rt; is_alike(&ended, &held, &inside));
         Ok(())
     }
 }

@@ -1,13 +1,12 @@
 // Damaged files, failing hosts and awkward programs: each run over a host in memory, and over one that gives and takes
 // one byte at a time.
 use crate::test_support::{drips_alike, list_words, run_dripping, run_failing, run_over};
-use command_tests::{DSP, FIVE, MEMORY, Outcome, Pieces, ROOM, file_of, straight_table};
+use command_tests::{
+    DSP, FIVE, Frames, MEMORY, Outcome, Pieces, ROOM, file_of, frame_bytes, straight_table,
+};
 use status_lines::Status;
 use std::alloc::Global;
 use std::test::Fail;
-
-/// Frames that are the same on both sides: how many there are of each, one after another.
-type Frames = &'static [(u32, i16)];
 
 /// A run over an SPC file `SPC` and a table `TABLE`, and how it ends.
 #[derive(Drop)]
@@ -25,18 +24,6 @@ struct Hostile {
     complaint: &'static str,
     frames: Frames,
     trace: &'static str,
-}
-
-/// The bytes of these frames.
-fn bytes_of(alloc: Global, frames: Frames) -> Result<Vec<u8>, Fail> {
-    let mut bytes = Vec::new(alloc);
-    for (count, side) in frames {
-        for _ in 0..*count {
-            bytes.extend_from_slice(&side.to_le_bytes())?;
-            bytes.extend_from_slice(&side.to_le_bytes())?;
-        }
-    }
-    Ok(bytes)
 }
 
 impl Hostile {
@@ -64,7 +51,7 @@ impl Hostile {
         let table = self.table(alloc)?;
         let inputs = [("SPC", file.as_slice()), ("TABLE", table.as_slice())];
         let outcome = run_over(alloc, words.as_slice(), &inputs, ROOM)?;
-        let frames = bytes_of(alloc, self.frames)?;
+        let frames = frame_bytes(alloc, self.frames)?;
         Ok(
             self.is_ended_so(&outcome, frames.as_slice())
                 && drips_alike(alloc, words.as_slice(), &inputs, &outcome)?,

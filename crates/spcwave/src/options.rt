@@ -1,14 +1,13 @@
 // The options of `render`, and numbers, addresses and pages.
 ghost use Rattle.std.specs.Prelude.{◌≡◌, ◌≤◌, map, string_bytes, option_map, true, IfSome};
 ghost use Rattle.page_pool.specs.Pool.{most_pages};
-ghost use Rattle.command_render.specs.Options.{options_of, IsWithinHour};
-ghost use Rattle.spcwave.specs.Options.{is_name, count_in, demo_number_in, name_in, voices_in, origin_in, range_in, fewest_pages, pages_in, options_with, options_in};
+ghost use Rattle.cut_form.specs.Checkpoints.{fewest_pages};
+ghost use Rattle.command_render.specs.Options.{options_of, SamplesWithinHour};
+ghost use Rattle.spcwave.specs.Options.{is_name, count_in, demo_number_in, name_in, voices_in, origin_in, range_in, pages_in, options_with, options_in};
 
 use command_render::RenderOptions;
+use cut_form::MOST_FRAMES;
 use number_text::{decimal_value, is_number};
-
-/// The greatest number of samples: an hour of frames.
-const HOUR: u64 = 115_200_000;
 
 /// The greatest number of a demo file.
 const GREATEST_NUMBER: u64 = 4294967295;
@@ -31,13 +30,13 @@ pub fn is_name(word: &str) -> bool
 /// The number of samples that a word says.
 fn count_in(word: &[u8]) -> Option<u32>
     ensures value { result ≡ count_in word.now }
-    ensures within_hour { IsWithinHour result }
+    ensures within_hour { SamplesWithinHour result }
 {
     if !is_number(9, word) {
         return None;
     }
     let count = decimal_value(word);
-    if count <= HOUR {
+    if count <= u64::from(MOST_FRAMES) {
         Some(count as u32)
     } else {
         None
@@ -124,9 +123,9 @@ fn options_with<'a>(
     name: &str,
     value: &'a str,
 ) -> Option<RenderOptions<'a>>
-    requires { IsWithinHour options.samples }
+    requires { SamplesWithinHour options.samples }
     ensures options { option_map options_of result ≡ options_with (options_of options.entry) name.now value.now }
-    ensures within_hour { IfSome result (λ options. IsWithinHour options.samples) }
+    ensures within_hour { IfSome result (λ options. SamplesWithinHour options.samples) }
 {
     match name {
         "--samples" => match (options.samples, count_in(value.as_bytes())) {
@@ -157,7 +156,7 @@ fn options_with<'a>(
 /// Reads the options: names and values in turn, each name once at most.
 pub fn read_options(words: &[String]) -> Option<RenderOptions<'_>>
     ensures options { option_map options_of result ≡ options_in (map string_bytes words.now) }
-    ensures within_hour { IfSome result (λ options. IsWithinHour options.samples) }
+    ensures within_hour { IfSome result (λ options. SamplesWithinHour options.samples) }
 {
     let mut options = RenderOptions {
         samples: None,

@@ -22,17 +22,28 @@ pub fn list_words(alloc: Global, words: &[&str]) -> Result<Vec<String>, Fail> {
     Ok(given)
 }
 
-/// Runs these words over a host with these inputs, whose first output has this room. Its contract says nothing, so that
-/// each test is proved without the promises of a run.
+/// Runs these words over a host with these inputs, whose calls of these numbers fail and whose first output has this
+/// room. Its contract says nothing, so that each test is proved without the promises of a run.
+fn run_with(
+    alloc: Global,
+    words: &[String],
+    inputs: &[(&str, &[u8])],
+    failing: &[u32],
+    room: usize,
+) -> Result<Outcome, Fail> {
+    let mut host = host_with(alloc, inputs, failing, room)?;
+    let status = run(alloc, words, &mut host);
+    Ok(Outcome::of_run(status, host))
+}
+
+/// Runs these words over a host with these inputs, whose first output has this room.
 pub fn run_over(
     alloc: Global,
     words: &[String],
     inputs: &[(&str, &[u8])],
     room: usize,
 ) -> Result<Outcome, Fail> {
-    let mut host = host_with(alloc, inputs, &[], room)?;
-    let status = run(alloc, words, &mut host);
-    Ok(Outcome::of_run(status, host))
+    run_with(alloc, words, inputs, &[], room)
 }
 
 /// Runs these words over a host with these inputs, whose calls of these numbers fail.
@@ -42,9 +53,7 @@ pub fn run_failing(
     inputs: &[(&str, &[u8])],
     failing: &[u32],
 ) -> Result<Outcome, Fail> {
-    let mut host = host_with(alloc, inputs, failing, ROOM)?;
-    let status = run(alloc, words, &mut host);
-    Ok(Outcome::of_run(status, host))
+    run_with(alloc, words, inputs, failing, ROOM)
 }
 
 /// How a run ended over a host that gives and takes one byte at a time.

@@ -1,10 +1,10 @@
 // The words of the command line.
 ghost use Rattle.std.specs.Prelude.{◌≡◌, map, string_bytes, option_map, IfSome};
 ghost use Rattle.spcwave.specs.Command.{command_of, alone, brr_command, info_command, encode_command, have_same_name, render_with, render_command, demo_command, check_command, asm_command, dis_command, rip_with, rip_over, rip_command};
-ghost use Rattle.command_render.specs.Options.{options_of, IsWithinHour};
-ghost use Rattle.spcwave.specs.Words.{meaning_of, AreInRange};
+ghost use Rattle.command_render.specs.Options.{options_of, SamplesWithinHour};
+ghost use Rattle.spcwave.specs.Meaning.{meaning_of, AreInRange};
 
-use crate::cut_words::{read_cuts, read_serve};
+use crate::cut_words::{read_cuts_command, read_serve_command};
 use crate::options::{demo_number_in, is_name, origin_in, range_in, read_options};
 use command_render::RenderOptions;
 
@@ -152,7 +152,7 @@ fn render_with<'a>(
     wave: &'a str,
     options: Option<RenderOptions<'a>>,
 ) -> Command<'a>
-    requires { IfSome options (λ options. IsWithinHour options.samples) }
+    requires { IfSome options (λ options. SamplesWithinHour options.samples) }
     ensures meaning { meaning_of result ≡ render_with file.now table.now wave.now (option_map options_of options.entry) }
     ensures in_range { AreInRange result }
 {
@@ -322,8 +322,8 @@ pub fn read_words(words: &[String]) -> Command<'_>
             "asm" => read_asm(rest),
             "dis" => read_dis(rest),
             "rip" => read_rip(rest),
-            "cuts" => read_cuts(rest),
-            "serve" => read_serve(rest),
+            "cuts" => read_cuts_command(rest),
+            "serve" => read_serve_command(rest),
             _ => Command::Usage,
         },
     }
