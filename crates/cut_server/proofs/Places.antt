@@ -9,7 +9,7 @@ use Rattle.page_pool.specs.declared.slot.Slot.{Slot}
 use Rattle.cut_form.specs.Checkpoints.{Checkpoint, by_places, stands_at, nearest, greatest_up_to, without_entry, without_checkpoint}
 use Rattle.cut_server.specs.declared.table.Mark.{Mark}
 use Rattle.cut_server.specs.IsServed.{BeginAtOpening}
-use Rattle.cut_server.specs.Table.{TableState, saved_mark, saved_marks, saved_of, samples_of, live_checkpoints, pages_in, checkpoints_after}
+use Rattle.cut_server.specs.Table.{TableState, saved_marks, samples_of, live_checkpoints, pages_in, checkpoints_after}
 
 -- there are as many checkpoints as marks
 pub length-checkpoints_after : {S : Type 0} (pool : List Slot) (before : List ℕ) (marks : List (Mark S)) → length (checkpoints_after pool before marks) ≡ length marks

@@ -13,9 +13,9 @@ use Rattle.page_pool.specs.declared.slot.Slot.{Slot}
 use Rattle.page_pool.specs.Pool.{most_owners, free_slot, slot_at, free_slots, held_slot, with_owner, after_share, after_take, KeepsBytes}
 use Rattle.page_pool.proofs.Links.{one_if, free_slots-set, within_of_owned, free_test, owned_test}
 use Rattle.page_pool.proofs.Kept.{shared_keeps, taken_keeps}
-use Rattle.cut_form.specs.Checkpoints.{by_places, own_slots}
+use Rattle.cut_form.specs.Checkpoints.{pages_of, by_places, own_slots}
 use Rattle.cut_server.proofs.Naming.{IsNamedAt, named_place, apart_places}
-use Rattle.cut_server.proofs.Shared.{length-by_places, slice_get-by_places}
+use Rattle.cut_server.proofs.Shared.{length-by_places, slice_get-by_places, slot_unshared}
 use Rattle.cut_server.specs.Table.{pages_in, most_named, AreApart}
 use Rattle.cut_server.specs.Placing.{shared_slots, AreOwned, IsPlaced, ArePlaced}
 
@@ -229,6 +229,13 @@ taken_more old mid new newest pages placed slot most are owned is placed_here =
       fresh = λ other. none;
     }
 
+-- a page that is shared is one of the newest
+pub shared_within : (pool : List Slot) (newest memory : List ℕ) (page : ℕ) → slice_get (shared_slots pool newest (pages_of memory)) page ≡ Some true → page < 256 → page < length newest
+shared_within pool newest memory page is within = elim (cases_lt page (length newest)) [
+  | inl inside ↦ inside
+  | inr past ↦ absurd (true_not_false (some_same true false (sym is ∙ slot_unshared pool newest memory page past within)))
+]
+
 -- the two ways of placing
 pub is_placed_shared : (old new : List Slot) (newest : List ℕ) (pages : List (List ℕ)) (page slot : ℕ) → slice_get (shared_slots old newest pages) page ≡ Some true → slot ≡ slice_index newest page → page < length newest → new ≡ after_share old slot
     → IsPlaced old new newest pages page slot
@@ -255,6 +262,12 @@ owned_weaken pool a b (x ∷ xs) le owned = (owned.0, omega (arith, owned.1), ow
 -- While up to 256 pages are placed.
 pub placed_owned : (old mid : List Slot) (newest : List ℕ) (pages : List (List ℕ)) (placed : List ℕ) → ArePlaced old mid newest pages placed → length placed ≤ 256 → AreOwned old most_named newest → AreOwned mid most_owners newest
 placed_owned old mid newest pages placed are few owned = owned_weaken mid (most_named + length placed) most_owners newest (omega arith) (owned_later old mid newest pages placed most_named newest are owned)
+
+-- what was found of a page at first holds when it is its turn
+pub placed_shared : (old mid : List Slot) (newest : List ℕ) (pages : List (List ℕ)) (placed : List ℕ) (shared : List Bool) → ArePlaced old mid newest pages placed → length placed < length pages
+    → AreOwned old most_named newest → shared ≡ shared_slots old newest pages → slice_get (shared_slots mid newest pages) (length placed) ≡ Some (get_or shared (length placed) false)
+placed_shared old mid newest pages placed shared are within owned found =
+    rw (shared_later old mid newest pages placed most_named are owned, found) (slice_get-get_or (shared_slots old newest pages) (length placed) false (omega (arith, length-by_places bytes_eq pages (pages_in old newest))))
 
 pub placed_room : (old mid : List Slot) (newest : List ℕ) (pages : List (List ℕ)) (placed : List ℕ) → ArePlaced old mid newest pages placed → length placed < length pages → AreOwned old most_named newest
     → own_slots (shared_slots old newest pages) ≤ free_slots old → slice_get (shared_slots mid newest pages) (length placed) ≡ Some false → 0 < free_slots mid

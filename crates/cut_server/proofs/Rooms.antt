@@ -1,13 +1,10 @@
 -- Room for one more checkpoint, which others are given up for.
-use Rattle.std.proofs.Common.{◌≡◌, ℕ, zero, suc, ◌+◌, ◌-◌, ◌<◌, ◌≤◌, Bool, true, false, ◌&&◌, ◌||◌, ◌==◌, nat_le, nat_lt, List, [], ◌∷◌, length, drop, refl, sym, ap, ◌∙◌, arith, inl, inr}
+use Rattle.std.proofs.Common.{◌≡◌, ℕ, zero, suc, ◌+◌, ◌-◌, ◌<◌, ◌≤◌, Bool, true, false, ◌&&◌, ◌||◌, ◌==◌, List, [], ◌∷◌, length, drop, refl, sym, ap, ◌∙◌, arith, inl, inr}
 use Rattle.std.specs.List.{remove, remove_range}
 use Rattle.std.proofs.lemmas.List.{drop-drop}
-use Rattle.std.proofs.lemmas.Bool.{cases_Bool, cases_lt, and_right}
-use Rattle.std.proofs.lemmas.Bool.Decides.{nat_tests}
-use Rattle.cut_form.specs.Checkpoints.{Checkpoint, with_checkpoint, next_to_dropped, without_entry, has_room, slots_needed, slots_free, stands_at}
-use Rattle.cut_form.specs.CutBook.{CutBook}
-use Rattle.cut_form.specs.Marks.{Room, room_made, mark_in, mark_here}
-use Rattle.cut_form.specs.declared.mark.Marked.TheVariants.{Taken, NoPages}
+use Rattle.std.proofs.lemmas.Bool.{cases_Bool}
+use Rattle.cut_form.specs.Checkpoints.{Checkpoint, next_to_dropped, without_entry, has_room, stands_at}
+use Rattle.cut_form.specs.Marks.{Room, room_made}
 use Rattle.cut_server.specs.Table.{TableState, saved_of, live_checkpoints}
 
 -- dropping keeps the number of those after the first

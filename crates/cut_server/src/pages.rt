@@ -9,38 +9,57 @@ ghost use Rattle.cut_server.specs.Placing.{shared_slots, AreOwned, IsPlaced, Are
 use aram_core::Aram;
 use page_pool::{Page, PagePool};
 
-/// A page of the pool for a page of a memory: that of the newest where it holds the same bytes, and else a free one.
-fn place(pool: &mut PagePool, newest: &[Page], memory: &Aram, page: usize) -> Page
+/// How many slots of its own a checkpoint needs: one for each page that it doesn't share with the newest.
+pub(crate) fn own_slots(shared: &[bool; 256]) -> u32
+    ensures { result ≡ own_slots shared.now }
+{
+    let mut own = 0;
+    for page in 0..256 {
+        if !shared[page] {
+            own += 1;
+        }
+    }
+    own
+}
+
+/// A page of the pool for a page of a memory: that of the newest where it was found to hold the same bytes, and else a free one.
+fn place(pool: &mut PagePool, newest: &[Page], memory: &Aram, page: usize, is_shared: bool) -> Page
     requires within { page < 256 }
     requires owned { AreOwned pool.old most_owners newest.now }
-    requires free { slice_get (shared_slots pool.old newest.now (pages_of memory.now)) page ≡ Some false → 0 < free_slots pool.old }
+    requires shared { slice_get (shared_slots pool.old newest.now (pages_of memory.now)) page ≡ Some is_shared }
+    requires free { is_shared ≡ false → 0 < free_slots pool.old }
     ensures placed { IsPlaced pool.old pool.new newest.now (pages_of memory.now) page result }
     ensures memory { length memory.now ≡ 0x10000 }
 {
     let bytes = memory.page(page as u8);
-    match newest.get(page) {
-        Some(slot) if bytes == pool.bytes(*slot) => {
-            pool.share(*slot);
-            *slot
-        }
-        _ => pool.take(bytes).unwrap(),
+    if is_shared {
+        let slot = newest[page];
+        pool.share(slot);
+        return slot;
     }
+    pool.take(bytes).unwrap()
 }
 
-/// A page of the pool for each page of a memory.
-pub(crate) fn place_all(pool: &mut PagePool, newest: &[Page], memory: &Aram) -> [Page; 256]
+/// A page of the pool for each page of a memory, of which some were found to hold what those of the newest hold.
+pub(crate) fn place_all(
+    pool: &mut PagePool,
+    newest: &[Page],
+    memory: &Aram,
+    shared: &[bool; 256],
+) -> [Page; 256]
     requires owned { AreOwned pool.old most_named newest.now }
     requires apart { AreApart newest.now }
     requires few { (slot : ℕ) → (slot_at pool.old slot).owners ≤ most_named }
-    requires free { own_slots (shared_slots pool.old newest.now (pages_of memory.now)) ≤ free_slots pool.old }
+    requires shared { shared.now ≡ shared_slots pool.old newest.now (pages_of memory.now) }
+    requires free { own_slots shared.now ≤ free_slots pool.old }
     ensures placed { ArePlaced pool.old pool.new newest.now (pages_of memory.now) result }
     ensures whole { length result ≡ 256 }
     ensures memory { length memory.now ≡ 0x10000 }
 {
-    let first = place(pool, newest, memory, 0);
+    let first = place(pool, newest, memory, 0, shared[0]);
     let mut pages = [first; 256];
     for page in 1..256 {
-        pages[page] = place(pool, newest, memory, page);
+        pages[page] = place(pool, newest, memory, page, shared[page]);
     }
     pages
 }

@@ -1,7 +1,7 @@
 // The server of cuts.
 ghost use Rattle.std.specs.Prelude.{◌≡◌, ◌≢◌, ℕ, ◌+◌, ◌-◌, ◌<◌, ◌≤◌, true, false, length, IfOk, IfErr, OnOk, IsOk, ◌↔◌};
 ghost use Rattle.num_fix.specs.Limits.{most_frames};
-ghost use Rattle.page_pool.specs.Pool.{most_pages};
+ghost use Rattle.page_pool.specs.Pool.{free_slots, most_pages};
 ghost use Rattle.lock_step.specs.LockStep.{lock_step};
 ghost use Rattle.lock_step.specs.LockStepEmits.{lock_step_emits};
 ghost use Rattle.render_core.specs.Items.{run_frames};
@@ -17,6 +17,7 @@ ghost use Rattle.cut_server.specs.Server.{opening, pages_at, frames_to, KeepsTun
 ghost use Rattle.cut_server.specs.IsServed.{GoesOn, GoesBack};
 
 use crate::OutOfMemory;
+use crate::pages::own_slots;
 use crate::running::{run_out, run_out_into};
 use crate::table::Table;
 use aram_core::Aram;
@@ -101,8 +102,9 @@ impl<C: Chip> CutServer<C> {
         self.table.len() as u32
     }
 
-    /// How many pages of the pool are free. A page has as many owners as live checkpoints name it.
+    /// How many pages of the pool are free: those that live checkpoints leave. A page has as many owners as live checkpoints name it.
     pub fn free(&self) -> u32
+        ensures pool { result ≡ free_slots self.now.table.pool }
         ensures free { result ≡ slots_free (slots_of self.now) (book_of self.now).live }
         ensures owners { AreOwnersCounted self.now.table }
     {
@@ -179,13 +181,15 @@ impl<C: Chip> CutServer<C> {
             IsOk result ↔ (need ≤ slots_free (slots_of self.old) (book_of self.old).live) }
         ensures tune { KeepsTune C.meaning C.saving self.old self.new }
     {
-        let need = self.table.needed(self.render.memory());
+        let shared = self.table.shared_pages(self.render.memory());
+        let need = own_slots(&shared);
         let free = self.table.free();
         if need > free {
             return Err(NoPages { need, free });
         }
         let state = self.render.save();
-        self.table.add(self.position, state, self.render.memory());
+        self.table
+            .add(self.position, state, self.render.memory(), &shared);
         Ok(())
     }
 

@@ -4,13 +4,13 @@ ghost use Rattle.std.specs.Prelude.{IfOk, IfSome, IsNone, Some, ◌↔◌};
 ghost use Rattle.std.specs.List.{list_any, position, remove, remove_range};
 ghost use Rattle.page_pool.specs.Pool.{most_pages, free_slots};
 ghost use Rattle.cut_form.specs.Checkpoints.{most_checkpoints, fewest_pages, pages_of, with_checkpoint, without_checkpoint, without_entry, stands_at, nearest};
-ghost use Rattle.cut_form.specs.Checkpoints.{shared_with_newest, slots_needed, slots_free, has_room};
+ghost use Rattle.cut_form.specs.Checkpoints.{shared_with_newest, own_slots, slots_needed, slots_free, has_room};
 ghost use Rattle.cut_form.specs.Marks.{room_made};
 ghost use Rattle.cut_server.specs.Table.{Saved, live_checkpoints, saved_of, samples_of, newest_from, AreOwnersCounted};
 ghost use Rattle.cut_server.specs.IsServed.{BeginAtOpening};
 
 use crate::OutOfMemory;
-use crate::pages::{give_all, place_all};
+use crate::pages::{give_all, own_slots, place_all};
 use aram_core::Aram;
 use page_pool::{Page, PagePool};
 use std::alloc::Global;
@@ -93,7 +93,8 @@ impl<S: Copy> Table<S> {
         let pool = PagePool::new(alloc, pages)?;
         let marks = Vec::with_capacity(alloc, 64)?;
         let mut table = Table { pool, marks };
-        table.add(0, state, memory);
+        let shared = table.shared_pages(memory);
+        table.add(0, state, memory, &shared);
         Ok(table)
     }
 
@@ -180,29 +181,28 @@ impl<S: Copy> Table<S> {
         }
     }
 
-    /// How many free pages one of a memory would take.
-    pub(crate) fn needed(&self, memory: &Aram) -> u32
-        ensures { result ≡ slots_needed (live_checkpoints self.now) (pages_of memory.now) }
+    /// Which pages of a memory hold what those of the newest hold.
+    pub(crate) fn shared_pages(&self, memory: &Aram) -> [bool; 256]
+        ensures { result ≡ shared_with_newest (live_checkpoints self.now) (pages_of memory.now) }
     {
-        let mut needed = 0;
+        let mut shared = [false; 256];
         for page in 0..256 {
-            if !self.is_shared(memory, page) {
-                needed += 1;
-            }
+            shared[page] = self.is_shared(memory, page);
         }
-        needed
+        shared
     }
 
-    /// Takes one more.
-    pub(crate) fn add(&mut self, sample: u32, state: S, memory: &Aram)
+    /// Takes one more, which shares these pages with the newest.
+    pub(crate) fn add(&mut self, sample: u32, state: S, memory: &Aram, shared: &[bool; 256])
         requires few { length (samples_of self.old) < most_checkpoints }
-        requires pages { slots_needed (live_checkpoints self.old) (pages_of memory.now) ≤ free_slots self.old.pool }
+        requires shared { shared.now ≡ shared_with_newest (live_checkpoints self.old) (pages_of memory.now) }
+        requires pages { own_slots shared.now ≤ free_slots self.old.pool }
         ensures saved { saved_of self.new ≡ saved_of self.old ++ record { sample = sample; state = state; memory = memory.now } ∷ [] }
         ensures live { live_checkpoints self.new ≡ with_checkpoint (live_checkpoints self.old) sample (pages_of memory.now) }
         ensures free { free_slots self.new.pool + slots_needed (live_checkpoints self.old) (pages_of memory.now) ≡ free_slots self.old.pool }
         ensures size { length self.new.pool ≡ length self.old.pool }
     {
-        let pages = place_all(&mut self.pool, newest_pages(&self.marks), memory);
+        let pages = place_all(&mut self.pool, newest_pages(&self.marks), memory, shared);
         push_mark(
             &mut self.marks,
             Mark {
@@ -228,7 +228,7 @@ impl<S: Copy> Table<S> {
     fn has_room(&self, memory: &Aram) -> bool
         ensures { result ≡ has_room (length self.now.pool) (pages_of memory.now) (live_checkpoints self.now) }
     {
-        self.len() < 64 && self.needed(memory) <= self.free()
+        self.len() < 64 && own_slots(&self.shared_pages(memory)) <= self.free()
     }
 
     /// Drops the second one, as long as there is one and no room for one of a memory; tells how many.

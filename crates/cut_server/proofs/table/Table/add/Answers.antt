@@ -13,10 +13,10 @@ place_all-pages-requires-clause-apart g c = rw (c.newest_pages.ensures, c.deref.
 pub place_all-pages-requires-clause-few : goal.place_all-pages-requires-clause-few
 place_all-pages-requires-clause-few g c = owners_few c.self.invariant.1
 
-pub place_all-pages-requires-clause-free : goal.place_all-pages-requires-clause-free
-place_all-pages-requires-clause-free g c =
-    let pages = rw (← c.self.view_is, shared_live c.self.inside.pool c.self.inside.marks.items (pages_of c.args.memory.now)) at c.requires.pages in
-    rw (c.newest_pages.ensures, c.deref.ensures.value) pages
+pub place_all-pages-requires-clause-shared : goal.place_all-pages-requires-clause-shared
+place_all-pages-requires-clause-shared g c =
+    let shared = rw (← c.self.view_is, shared_live c.self.inside.pool c.self.inside.marks.items (pages_of c.args.memory.now)) at c.requires.shared in
+    rw (c.newest_pages.ensures, c.deref.ensures.value) shared
 
 pub invariant_of-self : goal.invariant_of-self
 invariant_of-self g c =
