@@ -11,6 +11,7 @@ use crate::interface::{VoiceIn, VoiceOut, VoiceRegs};
 use crate::rest::Played;
 use crate::voice::{Voice, is_keyed};
 use aram_core::Aram;
+use brr_decode::GroupMemory;
 use gauss_table::GaussTable;
 use rate_clock::RateClock;
 
@@ -37,6 +38,7 @@ impl Voice {
         memory: &Aram,
         table: &GaussTable,
         clock: &RateClock,
+        groups: &mut GroupMemory,
     ) -> Played
         requires pitch { regs.now.pitch < 0x4000 }
         requires noise { input.now.noise < 0x8000 }
@@ -56,7 +58,7 @@ impl Voice {
             return self.play_awake(regs, input, memory, table, clock);
         }
         if self.needs_group() {
-            return self.play_at_rest(rest, regs, input, memory, table);
+            return self.play_at_rest(rest, regs, input, memory, table, groups);
         }
         self.play_between(rest, regs, input, table)
     }
@@ -72,6 +74,7 @@ impl Voice {
         memory: &Aram,
         table: &GaussTable,
         clocks: &[RateClock; 64],
+        groups: &mut GroupMemory,
         outs: &mut [i16; 64],
         loops: &mut [u8; 64],
     )
@@ -97,7 +100,7 @@ impl Voice {
             let place = usize::from(to);
             let input = own.input(rows, previous[place], to);
             let clock = clocks[place];
-            let played = self.play_sample(rest, regs, &input, memory, table, &clock);
+            let played = self.play_sample(rest, regs, &input, memory, table, &clock, groups);
             outs[place] = played.out;
             mark_loop(loops, to, played.looped, own.voice);
             rest = played.rest;
@@ -117,6 +120,7 @@ impl Voice {
         memory: &Aram,
         table: &GaussTable,
         clocks: &[RateClock; 64],
+        groups: &mut GroupMemory,
         outs: &mut [i16; 64],
         loops: &mut [u8; 64],
     ) -> VoiceOut
@@ -135,7 +139,7 @@ impl Voice {
     {
         let last = n - 1;
         self.play_row(
-            last, regs, lane, rows, previous, memory, table, clocks, outs, loops,
+            last, regs, lane, rows, previous, memory, table, clocks, groups, outs, loops,
         );
         let place = usize::from(last);
         let input = lane.input(rows, previous[place], last);

@@ -10,6 +10,7 @@ ghost use Rattle.voice_unit.specs.Rest.{is_silencing, IsSilent, IsAtRest};
 use crate::interface::{VoiceIn, VoiceRegs};
 use crate::voice::{Voice, is_keyed, pitch_of};
 use aram_core::Aram;
+use brr_decode::GroupMemory;
 use envelope::{Envelope, Mode};
 use gauss_table::GaussTable;
 use rate_clock::RateClock;
@@ -152,7 +153,7 @@ impl Voice {
         }
     }
 
-    /// A step of a voice at rest that isn't keyed.
+    /// A step of a voice at rest that isn't keyed and reads a group.
     #[inline(always)]
     pub(crate) fn play_at_rest(
         &mut self,
@@ -161,11 +162,13 @@ impl Voice {
         input: &VoiceIn,
         memory: &Aram,
         table: &GaussTable,
+        groups: &mut GroupMemory,
     ) -> Played
         requires pitch { regs.now.pitch < 0x4000 }
         requires noise { input.now.noise < 0x8000 }
         requires resting { 0 < rest }
         requires unkeyed { is_keyed input.now ≡ false }
+        requires reads { needs_group self.old ≡ true }
         ensures voice { (k : ℕ) → IsAtRest input.now.reset input.now.koff regs.now memory.now k rest self.old
             → self.new ≡ voice_step self.old regs.now input.now memory.now (counter_at k) }
         ensures out { (k : ℕ) → IsAtRest input.now.reset input.now.koff regs.now memory.now k rest self.old
@@ -177,7 +180,7 @@ impl Voice {
     {
         let block = self.block();
         let out = self.output(input, table);
-        let looped = self.read_on(memory.get(block), regs, input, memory);
+        let looped = self.read_group(memory.get(block), input.dir, regs.srcn, memory, groups);
         self.move_on(pitch_of(regs, input));
         let is_woken = self.block() != block && self.is_to_be_silenced(input.reset, memory);
         Played {
