@@ -37,7 +37,8 @@ fn place_of(key: u64) -> usize
 }
 
 impl RememberedGroup {
-    /// Decodes the group of a key.
+    /// Decodes the group of a key. It stands apart, so that what finds a remembered group is short.
+    #[inline(never)]
     fn decoded(key: u64, header: u8, b0: u8, b1: u8, p1: i16, p2: i16) -> RememberedGroup
         requires { IsKeyOf key header b0 b1 p1 p2 }
         ensures { result.key ≡ key }
@@ -74,6 +75,7 @@ impl GroupMemory {
 
     /// Decodes a group, the four digits of two bytes, unless it is remembered.
     /// `p1` is the last kept sample and `p2` the kept sample before it.
+    #[inline(always)]
     pub fn decode(&mut self, header: u8, b0: u8, b1: u8, p1: i16, p2: i16) -> [i16; 4]
         ensures { (samples : List ℤ) → EndsWith samples p2 p1 → with_group samples header b0 b1 ≡ samples ++ result }
     {

@@ -1,12 +1,15 @@
-//! Samples of a voice at rest between two groups, in which it only moves on.
+//! Samples in which a voice at rest plays on in one loop: nothing changes its envelope or its pitch, and it goes from group to group.
 
-ghost use Rattle.std.specs.Prelude.{◌≡◌, ◌<◌, ◌≤◌, ◌+◌, ◌-◌, ℕ, List, Bool, true, false, length, slice_index};
+ghost use Rattle.std.specs.Prelude.{◌≡◌, ◌<◌, ◌≤◌, ◌+◌, ◌^◌, ℕ, List, true, false, slice_index};
 ghost use Rattle.num_fix.specs.Arithmetic.{has_bit};
 ghost use Rattle.voice_unit.specs.Play.{Lane, Glides, IsOnItsWay};
 
 use crate::batch::{BatchLane, BatchRows};
 use crate::interface::VoiceRegs;
+use crate::play::mark_loop;
 use crate::voice::Voice;
+use aram_core::Aram;
+use brr_decode::GroupMemory;
 use gauss_table::GaussTable;
 use num_fix::has_bit;
 
@@ -22,18 +25,23 @@ fn is_ever_taken(kon: &[u8; 64], voice: u8) -> bool
     taken
 }
 
-/// The sample to which a voice glides at most from sample `j` on, while it rests and before the last one.
-fn glide_end(glides: bool, j: u8, last: u8, rest: u16) -> u8
+/// The sample to which a voice glides at most from sample `j` on, before the last one.
+fn glide_end(glides: bool, j: u8, last: u8) -> u8
     requires { j ≤ last }
     ensures from { j ≤ result }
     ensures to { result ≤ last }
-    ensures rest { result ≤ j + rest }
     ensures glides { glides ≡ false → result ≡ j }
 {
-    if !glides {
-        return j;
-    }
-    j + rest.min(u16::from(last - j)) as u8
+    if glides { last } else { j }
+}
+
+/// Where a voice that glided has come to.
+#[derive(Clone, Copy, Debug)]
+pub(crate) struct Glided {
+    /// The sample that is next.
+    pub at: u8,
+    /// How many more samples its envelope rests.
+    pub rest: u16,
 }
 
 impl BatchLane {
@@ -52,9 +60,7 @@ impl BatchLane {
 }
 
 impl Voice {
-    /// Makes samples from sample `j` on up to the last one, where the voice glides, while it rests and needs no group, and tells the
-    /// sample that it came to.
-    #[inline(always)]
+    /// Makes samples from sample `j` on up to the last one, where the voice glides and while its envelope rests.
     pub(crate) fn glide(
         &mut self,
         glides: bool,
@@ -62,27 +68,40 @@ impl Voice {
         last: u8,
         rest: u16,
         regs: &VoiceRegs,
+        lane: &BatchLane,
+        memory: &Aram,
         table: &GaussTable,
+        groups: &mut GroupMemory,
         outs: &mut [i16; 64],
-    ) -> u8
+        loops: &mut [u8; 64],
+    ) -> Glided
         requires few { last < 64 }
         requires from { j ≤ last }
+        requires voice { lane.now.voice < 8 }
         requires pitch { regs.now.pitch < 0x4000 }
-        ensures from { j ≤ result }
-        ensures to { result ≤ last }
-        ensures rest { result ≤ j + rest }
-        ensures way { (lane : Lane) (v : ℕ) (reset koff : Bool) (before loops : List ℕ) → lane.regs ≡ regs.now → lane.table ≡ table.now → length loops ≡ 64
-            → (glides ≡ true → Glides reset koff lane last) → IsOnItsWay reset koff lane v j rest before loops outs.old self.old
-            → IsOnItsWay reset koff lane v result (rest - (result - j)) before loops outs.new self.new }
+        requires room { (i : ℕ) → j ≤ i → i < 64 → slice_index loops.old i < 2 ^ lane.now.voice }
+        requires before { (i : ℕ) → i < 64 → slice_index loops.old i < 2 ^ (lane.now.voice + 1) }
+        ensures from { j ≤ result.at }
+        ensures to { result.at ≤ last }
+        ensures way { (plays : Lane) (before : List ℕ) → plays.regs ≡ regs.now → plays.memory ≡ memory.now → plays.table ≡ table.now
+            → (glides ≡ true → Glides lane.now plays last) → IsOnItsWay lane.now plays j rest before loops.old outs.old self.old
+            → IsOnItsWay lane.now plays result.at result.rest before loops.new outs.new self.new }
+        ensures later { (i : ℕ) → result.at ≤ i → slice_index loops.new i ≡ slice_index loops.old i }
+        ensures room { (i : ℕ) → i < 64 → slice_index loops.new i < 2 ^ (lane.now.voice + 1) }
     {
-        let end = glide_end(glides, j, last, rest);
-        for at in j..end {
-            if self.needs_group() {
-                return at;
-            }
-            outs[usize::from(at)] = self.sounding(table);
-            self.move_on(regs.pitch);
+        // a copy, so that the voice need not stand in memory between two samples
+        let mut voice = *self;
+        let mut left = rest;
+        let mut at = j;
+        let end = glide_end(glides, j, last);
+        'samples: while at < end && left > 0 {
+            let played = voice.play_plainly(left, regs, lane, memory, table, groups);
+            outs[usize::from(at)] = played.out;
+            mark_loop(loops, at, played.looped, lane.voice);
+            left = played.rest;
+            at += 1;
         }
-        end
+        *self = voice;
+        Glided { at, rest: left }
     }
 }

@@ -16,7 +16,7 @@ use gauss_table::GaussTable;
 use rate_clock::RateClock;
 
 /// Adds the bit of a voice that looped in sample `j`.
-fn mark_loop(loops: &mut [u8; 64], j: u8, looped: bool, voice: u8)
+pub(crate) fn mark_loop(loops: &mut [u8; 64], j: u8, looped: bool, voice: u8)
     requires few { j < 64 }
     requires voice { voice < 8 }
     requires room { slice_index loops.old j < 2 ^ voice }
@@ -57,10 +57,7 @@ impl Voice {
         if is_keyed(input) {
             return self.play_awake(regs, input, memory, table, clock);
         }
-        if self.needs_group() {
-            return self.play_at_rest(rest, regs, input, memory, table, groups);
-        }
-        self.play_between(rest, regs, input, table)
+        self.play_at_rest(rest, regs, input, memory, table, groups)
     }
 
     /// Makes n samples.
@@ -95,12 +92,24 @@ impl Voice {
         let glides = own.lets_glide(rows);
         let mut j = 0;
         'samples: while j < n {
-            let to = self.glide(glides, j, n - 1, rest, regs, table, outs);
-            rest -= u16::from(to - j);
+            let glided = self.glide(
+                glides,
+                j,
+                n - 1,
+                rest,
+                regs,
+                &own,
+                memory,
+                table,
+                groups,
+                outs,
+                loops,
+            );
+            let to = glided.at;
             let place = usize::from(to);
             let input = own.input(rows, previous[place], to);
             let clock = clocks[place];
-            let played = self.play_sample(rest, regs, &input, memory, table, &clock, groups);
+            let played = self.play_sample(glided.rest, regs, &input, memory, table, &clock, groups);
             outs[place] = played.out;
             mark_loop(loops, to, played.looped, own.voice);
             rest = played.rest;
