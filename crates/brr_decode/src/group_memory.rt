@@ -9,7 +9,7 @@ use std::alloc::Global;
 use std::marker::Model;
 
 /// How many groups are remembered.
-const GROUPS: usize = 1024;
+const GROUPS: usize = 4096;
 
 /// A group, and what it was decoded from: its header, its two bytes and the two samples before it.
 #[derive(Clone, Copy)]
@@ -31,9 +31,9 @@ fn key_of(header: u8, b0: u8, b1: u8, p1: i16, p2: i16) -> u64
 
 /// The place of a key among the remembered groups: the high bits of its product with an odd number.
 fn place_of(key: u64) -> usize
-    ensures { result < 1024 }
+    ensures { result < 4096 }
 {
-    (key.wrapping_mul(0x9e3779b97f4a7c15) >> 54) as usize
+    (key.wrapping_mul(0x9e3779b97f4a7c15) >> 52) as usize
 }
 
 impl RememberedGroup {
@@ -48,10 +48,10 @@ impl RememberedGroup {
     }
 }
 
-/// The last groups that were decoded, 1,024 at most. Contracts see nothing of it.
+/// The last groups that were decoded, 4,096 at most. Contracts see nothing of it.
 #[derive(Drop)]
 pub struct GroupMemory {
-    groups: Box<[RememberedGroup; 1024]>,
+    groups: Box<[RememberedGroup; 4096]>,
 }
 
 impl Model for GroupMemory {
@@ -61,7 +61,7 @@ impl Model for GroupMemory {
 
     ghost view = { λ _. tt };
 
-    ghost invariant = { λ m. length m.groups.value ≡ 1024 };
+    ghost invariant = { λ m. length m.groups.value ≡ 4096 };
 }
 
 impl GroupMemory {

@@ -1,8 +1,9 @@
 //! Samples in which a voice at rest plays on in one loop: nothing changes its envelope or its pitch, and it goes from group to group.
 
-ghost use Rattle.std.specs.Prelude.{◌≡◌, ◌<◌, ◌≤◌, ◌+◌, ◌^◌, ℕ, List, true, false, slice_index};
+ghost use Rattle.std.specs.Prelude.{◌≡◌, ◌<◌, ◌≤◌, ◌+◌, ◌-◌, ◌^◌, ℕ, List, true, false, length, slice_index};
 ghost use Rattle.num_fix.specs.Arithmetic.{has_bit};
 ghost use Rattle.voice_unit.specs.Play.{Lane, Glides, IsOnItsWay};
+ghost use Rattle.voice_unit.specs.declared.batch.BatchLane.{BatchLane as Row};
 
 use crate::batch::{BatchLane, BatchRows};
 use crate::interface::VoiceRegs;
@@ -35,6 +36,17 @@ fn glide_end(glides: bool, j: u8, last: u8) -> u8
     if glides { last } else { j }
 }
 
+/// The sample before which a voice glides at most from sample `at` on, where it rests for so many: one is left, before the end.
+fn stretch_end(at: u8, end: u8, left: u16) -> u8
+    requires some { at < end }
+    requires resting { 0 < left }
+    ensures from { at ≤ result }
+    ensures within { result < end }
+    ensures rest { result < at + left }
+{
+    at + (left - 1).min(u16::from(end - 1 - at)) as u8
+}
+
 /// Where a voice that glided has come to.
 #[derive(Clone, Copy, Debug)]
 pub(crate) struct Glided {
@@ -60,6 +72,37 @@ impl BatchLane {
 }
 
 impl Voice {
+    /// Makes samples from sample `j` on up to an end, of a voice at rest, until it comes to a group, and tells the sample that is next.
+    #[inline(always)]
+    fn glide_between(
+        &mut self,
+        j: u8,
+        end: u8,
+        regs: &VoiceRegs,
+        table: &GaussTable,
+        outs: &mut [i16; 64],
+    ) -> u8
+        requires few { end < 64 }
+        requires from { j ≤ end }
+        requires pitch { regs.now.pitch < 0x4000 }
+        ensures from { j ≤ result }
+        ensures to { result ≤ end }
+        ensures way { (own : Row) (plays : Lane) (rest : ℕ) (before loops : List ℕ) → plays.regs ≡ regs.now → plays.table ≡ table.now → length loops ≡ 64
+            → Glides own plays end → end ≤ j + rest → IsOnItsWay own plays j rest before loops outs.old self.old
+            → IsOnItsWay own plays result (rest - (result - j)) before loops outs.new self.new }
+    {
+        // it is so anyway, and the compiler sees here that the position needs no limit
+        let pitch = regs.pitch % 0x4000;
+        for at in j..end {
+            if self.needs_group() {
+                return at;
+            }
+            outs[usize::from(at)] = self.sounding(table);
+            self.move_on(pitch);
+        }
+        end
+    }
+
     /// Makes samples from sample `j` on up to the last one, where the voice glides and while its envelope rests.
     pub(crate) fn glide(
         &mut self,
@@ -95,11 +138,13 @@ impl Voice {
         let mut at = j;
         let end = glide_end(glides, j, last);
         'samples: while at < end && left > 0 {
+            let to = voice.glide_between(at, stretch_end(at, end, left), regs, table, outs);
+            left -= u16::from(to - at);
             let played = voice.play_plainly(left, regs, lane, memory, table, groups);
-            outs[usize::from(at)] = played.out;
-            mark_loop(loops, at, played.looped, lane.voice);
+            outs[usize::from(to)] = played.out;
+            mark_loop(loops, to, played.looped, lane.voice);
             left = played.rest;
-            at += 1;
+            at = to + 1;
         }
         *self = voice;
         Glided { at, rest: left }
