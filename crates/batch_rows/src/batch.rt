@@ -13,6 +13,7 @@ use crate::keys::step_keys;
 use crate::playing::play_voices;
 use crate::sums::SumRows;
 use aram_core::Aram;
+use brr_decode::GroupMemory;
 use dsp_form::registers::ENDX;
 use dsp_form::{ChipState, Settings, put_all_levels};
 use rate_clock::RateClock;
@@ -40,6 +41,7 @@ pub fn make_batch(
     clock: &mut RateClock,
     settings: &Settings,
     memory: &mut Aram,
+    groups: &mut GroupMemory,
     frames: &mut Frames,
 )
     requires some { 0 < n }
@@ -85,6 +87,7 @@ pub fn make_batch(
         &clocks,
         memory,
         &state.table,
+        groups,
         &mut answers,
         &mut loops,
         &mut sums,

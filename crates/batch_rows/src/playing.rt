@@ -14,6 +14,7 @@ ghost use Rattle.batch_rows.specs.Rows.{inputs};
 
 use crate::sums::SumRows;
 use aram_core::Aram;
+use brr_decode::GroupMemory;
 use dsp_form::Volumes;
 use dsp_form::registers::{DIR, FLG, KOFF, NON, PMON, Registers, voice_regs};
 use gauss_table::GaussTable;
@@ -54,6 +55,7 @@ pub fn play_voice(
     previous: &[i16; 64],
     memory: &Aram,
     table: &GaussTable,
+    groups: &mut GroupMemory,
     row: &mut [i16; 64],
     loops: &mut [u8; 64],
 ) -> VoiceOut
@@ -69,7 +71,7 @@ pub fn play_voice(
     let regs = voice_regs(registers, v);
     let lane = lane_of(registers, v);
     voice.play(
-        n, &regs, &lane, rows, previous, memory, table, clocks, row, loops,
+        n, &regs, &lane, rows, previous, memory, table, clocks, groups, row, loops,
     )
 }
 
@@ -90,6 +92,7 @@ pub fn play_voices(
     clocks: &[RateClock; 64],
     memory: &Aram,
     table: &GaussTable,
+    groups: &mut GroupMemory,
     answers: &mut [VoiceOut; 8],
     loops: &mut [u8; 64],
     sums: &mut SumRows,
@@ -109,7 +112,8 @@ pub fn play_voices(
         let place = usize::from(v);
         let mut voice = voices[place];
         let answer = play_voice(
-            &mut voice, v, n, registers, rows, clocks, &previous, memory, table, &mut row, loops,
+            &mut voice, v, n, registers, rows, clocks, &previous, memory, table, groups, &mut row,
+            loops,
         );
         let own = volumes[place];
         sums.add(&row, &own);

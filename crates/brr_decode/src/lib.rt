@@ -3,6 +3,7 @@
 
 mod block;
 mod digit;
+mod group_memory;
 mod laws;
 mod stream;
 #[cfg(test)]
@@ -10,6 +11,7 @@ mod tests;
 
 pub use block::{decode_block, decode_group};
 pub use digit::kept_sample;
+pub use group_memory::GroupMemory;
 pub use laws::each_sample_is_kept;
 pub use std::alloc::AllocError as OutOfMemory;
 pub use stream::{BrrRefusal, decode_stream};

@@ -1,4 +1,4 @@
-use crate::{BrrRefusal, decode_block, decode_group, decode_stream, kept_sample};
+use crate::{BrrRefusal, GroupMemory, decode_block, decode_group, decode_stream, kept_sample};
 use std::test::Fail;
 
 // Shift and filter: the least digit under the shifts 12 and 13, and 4096 falling under filter 1.
@@ -12,6 +12,21 @@ fn shifts_and_filters(rt: HostRuntime) -> Result<(), Fail> {
     let samples = decode_stream(rt.alloc(), stream)?;
     assert_eq!(rt; samples.len(), 32);
     assert_eq!(rt; &samples[14..19], [0, 4096, 3840, 3600, 3374].as_slice());
+    Ok(())
+}
+
+// The same bytes after other samples are another group, the first time and each further time.
+#[test]
+fn remembered_groups(rt: HostRuntime) -> Result<(), Fail> {
+    let mut groups = GroupMemory::new(rt.alloc())?;
+    for _ in 0..2 {
+        assert_eq!(rt;
+            groups.decode(0xC4, 0, 0, 4096, 0),
+            [3840, 3600, 3374, 3162]
+        );
+        assert_eq!(rt; groups.decode(0xC4, 0, 0, 0, 4096), [0, 0, 0, 0]);
+        assert_eq!(rt; groups.decode(0xC0, 0x80, 0x00, 0, 0), [-32768, 0, 0, 0]);
+    }
     Ok(())
 }
 

@@ -18,6 +18,7 @@ use crate::sample::make_sample;
 use crate::saved::DspState;
 use aram_core::Aram;
 use batch_rows::{UNHEARD, make_batch};
+use brr_decode::GroupMemory;
 use dsp_form::registers::{ENDX, KON};
 use dsp_form::{ChipState, Hidden, Settings, settings_of};
 use echo_unit::Echo;
@@ -29,7 +30,8 @@ use std::marker::Model;
 use trace_form::{Frames, Records};
 use voice_unit::{Voice, VoiceOut};
 
-/// The S-DSP. It runs once for each sample, 32,000 times a second of sound.
+/// The S-DSP. It runs once for each sample, 32,000 times a second of sound. Beside the chip's state it keeps the groups that it
+/// decoded, of which views and saved states see nothing.
 #[derive(Drop)]
 pub struct Dsp {
     state: ChipState,
@@ -37,6 +39,7 @@ pub struct Dsp {
     number: u32,
     batches: u64,
     total: u64,
+    groups: GroupMemory,
 }
 
 impl Model for Dsp {
@@ -54,10 +57,11 @@ impl Model for Dsp {
 impl Dsp {
     /// The chip with its registers as a file has them, 128 bytes, and a table of weights, before its first sample.
     #[tactic(auto, unfolding(dsp_form::specs::Outside::opened_state))]
-    pub fn open(_alloc: Global, registers: &[u8], table: GaussTable) -> Result<Dsp, OutOfMemory>
+    pub fn open(alloc: Global, registers: &[u8], table: GaussTable) -> Result<Dsp, OutOfMemory>
         requires { length registers.now ≡ 0x80 }
         ensures { IfOk result (λ dsp. dsp ≡ record { state = opened_state registers.now table; sample = 0; batches = 0; total = 0 }) }
     {
+        let groups = GroupMemory::new(alloc)?;
         let mut own = [0; 128];
         own.copy_from_slice(registers);
         let hidden = Hidden {
@@ -77,6 +81,7 @@ impl Dsp {
             number: 0,
             batches: 0,
             total: 0,
+            groups,
         })
     }
 
@@ -182,6 +187,7 @@ impl Dsp {
             &mut self.clock,
             settings,
             memory,
+            &mut self.groups,
             frames,
         );
         self.number += u32::from(n);

@@ -3,10 +3,12 @@
 -- Inside: the fields of a voice, and what holds of them.
 -- Batch: a voice over a batch of samples.
 -- Rest: voices whose envelopes rest.
+-- Plain: a sample in which nothing but its blocks and registers tells what a voice plays.
 -- Play: a voice over a batch, as rows of numbers alone.
 pub mod Directory
 pub mod Voice
 pub mod Inside
 pub mod Batch
 pub mod Rest
+pub mod Plain
 pub mod Play

@@ -1,9 +1,11 @@
 -- A voice over a batch, as rows of numbers alone.
-use Rattle.std.specs.Prelude.{◌≡◌, ℕ, ◌+◌, ◌^◌, ◌<◌, ◌≤◌, List, ℤ, Bool, false, slice_index, if◌then◌else◌}
+use Rattle.std.specs.Prelude.{◌≡◌, ℕ, ◌+◌, ◌^◌, ◌<◌, ◌≤◌, List, ℤ, slice_index, if◌then◌else◌}
+use Rattle.num_fix.specs.Arithmetic.{has_bit}
 use Rattle.num_fix.specs.Words.{number_at}
 use Rattle.rate_clock.specs.Counter.{counter_at}
-use Rattle.voice_unit.specs.Voice.{VoiceState, is_keyed}
+use Rattle.voice_unit.specs.Voice.{VoiceState}
 use Rattle.voice_unit.specs.Rest.{IsAtRest}
+use Rattle.voice_unit.specs.Plain.{PlaysPlainly}
 use Rattle.voice_unit.specs.Batch.{lane_inputs, steps, answer_of_step}
 use Rattle.voice_unit.specs.declared.batch.BatchLane.{BatchLane}
 use Rattle.voice_unit.specs.declared.batch.BatchRows.{BatchRows}
@@ -43,15 +45,11 @@ pub record IsPlayed (lane : Lane) (v n : ℕ) (before after : List ℕ) (outs : 
   pub loops_are : (j : ℕ) → j < n → slice_index after j ≡ slice_index before j + (if (answer_at lane j).looped then 2 ^ v else 0)
   pub others : (j : ℕ) → n ≤ j → slice_index after j ≡ slice_index before j
 
--- In each of the first n samples a voice plays its samples at its own pitch and isn't keyed; reset and key off are the same in all.
-pub record Glides (reset koff : Bool) (lane : Lane) (n : ℕ) : Type 0 where
-  pub resets : (j : ℕ) → j < n → (lane.inputs j).reset ≡ reset
-  pub keys_off : (j : ℕ) → j < n → (lane.inputs j).koff ≡ koff
-  pub unkeyed : (j : ℕ) → j < n → is_keyed (lane.inputs j) ≡ false
-  pub unbent : (j : ℕ) → j < n → (lane.inputs j).modulated ≡ false
-  pub sampled : (j : ℕ) → j < n → (lane.inputs j).noisy ≡ false
+-- in each of the first n samples a voice plays plainly
+abbrev pub Glides : (own : BatchLane) → (lane : Lane) → (n : ℕ) → Type 0
+Glides own lane n = (j : ℕ) → j < n → PlaysPlainly own (lane.inputs j)
 
--- what n samples leave, of a voice that then rests for so many
-pub record IsOnItsWay (reset koff : Bool) (lane : Lane) (v n rest : ℕ) (before loops : List ℕ) (outs : List ℤ) (voice : VoiceState) : Type 0 where
-  pub played : IsPlayed lane v n before loops outs voice
-  pub at_rest : IsAtRest reset koff lane.regs lane.memory (lane.k + n) rest voice
+-- what n samples of the voice of a row leave, which then rests for so many
+pub record IsOnItsWay (own : BatchLane) (lane : Lane) (n rest : ℕ) (before loops : List ℕ) (outs : List ℤ) (voice : VoiceState) : Type 0 where
+  pub played : IsPlayed lane own.voice n before loops outs voice
+  pub at_rest : IsAtRest own.reset (has_bit own.koff own.voice) lane.regs lane.memory (lane.k + n) rest voice

@@ -11,11 +11,12 @@ use crate::interface::{VoiceIn, VoiceOut, VoiceRegs};
 use crate::rest::Played;
 use crate::voice::{Voice, is_keyed};
 use aram_core::Aram;
+use brr_decode::GroupMemory;
 use gauss_table::GaussTable;
 use rate_clock::RateClock;
 
 /// Adds the bit of a voice that looped in sample `j`.
-fn mark_loop(loops: &mut [u8; 64], j: u8, looped: bool, voice: u8)
+pub(crate) fn mark_loop(loops: &mut [u8; 64], j: u8, looped: bool, voice: u8)
     requires few { j < 64 }
     requires voice { voice < 8 }
     requires room { slice_index loops.old j < 2 ^ voice }
@@ -37,6 +38,7 @@ impl Voice {
         memory: &Aram,
         table: &GaussTable,
         clock: &RateClock,
+        groups: &mut GroupMemory,
     ) -> Played
         requires pitch { regs.now.pitch < 0x4000 }
         requires noise { input.now.noise < 0x8000 }
@@ -55,10 +57,7 @@ impl Voice {
         if is_keyed(input) {
             return self.play_awake(regs, input, memory, table, clock);
         }
-        if self.needs_group() {
-            return self.play_at_rest(rest, regs, input, memory, table);
-        }
-        self.play_between(rest, regs, input, table)
+        self.play_at_rest(rest, regs, input, memory, table, groups)
     }
 
     /// Makes n samples.
@@ -72,6 +71,7 @@ impl Voice {
         memory: &Aram,
         table: &GaussTable,
         clocks: &[RateClock; 64],
+        groups: &mut GroupMemory,
         outs: &mut [i16; 64],
         loops: &mut [u8; 64],
     )
@@ -92,12 +92,24 @@ impl Voice {
         let glides = own.lets_glide(rows);
         let mut j = 0;
         'samples: while j < n {
-            let to = self.glide(glides, j, n - 1, rest, regs, table, outs);
-            rest -= u16::from(to - j);
+            let glided = self.glide(
+                glides,
+                j,
+                n - 1,
+                rest,
+                regs,
+                &own,
+                memory,
+                table,
+                groups,
+                outs,
+                loops,
+            );
+            let to = glided.at;
             let place = usize::from(to);
             let input = own.input(rows, previous[place], to);
             let clock = clocks[place];
-            let played = self.play_sample(rest, regs, &input, memory, table, &clock);
+            let played = self.play_sample(glided.rest, regs, &input, memory, table, &clock, groups);
             outs[place] = played.out;
             mark_loop(loops, to, played.looped, own.voice);
             rest = played.rest;
@@ -117,6 +129,7 @@ impl Voice {
         memory: &Aram,
         table: &GaussTable,
         clocks: &[RateClock; 64],
+        groups: &mut GroupMemory,
         outs: &mut [i16; 64],
         loops: &mut [u8; 64],
     ) -> VoiceOut
@@ -135,7 +148,7 @@ impl Voice {
     {
         let last = n - 1;
         self.play_row(
-            last, regs, lane, rows, previous, memory, table, clocks, outs, loops,
+            last, regs, lane, rows, previous, memory, table, clocks, groups, outs, loops,
         );
         let place = usize::from(last);
         let input = lane.input(rows, previous[place], last);

@@ -1,15 +1,21 @@
 //! One sample of a voice over a batch, with a shorter way for a voice whose envelope rests.
 
-ghost use Rattle.std.specs.Prelude.{◌≡◌, ◌<◌, ◌≤◌, ◌+◌, ℕ, List, true, false};
+ghost use Rattle.std.specs.Prelude.{◌≡◌, ◌<◌, ◌≤◌, ◌+◌, ℕ, Bool, true, false};
 ghost use Rattle.aram_core.specs.Memory.{byte_at};
 ghost use Rattle.rate_clock.specs.Counter.{counter_at};
-ghost use Rattle.voice_unit.specs.Voice.{voice_step, voice_answer, is_keyed, needs_group};
+ghost use Rattle.voice_unit.specs.Directory.{loop_word};
+ghost use Rattle.voice_unit.specs.Voice.{voice_step, voice_answer, is_keyed, is_looped, needs_group, after_reading, after_pitch};
+ghost use Rattle.voice_unit.specs.declared.interface.VoiceRegs.{VoiceRegs as Registers};
+ghost use Rattle.voice_unit.specs.declared.interface.VoiceIn.{VoiceIn as Input};
+ghost use Rattle.voice_unit.specs.Plain.{PlaysPlainly};
 ghost use Rattle.envelope.specs.declared.Mode.TheVariants.{Release};
 ghost use Rattle.voice_unit.specs.Rest.{is_silencing, IsSilent, IsAtRest};
 
+use crate::batch::BatchLane;
 use crate::interface::{VoiceIn, VoiceRegs};
 use crate::voice::{Voice, is_keyed, pitch_of};
 use aram_core::Aram;
+use brr_decode::GroupMemory;
 use envelope::{Envelope, Mode};
 use gauss_table::GaussTable;
 use rate_clock::RateClock;
@@ -22,6 +28,15 @@ pub(crate) struct Played {
     pub looped: bool,
     /// How many more samples its envelope rests.
     pub rest: u16,
+}
+
+/// What a voice at rest comes to when it moves on.
+#[derive(Clone, Copy, Debug)]
+struct GoneOn {
+    /// It came to the end of a block that has its end bit.
+    looped: bool,
+    /// How many more samples its envelope rests.
+    rest: u16,
 }
 
 /// Whether the soft reset or the header of a block that ends without a loop silences a voice.
@@ -120,33 +135,60 @@ impl Voice {
         }
     }
 
-    /// A step of a voice at rest that isn't keyed and reads no group.
+    /// Reads the next group and moves on by a pitch, of a voice at rest that has come to a group.
     #[inline(always)]
-    pub(crate) fn play_between(
+    fn go_over_group(
         &mut self,
         rest: u16,
-        regs: &VoiceRegs,
-        input: &VoiceIn,
-        table: &GaussTable,
-    ) -> Played
-        requires pitch { regs.now.pitch < 0x4000 }
-        requires noise { input.now.noise < 0x8000 }
+        pitch: u16,
+        dir: u8,
+        srcn: u8,
+        reset: bool,
+        memory: &Aram,
+        groups: &mut GroupMemory,
+    ) -> GoneOn
+        requires pitch { pitch < 0x8000 }
         requires resting { 0 < rest }
-        requires unkeyed { is_keyed input.now ≡ false }
-        requires between { needs_group self.old ≡ false }
-        ensures voice { (memory : List ℕ) (k : ℕ) → IsAtRest input.now.reset input.now.koff regs.now memory k rest self.old
-            → self.new ≡ voice_step self.old regs.now input.now memory (counter_at k) }
-        ensures out { (memory : List ℕ) (k : ℕ) → IsAtRest input.now.reset input.now.koff regs.now memory k rest self.old
-            → result.out ≡ (voice_answer self.old regs.now input.now memory table.now (counter_at k)).out }
-        ensures looped { (memory : List ℕ) (k : ℕ) → IsAtRest input.now.reset input.now.koff regs.now memory k rest self.old
-            → result.looped ≡ (voice_answer self.old regs.now input.now memory table.now (counter_at k)).looped }
-        ensures rest { (memory : List ℕ) (k : ℕ) → IsAtRest input.now.reset input.now.koff regs.now memory k rest self.old
-            → IsAtRest input.now.reset input.now.koff regs.now memory (k + 1) result.rest self.new }
+        requires reads { needs_group self.old ≡ true }
+        ensures voice { self.new ≡ after_pitch (after_reading self.old memory.now (byte_at memory.now self.old.block) (loop_word dir srcn memory.now)) pitch }
+        ensures looped { result.looped ≡ is_looped self.old (byte_at memory.now self.old.block) }
+        ensures rest { (r : Registers) (koff : Bool) (k : ℕ) → IsAtRest reset koff r memory.now k rest self.old
+            → IsAtRest reset koff r memory.now (k + 1) result.rest self.new }
     {
-        let out = self.output(input, table);
-        self.move_on(pitch_of(regs, input));
-        Played {
-            out,
+        let block = self.block();
+        let looped = self.read_group(memory.get(block), dir, srcn, memory, groups);
+        self.move_on(pitch);
+        let is_woken = self.block() != block && self.is_to_be_silenced(reset, memory);
+        GoneOn {
+            looped,
+            rest: if is_woken { 0 } else { rest - 1 },
+        }
+    }
+
+    /// Moves on by a pitch, of a voice at rest, over a group where it has come to one.
+    #[inline(always)]
+    fn go_on(
+        &mut self,
+        rest: u16,
+        pitch: u16,
+        dir: u8,
+        srcn: u8,
+        reset: bool,
+        memory: &Aram,
+        groups: &mut GroupMemory,
+    ) -> GoneOn
+        requires pitch { pitch < 0x8000 }
+        requires resting { 0 < rest }
+        ensures voice { self.new ≡ after_pitch (after_reading self.old memory.now (byte_at memory.now self.old.block) (loop_word dir srcn memory.now)) pitch }
+        ensures looped { result.looped ≡ is_looped self.old (byte_at memory.now self.old.block) }
+        ensures rest { (r : Registers) (koff : Bool) (k : ℕ) → IsAtRest reset koff r memory.now k rest self.old
+            → IsAtRest reset koff r memory.now (k + 1) result.rest self.new }
+    {
+        if self.needs_group() {
+            return self.go_over_group(rest, pitch, dir, srcn, reset, memory, groups);
+        }
+        self.move_on(pitch);
+        GoneOn {
             looped: false,
             rest: rest - 1,
         }
@@ -161,6 +203,7 @@ impl Voice {
         input: &VoiceIn,
         memory: &Aram,
         table: &GaussTable,
+        groups: &mut GroupMemory,
     ) -> Played
         requires pitch { regs.now.pitch < 0x4000 }
         requires noise { input.now.noise < 0x8000 }
@@ -175,15 +218,54 @@ impl Voice {
         ensures rest { (k : ℕ) → IsAtRest input.now.reset input.now.koff regs.now memory.now k rest self.old
             → IsAtRest input.now.reset input.now.koff regs.now memory.now (k + 1) result.rest self.new }
     {
-        let block = self.block();
         let out = self.output(input, table);
-        let looped = self.read_on(memory.get(block), regs, input, memory);
-        self.move_on(pitch_of(regs, input));
-        let is_woken = self.block() != block && self.is_to_be_silenced(input.reset, memory);
+        let pitch = pitch_of(regs, input);
+        let gone = self.go_on(
+            rest,
+            pitch,
+            input.dir,
+            regs.srcn,
+            input.reset,
+            memory,
+            groups,
+        );
         Played {
             out,
-            looped,
-            rest: if is_woken { 0 } else { rest - 1 },
+            looped: gone.looped,
+            rest: gone.rest,
+        }
+    }
+
+    /// A step of a voice at rest in a sample in which it plays its samples at its own pitch and isn't keyed.
+    #[inline(always)]
+    pub(crate) fn play_plainly(
+        &mut self,
+        rest: u16,
+        regs: &VoiceRegs,
+        lane: &BatchLane,
+        memory: &Aram,
+        table: &GaussTable,
+        groups: &mut GroupMemory,
+    ) -> Played
+        requires pitch { regs.now.pitch < 0x4000 }
+        requires resting { 0 < rest }
+        ensures voice { (i : Input) (k : ℕ) → PlaysPlainly lane.now i → IsAtRest i.reset i.koff regs.now memory.now k rest self.old
+            → self.new ≡ voice_step self.old regs.now i memory.now (counter_at k) }
+        ensures out { (i : Input) (k : ℕ) → PlaysPlainly lane.now i → IsAtRest i.reset i.koff regs.now memory.now k rest self.old
+            → result.out ≡ (voice_answer self.old regs.now i memory.now table.now (counter_at k)).out }
+        ensures looped { (i : Input) (k : ℕ) → PlaysPlainly lane.now i → IsAtRest i.reset i.koff regs.now memory.now k rest self.old
+            → result.looped ≡ (voice_answer self.old regs.now i memory.now table.now (counter_at k)).looped }
+        ensures rest { (i : Input) (k : ℕ) → PlaysPlainly lane.now i → IsAtRest i.reset i.koff regs.now memory.now k rest self.old
+            → IsAtRest i.reset i.koff regs.now memory.now (k + 1) result.rest self.new }
+    {
+        let out = self.sounding(table);
+        // it is so anyway, and the compiler sees here that the position needs no limit
+        let pitch = regs.pitch % 0x4000;
+        let gone = self.go_on(rest, pitch, lane.dir, regs.srcn, lane.reset, memory, groups);
+        Played {
+            out,
+            looped: gone.looped,
+            rest: gone.rest,
         }
     }
 }

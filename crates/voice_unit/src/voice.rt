@@ -1,6 +1,6 @@
 //! The voice and its step.
 
-ghost use Rattle.std.specs.Prelude.{◌≡◌, ◌+◌, ◌*◌, ◌/◌, ◌%◌, ◌<◌, ◌≤◌, ◌++◌, pos, false, drop};
+ghost use Rattle.std.specs.Prelude.{◌≡◌, ◌+◌, ◌*◌, ◌/◌, ◌%◌, ◌<◌, ◌≤◌, ◌++◌, pos, true, false, drop};
 ghost use Rattle.num_fix.specs.Words.{number_at};
 ghost use Rattle.aram_core.specs.Memory.{byte_at};
 ghost use Rattle.brr_decode.specs.Kept.{with_group};
@@ -12,7 +12,7 @@ use crate::directory::{loop_word, start_word};
 use crate::interface::{VoiceIn, VoiceOut, VoiceRegs};
 use crate::level::{at_level, bent_pitch, high_byte};
 use aram_core::Aram;
-use brr_decode::decode_group;
+use brr_decode::{GroupMemory, decode_group};
 use envelope::Envelope;
 use gauss_table::GaussTable;
 use num_fix::{clear_bit0, wrap16};
@@ -261,10 +261,22 @@ impl Voice {
         self.samples = samples_with_group(&self.samples, group);
     }
 
+    /// Decodes the next group, unless it is remembered.
+    #[tactic(auto, unfolding(crate::specs::Voice::after_decoding))]
+    fn recall(&mut self, memory: &Aram, header: u8, groups: &mut GroupMemory)
+        ensures { self.new ≡ after_decoding self.old memory.now header }
+    {
+        let at = self.block.wrapping_add(u16::from(self.offset));
+        let high = memory.get(at);
+        let low = memory.get(at.wrapping_add(1));
+        let group = groups.decode(header, high, low, self.samples[11], self.samples[10]);
+        self.samples = samples_with_group(&self.samples, group);
+    }
+
     /// Goes on to the next group, in this block or the next.
     #[tactic(auto, unfolding(crate::specs::Voice::at_next_group))]
-    fn go_to_next_group(&mut self, header: u8, regs: &VoiceRegs, input: &VoiceIn, memory: &Aram)
-        ensures { self.new ≡ at_next_group self.old header (loop_word input.now.dir regs.now.srcn memory.now) }
+    fn go_to_next_group(&mut self, header: u8, dir: u8, srcn: u8, memory: &Aram)
+        ensures { self.new ≡ at_next_group self.old header (loop_word dir srcn memory.now) }
     {
         if self.offset != LAST_GROUP {
             self.offset += 2;
@@ -272,7 +284,7 @@ impl Voice {
         }
         self.offset = 1;
         if header % 2 == 1 {
-            self.block = loop_word(input.dir, regs.srcn, memory);
+            self.block = loop_word(dir, srcn, memory);
         } else {
             self.block = self.block.wrapping_add(9);
         }
@@ -282,13 +294,7 @@ impl Voice {
     /// Inlined, since most samples of a batch read none.
     #[inline(always)]
     #[tactic(auto, unfolding(crate::specs::Voice::after_reading))]
-    pub(crate) fn read_on(
-        &mut self,
-        header: u8,
-        regs: &VoiceRegs,
-        input: &VoiceIn,
-        memory: &Aram,
-    ) -> bool
+    fn read_on(&mut self, header: u8, regs: &VoiceRegs, input: &VoiceIn, memory: &Aram) -> bool
         ensures voice { self.new ≡ after_reading self.old memory.now header (loop_word input.now.dir regs.now.srcn memory.now) }
         ensures looped { result ≡ is_looped self.old header }
     {
@@ -297,7 +303,28 @@ impl Voice {
         }
         let looped = self.offset == LAST_GROUP && header % 2 == 1;
         self.decode(memory, header);
-        self.go_to_next_group(header, regs, input, memory);
+        self.go_to_next_group(header, input.dir, regs.srcn, memory);
+        looped
+    }
+
+    /// Reads a group that the position has come to, by what is remembered of groups, and tells whether that ends a block that has its end bit.
+    #[inline(always)]
+    #[tactic(auto, unfolding(crate::specs::Voice::after_reading))]
+    pub(crate) fn read_group(
+        &mut self,
+        header: u8,
+        dir: u8,
+        srcn: u8,
+        memory: &Aram,
+        groups: &mut GroupMemory,
+    ) -> bool
+        requires { needs_group self.old ≡ true }
+        ensures voice { self.new ≡ after_reading self.old memory.now header (loop_word dir srcn memory.now) }
+        ensures looped { result ≡ is_looped self.old header }
+    {
+        let looped = self.offset == LAST_GROUP && header % 2 == 1;
+        self.recall(memory, header, groups);
+        self.go_to_next_group(header, dir, srcn, memory);
         looped
     }
 

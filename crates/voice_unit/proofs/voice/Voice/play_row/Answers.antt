@@ -29,16 +29,14 @@ pub samples-preserved : goal.samples-preserved
 unfolding lane_input
 samples-preserved c =
     let j : ℕ = c.samples.j in
-    let to : ℕ = c.glide-to.result in
-    let from : j ≤ to = c.glide-to.ensures.from in
-    let below : to < c.args.n = omega (arith, c.samples-test.true, c.glide-to.ensures.to) in
+    let to : ℕ = c.glide-glided.result.at in
+    let from : j ≤ to = c.glide-glided.ensures.from in
+    let below : to < c.args.n = omega (arith, c.samples-test.true, c.glide-glided.ensures.to) in
     let place : c.from-place.result ≡ to = c.from-place.ensures in
     let way : (k : ℕ) → CountsFrom k (to + 1) c.args.clocks.now
-    → IsOnItsWay c.args.lane.now.reset (has_bit c.args.lane.now.koff c.args.lane.now.voice)
-    (lane_of c.args.regs.now c.args.lane.now c.args.rows.now c.args.previous.now c.args.memory.now c.args.table.now c.args.self.now k)
-    c.args.lane.now.voice to (c.samples.rest - (to - j)) c.args.loops.now c.samples.loops c.glide-to.new.outs c.glide-to.new.self =
-    λ k counts. c.glide-to.ensures.way _ c.args.lane.now.voice c.args.lane.now.reset (has_bit c.args.lane.now.koff c.args.lane.now.voice) c.args.loops.now c.samples.loops refl refl
-    c.samples.invariant.loops_long
+    → IsOnItsWay c.args.lane.now (lane_of c.args.regs.now c.args.lane.now c.args.rows.now c.args.previous.now c.args.memory.now c.args.table.now c.args.self.now k)
+    to c.glide-glided.result.rest c.args.loops.now c.glide-glided.new.loops c.glide-glided.new.outs c.glide-glided.new.self =
+    λ k counts. c.glide-glided.ensures.way _ c.args.loops.now refl refl refl
     (λ is. lane_glides c.args.regs.now c.args.lane.now c.args.rows.now c.args.previous.now c.args.memory.now c.args.table.now c.args.self.now k (c.args.n - 1)
     (omega (arith, c.requires.few)) (c.lets_glide-glides.ensures.noisy is) (c.lets_glide-glides.ensures.modulated is) (c.lets_glide-glides.ensures.keyed is))
     (c.samples.invariant.way k (λ i under. counts i (omega (arith, under, from)))) in
@@ -47,19 +45,20 @@ samples-preserved c =
     let clock : (k : ℕ) → CountsFrom k (to + 1) c.args.clocks.now → c.index-clocks-place.result ≡ counter_at (k + to) =
     λ k counts. rw place at c.index-clocks-place.is ∙ get_or_default c.args.clocks.now to c.index-clocks-place.result 0 (search rules) ∙ counts to (omega arith) in
     let at_rest : (k : ℕ) → CountsFrom k (to + 1) c.args.clocks.now
-    → IsAtRest c.input-input.result.reset c.input-input.result.koff c.args.regs.now c.args.memory.now (k + to) (c.samples.rest - c.from-rest.result) c.glide-to.new.self =
-    λ k counts. rw (input, c.from-rest.ensures) (way k counts).at_rest in
+    → IsAtRest c.input-input.result.reset c.input-input.result.koff c.args.regs.now c.args.memory.now (k + to) c.glide-glided.result.rest c.glide-glided.new.self =
+    λ k counts. rw input (way k counts).at_rest in
     let out : to_z w16 (of_z w16 c.play_sample-played.result.out) ≡ c.play_sample-played.result.out = search rules in
-    let outs_long : length c.glide-to.new.outs ≡ 64 = search rules in
-    let within_outs : to < length c.glide-to.new.outs = rw outs_long (omega (arith, below, c.requires.few)) in
-    let within_loops : to < length c.samples.loops = rw c.samples.invariant.loops_long (omega (arith, below, c.requires.few)) in
+    let outs_long : length c.glide-glided.new.outs ≡ 64 = search rules in
+    let within_outs : to < length c.glide-glided.new.outs = rw outs_long (omega (arith, below, c.requires.few)) in
+    let loops_long : length c.glide-glided.new.loops ≡ 64 = search rules in
+    let within_loops : to < length c.glide-glided.new.loops = rw loops_long (omega (arith, below, c.requires.few)) in
     record {
       way = λ k counts.
           let further : k + (to + 1) ≡ k + to + 1 = omega arith in
           record {
             played = rw (place, out, c.mark_loop.ensures) (one_more_played
                 (lane_of c.args.regs.now c.args.lane.now c.args.rows.now c.args.previous.now c.args.memory.now c.args.table.now c.args.self.now k) c.args.lane.now.voice to
-                c.args.loops.now c.samples.loops c.glide-to.new.outs c.glide-to.new.self c.play_sample-played.new.self c.play_sample-played.result.out c.play_sample-played.result.looped
+                c.args.loops.now c.glide-glided.new.loops c.glide-glided.new.outs c.glide-glided.new.self c.play_sample-played.new.self c.play_sample-played.result.out c.play_sample-played.result.looped
                 (way k counts).played within_outs within_loops
                 (rw input at (c.play_sample-played.ensures.voice (k + to) (sym c.index-clocks-place.is ∙ clock k counts) (at_rest k counts)))
                 (rw input at (c.play_sample-played.ensures.out (k + to) (sym c.index-clocks-place.is ∙ clock k counts) (at_rest k counts)))
@@ -69,17 +68,17 @@ samples-preserved c =
       within = omega (arith, below);
       later = λ i above.
           let other : i ≢ to = λ e. absurd (omega (arith, e, above)) in
-          rw c.mark_loop.ensures (with_loop-other c.samples.loops to c.args.lane.now.voice i c.play_sample-played.result.looped other
-          ∙ c.samples.invariant.later i (omega (arith, above, from)));
+          rw c.mark_loop.ensures (with_loop-other c.glide-glided.new.loops to c.args.lane.now.voice i c.play_sample-played.result.looped other
+          ∙ c.glide-glided.ensures.later i (omega (arith, above)) ∙ c.samples.invariant.later i (omega (arith, above, from)));
       room = λ i under.
-          let own : slice_index c.samples.loops to < 2 ^ c.args.lane.now.voice = rw (c.samples.invariant.later to from) (c.requires.room to (omega (arith, below, c.requires.few))) in
-          rw c.mark_loop.ensures (with_loop-bound c.samples.loops to c.args.lane.now.voice i c.play_sample-played.result.looped within_loops own (c.samples.invariant.room i under));
-      outs_long = length-set c.glide-to.new.outs c.from-place.result (to_z w16 (of_z w16 c.play_sample-played.result.out)) ∙ outs_long;
+          let own : slice_index c.glide-glided.new.loops to < 2 ^ c.args.lane.now.voice = rw (c.glide-glided.ensures.later to (omega arith), c.samples.invariant.later to from) (c.requires.room to (omega (arith, below, c.requires.few))) in
+          rw c.mark_loop.ensures (with_loop-bound c.glide-glided.new.loops to c.args.lane.now.voice i c.play_sample-played.result.looped within_loops own (c.glide-glided.ensures.room i under));
+      outs_long = length-set c.glide-glided.new.outs c.from-place.result (to_z w16 (of_z w16 c.play_sample-played.result.out)) ∙ outs_long;
       loops_long = c.mark_loop.array_long;
     }
 
 pub samples-smaller : goal.samples-smaller
-samples-smaller c = omega (arith, c.samples-test.true, c.glide-to.ensures.from, c.glide-to.ensures.to)
+samples-smaller c = omega (arith, c.samples-test.true, c.glide-glided.ensures.from, c.glide-glided.ensures.to)
 
 pub returns-clause-played : goal.returns-clause-played
 returns-clause-played c k counts =

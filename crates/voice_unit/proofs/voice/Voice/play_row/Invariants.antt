@@ -1,12 +1,11 @@
 use Rattle.std.proofs.Common.{◌≡◌, ℕ, ◌+◌, ◌-◌, ◌≤◌, ◌<◌, ◌^◌, length, slice_index}
-use Rattle.num_fix.specs.Arithmetic.{has_bit}
 use Rattle.voice_unit.specs.Play.{CountsFrom, IsOnItsWay, lane_of}
 use Rattle.voice_unit.proofs.voice.Voice.play_row.Given as goal
 
 abbrev pub invariant-samples : goal.invariant-samples
 invariant-samples l = record {
   way : (k : ℕ) → CountsFrom k l.j l.clocks
-      → IsOnItsWay l.lane.reset (has_bit l.lane.koff l.lane.voice) (lane_of l.regs l.lane l.rows l.previous l.memory l.table l.initial.self k) l.lane.voice l.j l.rest l.initial.loops l.loops l.outs l.self;
+      → IsOnItsWay l.lane (lane_of l.regs l.lane l.rows l.previous l.memory l.table l.initial.self k) l.j l.rest l.initial.loops l.loops l.outs l.self;
   within : l.j ≤ l.n;
   later : (j : ℕ) → l.j ≤ j → slice_index l.loops j ≡ slice_index l.initial.loops j;
   room : (j : ℕ) → j < 64 → slice_index l.loops j < 2 ^ (l.lane.voice + 1);
