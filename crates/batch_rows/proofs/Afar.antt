@@ -1,24 +1,26 @@
 -- The blocks of a chain lie within the 162 bytes from its start on and the 162 bytes from its loop word on.
-use Rattle.std.proofs.Common.{◌≡◌, ℕ, zero, suc, ◌+◌, ◌*◌, ◌%◌, ◌<◌, ◌≤◌, List, [], ◌∷◌, map, flat_map, Bool, true, false, ◌&&◌, slice_index, if◌then◌else◌, ◌⊎◌, inl, inr, refl, ap, sym, ◌∙◌, arith}
+use Rattle.std.proofs.Common.{◌≡◌, ◌≢◌, ℕ, zero, suc, ◌+◌, ◌-◌, ◌*◌, ◌%◌, ◌<◌, ◌≤◌, ◌==◌, List, [], ◌∷◌, ◌++◌, map, flat_map, Bool, true, false, ◌&&◌, slice_index, if◌then◌else◌, ◌⊎◌, inl, inr, refl, ap, sym, ◌∙◌, arith}
 use Rattle.std.specs.List.{range_with_len}
 use Rattle.std.specs.Ordering.{nat_cmp}
 use Rattle.std.specs.Cmp.{nat_cmp_total}
 use Rattle.std.specs.FinSet as set
 use Rattle.std.specs.FinMap.{nat_cmp-IsAntisymmetric}
-use Rattle.std.proofs.lemmas.Bool.{and_right}
+use Rattle.std.proofs.lemmas.Bool.{and_right, cases_Bool}
+use Rattle.std.proofs.lemmas.Grind.{flat_map-append}
 use Rattle.std.proofs.lemmas.Bool.Decides.{nat_tests}
 use Rattle.aram_core.specs.Memory.{byte_at}
 use Rattle.aram_core.specs.Pages.{page_of, have_common_page}
 use Rattle.brr_decode.specs.Header.{next_block, has_end}
+use Rattle.voice_unit.specs.Voice.{VoiceState}
 use Rattle.reach_map.specs.declared.ChainStart.{ChainStart}
 use Rattle.reach_map.specs.Reach.{pages_of_bytes, chain, block_pages, chain_pages, entry_pages, voice_pages, window_pages, reach}
 use Rattle.echo_unit.specs.Flg.{has_echo_writes}
-use Rattle.dsp_form.specs.Reach.{entries_from, starts_from, chip_window, chip_reach}
+use Rattle.dsp_form.specs.Reach.{voice_entry, can_start, own_chain, start_chain, voice_starts, entries_from, starts_from, chip_window, chip_reach}
 use Rattle.dsp_form.specs.declared.registers.TheConstants.{FLG}
 use Rattle.dsp_form.specs.declared.state.ChipState.{ChipState}
 use Rattle.dsp_reach.proofs.PageSets.{contains-pages, apart_right, has_page, at_page, in_left, in_right, in_either}
 use Rattle.dsp_reach.proofs.ChainPages.{bytes_have}
-use Rattle.batch_rows.specs.Afar.{far_pages, far_voice_pages}
+use Rattle.batch_rows.specs.Afar.{far_pages, far_voice_pages, window_from, AreApart, IsVoiceApart}
 
 none_has : (p : ℕ) → has_page [] p ≡ true → ⊥
 none_has p h = cc
@@ -113,3 +115,83 @@ far_apart s memory apart =
     let none : have_common_page (set.from_list (voice_pages memory starts entries)) (set.from_list window) ≡ false =
     none_common (voice_pages memory starts entries) window (λ q here. apart_right (far_voice_pages starts entries) window q apart (voices_are_near memory starts entries q here)) in
     rw none (and_right (has_echo_writes (slice_index s.registers FLG)) false refl)
+
+-- of a list that has a page, some entry is it
+found : {C : Type 0} (f : ℕ → ℕ) (i n p : ℕ) → has_page (map f (range_with_len i n)) p ≡ true → ((k : ℕ) → i ≤ k → k < i + n → f k ≡ p → C) → C
+found f i zero p h use_it = absurd (none_has p h)
+found f i (suc n) p h use_it = elim (in_either (f i ∷ []) (map f (range_with_len (i + 1) n)) p h) [
+  | inl here ↦ use_it i (omega arith) (omega arith) (one_has (f i) p here)
+  | inr rest ↦ found f (i + 1) n p rest (λ k above below same. use_it k (omega (arith, above)) (omega (arith, below)) same)
+]
+
+-- a page so far from a window's first is none of a shorter window's
+pub page_off : (page esa len way : ℕ) → page < 0x100 → esa < 0x100 → way < 0x100 → (way + esa) % 0x100 ≡ page → len ≤ 0x100 * way → has_page (window_from esa len) page ≡ false
+page_off page esa len way small small' near_by is far = elim (cases_Bool (has_page (window_from esa len) page)) [
+  | inl here ↦ found (λ i. page_of (esa * 0x100 + i)) 0 len page here (λ k above below same. absurd (omega (arith, same, below, small, small', near_by, is, far)))
+  | inr none ↦ none
+]
+
+-- a few bytes lie on the page of the first and on that of the last
+pub bytes_off : (those : List ℕ) (start count first last : ℕ) → 1 ≤ count → count ≤ 0x100 → first ≡ page_of start → last ≡ page_of (start + (count - 1))
+    → has_page those first ≡ false → has_page those last ≡ false → AreApart (pages_of_bytes start count) those
+bytes_off those start count first last some few first_is last_is off off' page h = found (λ i. page_of (start + i)) 0 count page h (λ k above below same. by (page == first) refl k below same)
+  where
+    by : (b : Bool) → (page == first) ≡ b → (k : ℕ) → k < 0 + count → page_of (start + k) ≡ page → has_page those page ≡ false
+    by true e k below same = let here : page ≡ first = grind (arith, nat_tests, e) in rw here off
+    by false e k below same =
+        let other : page ≢ first = grind (arith, nat_tests, e) in
+        let here : page ≡ last = omega (arith, same, below, some, few, first_is, last_is, other) in
+        rw here off'
+
+pub none_apart : (those : List ℕ) → AreApart [] those
+none_apart those page h = absurd (none_has page h)
+
+pub both_apart : (these more those : List ℕ) → AreApart these those → AreApart more those → AreApart (these ++ more) those
+both_apart these more those apart apart' page h = elim (in_either these more page h) [ inl here ↦ apart page here | inr there ↦ apart' page there ]
+
+-- one voice, by its entry, its own chain, and that of its start where it can go there
+pub voice_apart : (s : ChipState) (memory : List ℕ) (v : ℕ) (voice : VoiceState) (esa len : ℕ) (starts : Bool) → starts ≡ can_start s v voice
+    → AreApart (entry_pages (voice_entry s.registers v)) (window_from esa len) → AreApart (far_pages (own_chain s memory v voice)) (window_from esa len)
+    → (starts ≡ true → AreApart (far_pages (start_chain s memory v)) (window_from esa len)) → IsVoiceApart s memory v voice esa len
+unfolding IsVoiceApart
+voice_apart s memory v voice esa len starts is entry own start =
+    both_apart (entry_pages (voice_entry s.registers v)) (flat_map far_pages (voice_starts s memory v voice)) (window_from esa len) entry
+    (both_apart (far_pages (own_chain s memory v voice)) (flat_map far_pages (if can_start s v voice then start_chain s memory v ∷ [] else [])) (window_from esa len) own (by (can_start s v voice) is))
+  where
+    by : (b : Bool) → starts ≡ b → AreApart (flat_map far_pages (if b then start_chain s memory v ∷ [] else [])) (window_from esa len)
+    by true e = both_apart (far_pages (start_chain s memory v)) [] (window_from esa len) (start e) (none_apart (window_from esa len))
+    by false e = none_apart (window_from esa len)
+
+-- one voice more
+pub voices_apart : (s : ChipState) (memory : List ℕ) (v : ℕ) (voice : VoiceState) (rest : List VoiceState) (esa len : ℕ) → IsVoiceApart s memory v voice esa len
+    → AreApart (far_voice_pages (starts_from s memory (v + 1) rest) (entries_from s.registers (v + 1) rest)) (window_from esa len)
+    → AreApart (far_voice_pages (starts_from s memory v (voice ∷ rest)) (entries_from s.registers v (voice ∷ rest))) (window_from esa len)
+unfolding IsVoiceApart
+voices_apart s memory v voice rest esa len this others page h =
+    let entry : List ℕ = entry_pages (voice_entry s.registers v) in
+    let entries : List ℕ = flat_map entry_pages (entries_from s.registers (v + 1) rest) in
+    let starts : List ℕ = flat_map far_pages (voice_starts s memory v voice) in
+    let others_starts : List ℕ = flat_map far_pages (starts_from s memory (v + 1) rest) in
+    let parts : flat_map far_pages (voice_starts s memory v voice ++ starts_from s memory (v + 1) rest) ≡ starts ++ others_starts =
+    flat_map-append far_pages (voice_starts s memory v voice) (starts_from s memory (v + 1) rest) in
+    let here : has_page ((entry ++ entries) ++ (starts ++ others_starts)) page ≡ true = rw parts at h in
+    elim (in_either (entry ++ entries) (starts ++ others_starts) page here) [
+      | inl a ↦ elim (in_either entry entries page a) [
+        | inl b ↦ this page (in_left entry starts page b)
+        | inr b ↦ others page (in_left entries others_starts page b)
+      ]
+      | inr a ↦ elim (in_either starts others_starts page a) [
+        | inl b ↦ this page (in_right entry starts page b)
+        | inr b ↦ others page (in_right entries others_starts page b)
+      ]
+    ]
+
+pub apart_from_afar : (s : ChipState) (memory : List ℕ)
+    → AreApart (far_voice_pages (starts_from s memory 0 s.hidden.voices) (entries_from s.registers 0 s.hidden.voices)) (window_pages (chip_window s))
+    → (chip_reach s memory).entangled ≡ false
+apart_from_afar s memory apart = far_apart s memory (none_common _ _ apart)
+
+-- where echo writes are off it isn't either
+pub still_apart : (s : ChipState) (memory : List ℕ) → has_echo_writes (slice_index s.registers FLG) ≡ false → (chip_reach s memory).entangled ≡ false
+unfolding chip_reach reach
+still_apart s memory off = rw off refl

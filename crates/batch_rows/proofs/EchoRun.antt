@@ -1,22 +1,12 @@
--- One step more of the echo's run, and of ENDX.
-use Rattle.std.proofs.Common.{◌≡◌, ℕ, zero, suc, ◌+◌, ◌<◌, List, [], ◌∷◌, ◌++◌, refl, add-one, arith}
+-- The echo's run over rows that agree, and one step more of ENDX.
+use Rattle.std.proofs.Common.{◌≡◌, ℕ, zero, suc, ◌+◌, ◌<◌, List, refl, add-one, arith}
 use Rattle.num_fix.specs.declared.Frame.{Frame}
 use Rattle.voice_unit.specs.declared.interface.VoiceOut.{VoiceOut}
-use Rattle.echo_unit.specs.Echo.{EchoState, next_echo, echo_memory, echo_heard, output_frame}
+use Rattle.echo_unit.specs.Echo.{EchoState}
+use Rattle.echo_unit.specs.Run.{echo_run}
 use Rattle.echo_unit.specs.declared.regs.EchoRegs.{EchoRegs}
 use Rattle.dsp_form.specs.Results.{next_endx}
 use Rattle.batch_rows.specs.Once.{endx_after}
-use Rattle.batch_rows.specs.Rows.{EchoRun, echo_run}
-
-pub echo_run-more : (regs : EchoRegs) (main sent : ℕ → Frame) (echo : EchoState) (memory : List ℕ) (j : ℕ)
-    → echo_run regs main sent echo memory (j + 1)
-    ≡ (let now : EchoRun = echo_run regs main sent echo memory j in
-    record {
-      echo = next_echo now.echo regs now.memory;
-      memory = echo_memory now.echo regs now.memory (sent j);
-      frames = now.frames ++ output_frame regs (main j) (echo_heard now.echo regs now.memory) ∷ [];
-    })
-echo_run-more regs main sent echo memory j = rw add-one refl
 
 -- rows that agree give the same run
 pub echo_run-rows : (regs : EchoRegs) (main others sent sent_others : ℕ → Frame) (echo : EchoState) (memory : List ℕ) (n : ℕ)

@@ -11,7 +11,7 @@ use Rattle.dsp_form.specs.Volumes.{all_volumes}
 use Rattle.dsp_form.specs.Sample.{SharedInput, VoiceResult, results_from, shared_input, sample}
 use Rattle.dsp_form.specs.declared.registers.TheConstants.{FLG}
 use Rattle.dsp_reach.proofs.Registers.{same_inputs-samples}
-use Rattle.dsp_reach.proofs.EchoPages.{echo_memory_still}
+use Rattle.echo_unit.proofs.OffCell.{echo_memory_still}
 use Rattle.dsp_form.specs.Valid.{is_valid}
 use Rattle.dsp_form.specs.Reach.{chip_reach}
 use Rattle.dsp_form.specs.declared.state.ChipState.{ChipState}

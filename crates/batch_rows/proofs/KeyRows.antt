@@ -1,5 +1,5 @@
 -- One sample more of the rows of keys and noise.
-use Rattle.std.proofs.Common.{◌≡◌, ◌≢◌, ℕ, zero, suc, ◌+◌, ◌%◌, ◌<◌, ◌==◌, List, Bool, true, false, length, get_or, slice_index, slice_set, refl, ap, sym, ◌∙◌, add-one, arith}
+use Rattle.std.proofs.Common.{◌≡◌, ◌≢◌, ℕ, zero, suc, ◌+◌, ◌%◌, ◌<◌, ◌==◌, List, Bool, true, false, length, slice_index, slice_set, refl, ap, ◌∙◌, add-one, arith}
 use Rattle.std.proofs.lemmas.Bool.Decides.{nat_tests}
 use Rattle.std.proofs.lemmas.List.{get_or-set_same, get_or-set_other}
 use Rattle.rate_clock.specs.Counter.{counter_at}
@@ -8,18 +8,10 @@ use Rattle.voice_unit.specs.declared.batch.BatchRows.{BatchRows}
 use Rattle.dsp_form.specs.declared.state.ChipState.{ChipState}
 use Rattle.dsp_form.proofs.EightVoices.{voices-before_step}
 use Rattle.dsp_form.proofs.Valid.{echo-before_step}
+use Rattle.echo_unit.proofs.Entries.{with_entry}
 use Rattle.batch_rows.specs.Apart.{polled}
 use Rattle.batch_rows.specs.KeyRows.{AreKeyRows}
 use Rattle.batch_rows.specs.Rows.{keys_after}
-
--- a row with one entry more
-pub with_entry : {X : Type 0} (f : ℕ → X) (row : List X) (n : ℕ) (x d : X) → n < length row → ((j : ℕ) → j < n → get_or row j d ≡ f j) → x ≡ f n
-    → (j : ℕ) → j < n + 1 → get_or (slice_set row n x) j d ≡ f j
-with_entry f row n x d within before is j below = by (j == n) refl
-  where
-    by : (b : Bool) → (j == n) ≡ b → get_or (slice_set row n x) j d ≡ f j
-    by true e = let here : j ≡ n = grind (arith, nat_tests, e) in rw here (get_or-set_same row n x d within ∙ is)
-    by false e = let other : j ≢ n = grind (arith, nat_tests, e) in get_or-set_other row n j x d other ∙ before j (omega (arith, below, other))
 
 pub keys_after-more : (k : ℕ) (s : ChipState) (n : ℕ) → keys_after k s (n + 1) ≡ polled (keys_after k s n) (k + n)
 unfolding keys_after

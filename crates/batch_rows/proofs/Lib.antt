@@ -8,7 +8,7 @@
 -- PlayedLane: a voice over the rows of a batch makes the steps of its lane.
 -- Remains: the voices of a batch, one more of them played.
 -- Keyed: the voices that a sample keys are those whose key-ons its poll took.
--- EchoRun: one step more of the echo's run, and of ENDX.
+-- EchoRun: the echo's run over rows that agree, and one step more of ENDX.
 -- MakeBatch: what the voices, the echo and the results leave of a batch by rows.
 -- Afar: the blocks of a chain lie in two runs of bytes.
 pub mod Lanes

@@ -1,21 +1,21 @@
 -- What the voices, the echo and the results leave of a batch by rows.
-use Rattle.std.proofs.Common.{◌≡◌, ℕ, zero, suc, ◌+◌, ◌-◌, ◌%◌, ◌<◌, ◌==◌, List, [], ◌∷◌, ℤ, pos, Bool, true, false, length, map, get_or, slice_index, slice_set, if◌then◌else◌, refl, ap, sym, ◌∙◌, arith}
-use Rattle.num_fix.specs.Words.{number_at}
+use Rattle.std.proofs.Common.{◌≡◌, ℕ, zero, suc, ◌+◌, ◌-◌, ◌<◌, List, [], ◌∷◌, ℤ, pos, Bool, true, false, length, map, get_or, slice_index, slice_set, if◌then◌else◌, refl, ap, sym, ◌∙◌, arith}
 use Rattle.voice_unit.specs.Voice.{VoiceState}
 use Rattle.voice_unit.specs.declared.batch.BatchRows.{BatchRows}
 use Rattle.voice_unit.specs.declared.interface.VoiceOut.{VoiceOut}
+use Rattle.echo_unit.specs.Run.{echo_run}
 use Rattle.dsp_form.specs.Mix.{main_frame, sent_frame}
 use Rattle.dsp_form.specs.Registers.{echo_regs}
 use Rattle.dsp_form.specs.Results.{bits_from, with_levels_from}
-use Rattle.dsp_form.specs.Sample.{SharedInput, VoiceResult, results_from}
+use Rattle.dsp_form.specs.Sample.{SharedInput, VoiceResult}
 use Rattle.dsp_form.specs.Volumes.{all_volumes}
 use Rattle.dsp_form.specs.declared.registers.TheConstants.{ENDX}
 use Rattle.dsp_form.specs.declared.state.ChipState.{ChipState}
 use Rattle.batch_rows.specs.KeyRows.{AreKeyRows}
-use Rattle.batch_rows.specs.Lane.{outs, voice_after, lanes, voices_after}
+use Rattle.batch_rows.specs.Lane.{outs, voices_after}
 use Rattle.batch_rows.specs.Once.{endx_after, put_once, AreBits}
 use Rattle.batch_rows.specs.PlayedBatch.{answers_from, IsPlayedBatch}
-use Rattle.batch_rows.specs.Rows.{keys_after, inputs, answers, echo_run, echo_after, results_after}
+use Rattle.batch_rows.specs.Rows.{inputs, answers, echo_after, results_after}
 use Rattle.batch_rows.specs.SumRows.{main_of, sent_of}
 use Rattle.batch_rows.specs.declared.sums.SumRows.{SumRows}
 use Rattle.batch_rows.proofs.EchoRun.{echo_run-rows}

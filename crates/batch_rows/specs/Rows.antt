@@ -1,11 +1,10 @@
 -- A batch by rows: the keys and the noise, then voice by voice, and then the echo over the rows of sums.
-use Rattle.std.specs.Prelude.{ℕ, zero, suc, ◌+◌, List, [], ◌∷◌, ◌++◌, map, pos}
-use Rattle.num_fix.specs.declared.Frame.{Frame}
+use Rattle.std.specs.Prelude.{ℕ, zero, suc, ◌+◌, List, [], ◌++◌, map, pos}
 use Rattle.rate_clock.specs.Counter.{counter_at}
 use Rattle.voice_unit.specs.Voice.{VoiceState}
 use Rattle.voice_unit.specs.declared.interface.VoiceOut.{VoiceOut}
-use Rattle.echo_unit.specs.Echo.{EchoState, next_echo, echo_memory, echo_heard, output_frame}
-use Rattle.echo_unit.specs.declared.regs.EchoRegs.{EchoRegs}
+use Rattle.echo_unit.specs.Echo.{EchoState}
+use Rattle.echo_unit.specs.Run.{EchoRun, echo_run}
 use Rattle.trace_form.specs.declared.record.Record.{Record}
 use Rattle.dsp_form.specs.Registers.{echo_regs}
 use Rattle.dsp_form.specs.Mix.{main_frame, sent_frame}
@@ -38,23 +37,6 @@ results_after rows registers (suc j) = registers_after (rows j) (results_after r
 abbrev pub records_after : (rows : ℕ → List VoiceOut) → (k samples : ℕ) → List Record
 records_after rows k zero = []
 records_after rows k (suc j) = records_after rows k j ++ records_from (k + j) 0 (rows j)
-
--- what a run of the echo leaves and gives
-pub record EchoRun : Type 0 where
-  pub echo : EchoState
-  pub memory : List ℕ
-  pub frames : List Frame
-
--- the echo over the rows of main sums and of what is sent to it
-abbrev pub echo_run : EchoRegs → (main sent : ℕ → Frame) → EchoState → (memory : List ℕ) → (samples : ℕ) → EchoRun
-echo_run regs main sent echo memory zero = record { echo = echo; memory = memory; frames = [] }
-echo_run regs main sent echo memory (suc j) =
-    let now = echo_run regs main sent echo memory j in
-    record {
-      echo = next_echo now.echo regs now.memory;
-      memory = echo_memory now.echo regs now.memory (sent j);
-      frames = now.frames ++ output_frame regs (main j) (echo_heard now.echo regs now.memory) ∷ [];
-    }
 
 -- the echo of a batch
 unfoldable pub echo_after : (k : ℕ) → ChipState → (memory : List ℕ) → (samples : ℕ) → EchoRun

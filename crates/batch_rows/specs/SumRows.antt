@@ -3,6 +3,7 @@ use Rattle.std.specs.Prelude.{◌≡◌, ℕ, ◌<◌, List, ℤ, ◌+ℤ◌}
 use Rattle.num_fix.specs.Arithmetic.{clamp16, scaled}
 use Rattle.num_fix.specs.Words.{number_at}
 use Rattle.num_fix.specs.declared.Frame.{Frame}
+use Rattle.echo_unit.specs.Run.{pair_of}
 use Rattle.batch_rows.specs.declared.sums.SumRows.{SumRows}
 
 -- each sum has the share of an output at a volume added, limited to 16 bits
@@ -12,8 +13,8 @@ HasShares outs volume before after =
 
 -- the main sums in sample j
 abbrev pub main_of : SumRows → ℕ → Frame
-main_of sums j = record { left = number_at sums.main_left j; right = number_at sums.main_right j }
+main_of sums = pair_of sums.main_left sums.main_right
 
 -- what is sent to the echo in sample j
 abbrev pub sent_of : SumRows → ℕ → Frame
-sent_of sums j = record { left = number_at sums.sent_left j; right = number_at sums.sent_right j }
+sent_of sums = pair_of sums.sent_left sums.sent_right

@@ -2,14 +2,13 @@
 
 ghost use Rattle.std.specs.Prelude.{◌≡◌, ◌≤◌, ◌+◌, ◌++◌, length};
 ghost use Rattle.trace_form.specs.Rooms.{frame_room};
+ghost use Rattle.echo_unit.specs.Run.{echo_run};
 ghost use Rattle.dsp_form.specs.Limits.{most_samples_of_batch};
-ghost use Rattle.batch_rows.specs.Rows.{echo_run};
 ghost use Rattle.batch_rows.specs.SumRows.{main_of, sent_of};
 
 use crate::sums::SumRows;
 use aram_core::Aram;
 use echo_unit::{Echo, EchoRegs};
-use num_fix::Frame;
 use trace_form::Frames;
 
 /// Makes n steps of the echo over the sums of a batch, and adds their frames.
@@ -27,17 +26,16 @@ pub fn play_echo(
     ensures memory { memory.new ≡ (echo_run regs.now (main_of sums.now) (sent_of sums.now) echo.old memory.old n).memory }
     ensures frames { frames.new ≡ frames.old ++ (echo_run regs.now (main_of sums.now) (sent_of sums.now) echo.old memory.old n).frames }
 {
+    let row = echo.play(
+        n,
+        regs,
+        &sums.main_left,
+        &sums.main_right,
+        &sums.sent_left,
+        &sums.sent_right,
+        memory,
+    );
     for j in 0..n {
-        let place = usize::from(j);
-        let main = Frame {
-            left: sums.main_left[place],
-            right: sums.main_right[place],
-        };
-        let sent = Frame {
-            left: sums.sent_left[place],
-            right: sums.sent_right[place],
-        };
-        let frame = echo.step(memory, regs, main, sent);
-        frames.push(frame);
+        frames.push(row[usize::from(j)]);
     }
 }

@@ -17,7 +17,7 @@ use crate::records::push_records;
 use crate::sample::make_sample;
 use crate::saved::DspState;
 use aram_core::Aram;
-use batch_rows::{UNHEARD, make_batch};
+use batch_rows::{UNHEARD, is_echo_apart, make_batch};
 use brr_decode::GroupMemory;
 use dsp_form::registers::{ENDX, KON};
 use dsp_form::{ChipState, Hidden, Settings, settings_of};
@@ -202,7 +202,7 @@ impl Dsp {
         if mask != 0 || n <= 2 {
             return false;
         }
-        !self.state.reach(memory).entangled
+        is_echo_apart(&self.state, memory)
     }
 
     /// Makes the next n samples, at most 64, and adds their frames and the records of the voices in the

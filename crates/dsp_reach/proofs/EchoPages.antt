@@ -12,6 +12,7 @@ use Rattle.echo_unit.specs.Echo.{EchoState, cell_address, halved_word, cell_pair
 use Rattle.echo_unit.specs.Flg.{has_echo_writes}
 use Rattle.echo_unit.specs.declared.regs.EchoRegs.{EchoRegs}
 use Rattle.echo_unit.proofs.Cells.{IsCell}
+use Rattle.echo_unit.proofs.OffCell.{IsOffCell}
 use Rattle.dsp_reach.proofs.PageSets.{has_page}
 use Rattle.dsp_reach.proofs.ChainPages.{bytes_have}
 
@@ -20,13 +21,6 @@ pub page_of_cell : (echo : EchoState) (esa edl length : ℕ) → IsCell echo →
     → has_page (window_pages (echo_window esa edl length)) (page_of (esa * 0x100 + echo.offset)) ≡ true
 page_of_cell echo esa edl length cell most =
     bytes_have (esa * 0x100) (max (max length (echo_length edl)) 4) echo.offset (omega (arith, cell.within, most))
-
--- an address is that of no byte of a cell
-pub record IsOffCell (address at : ℕ) : Type 0 where
-  pub first : at % 0x10000 ≢ address % 0x10000
-  pub second : at % 0x10000 ≢ (address + 1) % 0x10000
-  pub third : at % 0x10000 ≢ (address + 2) % 0x10000 % 0x10000
-  pub fourth : at % 0x10000 ≢ ((address + 2) % 0x10000 + 1) % 0x10000
 
 -- a cell lies on one page
 off_cell : (esa offset at : ℕ) → offset % 4 ≡ 0 → page_of at ≢ page_of (esa * 0x100 + offset) → IsOffCell (cell_address esa offset) at
@@ -45,9 +39,6 @@ off_window echo esa edl length at cell most none =
     let there = page_of_cell echo esa edl length cell most in
     off_cell esa echo.offset at cell.cell (λ e. true≢false (sym there ∙ ap (has_page pages) (sym e) ∙ none))
 
-byte_elsewhere : (memory : List ℕ) (address at value : ℕ) → at % 0x10000 ≢ address % 0x10000 → byte_at (with_byte memory address value) at ≡ byte_at memory at
-byte_elsewhere memory address at value other = get_or-set_other memory (address % 0x10000) (at % 0x10000) value 0 other
-
 byte_stays : (memory : List ℕ) (address at value : ℕ) → at % 0x10000 ≢ address % 0x10000 → byte_at (with_byte memory at value) address ≡ byte_at memory address
 byte_stays memory address at value other = get_or-set_other memory (at % 0x10000) (address % 0x10000) value 0 (λ e. other (sym e))
 
@@ -55,14 +46,7 @@ put_after : (memory : List ℕ) (address at value byte : ℕ) → at % 0x10000 �
     → with_byte (with_byte memory at value) address byte ≡ with_byte (with_byte memory address byte) at value
 put_after memory address at value byte other = set_comm memory (at % 0x10000) (address % 0x10000) value byte other
 
--- a word put at an address leaves a byte at another, and can be put before or after it
-word_elsewhere : (memory : List ℕ) (address at : ℕ) (word : ℤ) → at % 0x10000 ≢ address % 0x10000 → at % 0x10000 ≢ (address + 1) % 0x10000
-    → byte_at (with_word memory address word) at ≡ byte_at memory at
-unfolding with_word
-word_elsewhere memory address at word first second =
-    let bits : ℕ = cast_unsigned w16 word in
-    byte_elsewhere (with_byte memory address (bits % 0x100)) (address + 1) at (bits / 0x100) second ∙ byte_elsewhere memory address at (bits % 0x100) first
-
+-- a word can be put before a byte at another address or after it
 put_after_word : (memory : List ℕ) (address at value : ℕ) (word : ℤ) → at % 0x10000 ≢ address % 0x10000 → at % 0x10000 ≢ (address + 1) % 0x10000
     → with_word (with_byte memory at value) address word ≡ with_byte (with_word memory address word) at value
 unfolding with_word
@@ -70,11 +54,6 @@ put_after_word memory address at value word first second =
     let bits : ℕ = cast_unsigned w16 word in
     ap (λ (m : List ℕ). with_byte m (address + 1) (bits / 0x100)) (put_after memory address at value (bits % 0x100) first)
     ∙ put_after (with_byte memory address (bits % 0x100)) (address + 1) at value (bits / 0x100) second
-
-cell_elsewhere : (memory : List ℕ) (address at : ℕ) (left right : ℤ) → IsOffCell address at → byte_at (with_cell memory address left right) at ≡ byte_at memory at
-unfolding with_cell
-cell_elsewhere memory address at left right off =
-    word_elsewhere (with_word memory address left) ((address + 2) % 0x10000) at right off.third off.fourth ∙ word_elsewhere memory address at left off.first off.second
 
 put_after_cell : (memory : List ℕ) (address at value : ℕ) (left right : ℤ) → IsOffCell address at
     → with_cell (with_byte memory at value) address left right ≡ with_byte (with_cell memory address left right) at value
@@ -93,21 +72,6 @@ pair_stays memory address at value off =
       byte_stays memory ((address + 2) % 0x10000) at value off.third,
       byte_stays memory ((address + 2) % 0x10000 + 1) at value off.fourth,
     ) refl
-
--- a step of the echo writes its cell alone
-pub byte_at-echo_memory : (echo : EchoState) (regs : EchoRegs) (memory : List ℕ) (sent : Frame) (at : ℕ) → IsOffCell (cell_address regs.esa echo.offset) at
-    → byte_at (echo_memory echo regs memory sent) at ≡ byte_at memory at
-unfolding echo_memory
-byte_at-echo_memory echo regs memory sent at off = by (has_echo_writes regs.flg) _ _
-  where
-    by : (b : Bool) (left right : ℤ) → byte_at (if b then with_cell memory (cell_address regs.esa echo.offset) left right else memory) at ≡ byte_at memory at
-    by true left right = cell_elsewhere memory (cell_address regs.esa echo.offset) at left right off
-    by false left right = refl
-
--- where echo writes are off it writes nothing
-pub echo_memory_still : (echo : EchoState) (regs : EchoRegs) (memory : List ℕ) (sent : Frame) → has_echo_writes regs.flg ≡ false → echo_memory echo regs memory sent ≡ memory
-unfolding echo_memory
-echo_memory_still echo regs memory sent none = rw none refl
 
 -- a byte put off the cell changes nothing of what is heard, of where the echo goes and of what it writes
 pub after_reading_apart : (echo : EchoState) (regs : EchoRegs) (memory : List ℕ) (at value : ℕ) → IsOffCell (cell_address regs.esa echo.offset) at

@@ -27,7 +27,8 @@ use Rattle.dsp_reach.specs.Chain.{AllStayOnChains}
 use Rattle.dsp_form.proofs.Inputs.{SameInputs, same_inputs-registers_after, registers-before_step}
 use Rattle.dsp_reach.proofs.Keys.{IsPart, waiting-before_step, taken_waited}
 use Rattle.dsp_reach.proofs.EchoPlace.{length-next_echo}
-use Rattle.dsp_reach.proofs.EchoPages.{IsOffCell, off_window, byte_at-echo_memory, echo_memory_still, after_reading_apart, next_echo_apart, echo_memory_apart}
+use Rattle.echo_unit.proofs.OffCell.{IsOffCell, byte_at-echo_memory, echo_memory_still}
+use Rattle.dsp_reach.proofs.EchoPages.{off_window, after_reading_apart, next_echo_apart, echo_memory_apart}
 use Rattle.dsp_reach.proofs.PageSets.{has_page}
 use Rattle.dsp_reach.proofs.ReachOfChip.{pages_of_echo, writes_echo, unread_by_voices, unread_by_echo, unwritten_by_echo, voices_unwritten}
 use Rattle.dsp_reach.proofs.Voices.{FindTheSame, voices_at_start, voices_stay, voices_apart}

@@ -3,3 +3,9 @@ pub mod Taps
 pub mod History
 -- Cells: the echo stands at a cell of its buffer, and a step takes it from cell to cell.
 pub mod Cells
+-- OffCell: a step of the echo writes one cell. Walk: up to 64 cells of a buffer are all apart.
+pub mod OffCell
+pub mod Walk
+-- Entries: rows that a loop fills. RunByRows: a batch whose cells are all read before they are written.
+pub mod Entries
+pub mod RunByRows

@@ -77,6 +77,10 @@ output_frame regs main echo =
 unfoldable pub feedback_word : (sent echo : ℤ) → (efb : ℕ) → ℤ
 feedback_word sent echo efb = clear_bit0 (clamp16 (sent +ℤ at_volume echo efb))
 
+-- both words of a cell
+abbrev pub feedback_pair : (sent echo : Frame) → (efb : ℕ) → Frame
+feedback_pair sent echo efb = record { left = feedback_word sent.left echo.left efb; right = feedback_word sent.right echo.right efb }
+
 -- the memory with a signed word put at an address, low byte first
 unfoldable pub with_word : (memory : List ℕ) → (address : ℕ) → ℤ → List ℕ
 with_word memory address word =

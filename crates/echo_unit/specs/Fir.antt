@@ -1,5 +1,5 @@
 -- The FIR filter of the echo, over the last eight samples of a side, oldest first. C0 meets the oldest and C7 the newest.
-use Rattle.std.specs.Prelude.{ℕ, List, [], ◌∷◌, take, fold, ℤ, pos, ◌+ℤ◌}
+use Rattle.std.specs.Prelude.{ℕ, List, [], ◌∷◌, drop, take, fold, ℤ, pos, ◌+ℤ◌}
 use Rattle.num_fix.specs.Arithmetic.{scaled, wrap16, clamp16, clear_bit0, sign8}
 use Rattle.num_fix.specs.Words.{number_at}
 
@@ -18,3 +18,7 @@ unfoldable pub filtered_sample : (samples : List ℤ) → (coefficients : List �
 filtered_sample samples coefficients =
     let given = taps samples coefficients in
     clear_bit0 (clamp16 (wrap16 (signed_sum (take 7 given)) +ℤ wrap16 (number_at given 7)))
+
+-- the eight samples of a row from a place on
+abbrev pub eight_from : (row : List ℤ) → (place : ℕ) → List ℤ
+eight_from row place = take 8 (drop place row)

@@ -1,10 +1,16 @@
 // The echo itself.
-ghost use Rattle.std.specs.Prelude.{◌≡◌, ◌≤◌, ◌*◌};
+ghost use Rattle.std.specs.Prelude.{◌≡◌, ◌<◌, ◌≤◌, ◌+◌, ◌*◌, ◌%◌, true, false, length, map, take};
 ghost use Rattle.reach_map.specs.Window.{echo_window};
-ghost use Rattle.echo_unit.specs.Echo.{first_echo, with_newest, after_reading, at_next_cell, echo_heard, next_echo, echo_memory, output_frame};
+ghost use Rattle.echo_unit.specs.Echo.{first_echo, is_at_cell, cell_address, with_newest, after_reading, at_next_cell, echo_heard, next_echo, echo_memory, output_frame, feedback_pair};
+ghost use Rattle.echo_unit.specs.Cells.{after_cells, pairs_read, with_cells};
+ghost use Rattle.echo_unit.specs.Flg.{has_echo_writes};
+ghost use Rattle.echo_unit.specs.Run.{echo_run, pair_of};
 
 use crate::cell::{cell_address, cell_pair, put_cell};
 use crate::filter::filtered_pair;
+use crate::rows::{
+    SILENCE, feedback_row, filtered_row, frame_at, last_pairs, output_row, put_history,
+};
 use crate::volume::{feedback_word, output_frame};
 use crate::{EchoRegs, Window};
 use aram_core::Aram;
@@ -39,6 +45,13 @@ fn push(history: &mut [Frame; 8], pair: Frame)
 {
     history.rotate_left(1);
     history[7] = pair;
+}
+
+/// Whether no cell of a batch is written before it is read: the buffer is longer than a cell, or nothing is written.
+fn are_cells_apart(regs: &EchoRegs) -> bool
+    ensures { result ≡ true → has_echo_writes regs.now.flg ≡ true → 0 < regs.now.edl % 16 }
+{
+    regs.edl % 16 != 0 || has_bit(regs.flg, 5)
 }
 
 impl Echo {
@@ -95,6 +108,219 @@ impl Echo {
         }
         self.advance(regs.edl);
         output_frame(regs, main, heard)
+    }
+
+    /// Goes to the place of another echo, with a history of its own.
+    fn go_to(&mut self, place: &Echo, history: [Frame; 8])
+        ensures { self.new ≡ record place.now { history = history } }
+    {
+        *self = Echo {
+            offset: place.offset,
+            length: place.length,
+            history,
+        };
+    }
+
+    /// The address of its cell.
+    fn cell(&self, esa: u8) -> u16
+        ensures { result ≡ cell_address esa self.now.offset }
+    {
+        cell_address(esa, self.offset)
+    }
+
+    /// Puts the pairs of the history into two rows.
+    fn put_pairs(&self, left: &mut [i16; 72], right: &mut [i16; 72])
+        ensures left { take 8 left.new ≡ map (λ pair. pair.left) self.now.history }
+        ensures right { take 8 right.new ≡ map (λ pair. pair.right) self.now.history }
+        ensures at_cell { is_at_cell self.now ≡ true }
+        ensures eight { length self.now.history ≡ 8 }
+    {
+        put_history(&self.history, left, right);
+    }
+
+    /// Reads n cells, behind the pairs of the history, into a row for each side. The answer is the echo after these cells, with the
+    /// history that it had.
+    fn read_cells(
+        &self,
+        n: u8,
+        regs: &EchoRegs,
+        memory: &Aram,
+        left: &mut [i16; 72],
+        right: &mut [i16; 72],
+    ) -> Echo
+        requires few { n ≤ 64 }
+        ensures echo { result ≡ after_cells self.now regs.now.edl n }
+        ensures left { take (8 + n) left.new ≡ map (λ pair. pair.left) (pairs_read self.now regs.now memory.now n) }
+        ensures right { take (8 + n) right.new ≡ map (λ pair. pair.right) (pairs_read self.now regs.now memory.now n) }
+        ensures at_cell { is_at_cell self.now ≡ true }
+        ensures eight { length self.now.history ≡ 8 }
+    {
+        self.put_pairs(left, right);
+        let mut at = *self;
+        for j in 0..n {
+            let pair = cell_pair(memory, at.cell(regs.esa));
+            let cell = usize::from(j);
+            left[8 + cell] = pair.left;
+            right[8 + cell] = pair.right;
+            at.advance(regs.edl);
+        }
+        at
+    }
+
+    /// Writes n cells of two rows of words.
+    fn write_cells(
+        &self,
+        n: u8,
+        regs: &EchoRegs,
+        left: &[i16; 64],
+        right: &[i16; 64],
+        memory: &mut Aram,
+    )
+        requires few { n ≤ 64 }
+        ensures { memory.new ≡ with_cells self.now regs.now (pair_of left.now right.now) memory.old n }
+    {
+        let mut at = *self;
+        for j in 0..n {
+            let place = usize::from(j);
+            put_cell(memory, at.cell(regs.esa), left[place], right[place]);
+            at.advance(regs.edl);
+        }
+    }
+
+    /// Writes what was sent and heard back into n cells.
+    fn put_back(
+        &self,
+        n: u8,
+        regs: &EchoRegs,
+        sent_left: &[i16; 64],
+        sent_right: &[i16; 64],
+        heard_left: &[i16; 64],
+        heard_right: &[i16; 64],
+        memory: &mut Aram,
+    )
+        requires few { n ≤ 64 }
+        ensures { memory.new ≡ with_cells self.now regs.now
+            (λ j. feedback_pair (pair_of sent_left.now sent_right.now j) (pair_of heard_left.now heard_right.now j) regs.now.efb) memory.old n }
+    {
+        let left = feedback_row(sent_left, heard_left, regs.efb);
+        let right = feedback_row(sent_right, heard_right, regs.efb);
+        self.write_cells(n, regs, &left, &right, memory);
+    }
+
+    /// The same, unless FLG forbids it.
+    fn write_back(
+        &self,
+        n: u8,
+        regs: &EchoRegs,
+        sent_left: &[i16; 64],
+        sent_right: &[i16; 64],
+        heard_left: &[i16; 64],
+        heard_right: &[i16; 64],
+        memory: &mut Aram,
+    )
+        requires few { n ≤ 64 }
+        ensures on { has_echo_writes regs.now.flg ≡ true → memory.new ≡ with_cells self.now regs.now
+            (λ j. feedback_pair (pair_of sent_left.now sent_right.now j) (pair_of heard_left.now heard_right.now j) regs.now.efb) memory.old n }
+        ensures off { has_echo_writes regs.now.flg ≡ false → memory.new ≡ memory.old }
+    {
+        let forbidden = has_bit(regs.flg, 5);
+        if !forbidden {
+            self.put_back(
+                n,
+                regs,
+                sent_left,
+                sent_right,
+                heard_left,
+                heard_right,
+                memory,
+            );
+        }
+    }
+
+    /// The samples of a batch by rows: all cells are read, then filtered, then written.
+    fn play_rows(
+        &mut self,
+        n: u8,
+        regs: &EchoRegs,
+        main_left: &[i16; 64],
+        main_right: &[i16; 64],
+        sent_left: &[i16; 64],
+        sent_right: &[i16; 64],
+        memory: &mut Aram,
+    ) -> [Frame; 64]
+        requires few { n ≤ 64 }
+        requires apart { has_echo_writes regs.now.flg ≡ true → 0 < regs.now.edl % 16 }
+        ensures run { let run = echo_run regs.now (pair_of main_left.now main_right.now) (pair_of sent_left.now sent_right.now) self.old memory.old n in
+            run ≡ record { echo = self.new; memory = memory.new; frames = take n result } }
+    {
+        let mut left = [0; 72];
+        let mut right = [0; 72];
+        let next = self.read_cells(n, regs, memory, &mut left, &mut right);
+        let heard_left = filtered_row(&left, &regs.fir);
+        let heard_right = filtered_row(&right, &regs.fir);
+        self.write_back(
+            n,
+            regs,
+            sent_left,
+            sent_right,
+            &heard_left,
+            &heard_right,
+            memory,
+        );
+        self.go_to(&next, last_pairs(&left, &right, n));
+        output_row(regs, main_left, main_right, &heard_left, &heard_right)
+    }
+
+    /// The samples of a batch one after another.
+    fn play_each(
+        &mut self,
+        n: u8,
+        regs: &EchoRegs,
+        main_left: &[i16; 64],
+        main_right: &[i16; 64],
+        sent_left: &[i16; 64],
+        sent_right: &[i16; 64],
+        memory: &mut Aram,
+    ) -> [Frame; 64]
+        requires few { n ≤ 64 }
+        ensures run { let run = echo_run regs.now (pair_of main_left.now main_right.now) (pair_of sent_left.now sent_right.now) self.old memory.old n in
+            run ≡ record { echo = self.new; memory = memory.new; frames = take n result } }
+    {
+        let mut frames = [SILENCE; 64];
+        for j in 0..n {
+            let place = usize::from(j);
+            let main = frame_at(main_left, main_right, place);
+            let sent = frame_at(sent_left, sent_right, place);
+            frames[place] = self.step(memory, regs, main, sent);
+        }
+        frames
+    }
+
+    /// The steps of n samples, at most 64, over rows of the main sums and of what is sent to the echo. The answer's first n frames
+    /// are those of the samples. A batch of a few samples, and one that writes the only cell of a buffer of no length, is made step by step.
+    pub fn play(
+        &mut self,
+        n: u8,
+        regs: &EchoRegs,
+        main_left: &[i16; 64],
+        main_right: &[i16; 64],
+        sent_left: &[i16; 64],
+        sent_right: &[i16; 64],
+        memory: &mut Aram,
+    ) -> [Frame; 64]
+        requires few { n ≤ 64 }
+        ensures run { let run = echo_run regs.now (pair_of main_left.now main_right.now) (pair_of sent_left.now sent_right.now) self.old memory.old n in
+            run ≡ record { echo = self.new; memory = memory.new; frames = take n result } }
+    {
+        if 16 <= n && are_cells_apart(regs) {
+            self.play_rows(
+                n, regs, main_left, main_right, sent_left, sent_right, memory,
+            )
+        } else {
+            self.play_each(
+                n, regs, main_left, main_right, sent_left, sent_right, memory,
+            )
+        }
     }
 
     /// Where the echo can stand in the next samples under these values of ESA and EDL.

@@ -1,44 +1,46 @@
 // The FIR filter.
-ghost use Rattle.std.specs.Prelude.{◌≡◌, ◌<◌, ◌≤◌, ◌^◌, map, unsigned_abs, slice_index};
+ghost use Rattle.std.specs.Prelude.{◌≡◌, ◌<◌, ◌≤◌, ◌+◌, ◌^◌, map, length, unsigned_abs, slice_index};
 ghost use Rattle.num_fix.specs.Arithmetic.{scaled, sign8};
 ghost use Rattle.num_fix.specs.Words.{number_at};
-ghost use Rattle.echo_unit.specs.Fir.{filtered_sample};
+ghost use Rattle.echo_unit.specs.Fir.{filtered_sample, eight_from};
 ghost use Rattle.echo_unit.specs.Echo.{filtered_pair};
 
 use crate::volume::signed;
 use num_fix::{Frame, add_clamped, clear_bit0, scaled, wrap16};
 
-/// One tap of the filter.
-fn tap(samples: &[i16; 8], coefficients: &[u8; 8], i: usize) -> i32
-    requires { i < 8 }
-    ensures value { result ≡ scaled (number_at samples.now i) (sign8 (slice_index coefficients.now i)) 6 }
+/// One tap of the filter, over the samples of a row from a place on.
+fn tap(row: &[i16], place: usize, coefficients: &[u8; 8], i: usize) -> i32
+    requires tap { i < 8 }
+    requires row { place + 8 ≤ length row.now }
+    ensures value { result ≡ scaled (number_at row.now (place + i)) (sign8 (slice_index coefficients.now i)) 6 }
     ensures bound { unsigned_abs result ≤ 2 ^ 24 }
 {
-    scaled(samples[i], signed(coefficients[i]), 6)
+    scaled(row[place + i], signed(coefficients[i]), 6)
 }
 
-/// The filter over eight samples of a side.
+/// The filter over the eight samples of a row from a place on.
 #[tactic(auto, unfolding(crate::specs::Fir::filtered_sample))]
-fn filtered_sample(samples: &[i16; 8], coefficients: &[u8; 8]) -> i16
-    ensures { result ≡ filtered_sample samples.now coefficients.now }
+pub fn filtered_sample(row: &[i16], place: usize, coefficients: &[u8; 8]) -> i16
+    requires { place + 8 ≤ length row.now }
+    ensures { result ≡ filtered_sample (eight_from row.now place) coefficients.now }
 {
     let mut sum = 0;
     for i in 0..7 {
-        sum += tap(samples, coefficients, i);
+        sum += tap(row, place, coefficients, i);
     }
-    let last = wrap16(tap(samples, coefficients, 7));
+    let last = wrap16(tap(row, place, coefficients, 7));
     clear_bit0(add_clamped(wrap16(sum), last))
 }
 
 /// The left sample of a pair.
-fn left_of(pair: &Frame) -> i16
+pub fn left_of(pair: &Frame) -> i16
     ensures { result ≡ pair.now.left }
 {
     pair.left
 }
 
 /// The right sample of a pair.
-fn right_of(pair: &Frame) -> i16
+pub fn right_of(pair: &Frame) -> i16
     ensures { result ≡ pair.now.right }
 {
     pair.right
@@ -82,7 +84,7 @@ pub fn filtered_pair(pairs: &[Frame; 8], coefficients: &[u8; 8]) -> Frame
     ensures { result ≡ filtered_pair pairs.now coefficients.now }
 {
     Frame {
-        left: filtered_sample(&lefts(pairs), coefficients),
-        right: filtered_sample(&rights(pairs), coefficients),
+        left: filtered_sample(&lefts(pairs), 0, coefficients),
+        right: filtered_sample(&rights(pairs), 0, coefficients),
     }
 }

@@ -5,6 +5,7 @@ mod cell;
 mod echo;
 mod filter;
 mod regs;
+mod rows;
 #[cfg(test)]
 mod tests;
 mod volume;

@@ -1,26 +1,32 @@
-use Rattle.std.proofs.Common.{rules, ◌≡◌, ◌+◌, ◌++◌, ℕ, ℤ, to_z, of_z, length, refl, ap, sym, ◌∙◌, append_assoc, length-append, arith}
-use Rattle.std.specs.Int.{w16}
+use Rattle.std.proofs.Common.{rules, ◌≡◌, ◌+◌, ◌++◌, [], ◌∷◌, ℕ, List, pos, take, get_or, length, refl, ap, sym, ◌∙◌, append_assoc, length-append, add-one, arith}
 use Rattle.std.proofs.lemmas.List.{append-nil}
-use Rattle.num_fix.specs.Words.{number_at}
+use Rattle.std.proofs.Math.Seq.{take-suc}
 use Rattle.num_fix.specs.declared.Frame.{Frame}
-use Rattle.batch_rows.specs.SumRows.{main_of, sent_of}
-use Rattle.batch_rows.proofs.EchoRun.{echo_run-more}
+use Rattle.echo_unit.specs.Run.{EchoRun}
 use Rattle.batch_rows.proofs.echoes.play_echo.Goals as goal
 
 pub loop-j-init : goal.loop-j-init
-loop-j-init c = record { echo = refl; memory = refl; frames = sym (append-nil c.args.frames.now); count = omega arith }
+loop-j-init c = record { frames = sym (append-nil c.args.frames.now); count = omega arith }
 
 pub loop-j-preserved : goal.loop-j-preserved
 loop-j-preserved c =
     let j : ℕ = c.loop-j.j in
-    let place : c.from-place.result ≡ j = c.from-place.ensures in
-    let a : to_z w16 (of_z w16 (number_at c.args.sums.now.main_left j)) ≡ number_at c.args.sums.now.main_left j = search rules in
-    let b : to_z w16 (of_z w16 (number_at c.args.sums.now.main_right j)) ≡ number_at c.args.sums.now.main_right j = search rules in
-    let d : to_z w16 (of_z w16 (number_at c.args.sums.now.sent_left j)) ≡ number_at c.args.sums.now.sent_left j = search rules in
-    let e : to_z w16 (of_z w16 (number_at c.args.sums.now.sent_right j)) ≡ number_at c.args.sums.now.sent_right j = search rules in
+    let silence : Frame = record { left = pos 0; right = pos 0 } in
+    let long : length c.play-row.result ≡ 64 = search rules in
+    let more : take (j + 1) c.play-row.result ≡ take j c.play-row.result ++ get_or c.play-row.result j silence ∷ [] = rw add-one (take-suc c.play-row.result j silence (omega (arith, long))) in
     record {
-      echo = rw (echo_run-more, c.step-frame.ensures.state, c.loop-j.invariant.echo, c.loop-j.invariant.memory) refl;
-      memory = rw (echo_run-more, c.step-frame.ensures.memory, place, d, e, c.loop-j.invariant.echo, c.loop-j.invariant.memory) refl;
-      frames = rw (echo_run-more, c.push.ensures, c.step-frame.ensures.frame, place, a, b, c.loop-j.invariant.echo, c.loop-j.invariant.memory, c.loop-j.invariant.frames, append_assoc) refl;
+      frames = rw (more, c.push.ensures, c.from.ensures, c.loop-j.invariant.frames, append_assoc) refl;
       count = rw (c.push.ensures, length-append) (omega (arith, c.loop-j.invariant.count));
     }
+
+pub returns-clause-echo : goal.returns-clause-echo
+returns-clause-echo c = sym (ap (λ (run : EchoRun). run.echo) c.play-row.ensures.run)
+
+pub returns-clause-memory : goal.returns-clause-memory
+returns-clause-memory c = sym (ap (λ (run : EchoRun). run.memory) c.play-row.ensures.run)
+
+pub returns-clause-frames : goal.returns-clause-frames
+returns-clause-frames c =
+    let end : c.loop-j.j ≡ c.args.n = omega arith in
+    let all : c.loop-j.frames ≡ c.args.frames.now ++ take c.args.n c.play-row.result = rw end at c.loop-j.invariant.frames in
+    all ∙ ap (λ (frames : List Frame). c.args.frames.now ++ frames) (sym (ap (λ (run : EchoRun). run.frames) c.play-row.ensures.run))

@@ -1,9 +1,9 @@
-use Rattle.std.proofs.Common.{rules, ◌≡◌, ◌≢◌, ◌<◌, ◌+◌, ◌==◌, ℕ, Bool, true, false, ◌+ℤ◌, pos, to_z, of_z, length, refl, sym, ◌∙◌, slice_set, arith}
+use Rattle.std.proofs.Common.{rules, ◌≡◌, ◌≢◌, ◌<◌, ℕ, ◌+ℤ◌, pos, to_z, of_z, length, refl, ◌∙◌, arith}
 use Rattle.std.specs.Int.{w16}
 use Rattle.std.proofs.lemmas.List.{length-set, get_or-set_other}
 use Rattle.num_fix.specs.Arithmetic.{clamp16, scaled}
 use Rattle.num_fix.specs.Words.{number_at}
-use Rattle.batch_rows.proofs.KeyRows.{with_entry}
+use Rattle.echo_unit.proofs.Entries.{with_entry}
 use Rattle.batch_rows.proofs.sums.add_row.Goals as goal
 
 pub loop-j-init : goal.loop-j-init

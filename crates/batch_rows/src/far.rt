@@ -1,0 +1,115 @@
+//! Whether the echo can write what the voices read, seen from afar: no chain is walked.
+
+ghost use Rattle.std.specs.Prelude.{◌≡◌, ◌<◌, ◌≤◌, ◌==◌, true, false, slice_index};
+ghost use Rattle.std.specs.List.{list_any};
+ghost use Rattle.reach_map.specs.Reach.{pages_of_bytes};
+ghost use Rattle.echo_unit.specs.Flg.{has_echo_writes};
+ghost use Rattle.dsp_form.specs.Reach.{can_start, chip_reach};
+ghost use Rattle.dsp_form.specs.declared.registers.TheConstants.{FLG};
+ghost use Rattle.batch_rows.specs.Afar.{AreApart, IsVoiceApart, far_pages, window_from};
+
+use aram_core::{Aram, page_of};
+use dsp_form::ChipState;
+use dsp_form::registers::{DIR, EDL, ESA, FLG, SRCN, voice_register};
+use num_fix::has_bit;
+use voice_unit::{Voice, entry_address, loop_word, start_word};
+
+/// How many bytes from its start, and from its loop word, a chain lies within.
+const CHAIN: u16 = 162;
+
+/// Whether a page is none of those of a window of `len` bytes from page `esa` on.
+fn is_page_off(page: u8, esa: u8, len: u32) -> bool
+    ensures { result ≡ true → list_any (λ q. q == page) (window_from esa len) ≡ false }
+{
+    let way = page.wrapping_sub(esa);
+    len <= 256 * u32::from(way)
+}
+
+/// Whether a few bytes have no page of a window.
+fn are_bytes_off(start: u16, count: u16, esa: u8, len: u32) -> bool
+    requires some { 1 ≤ count }
+    requires few { count ≤ 256 }
+    ensures { result ≡ true → AreApart (pages_of_bytes start count) (window_from esa len) }
+{
+    let last = start.wrapping_add(count - 1);
+    if !is_page_off(page_of(start), esa, len) {
+        return false;
+    }
+    is_page_off(page_of(last), esa, len)
+}
+
+/// Whether a chain has no page of a window.
+fn is_chain_off(block: u16, loop_word: u16, esa: u8, len: u32) -> bool
+    ensures { result ≡ true → AreApart (far_pages (record { block = block; loop_word = loop_word })) (window_from esa len) }
+{
+    if !are_bytes_off(block, CHAIN, esa, len) {
+        return false;
+    }
+    are_bytes_off(loop_word, CHAIN, esa, len)
+}
+
+/// Whether voice `v` can go to the start of its sample.
+fn can_start(state: &ChipState, v: u8, voice: &Voice) -> bool
+    requires { v < 8 }
+    ensures { result ≡ can_start state.now v voice.now }
+{
+    has_bit(state.hidden.waiting, v) || voice.delay() != 0
+}
+
+/// Whether what voice `v` can read has no page of a window.
+fn is_voice_off(state: &ChipState, memory: &Aram, v: u8, voice: &Voice, esa: u8, len: u32) -> bool
+    requires { v < 8 }
+    ensures { result ≡ true → IsVoiceApart state.now memory.now v voice.now esa len }
+{
+    let dir = state.registers[DIR];
+    let srcn = voice_register(&state.registers, v, SRCN);
+    let again = loop_word(dir, srcn, memory);
+    if !are_bytes_off(entry_address(dir, srcn), 4, esa, len) {
+        return false;
+    }
+    if !is_chain_off(voice.block(), again, esa, len) {
+        return false;
+    }
+    let starts = can_start(state, v, voice);
+    if !starts {
+        return true;
+    }
+    is_chain_off(start_word(dir, srcn, memory), again, esa, len)
+}
+
+/// Whether what the voices can read has no page of the echo's window, seen from afar.
+fn is_apart_from_afar(state: &ChipState, memory: &Aram) -> bool
+    ensures { result ≡ true → (chip_reach state.now memory.now).entangled ≡ false }
+{
+    let esa = state.registers[ESA];
+    let window = state.hidden.echo.window(esa, state.registers[EDL]);
+    for v in 0..8u8 {
+        let voice = &state.hidden.voices[usize::from(v)];
+        if !is_voice_off(state, memory, v, voice, esa, window.len) {
+            return false;
+        }
+    }
+    true
+}
+
+/// Whether FLG keeps the echo from writing.
+fn is_still(state: &ChipState) -> bool
+    ensures { result ≡ true → has_echo_writes (slice_index state.now.registers FLG) ≡ false }
+{
+    has_bit(state.registers[FLG], 5)
+}
+
+/// Whether the echo can't write what the voices read in the next 64 samples. Chains are walked only where it can't be told from afar.
+pub fn is_echo_apart(state: &ChipState, memory: &Aram) -> bool
+    ensures { result ≡ true → (chip_reach state.now memory.now).entangled ≡ false }
+{
+    let still = is_still(state);
+    if still {
+        return true;
+    }
+    let far = is_apart_from_afar(state, memory);
+    if far {
+        return true;
+    }
+    !state.reach(memory).entangled
+}

@@ -1,0 +1,24 @@
+-- The cells that the echo goes through one after another.
+use Rattle.std.specs.Prelude.{ℕ, zero, suc, List, [], ◌∷◌, ◌++◌}
+use Rattle.num_fix.specs.declared.Frame.{Frame}
+use Rattle.echo_unit.specs.Echo.{EchoState, cell_address, cell_pair, with_cell, at_next_cell}
+use Rattle.echo_unit.specs.declared.regs.EchoRegs.{EchoRegs}
+
+-- the echo so many cells further, with the history that it had
+abbrev pub after_cells : EchoState → (edl : ℕ) → (cells : ℕ) → EchoState
+after_cells s edl zero = s
+after_cells s edl (suc j) = at_next_cell (after_cells s edl j) edl
+
+-- the address of the cell to which it comes after so many
+abbrev pub cell_after : EchoState → EchoRegs → (cells : ℕ) → ℕ
+cell_after s regs j = cell_address regs.esa (after_cells s regs.edl j).offset
+
+-- the pairs of the history, and then those that a memory has in so many cells
+abbrev pub pairs_read : EchoState → EchoRegs → (memory : List ℕ) → (cells : ℕ) → List Frame
+pairs_read s regs memory zero = s.history
+pairs_read s regs memory (suc j) = pairs_read s regs memory j ++ cell_pair memory (cell_after s regs j) ∷ []
+
+-- a memory with so many cells put, from a row of words
+abbrev pub with_cells : EchoState → EchoRegs → (words : ℕ → Frame) → (memory : List ℕ) → (cells : ℕ) → List ℕ
+with_cells s regs words memory zero = memory
+with_cells s regs words memory (suc j) = with_cell (with_cells s regs words memory j) (cell_after s regs j) (words j).left (words j).right

@@ -1,0 +1,92 @@
+//! The rows of a batch: what is heard, what goes back into the buffer, and the output.
+
+ghost use Rattle.std.specs.Prelude.{◌≡◌, ◌<◌, ◌≤◌, ◌+◌, ℕ, pos, get_or, length, map, take};
+ghost use Rattle.num_fix.specs.Words.{number_at};
+ghost use Rattle.echo_unit.specs.Echo.{feedback_word, output_frame};
+ghost use Rattle.echo_unit.specs.Fir.{filtered_sample, eight_from};
+ghost use Rattle.echo_unit.specs.Run.{pair_of};
+
+use crate::EchoRegs;
+use crate::filter::{filtered_sample, left_of, right_of};
+use crate::volume::{feedback_word, output_frame};
+use num_fix::Frame;
+
+/// The silent frame.
+pub const SILENCE: Frame = Frame { left: 0, right: 0 };
+
+/// What the filter gives in each sample, over a row of eight samples of the history and those that were read.
+pub fn filtered_row(row: &[i16; 72], coefficients: &[u8; 8]) -> [i16; 64]
+    ensures { (j : ℕ) → j < 64 → number_at result j ≡ filtered_sample (eight_from row.now (j + 1)) coefficients.now }
+{
+    let mut heard = [0; 64];
+    for j in 0..64 {
+        heard[j] = filtered_sample(row, j + 1, coefficients);
+    }
+    heard
+}
+
+/// The words of one side that go back into the buffer.
+pub fn feedback_row(sent: &[i16; 64], heard: &[i16; 64], efb: u8) -> [i16; 64]
+    ensures { (j : ℕ) → j < 64 → number_at result j ≡ feedback_word (number_at sent.now j) (number_at heard.now j) efb }
+{
+    let mut words = [0; 64];
+    for j in 0..64 {
+        words[j] = feedback_word(sent[j], heard[j], efb);
+    }
+    words
+}
+
+/// The frame of the entries of two rows at one place.
+pub fn frame_at(left: &[i16], right: &[i16], place: usize) -> Frame
+    requires left { place < length left.now }
+    requires right { place < length right.now }
+    ensures { result ≡ pair_of left.now right.now place }
+{
+    Frame {
+        left: left[place],
+        right: right[place],
+    }
+}
+
+/// The output frames.
+pub fn output_row(
+    regs: &EchoRegs,
+    main_left: &[i16; 64],
+    main_right: &[i16; 64],
+    heard_left: &[i16; 64],
+    heard_right: &[i16; 64],
+) -> [Frame; 64]
+    ensures { (j : ℕ) → j < 64 → get_or result j (record { left = pos 0; right = pos 0 })
+        ≡ output_frame regs.now (pair_of main_left.now main_right.now j) (pair_of heard_left.now heard_right.now j) }
+{
+    let mut frames = [SILENCE; 64];
+    for j in 0..64 {
+        let main = frame_at(main_left, main_right, j);
+        frames[j] = output_frame(regs, main, frame_at(heard_left, heard_right, j));
+    }
+    frames
+}
+
+/// The last eight pairs of two rows of eight samples of the history and `n` that were read.
+pub fn last_pairs(left: &[i16; 72], right: &[i16; 72], n: u8) -> [Frame; 8]
+    requires { n ≤ 64 }
+    ensures { (i : ℕ) → i < 8 → get_or result i (record { left = pos 0; right = pos 0 }) ≡ pair_of left.now right.now (n + i) }
+{
+    let first = usize::from(n);
+    let mut history = [SILENCE; 8];
+    for i in 0..8 {
+        history[i] = frame_at(left, right, first + i);
+    }
+    history
+}
+
+/// Puts eight pairs into two rows.
+pub fn put_history(history: &[Frame; 8], left: &mut [i16; 72], right: &mut [i16; 72])
+    ensures left { take 8 left.new ≡ map (λ pair. pair.left) history.now }
+    ensures right { take 8 right.new ≡ map (λ pair. pair.right) history.now }
+{
+    for i in 0..8 {
+        left[i] = left_of(&history[i]);
+        right[i] = right_of(&history[i]);
+    }
+}
