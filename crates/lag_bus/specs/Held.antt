@@ -78,12 +78,12 @@ abbrev pub IsUnwritten : Option ReachPages → (page : ℕ) → Type 0
 IsUnwritten None page = ⊥
 IsUnwritten (Some reach) page = set.contains reach.write_pages page ≡ false
 
--- nor is a write to it one that they may read
+-- and they don't read it, so that a write to it is nothing to them
 abbrev pub IsUnread : Option ReachPages → (page : ℕ) → Type 0
 IsUnread None page = ⊥
 IsUnread (Some reach) page = (reach.entangled || set.contains reach.read_pages page) ≡ false
 
--- A page of such a kind is marked by where its plain memory ends, or sooner. The mark 0 says nothing.
+-- A page of a kind is marked by where its plain memory ends, or by an address before that. The mark 0 says nothing of its page.
 abbrev pub AreMarks : (IsOfKind : (page : ℕ) → Type 0) → (marks : List ℕ) → Type 0
 AreMarks IsOfKind marks = (page : ℕ) → 0 < slice_index_or marks page 0 → IsOfKind page × (slice_index_or marks page 0 ≤ plain_end page)
 
