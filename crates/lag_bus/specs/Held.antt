@@ -1,9 +1,10 @@
 -- What is held while samples are pending, and what it comes to once they are made.
-use Rattle.std.specs.Prelude.{◌≡◌, ◌<◌, ◌≤◌, ℕ, ◌+◌, ◌*◌, List, [], ◌++◌, length, slice_index_or, Bool, true, false, Option, Some, None, IfSome}
+use Rattle.std.specs.Prelude.{◌≡◌, ◌<◌, ◌≤◌, ℕ, ◌+◌, ◌*◌, List, [], ◌++◌, length, slice_index_or, true, false, ◌||◌, ◌==◌, if◌then◌else◌, Option, Some, None, IfSome}
 use Rattle.std.specs.List.{filter}
 use Rattle.std.specs.FinSet as set
 use Rattle.num_fix.specs.declared.Frame.{Frame}
 use Rattle.trace_form.specs.declared.record.Record.{Record}
+use Rattle.ports_timers.specs.Io.{is_within}
 use Rattle.reach_map.specs.declared.ReachPages.{ReachPages}
 use Rattle.dsp_form.specs.Samples.{SamplesResult, samples, in_mask}
 use Rattle.lock_step.specs.ChipMeaning.{ChipMeaning}
@@ -68,11 +69,24 @@ pub record IsHeld {S : Type 0} (chip : ChipMeaning S) (h : Held S) : Type 0 wher
 abbrev pub IsTaken : {S : Type 0} → ChipMeaning S → Option ReachPages → S → (memory : List ℕ) → Type 0
 IsTaken chip taken state memory = IfSome taken (λ reach. reach ≡ chip.reach state memory)
 
--- Pages that are marked aren't written by samples to come, by the reach that was taken. Without one none is marked.
-abbrev pub AreUnwritten : Option ReachPages → (marks : List Bool) → Type 0
-AreUnwritten None marks = (page : ℕ) → slice_index_or marks page false ≡ false
-AreUnwritten (Some reach) marks = (page : ℕ) → slice_index_or marks page false ≡ true → set.contains reach.write_pages page ≡ false
+-- where a page's plain memory ends: before the ports of page 0, or before the ROM
+abbrev pub plain_end : (page : ℕ) → ℕ
+plain_end page = if page == 0 then 0xF0 else 0xFFC0
 
--- pages that are marked as plain are marked as unwritten too, and hold neither the ports nor the ROM
-abbrev pub ArePlain : (unwritten plain : List Bool) → Type 0
-ArePlain unwritten plain = (page : ℕ) → slice_index_or plain page false ≡ true → (slice_index_or unwritten page false ≡ true) × (0 < page) × (page < 255)
+-- samples to come don't write a page, by the reach that was taken
+abbrev pub IsUnwritten : Option ReachPages → (page : ℕ) → Type 0
+IsUnwritten None page = ⊥
+IsUnwritten (Some reach) page = set.contains reach.write_pages page ≡ false
+
+-- and they don't read it, so that a write to it is nothing to them
+abbrev pub IsUnread : Option ReachPages → (page : ℕ) → Type 0
+IsUnread None page = ⊥
+IsUnread (Some reach) page = (reach.entangled || set.contains reach.read_pages page) ≡ false
+
+-- A page of a kind is marked by where its plain memory ends, or by an address before that. The mark 0 says nothing of its page.
+abbrev pub AreMarks : (IsOfKind : (page : ℕ) → Type 0) → (marks : List ℕ) → Type 0
+AreMarks IsOfKind marks = (page : ℕ) → 0 < slice_index_or marks page 0 → IsOfKind page × (slice_index_or marks page 0 ≤ plain_end page)
+
+-- memory alone is at an address
+abbrev pub IsPlain : (at : ℕ) → Type 0
+IsPlain at = (is_within 0xF0 0xFF at ≡ false) × (at < 0xFFC0)

@@ -220,7 +220,7 @@ impl<C: Chip> LagBus<C> {
         answer_of(&self.late, &mut self.io, addr)
     }
 
-    /// A read of a page that isn't marked as plain. Mostly it is page 0, which no sample writes.
+    /// A read of an address that no mark shows to be of memory alone. Mostly it is a port, in page 0, which no sample writes.
     #[inline(never)]
     fn read_elsewhere(&mut self, addr: u16) -> u8
         requires { self.old.machine.calls < 64 }
@@ -231,10 +231,24 @@ impl<C: Chip> LagBus<C> {
             return self.read_unmarked(addr);
         }
         self.calls += 1;
-        if addr < 0xF0 {
-            self.late.get(addr)
-        } else {
-            answer_of(&self.late, &mut self.io, addr)
+        answer_of(&self.late, &mut self.io, addr)
+    }
+
+    /// A write to an address that no mark shows to be of memory alone which no sample reads.
+    #[inline(never)]
+    fn write_elsewhere(&mut self, addr: u16, value: u8)
+        requires { self.old.machine.calls < 64 }
+        ensures { self.new ≡ (lagging C.meaning).write self.old addr value }
+    {
+        match addr {
+            0xF0..=0xFF => self.write_port(addr, value),
+            _ => {
+                self.calls += 1;
+                if self.late.pending() > 0 && self.late.may_be_read(addr) {
+                    settle_for(&mut self.late, &mut self.counts, Cause::Memory);
+                }
+                self.late.put(addr, value);
+            }
         }
     }
 
@@ -385,18 +399,13 @@ impl<C: Chip> Bus for LagBus<C> {
         self.read_elsewhere(addr)
     }
 
-    #[inline]
+    #[inline(always)]
     fn write(&mut self, addr: u16, value: u8) {
-        match addr {
-            0xF0..=0xFF => self.write_port(addr, value),
-            _ => {
-                self.calls += 1;
-                if self.late.pending() > 0 && self.late.may_be_read(addr) {
-                    settle_for(&mut self.late, &mut self.counts, Cause::Memory);
-                }
-                self.late.put(addr, value);
-            }
+        if self.late.is_unread(addr) {
+            self.calls += 1;
+            return self.late.put_unread(addr, value);
         }
+        self.write_elsewhere(addr, value)
     }
 
     #[inline(always)]

@@ -5,6 +5,7 @@ ghost use Rattle.aram_core.specs.Memory.{byte_at, with_byte};
 ghost use Rattle.dsp_form.specs.Results.{is_result};
 ghost use Rattle.dsp_form.specs.Samples.{samples, in_mask, next_count, count_after};
 ghost use Rattle.lag_bus.specs.Book.{may_be_read, may_be_written, cause_of_read, cause_of_write};
+ghost use Rattle.lag_bus.specs.Held.{IsPlain};
 ghost use Rattle.lag_bus.specs.Late.{late_with_sample, AreWritesWithin};
 ghost use Rattle.trace_form.specs.Rooms.{frame_room, record_room, event_room};
 ghost use Rattle.dsp_form.specs.Limits.{most_samples_of_batch, most_samples_of_chip};
@@ -152,14 +153,19 @@ impl<C: Chip> LateChip<C> {
         reach
     }
 
-    /// Whether the pending samples may read the byte at an address.
-    #[inline]
+    /// Whether the pending samples may read the byte at an address. A page that they don't read is marked.
     pub fn may_be_read(&mut self, at: u16) -> bool
         ensures answer { result ≡ may_be_read self.old.reach at }
         ensures rest { self.new ≡ self.old }
     {
         match self.taken.reach() {
-            Some(reach) => cause::may_be_read(&reach, at),
+            Some(reach) => {
+                let is_read = cause::may_be_read(&reach, at);
+                if !is_read {
+                    self.taken.mark_unread(at);
+                }
+                is_read
+            }
             None => cause::may_be_read(&self.take_reach(), at),
         }
     }
@@ -174,7 +180,7 @@ impl<C: Chip> LateChip<C> {
             Some(reach) => {
                 let is_written = cause::may_be_written(&reach, at);
                 if !is_written {
-                    self.taken.mark(at);
+                    self.taken.mark_unwritten(at);
                 }
                 is_written
             }
@@ -186,10 +192,18 @@ impl<C: Chip> LateChip<C> {
     #[inline(always)]
     pub fn is_plain(&self, at: u16) -> bool
         ensures unwritten { result ≡ true → may_be_written self.now.reach at ≡ false }
-        ensures above_ports { result ≡ true → 0x100 ≤ at }
-        ensures below_rom { result ≡ true → at < 0xFF00 }
+        ensures plain { result ≡ true → IsPlain at }
     {
         self.taken.is_plain(at)
+    }
+
+    /// Whether a mark tells that memory alone is at an address and that no pending sample reads it.
+    #[inline(always)]
+    pub fn is_unread(&self, at: u16) -> bool
+        ensures unread { result ≡ true → may_be_read self.now.reach at ≡ false }
+        ensures plain { result ≡ true → IsPlain at }
+    {
+        self.taken.is_unread(at)
     }
 
     /// Whether a mark tells that no pending sample writes the byte at an address.
@@ -265,6 +279,15 @@ impl<C: Chip> LateChip<C> {
         if self.pending == 0 {
             self.taken.forget();
         }
+    }
+
+    /// Puts a byte at an address that samples don't read, so that the reach stays.
+    #[inline(always)]
+    pub fn put_unread(&mut self, at: u16, value: u8)
+        requires { may_be_read self.old.reach at ≡ false }
+        ensures { self.new ≡ record self.old { memory = with_byte self.old.memory at value } }
+    {
+        self.memory.put(at, value);
     }
 
     /// Writes a register while no sample is pending.

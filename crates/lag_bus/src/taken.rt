@@ -1,17 +1,18 @@
 // A reach that was taken, and what was found by it. The tests of marks are inlined into each access of the bus.
-ghost use Rattle.std.specs.Prelude.{◌≡◌, ◌≤◌, ◌<◌, Some, None, true, false, IsSome, IfSome};
-ghost use Rattle.lag_bus.specs.Book.{may_be_written};
+ghost use Rattle.std.specs.Prelude.{◌≡◌, ◌/◌, Some, None, true, false, IsSome, IfSome};
+ghost use Rattle.lag_bus.specs.Book.{may_be_read, may_be_written};
+ghost use Rattle.lag_bus.specs.Held.{plain_end, IsPlain};
 
 use reach_map::ReachPages;
 use std::marker::Model;
 
-/// A reach, if one was taken, and marks of pages that no sample writes by it, so that one load tells most of them. Of these
-/// the plain pages are memory alone: the ports lie in page 0, and the ROM in page 255.
+/// A reach, if one was taken, and marks of the pages that no sample writes by it, and of those that none reads. The mark of a
+/// page is the end of its plain memory, so that one comparison tells most addresses; 0 is no mark.
 #[derive(Drop)]
 pub struct TakenReach {
     reach: Option<ReachPages>,
-    unwritten: [bool; 256],
-    plain: [bool; 256],
+    unwritten: [u16; 256],
+    unread: [u16; 256],
 }
 
 impl Model for TakenReach {
@@ -19,7 +20,7 @@ impl Model for TakenReach {
     ghost use Rattle.std.specs.Coded.{codes};
     ghost use Rattle.aram_core.specs.contracts.page_set.PageSet as page_set;
     ghost use Rattle.reach_map.specs.declared.ReachPages.{ReachPages};
-    ghost use Rattle.lag_bus.specs.Held.{AreUnwritten, ArePlain};
+    ghost use Rattle.lag_bus.specs.Held.{IsUnwritten, IsUnread, AreMarks};
 
     ghost Value = { Option ReachPages };
 
@@ -27,7 +28,14 @@ impl Model for TakenReach {
 
     ghost view = { λ t. t.reach };
 
-    ghost invariant = { λ t. AreUnwritten t.reach t.unwritten × ArePlain t.unwritten t.plain };
+    ghost invariant = { λ t. AreMarks (IsUnwritten t.reach) t.unwritten × AreMarks (IsUnread t.reach) t.unread };
+}
+
+/// Where the plain memory of the page of an address ends.
+fn plain_end(at: u16) -> u16
+    ensures { result ≡ plain_end (at / 0x100) }
+{
+    if at < 0x100 { 0xF0 } else { 0xFFC0 }
 }
 
 impl TakenReach {
@@ -37,8 +45,8 @@ impl TakenReach {
     {
         TakenReach {
             reach: None,
-            unwritten: [false; 256],
-            plain: [false; 256],
+            unwritten: [0; 256],
+            unread: [0; 256],
         }
     }
 
@@ -60,46 +68,60 @@ impl TakenReach {
 
     /// Drops the reach, so that it is taken anew.
     #[inline]
-    #[tactic(auto, using(crate::proofs::PageMarks::unmarked))]
     pub fn forget(&mut self)
         ensures { self.new ≡ None }
     {
         if self.reach.is_some() {
             self.reach = None;
-            self.unwritten = [false; 256];
-            self.plain = [false; 256];
+            self.unwritten = [0; 256];
+            self.unread = [0; 256];
         }
     }
 
-    /// Whether the page of an address is marked as plain.
+    /// Whether a mark tells that memory alone is at an address, which no sample writes.
     #[inline(always)]
     pub fn is_plain(&self, at: u16) -> bool
         ensures taken { result ≡ true → IsSome self.now }
         ensures unwritten { result ≡ true → IfSome self.now (λ reach. may_be_written reach at ≡ false) }
-        ensures above_ports { result ≡ true → 0x100 ≤ at }
-        ensures below_rom { result ≡ true → at < 0xFF00 }
+        ensures plain { result ≡ true → IsPlain at }
     {
-        self.plain[usize::from(at / 0x100)]
+        at < self.unwritten[usize::from(at / 0x100)]
     }
 
-    /// Whether the page of an address is marked.
+    /// Whether the page of an address is marked as one that no sample writes.
     #[inline]
     pub fn is_unwritten(&self, at: u16) -> bool
         ensures taken { result ≡ true → IsSome self.now }
         ensures unwritten { result ≡ true → IfSome self.now (λ reach. may_be_written reach at ≡ false) }
     {
-        self.unwritten[usize::from(at / 0x100)]
+        0 < self.unwritten[usize::from(at / 0x100)]
+    }
+
+    /// Whether a mark tells that memory alone is at an address, which no sample reads.
+    #[inline(always)]
+    pub fn is_unread(&self, at: u16) -> bool
+        ensures taken { result ≡ true → IsSome self.now }
+        ensures unread { result ≡ true → IfSome self.now (λ reach. may_be_read reach at ≡ false) }
+        ensures plain { result ≡ true → IsPlain at }
+    {
+        at < self.unread[usize::from(at / 0x100)]
     }
 
     /// Marks the page of an address, which no sample writes.
-    #[tactic(auto, using(crate::proofs::PageMarks::marked))]
-    pub fn mark(&mut self, at: u16)
+    pub fn mark_unwritten(&mut self, at: u16)
         requires taken { IsSome self.old }
         requires unwritten { IfSome self.old (λ reach. may_be_written reach at ≡ false) }
         ensures { self.new ≡ self.old }
     {
-        let page = usize::from(at / 0x100);
-        self.unwritten[page] = true;
-        self.plain[page] = 0 < page && page < 255;
+        self.unwritten[usize::from(at / 0x100)] = plain_end(at);
+    }
+
+    /// Marks the page of an address, which no sample reads.
+    pub fn mark_unread(&mut self, at: u16)
+        requires taken { IsSome self.old }
+        requires unread { IfSome self.old (λ reach. may_be_read reach at ≡ false) }
+        ensures { self.new ≡ self.old }
+    {
+        self.unread[usize::from(at / 0x100)] = plain_end(at);
     }
 }

@@ -128,6 +128,8 @@ fn make_rounds_if_due<B: DrainedBus>(cpu: &Cpu, bus: &mut B, samples: u32, pause
 }
 
 /// Steps of the run, one at least: rounds that only wait, and as many as there is room for, unless the run ends.
+// In line, as is `step_and_drain`: what the steps need at hand is then got once for many drains.
+#[inline(always)]
 fn take_steps<B: DrainedBus>(cpu: &mut Cpu, bus: &mut B, samples: u32, pause: &mut TrialPause)
     requires calls { B.means.calls bus.old ≡ 0 }
     requires more { B.means.made bus.old < samples }
@@ -148,6 +150,7 @@ fn take_steps<B: DrainedBus>(cpu: &mut Cpu, bus: &mut B, samples: u32, pause: &m
 }
 
 /// Some steps, and what was emitted with them.
+#[inline(always)]
 fn step_and_drain<B: DrainedBus>(cpu: &mut Cpu, bus: &mut B, samples: u32, lists: &mut Lists)
     requires idle { B.means.calls bus.old ≡ 0 }
     requires more { B.means.made bus.old < samples }
