@@ -1,6 +1,7 @@
 -- A step of a voice at rest that isn't keyed reads on and moves on, and changes nothing else.
-use Rattle.std.proofs.Common.{◌≡◌, ℕ, ◌+◌, ◌-◌, ◌<◌, Bool, true, false, ◌&&◌, List, ℤ, if◌then◌else◌, ◌⊎◌, inl, inr, refl, ap, sym, ◌∙◌, arith}
+use Rattle.std.proofs.Common.{◌≡◌, ℕ, ◌+◌, ◌-◌, ◌/◌, ◌<◌, Bool, true, false, ◌&&◌, List, ℤ, if◌then◌else◌, ◌⊎◌, inl, inr, refl, ap, sym, ◌∙◌, arith}
 use Rattle.std.proofs.lemmas.Bool.{and_parts}
+use Rattle.num_fix.specs.Arithmetic.{high_byte}
 use Rattle.aram_core.specs.Memory.{byte_at}
 use Rattle.rate_clock.specs.Counter.{counter_at}
 use Rattle.envelope.specs.Envelope.{EnvelopeState}
@@ -62,6 +63,18 @@ module _ (r : VoiceRegs) (i : VoiceIn) (memory : List ℕ) (k rest : ℕ) (v : V
   pub looped_at_rest : (table : List ℤ) → (voice_answer v r i memory table (counter_at k)).looped ≡ is_looped v (byte_at memory v.block)
   unfolding voice_answer after_delay step_header
   looped_at_rest table = let none : v.delay ≡ 0 = at.delay some in rw none refl
+
+  pub answer_is : (table : List ℤ) → voice_answer v r i memory table (counter_at k) ≡ record {
+    out = output v i table;
+    level = v.envelope.level;
+    envx = v.envelope.level / 0x10;
+    outx = high_byte (output v i table);
+    block = (voice_step v r i memory (counter_at k)).block;
+    looped = is_looped v (byte_at memory v.block);
+    keyed = false;
+  }
+  unfolding voice_answer after_delay step_header
+  answer_is table = let none : v.delay ≡ 0 = at.delay some in rw (none, unkeyed) refl
 
 -- a voice between two groups reads none
 pub reads_none : (v : VoiceState) (memory : List ℕ) (header loop_to : ℕ) → needs_group v ≡ false → after_reading v memory header loop_to ≡ v

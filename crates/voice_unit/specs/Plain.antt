@@ -1,5 +1,5 @@
 -- A sample in which nothing but its blocks and registers tells what a voice plays.
-use Rattle.std.specs.Prelude.{◌≡◌, ℕ, ◌<◌, false}
+use Rattle.std.specs.Prelude.{◌≡◌, false}
 use Rattle.num_fix.specs.Arithmetic.{has_bit}
 use Rattle.voice_unit.specs.Voice.{is_keyed}
 use Rattle.voice_unit.specs.declared.batch.BatchLane.{BatchLane}

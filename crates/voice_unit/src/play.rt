@@ -4,7 +4,7 @@ ghost use Rattle.std.specs.Prelude.{◌≡◌, ◌<◌, ◌≤◌, ◌+◌, ◌-
 ghost use Rattle.rate_clock.specs.Counter.{counter_at};
 ghost use Rattle.voice_unit.specs.Voice.{voice_step, voice_answer};
 ghost use Rattle.voice_unit.specs.Rest.{IsAtRest};
-ghost use Rattle.voice_unit.specs.Play.{CountsFrom, IsPlayed, answer_at, lane_of};
+ghost use Rattle.voice_unit.specs.Play.{CountsFrom, IsPlayed, IsOnItsWay, answer_at, lane_of};
 
 use crate::batch::{BatchLane, BatchRows};
 use crate::interface::{VoiceIn, VoiceOut, VoiceRegs};
@@ -13,6 +13,7 @@ use crate::voice::{Voice, is_keyed};
 use aram_core::Aram;
 use brr_decode::GroupMemory;
 use gauss_table::GaussTable;
+use num_fix::has_bit;
 use rate_clock::RateClock;
 
 /// Adds the bit of a voice that looped in sample `j`.
@@ -60,7 +61,34 @@ impl Voice {
         self.play_at_rest(rest, regs, input, memory, table, groups)
     }
 
-    /// Makes n samples.
+    /// The last sample of a batch, of a voice whose envelope rests for so many, and what it gives.
+    fn play_last(
+        &mut self,
+        rest: u16,
+        regs: &VoiceRegs,
+        input: &VoiceIn,
+        memory: &Aram,
+        table: &GaussTable,
+        clock: &RateClock,
+        groups: &mut GroupMemory,
+    ) -> VoiceOut
+        requires pitch { regs.now.pitch < 0x4000 }
+        requires noise { input.now.noise < 0x8000 }
+        ensures voice { (k : ℕ) → clock.now ≡ counter_at k → IsAtRest input.now.reset input.now.koff regs.now memory.now k rest self.old
+            → self.new ≡ voice_step self.old regs.now input.now memory.now (counter_at k) }
+        ensures answer { (k : ℕ) → clock.now ≡ counter_at k → IsAtRest input.now.reset input.now.koff regs.now memory.now k rest self.old
+            → result ≡ voice_answer self.old regs.now input.now memory.now table.now (counter_at k) }
+    {
+        if rest == 0 {
+            return self.step(regs, input, memory, table, clock);
+        }
+        if is_keyed(input) {
+            return self.step(regs, input, memory, table, clock);
+        }
+        self.answer_at_rest(rest, regs, input, memory, table, groups)
+    }
+
+    /// Makes n samples, and tells for how many more the envelope rests.
     fn play_row(
         &mut self,
         n: u8,
@@ -74,21 +102,26 @@ impl Voice {
         groups: &mut GroupMemory,
         outs: &mut [i16; 64],
         loops: &mut [u8; 64],
-    )
+    ) -> u16
         requires few { n < 64 }
         requires voice { lane.now.voice < 8 }
         requires pitch { regs.now.pitch < 0x4000 }
         requires noise { (j : ℕ) → j < n → slice_index rows.now.noise j < 0x8000 }
         requires room { (j : ℕ) → j < 64 → slice_index loops.old j < 2 ^ lane.now.voice }
-        ensures played { (k : ℕ) → CountsFrom k n clocks.now
+        ensures way { (k : ℕ) → CountsFrom k n clocks.now
             → let plays = lane_of regs.now lane.now rows.now previous.now memory.now table.now self.old k in
-            IsPlayed plays lane.now.voice n loops.old loops.new outs.new self.new }
+            IsOnItsWay lane.now plays n result loops.old loops.new outs.new self.new }
         ensures others { (j : ℕ) → n ≤ j → slice_index loops.new j ≡ slice_index loops.old j }
         ensures room { (j : ℕ) → j < 64 → slice_index loops.new j < 2 ^ (lane.now.voice + 1) }
     {
-        let mut rest = 0;
+        if n == 0 {
+            return 0;
+        }
         // a copy, so that what is the same in all samples is worked out once
         let own = *lane;
+        let koff = has_bit(own.koff, own.voice);
+        let first = clocks[0];
+        let mut rest = self.rest_from(regs, own.reset, koff, memory, &first);
         let glides = own.lets_glide(rows);
         let mut j = 0;
         'samples: while j < n {
@@ -115,6 +148,7 @@ impl Voice {
             rest = played.rest;
             j = to + 1;
         }
+        rest
     }
 
     /// Makes n samples: their outputs are put into a row, and its bit is added to the byte of each sample in which the voice
@@ -147,13 +181,13 @@ impl Voice {
             → result ≡ answer_at (lane_of regs.now lane.now rows.now previous.now memory.now table.now self.old k) (n - 1) }
     {
         let last = n - 1;
-        self.play_row(
+        let rest = self.play_row(
             last, regs, lane, rows, previous, memory, table, clocks, groups, outs, loops,
         );
         let place = usize::from(last);
         let input = lane.input(rows, previous[place], last);
         let clock = clocks[place];
-        let answer = self.step(regs, &input, memory, table, &clock);
+        let answer = self.play_last(rest, regs, &input, memory, table, &clock, groups);
         outs[place] = answer.out;
         mark_loop(loops, last, answer.looped, lane.voice);
         answer

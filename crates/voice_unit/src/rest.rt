@@ -12,7 +12,8 @@ ghost use Rattle.envelope.specs.declared.Mode.TheVariants.{Release};
 ghost use Rattle.voice_unit.specs.Rest.{is_silencing, IsSilent, IsAtRest};
 
 use crate::batch::BatchLane;
-use crate::interface::{VoiceIn, VoiceRegs};
+use crate::interface::{VoiceIn, VoiceOut, VoiceRegs};
+use crate::level::high_byte;
 use crate::voice::{Voice, is_keyed, pitch_of};
 use aram_core::Aram;
 use brr_decode::GroupMemory;
@@ -68,23 +69,37 @@ impl Voice {
         koff && self.envelope().mode != Mode::Release
     }
 
-    /// How many samples the envelope rests, from the one after the clock's on.
-    fn rest(&self, regs: &VoiceRegs, input: &VoiceIn, memory: &Aram, clock: &RateClock) -> u16
-        ensures { (k : ℕ) → clock.now ≡ counter_at k → IsAtRest input.now.reset input.now.koff regs.now memory.now (k + 1) result self.now }
+    /// How many samples the envelope rests, from the clock's on.
+    pub(crate) fn rest_from(
+        &self,
+        regs: &VoiceRegs,
+        reset: bool,
+        koff: bool,
+        memory: &Aram,
+        clock: &RateClock,
+    ) -> u16
+        ensures { (k : ℕ) → clock.now ≡ counter_at k → IsAtRest reset koff regs.now memory.now k result self.now }
     {
         if self.delay() != 0 {
             return 0;
         }
-        if self.is_to_be_silenced(input.reset, memory) {
+        if self.is_to_be_silenced(reset, memory) {
             return 0;
         }
-        if self.is_to_be_released(input.koff) {
+        if self.is_to_be_released(koff) {
             return 0;
         }
+        self.envelope()
+            .rest(regs.adsr1, regs.adsr2, regs.gain, clock)
+    }
+
+    /// How many samples the envelope rests, from the one after the clock's on.
+    fn rest(&self, regs: &VoiceRegs, input: &VoiceIn, memory: &Aram, clock: &RateClock) -> u16
+        ensures { (k : ℕ) → clock.now ≡ counter_at k → IsAtRest input.now.reset input.now.koff regs.now memory.now (k + 1) result self.now }
+    {
         let mut next = *clock;
         next.step();
-        self.envelope()
-            .rest(regs.adsr1, regs.adsr2, regs.gain, &next)
+        self.rest_from(regs, input.reset, input.koff, memory, &next)
     }
 
     /// A whole step over copies of its input and its clock, so that those of a sample at rest need not stand in memory.
@@ -233,6 +248,38 @@ impl Voice {
             out,
             looped: gone.looped,
             rest: gone.rest,
+        }
+    }
+
+    /// What such a step gives.
+    pub(crate) fn answer_at_rest(
+        &mut self,
+        rest: u16,
+        regs: &VoiceRegs,
+        input: &VoiceIn,
+        memory: &Aram,
+        table: &GaussTable,
+        groups: &mut GroupMemory,
+    ) -> VoiceOut
+        requires pitch { regs.now.pitch < 0x4000 }
+        requires noise { input.now.noise < 0x8000 }
+        requires resting { 0 < rest }
+        requires unkeyed { is_keyed input.now ≡ false }
+        ensures voice { (k : ℕ) → IsAtRest input.now.reset input.now.koff regs.now memory.now k rest self.old
+            → self.new ≡ voice_step self.old regs.now input.now memory.now (counter_at k) }
+        ensures answer { (k : ℕ) → IsAtRest input.now.reset input.now.koff regs.now memory.now k rest self.old
+            → result ≡ voice_answer self.old regs.now input.now memory.now table.now (counter_at k) }
+    {
+        let level = self.envelope().level();
+        let played = self.play_at_rest(rest, regs, input, memory, table, groups);
+        VoiceOut {
+            out: played.out,
+            level,
+            envx: (level / 0x10) as u8,
+            outx: high_byte(played.out),
+            block: self.block(),
+            looped: played.looped,
+            keyed: false,
         }
     }
 

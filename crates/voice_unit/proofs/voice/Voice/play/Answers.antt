@@ -1,9 +1,9 @@
-use Rattle.std.proofs.Common.{rules, ◌≡◌, ◌<◌, ◌-◌, ◌+◌, ◌^◌, ℕ, slice_index, to_z, of_z, ap, ◌∙◌, arith}
+use Rattle.std.proofs.Common.{rules, ◌≡◌, ◌<◌, ◌-◌, ◌+◌, ◌^◌, ℕ, slice_index, to_z, of_z, ap, sym, ◌∙◌, arith}
 use Rattle.std.specs.Int.{w16}
 use Rattle.std.proofs.lemmas.List.{get_or_default}
 use Rattle.num_fix.specs.Words.{number_at}
 use Rattle.rate_clock.specs.Counter.{counter_at}
-use Rattle.voice_unit.specs.Batch.{lane_inputs, answer_of_step}
+use Rattle.voice_unit.specs.Batch.{lane_input, lane_inputs, answer_of_step}
 use Rattle.voice_unit.specs.Play.{lane_of}
 use Rattle.voice_unit.specs.declared.interface.VoiceOut.{VoiceOut}
 use Rattle.voice_unit.proofs.Played.{one_more_played, with_loop-bound}
@@ -12,10 +12,11 @@ use Rattle.voice_unit.proofs.voice.Voice.play.Goals as goal
 pub mark_loop-requires-clause-room : goal.mark_loop-requires-clause-room
 mark_loop-requires-clause-room c =
     let last : ℕ = c.args.n - 1 in
-    let same : slice_index c.play_row.new.loops last ≡ slice_index c.args.loops.now last = c.play_row.ensures.others last (omega arith) in
+    let same : slice_index c.play_row-rest.new.loops last ≡ slice_index c.args.loops.now last = c.play_row-rest.ensures.others last (omega arith) in
     rw same (c.requires.room last (omega (arith, c.requires.some, c.requires.few)))
 
 pub returns-clause-played : goal.returns-clause-played
+unfolding lane_input
 returns-clause-played c k counts =
     let j : ℕ = c.args.n - 1 in
     let all : j + 1 ≡ c.args.n = omega (arith, c.requires.some) in
@@ -24,17 +25,18 @@ returns-clause-played c k counts =
     let input : c.input-input.result ≡ lane_inputs c.args.lane.now c.args.rows.now c.args.previous.now j = rw whole at (rw place at c.input-input.ensures.value) in
     let clock : c.index-clocks-place.result ≡ counter_at (k + j) =
     rw place at c.index-clocks-place.is ∙ get_or_default c.args.clocks.now j c.index-clocks-place.result 0 (search rules) ∙ counts j (omega (arith, c.requires.some)) in
-    let out : to_z w16 (of_z w16 c.step-answer.result.out) ≡ c.step-answer.result.out = search rules in
-    let made = rw (input, ← c.index-clocks-place.is, clock) at c.step-answer.ensures.voice in
-    let gave = rw (input, ← c.index-clocks-place.is, clock) at c.step-answer.ensures.answer in
+    let out : to_z w16 (of_z w16 c.play_last-answer.result.out) ≡ c.play_last-answer.result.out = search rules in
+    let way = c.play_row-rest.ensures.way k (λ i below. counts i (omega (arith, below))) in
+    let made = rw input at (c.play_last-answer.ensures.voice (k + j) (sym c.index-clocks-place.is ∙ clock) (rw input way.at_rest)) in
+    let gave = rw input at (c.play_last-answer.ensures.answer (k + j) (sym c.index-clocks-place.is ∙ clock) (rw input way.at_rest)) in
     rw (← all, place, out, c.mark_loop.ensures) (one_more_played
     (lane_of c.args.regs.now c.args.lane.now c.args.rows.now c.args.previous.now c.args.memory.now c.args.table.now c.args.self.now k) c.args.lane.now.voice j
-    c.args.loops.now c.play_row.new.loops c.play_row.new.outs c.play_row.new.self c.step-answer.new.self c.step-answer.result.out c.step-answer.result.looped
-    (c.play_row.ensures.played k (λ i below. counts i (omega (arith, below)))) (search rules) (search rules)
+    c.args.loops.now c.play_row-rest.new.loops c.play_row-rest.new.outs c.play_row-rest.new.self c.play_last-answer.new.self c.play_last-answer.result.out c.play_last-answer.result.looped
+    way.played (search rules) (search rules)
     made (ap (λ (answer : VoiceOut). answer.out) gave) (ap (λ (answer : VoiceOut). answer.looped) gave))
 
 pub returns-clause-last : goal.returns-clause-last
-unfolding answer_of_step
+unfolding answer_of_step lane_input
 returns-clause-last c k counts =
     let j : ℕ = c.args.n - 1 in
     let place : c.from-place.result ≡ j = c.from-place.ensures in
@@ -42,12 +44,12 @@ returns-clause-last c k counts =
     let input : c.input-input.result ≡ lane_inputs c.args.lane.now c.args.rows.now c.args.previous.now j = rw whole at (rw place at c.input-input.ensures.value) in
     let clock : c.index-clocks-place.result ≡ counter_at (k + j) =
     rw place at c.index-clocks-place.is ∙ get_or_default c.args.clocks.now j c.index-clocks-place.result 0 (search rules) ∙ counts j (omega (arith, c.requires.some)) in
-    let before = c.play_row.ensures.played k (λ i below. counts i (omega (arith, below))) in
-    rw before.voice_is at (rw (input, ← c.index-clocks-place.is, clock) at c.step-answer.ensures.answer)
+    let way = c.play_row-rest.ensures.way k (λ i below. counts i (omega (arith, below))) in
+    rw way.played.voice_is at (rw input at (c.play_last-answer.ensures.answer (k + j) (sym c.index-clocks-place.is ∙ clock) (rw input way.at_rest)))
 
 pub returns-clause-room : goal.returns-clause-room
 returns-clause-room c j below =
     let last : ℕ = c.args.n - 1 in
-    let same : slice_index c.play_row.new.loops last ≡ slice_index c.args.loops.now last = c.play_row.ensures.others last (omega arith) in
-    let own : slice_index c.play_row.new.loops last < 2 ^ c.args.lane.now.voice = rw same (c.requires.room last (omega (arith, c.requires.some, c.requires.few))) in
-    rw c.mark_loop.ensures (with_loop-bound c.play_row.new.loops last c.args.lane.now.voice j c.step-answer.result.looped (search rules) own (c.play_row.ensures.room j below))
+    let same : slice_index c.play_row-rest.new.loops last ≡ slice_index c.args.loops.now last = c.play_row-rest.ensures.others last (omega arith) in
+    let own : slice_index c.play_row-rest.new.loops last < 2 ^ c.args.lane.now.voice = rw same (c.requires.room last (omega (arith, c.requires.some, c.requires.few))) in
+    rw c.mark_loop.ensures (with_loop-bound c.play_row-rest.new.loops last c.args.lane.now.voice j c.play_last-answer.result.looped (search rules) own (c.play_row-rest.ensures.room j below))

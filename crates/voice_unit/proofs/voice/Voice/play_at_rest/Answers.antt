@@ -1,4 +1,4 @@
-use Rattle.std.proofs.Common.{rules, ◌≡◌}
+use Rattle.std.proofs.Common.{rules}
 use Rattle.voice_unit.proofs.AtRest.{step_at_rest, out_at_rest, looped_at_rest}
 use Rattle.voice_unit.proofs.voice.Voice.play_at_rest.Goals as goal
 

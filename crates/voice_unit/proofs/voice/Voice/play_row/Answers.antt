@@ -16,7 +16,11 @@ pub samples-init : goal.samples-init
 samples-init c = record {
   way = λ k counts. record {
     played = none_played (lane_of c.args.regs.now c.args.lane.now c.args.rows.now c.args.previous.now c.args.memory.now c.args.table.now c.args.self.now k) c.args.lane.now.voice c.args.loops.now c.args.outs.now;
-    at_rest = no_rest c.args.lane.now.reset (has_bit c.args.lane.now.koff c.args.lane.now.voice) c.args.regs.now c.args.memory.now (k + 0) c.args.self.now;
+    at_rest =
+        let none : k + 0 ≡ k = omega arith in
+        let some : 0 < c.args.n = omega (arith, c.if-n-eq0.false) in
+        let first = get_or_default c.args.clocks.now 0 c.index-clocks-0.result 0 (search rules) ∙ counts 0 some in
+        rw none (rw c.has_bit-koff.ensures at (c.rest_from-rest.ensures k (rw none at first)));
   };
   within = omega arith;
   later = λ j above. refl;
@@ -33,18 +37,18 @@ samples-preserved c =
     let from : j ≤ to = c.glide-glided.ensures.from in
     let below : to < c.args.n = omega (arith, c.samples-test.true, c.glide-glided.ensures.to) in
     let place : c.from-place.result ≡ to = c.from-place.ensures in
-    let way : (k : ℕ) → CountsFrom k (to + 1) c.args.clocks.now
+    let way : (k : ℕ) → CountsFrom k c.args.n c.args.clocks.now
     → IsOnItsWay c.args.lane.now (lane_of c.args.regs.now c.args.lane.now c.args.rows.now c.args.previous.now c.args.memory.now c.args.table.now c.args.self.now k)
     to c.glide-glided.result.rest c.args.loops.now c.glide-glided.new.loops c.glide-glided.new.outs c.glide-glided.new.self =
     λ k counts. c.glide-glided.ensures.way _ c.args.loops.now refl refl refl
     (λ is. lane_glides c.args.regs.now c.args.lane.now c.args.rows.now c.args.previous.now c.args.memory.now c.args.table.now c.args.self.now k (c.args.n - 1)
     (omega (arith, c.requires.few)) (c.lets_glide-glides.ensures.noisy is) (c.lets_glide-glides.ensures.modulated is) (c.lets_glide-glides.ensures.keyed is))
-    (c.samples.invariant.way k (λ i under. counts i (omega (arith, under, from)))) in
+    (c.samples.invariant.way k counts) in
     let whole : to_z w16 (of_z w16 (number_at c.args.previous.now to)) ≡ number_at c.args.previous.now to = search rules in
     let input : c.input-input.result ≡ lane_inputs c.args.lane.now c.args.rows.now c.args.previous.now to = rw whole at (rw place at c.input-input.ensures.value) in
-    let clock : (k : ℕ) → CountsFrom k (to + 1) c.args.clocks.now → c.index-clocks-place.result ≡ counter_at (k + to) =
-    λ k counts. rw place at c.index-clocks-place.is ∙ get_or_default c.args.clocks.now to c.index-clocks-place.result 0 (search rules) ∙ counts to (omega arith) in
-    let at_rest : (k : ℕ) → CountsFrom k (to + 1) c.args.clocks.now
+    let clock : (k : ℕ) → CountsFrom k c.args.n c.args.clocks.now → c.index-clocks-place.result ≡ counter_at (k + to) =
+    λ k counts. rw place at c.index-clocks-place.is ∙ get_or_default c.args.clocks.now to c.index-clocks-place.result 0 (search rules) ∙ counts to below in
+    let at_rest : (k : ℕ) → CountsFrom k c.args.n c.args.clocks.now
     → IsAtRest c.input-input.result.reset c.input-input.result.koff c.args.regs.now c.args.memory.now (k + to) c.glide-glided.result.rest c.glide-glided.new.self =
     λ k counts. rw input (way k counts).at_rest in
     let out : to_z w16 (of_z w16 c.play_sample-played.result.out) ≡ c.play_sample-played.result.out = search rules in
@@ -80,7 +84,15 @@ samples-preserved c =
 pub samples-smaller : goal.samples-smaller
 samples-smaller c = omega (arith, c.samples-test.true, c.glide-glided.ensures.from, c.glide-glided.ensures.to)
 
-pub returns-clause-played : goal.returns-clause-played
-returns-clause-played c k counts =
+pub returns-clause-way : goal.returns-clause-way
+returns-clause-way c k counts =
     let done : c.samples.j ≡ c.args.n = omega (arith, c.samples-test.false, c.samples.invariant.within) in
-    (rw done at (c.samples.invariant.way k (λ i below. counts i (omega (arith, below, done))))).played
+    rw done at (c.samples.invariant.way k counts)
+
+pub returns-then-n-eq0-clause-way : goal.returns-then-n-eq0-clause-way
+returns-then-n-eq0-clause-way c k counts =
+    let none : c.args.n ≡ 0 = omega arith in
+    rw none record {
+      played = none_played (lane_of c.args.regs.now c.args.lane.now c.args.rows.now c.args.previous.now c.args.memory.now c.args.table.now c.args.self.now k) c.args.lane.now.voice c.args.loops.now c.args.outs.now;
+      at_rest = no_rest c.args.lane.now.reset (has_bit c.args.lane.now.koff c.args.lane.now.voice) c.args.regs.now c.args.memory.now (k + 0) c.args.self.now;
+    }
