@@ -1,6 +1,6 @@
 -- What the reading of an input gives, or why it is refused. `C` is why the bytes of an input are refused.
 use Rattle.std.specs.Prelude.{◌≡◌, ◌⊎◌, ℕ, List, length, Option, Some, None, Result, Ok, Err, IfOk, IfErr, IsSome, nat_lt, if◌then◌else◌}
-use Rattle.snd_host.specs.Host.{HostState, Files, IfTold, Rose, ChangesInputs}
+use Rattle.snd_host.specs.Host.{HostState, Files, IfTold, Rose, ChangesInputs, greatest_limit}
 use Rattle.command_frame.specs.Answer.{Answer, refused}
 use Rattle.command_frame.specs.declared.refusals.Refusal.{Refusal}
 use Rattle.command_frame.specs.declared.refusals.Refusal.TheVariants.{Usage, ReadFault, WriteFault, OutOfMemory, Input}
