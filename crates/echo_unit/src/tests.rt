@@ -137,3 +137,53 @@ fn each_of_eight_taps_meets_its_coefficient(rt: HostRuntime) -> Result<(), Fail>
     );
     Ok(())
 }
+
+// The same words in eight cells that follow each other, and a batch over them: its eighth frame is the last of the steps above.
+#[test]
+fn a_batch_goes_from_cell_to_cell(rt: HostRuntime) -> Result<(), Fail> {
+    let zeros = vec![in rt.alloc(); 0u8; 65536]?;
+    let mut memory = Aram::from_image(rt.alloc(), &zeros)?;
+    let mut echo = Echo::new();
+    let regs = EchoRegs {
+        esa: 0x20,
+        edl: 1,
+        flg: 0x20,
+        efb: 0,
+        mvol_l: 0,
+        mvol_r: 0,
+        evol_l: 0x7F,
+        evol_r: 0x7F,
+        fir: [0x01, 0x02, 0x04, 0x08, 0x10, 0x20, 0x40, 0x7F],
+    };
+    for (address, low, high) in [
+        (0x2000u16, 0x80, 0x00),
+        (0x2002, 0x80, 0xFF),
+        (0x2004, 0x00, 0x01),
+        (0x2006, 0x00, 0xFF),
+        (0x2008, 0x80, 0x01),
+        (0x200A, 0x80, 0xFE),
+        (0x200C, 0x00, 0x02),
+        (0x200E, 0x00, 0xFE),
+        (0x2010, 0x80, 0x02),
+        (0x2012, 0x80, 0xFD),
+        (0x2014, 0x00, 0x03),
+        (0x2016, 0x00, 0xFD),
+        (0x2018, 0x80, 0x03),
+        (0x201A, 0x80, 0xFC),
+        (0x201C, 0x00, 0x04),
+        (0x201E, 0x00, 0xFC),
+    ] {
+        memory.put(address, low);
+        memory.put(address.wrapping_add(1), high);
+    }
+    let none = [0; 64];
+    let frames = echo.play(16, &regs, &none, &none, &none, &none, &mut memory);
+    assert_eq!(rt;
+        frames[7],
+        Frame {
+            left: 1770,
+            right: -1773
+        }
+    );
+    Ok(())
+}
