@@ -42,3 +42,5 @@ pub mod GoodLines
 pub mod ByteLines
 -- the assembly of a listing
 pub mod Reassembled
+-- a listing has at most sixteen bytes for each byte listed
+pub mod ShortListings

@@ -1,6 +1,6 @@
 -- The assembly of a listing is the bytes that were listed.
 use Rattle.std.proofs.Common.{◌≡◌, ℕ, zero, suc, ◌+◌, ◌%◌, ◌≤◌, ◌<◌, Bool, true, false, nat_lt, cond, List, [], ◌∷◌, ◌++◌, length, map, take, drop, refl, ap, sym, ◌∙◌, subst, append_assoc, append-nil, length-drop, arith}
-use Rattle.std.specs.Prelude.{codes, Option, Some, None, Ok, Err}
+use Rattle.std.specs.Prelude.{codes, Option, Some, None, Result, Ok, Err}
 use Rattle.std.specs.List.{list_any, flat_map, slice_split}
 use Rattle.std.proofs.lemmas.List.{take-append-drop}
 use Rattle.std.proofs.lemmas.Bool.Decides.{nat_tests}
@@ -11,7 +11,7 @@ use Rattle.spc700_asm.specs.Instructions.{bytes_of_number, bytes_of, instruction
 use Rattle.spc700_asm.specs.Listing.{byte_text, text_of, rest_text, listing_of_first, listing_within, listing}
 use Rattle.spc700_asm.specs.Characters.{is_line_feed, trim}
 use Rattle.spc700_asm.specs.Statements.{Statement, Nothing, Bytes, Code, statement_of}
-use Rattle.spc700_asm.specs.Faults.{has_great_number}
+use Rattle.spc700_asm.specs.Faults.{LineRefusal, has_great_number}
 use Rattle.spc700_asm.specs.Assembly.{instruction_bytes, line_bytes, lines_of, assembly}
 use Rattle.spc700_asm.proofs.Unrolled.{all_there}
 use Rattle.text_parts.proofs.Places.{split_at_place}
@@ -137,3 +137,10 @@ good_listing (suc most) at (opcode ∷ operands) are within enough =
 pub assembled_from_listing : (bytes : List ℕ) (origin : ℕ) → AreBytes bytes → origin + length bytes ≤ 0x10000 → assembly (listing origin bytes) origin ≡ Ok bytes
 unfolding assembly listing
 assembled_from_listing bytes origin are within = good_assembly origin (lines_of (listing origin bytes)) bytes (good_listing (length bytes) origin bytes are within (omega arith))
+
+pub listings_differ : (a b : List ℕ) (origin : ℕ) → AreBytes a → AreBytes b → origin + length a ≤ 0x10000 → origin + length b ≤ 0x10000 → listing origin a ≡ listing origin b → a ≡ b
+listings_differ a b origin one two within inside same =
+    both (assembly (listing origin a) origin) (assembled_from_listing a origin one within) (ap (λ (text : List ℕ). assembly text origin) same ∙ assembled_from_listing b origin two inside)
+  where
+    both : (r : Result (List ℕ) LineRefusal) → r ≡ Ok a → r ≡ Ok b → a ≡ b
+    both r x y = cc

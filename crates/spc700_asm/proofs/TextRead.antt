@@ -42,7 +42,7 @@ opcode_is opcode n m below =
     in ap (λ (o : Option ℕ). option_or o (position (is_alike (mnemonic_of (row_of opcode).kind) (expected (row_of opcode).first n) (expected (row_of opcode).second m)) all_rows)) this
 
 -- the numbers that are an opcode's own are small
-abbrev own_fits : Slot → Bool
+abbrev pub own_fits : Slot → Bool
 own_fits Absent = true
 own_fits Register = true
 own_fits Byte = true
@@ -52,11 +52,11 @@ own_fits MemoryBit = true
 own_fits (OwnBit own) = nat_lt own 16
 own_fits (OwnEntry own) = nat_lt own 16
 
-first_fits : (opcode : ℕ) → opcode < 256 → own_fits (pattern_of (row_of opcode).first).slot ≡ true
+pub first_fits : (opcode : ℕ) → opcode < 256 → own_fits (pattern_of (row_of opcode).first).slot ≡ true
 unfolding row_of columns printed_cycles cycle_map
 first_fits opcode below = alike_below 256 (λ o. own_fits (pattern_of (row_of o).first).slot) (λ o. true) refl opcode below
 
-second_fits : (opcode : ℕ) → opcode < 256 → own_fits (pattern_of (row_of opcode).second).slot ≡ true
+pub second_fits : (opcode : ℕ) → opcode < 256 → own_fits (pattern_of (row_of opcode).second).slot ≡ true
 unfolding row_of columns printed_cycles cycle_map
 second_fits opcode below = alike_below 256 (λ o. own_fits (pattern_of (row_of o).second).slot) (λ o. true) refl opcode below
 
@@ -71,7 +71,7 @@ lt_by a b t = grind (arith, nat_tests)
 true_is_false : true ≡ false → ⊥
 true_is_false e = cc
 
-room : (slot : Slot) (next n : ℕ) → own_fits slot ≡ true → IsShown slot next n → is_absent slot ≡ false → HasRoom slot n
+pub room : (slot : Slot) (next n : ℕ) → own_fits slot ≡ true → IsShown slot next n → is_absent slot ≡ false → HasRoom slot n
 room Absent next n own is there = true_is_false there
 room Register next n own is there = tt
 room Byte next n own is there = is

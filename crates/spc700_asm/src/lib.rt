@@ -25,7 +25,10 @@ mod survey;
 mod tests;
 
 pub use assembly::assemble;
-pub use laws::{a_listing_is_assembled_to_its_bytes, a_source_is_listed_as_its_instructions};
+pub use laws::{
+    a_listing_is_assembled_to_its_bytes, a_listing_is_short,
+    a_source_is_listed_as_its_instructions, listings_of_other_bytes_differ,
+};
 pub use listing::disassemble;
 pub use refusal::{AsmRefusal, LineFault};
 pub use std::alloc::AllocError as OutOfMemory;
