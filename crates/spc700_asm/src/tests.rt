@@ -89,7 +89,7 @@ fn every_opcode_is_listed_and_assembled_again(rt: HostRuntime) -> Result<(), Fai
         let bytes = [opcode, 0x12, 0x34];
         let whole = &bytes[..usize::from(length(opcode))];
         let text = disassemble(rt.alloc(), whole, 0x0400)?;
-        assert!(rt; text.len() < 100);
+        assert!(rt; text.len() < 100 && !text.as_slice().starts_with(b".byte"));
         let again = assemble(rt.alloc(), text.as_slice(), 0x0400);
         assert_eq!(rt; again.as_ref().map(|made| made.as_slice()), Ok(whole));
     }
