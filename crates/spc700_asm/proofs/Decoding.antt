@@ -1,17 +1,18 @@
 -- The instruction at the front of the bytes of an instruction is that instruction.
 use Rattle.std.proofs.Common.{◌≡◌, ℕ, zero, suc, ◌+◌, ◌*◌, ◌/◌, ◌%◌, ◌≤◌, ◌<◌, Bool, true, false, nat_lt, nat_le, cond, List, ◌++◌, length, drop, refl, ap, sym, ◌∙◌, append_assoc, length-append, arith}
-use Rattle.std.specs.Prelude.{◌||◌, Some}
+use Rattle.std.specs.Prelude.{◌||◌, ◌&&◌, not, Some}
 use Rattle.std.proofs.lemmas.Bool.Decides.{nat_tests}
 use Rattle.std.proofs.lemmas.Grind.{common_steps}
 use Rattle.spc700_table.specs.declared.Form.{Form}
 use Rattle.spc700_table.specs.declared.Form.TheVariants as form
 use Rattle.spc700_table.specs.declared.OpRow.{OpRow}
-use Rattle.spc700_table.specs.Opcodes.{row_of, operand_bytes, length_of, is_in_text_order}
+use Rattle.spc700_table.specs.Opcodes.{row_of, is_distance, operand_bytes, length_of, is_in_text_order}
 use Rattle.spc700_asm.specs.declared.pattern.Slot.{Slot}
 use Rattle.spc700_asm.specs.declared.pattern.Slot.TheVariants.{Absent, Register, Byte, Address, Target, MemoryBit, OwnBit, OwnEntry}
 use Rattle.spc700_asm.specs.declared.instruction.Instruction.{Instruction}
 use Rattle.spc700_asm.specs.Patterns.{pattern_of}
-use Rattle.spc700_asm.specs.Instructions.{is_target, target_of, distance_ahead, is_near, number_at, bytes_of_number, number_in_line, number_in_bytes, bytes_of_operand, bytes_of_operands, bytes_of, second_place, instruction_in, instruction_at}
+use Rattle.spc700_asm.specs.Instructions.{target_of, distance_ahead, is_near, number_at, bytes_of_number, number_in_line, number_in_bytes, bytes_of_operand, bytes_of_operands, bytes_of, second_place, instruction_in, instruction_at}
+use Rattle.spc700_asm.specs.Assembly.{is_far_operand}
 
 -- how many bytes a slot has
 abbrev pub slot_bytes : Slot → ℕ
@@ -52,6 +53,43 @@ bytes_by_slot (form.DirectBit bit) = refl
 bytes_by_slot form.Rel = refl
 bytes_by_slot form.Upper = refl
 bytes_by_slot (form.Table n) = refl
+
+-- the slot of the target of a branch
+abbrev pub is_target : Slot → Bool
+is_target Target = true
+is_target _ = false
+
+pub distance_by_slot : (f : Form) → is_distance f ≡ is_target (pattern_of f).slot
+distance_by_slot form.None = refl
+distance_by_slot form.A = refl
+distance_by_slot form.X = refl
+distance_by_slot form.Y = refl
+distance_by_slot form.Ya = refl
+distance_by_slot form.Psw = refl
+distance_by_slot form.Sp = refl
+distance_by_slot form.Carry = refl
+distance_by_slot form.Imm = refl
+distance_by_slot form.Direct = refl
+distance_by_slot form.DirectX = refl
+distance_by_slot form.DirectY = refl
+distance_by_slot form.Abs = refl
+distance_by_slot form.AbsX = refl
+distance_by_slot form.AbsY = refl
+distance_by_slot form.PtrX = refl
+distance_by_slot form.PtrY = refl
+distance_by_slot form.PtrXInc = refl
+distance_by_slot form.IndX = refl
+distance_by_slot form.IndY = refl
+distance_by_slot form.AbsPtrX = refl
+distance_by_slot form.Bit = refl
+distance_by_slot form.NotBit = refl
+distance_by_slot (form.DirectBit bit) = refl
+distance_by_slot form.Rel = refl
+distance_by_slot form.Upper = refl
+distance_by_slot (form.Table n) = refl
+
+pub far_by_slot : (f : Form) (next number : ℕ) → is_far_operand f next number ≡ (is_target (pattern_of f).slot && not (is_near next number))
+far_by_slot f next number = ap (λ (b : Bool). b && not (is_near next number)) (distance_by_slot f)
 
 -- a number that fills a slot before an address
 abbrev pub IsShown : Slot → (next number : ℕ) → Type 0
@@ -112,7 +150,7 @@ slot_shown (OwnEntry own) next number rest is = sym is
 
 -- the same of an operand
 operand_shown : (f : Form) (next number : ℕ) (rest : List ℕ) → IsShown (pattern_of f).slot next number → number_in_line f next (number_at (operand_bytes f) (bytes_of_operand f next number ++ rest)) ≡ number
-operand_shown f next number rest is = rw (bytes_by_slot f) (slot_shown (pattern_of f).slot next number rest is)
+operand_shown f next number rest is = rw (distance_by_slot f, bytes_by_slot f) (slot_shown (pattern_of f).slot next number rest is)
 
 -- an operand has so many bytes
 number_of_bytes : (count number : ℕ) → length (bytes_of_number count number) ≡ count

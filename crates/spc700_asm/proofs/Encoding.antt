@@ -12,14 +12,14 @@ use Rattle.spc700_asm.specs.declared.pattern.Slot.{Slot}
 use Rattle.spc700_asm.specs.declared.pattern.Slot.TheVariants.{Absent, Register, Byte, Address, Target, MemoryBit, OwnBit, OwnEntry}
 use Rattle.spc700_asm.specs.declared.instruction.Instruction.{Instruction}
 use Rattle.spc700_asm.specs.Patterns.{Pattern, pattern_of}
-use Rattle.spc700_asm.specs.Instructions.{is_target, target_of, distance_ahead, is_near, number_at, bytes_of_number, number_in_line, number_in_bytes, bytes_of_operand, bytes_of_operands, bytes_of, first_place, second_place, instruction_in}
+use Rattle.spc700_asm.specs.Instructions.{target_of, distance_ahead, is_near, number_at, bytes_of_number, number_in_line, bytes_of_operand, bytes_of_operands, bytes_of, first_place, second_place, instruction_in}
 use Rattle.spc700_asm.specs.Operands.{Operand, is_great}
 use Rattle.spc700_asm.specs.Statements.{Code}
 use Rattle.spc700_asm.specs.Labels.{Labels}
 use Rattle.spc700_asm.specs.Faults.{has_great_operand, has_great_number}
 use Rattle.spc700_asm.specs.Assembly.{slot_number, operand_number, instruction_written, is_far_operand, is_far}
 use Rattle.spc700_asm.proofs.NumberTexts.{alike_below}
-use Rattle.spc700_asm.proofs.Decoding.{slot_bytes, bytes_by_slot, IsShown, AreShown}
+use Rattle.spc700_asm.proofs.Decoding.{slot_bytes, bytes_by_slot, is_target, distance_by_slot, far_by_slot, IsShown, AreShown}
 use Rattle.spc700_asm.proofs.Expected.{expected, expected_in}
 
 abbrev pub AreBytes : List ℕ → Type 0
@@ -125,10 +125,11 @@ slot_found MemoryBit next (b ∷ c ∷ bytes) are there = (two_small b c are.0 a
 -- the same of an operand
 operand_found : (f : Form) (next : ℕ) (bytes : List ℕ) → AreBytes bytes → operand_bytes f ≤ length bytes → IsShown (pattern_of f).slot next (number_in_line f next (number_at (operand_bytes f) bytes)) × (bytes_of_operand f next (number_in_line f next (number_at (operand_bytes f) bytes)) ≡ take (operand_bytes f) bytes)
 operand_found f next bytes are there =
-    let same = sym (bytes_by_slot f) in
-    let P : ℕ → Type 0 = λ n. IsShown (pattern_of f).slot next (number_in_line f next (number_at n bytes)) × (bytes_of_number n (number_in_bytes f next (number_in_line f next (number_at n bytes))) ≡ take n bytes) in
+    let value : Bool → ℕ → ℕ = λ b n. cond b (target_of next (number_at n bytes)) (number_at n bytes) in
+    let P : Bool → ℕ → Type 0 = λ b n. IsShown (pattern_of f).slot next (value b n) × (bytes_of_number n (cond b (distance_ahead next (value b n) % 0x100) (value b n)) ≡ take n bytes) in
     let Q : ℕ → Type 0 = λ n. n ≤ length bytes in
-    subst P same (slot_found (pattern_of f).slot next bytes are (subst Q (bytes_by_slot f) there))
+    let found : P (is_target (pattern_of f).slot) (operand_bytes f) = subst (P (is_target (pattern_of f).slot)) (sym (bytes_by_slot f)) (slot_found (pattern_of f).slot next bytes are (subst Q (bytes_by_slot f) there)) in
+    subst (λ (b : Bool). P b (operand_bytes f)) (sym (distance_by_slot f)) found
 
 take_nil : (n : ℕ) → take {A = ℕ} n [] ≡ []
 take_nil zero = refl
@@ -282,4 +283,4 @@ shown_is_near at i are =
     let f = (row_of i.opcode).first in
     let g = (row_of i.opcode).second in
     let next = at + length_of i.opcode in
-    or_falses (is_far_operand f next i.first) (is_far_operand g next i.second) (not_far (pattern_of f).slot next i.first are.first) (not_far (pattern_of g).slot next i.second are.second)
+    or_falses (is_far_operand f next i.first) (is_far_operand g next i.second) (far_by_slot f next i.first ∙ not_far (pattern_of f).slot next i.first are.first) (far_by_slot g next i.second ∙ not_far (pattern_of g).slot next i.second are.second)

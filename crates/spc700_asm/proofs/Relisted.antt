@@ -14,7 +14,7 @@ use Rattle.spc700_asm.specs.declared.instruction.Instruction.{Instruction}
 use Rattle.spc700_asm.specs.declared.refusal.LineFault.{LineFault}
 use Rattle.spc700_asm.specs.declared.refusal.LineFault.TheVariants as fault
 use Rattle.spc700_asm.specs.Patterns.{pattern_of}
-use Rattle.spc700_asm.specs.Instructions.{is_target, is_near, bytes_of}
+use Rattle.spc700_asm.specs.Instructions.{is_near, bytes_of}
 use Rattle.spc700_asm.specs.Listing.{text_of, listing}
 use Rattle.spc700_asm.specs.Operands.{Written, Plain, Named, Operand, is_above, is_great}
 use Rattle.spc700_asm.specs.Statements.{Statement, Nothing, Name, Bytes, Words, Code}
@@ -26,7 +26,7 @@ use Rattle.spc700_asm.specs.Laws.{is_data, instruction_of_line, instructions_of,
 use Rattle.spc700_asm.proofs.Unrolled.{listing_at_some}
 use Rattle.spc700_asm.proofs.LabelsAppend.{value_of_append}
 use Rattle.spc700_asm.proofs.Assembled.{assembly_where_fine, lines_are_fine}
-use Rattle.spc700_asm.proofs.Decoding.{IsShown, AreShown, length_of_bytes, instruction_back, drop_front}
+use Rattle.spc700_asm.proofs.Decoding.{is_target, far_by_slot, IsShown, AreShown, length_of_bytes, instruction_back, drop_front}
 
 -- an instruction before other bytes is listed before them
 pub listing_of_instruction : (at : ℕ) (i : Instruction) (rest : List ℕ) → AreShown (row_of i.opcode) (at + length_of i.opcode) i.first i.second → listing at (bytes_of at i ++ rest) ≡ text_of i ++ codes "\n" ++ listing (at + length_of i.opcode) rest
@@ -131,9 +131,9 @@ near_by slot false far is = absurd (differ (sym (subst (λ (s : Slot). (is_targe
 
 operand_is_shown : (labels : Labels) → AreAddresses labels → (f : Form) (o : Option Operand) (next n : ℕ) → operand_number labels f o ≡ Some n → has_great_operand f o ≡ false → is_far_operand f next n ≡ false → IsShown (pattern_of f).slot next n
 operand_is_shown labels are f None next n is small far =
-    zero_is_shown (pattern_of f).slot next n (some_is 0 n is) (near_by (pattern_of f).slot (is_near next n) far)
+    zero_is_shown (pattern_of f).slot next n (some_is 0 n is) (near_by (pattern_of f).slot (is_near next n) (sym (far_by_slot f next n) ∙ far))
 operand_is_shown labels are f (Some operand) next n is small far =
-    slot_is_shown labels are (pattern_of f).slot operand.value operand.bit next n is small (near_by (pattern_of f).slot (is_near next n) far)
+    slot_is_shown labels are (pattern_of f).slot operand.value operand.bit next n is small (near_by (pattern_of f).slot (is_near next n) (sym (far_by_slot f next n) ∙ far))
 
 abbrev made : (opcode n m : ℕ) → Instruction
 made opcode n m = record { opcode = opcode; first = n; second = m }

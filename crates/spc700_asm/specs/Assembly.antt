@@ -3,14 +3,14 @@ use Rattle.std.specs.Prelude.{ℕ, ◌+◌, ◌*◌, ◌&&◌, ◌||◌, not, Bo
 use Rattle.std.specs.Option.{option_map}
 use Rattle.std.specs.List.{slice_split, flat_map}
 use Rattle.spc700_table.specs.declared.Form.{Form}
-use Rattle.spc700_table.specs.Opcodes.{row_of, length_of}
+use Rattle.spc700_table.specs.Opcodes.{row_of, is_distance, length_of}
 use Rattle.spc700_asm.specs.declared.refusal.LineFault.{LineFault}
 use Rattle.spc700_asm.specs.declared.refusal.LineFault.TheVariants as fault
 use Rattle.spc700_asm.specs.declared.pattern.Slot.{Slot}
 use Rattle.spc700_asm.specs.declared.pattern.Slot.TheVariants.{Absent, Register, Byte, Address, Target, MemoryBit, OwnBit, OwnEntry}
 use Rattle.spc700_asm.specs.declared.instruction.Instruction.{Instruction}
 use Rattle.spc700_asm.specs.Patterns.{pattern_of}
-use Rattle.spc700_asm.specs.Instructions.{is_relative, is_near, bytes_of_number, bytes_of}
+use Rattle.spc700_asm.specs.Instructions.{is_near, bytes_of_number, bytes_of}
 use Rattle.spc700_asm.specs.Characters.{is_line_feed}
 use Rattle.spc700_asm.specs.Operands.{Written, Plain, Named, Operand}
 use Rattle.spc700_asm.specs.Statements.{Statement, Bytes, Words, Code, all_of, statement_of}
@@ -55,7 +55,7 @@ instruction_written labels opcode first second =
 
 -- a target that no distance leads to
 abbrev pub is_far_operand : Form → (next number : ℕ) → Bool
-is_far_operand form next number = is_relative form && not (is_near next number)
+is_far_operand form next number = is_distance form && not (is_near next number)
 
 abbrev pub is_far : (at : ℕ) → Instruction → Bool
 is_far at instruction =

@@ -1,21 +1,10 @@
 -- An instruction as its line shows it, and its bytes at an address (own: which operand's bytes come first is that of the
 -- SPC700; Anomie's SPC700 Doc, the instruction list).
-use Rattle.std.specs.Prelude.{ℕ, zero, suc, ◌+◌, ◌-◌, ◌*◌, ◌/◌, ◌%◌, nat_lt, nat_le, ◌||◌, Bool, true, false, List, [], ◌∷◌, ◌++◌, length, drop, Option, Some, None, if◌then◌else◌}
+use Rattle.std.specs.Prelude.{ℕ, zero, suc, ◌+◌, ◌-◌, ◌*◌, ◌/◌, ◌%◌, nat_lt, nat_le, ◌||◌, Bool, List, [], ◌∷◌, ◌++◌, length, drop, Option, Some, None, if◌then◌else◌}
 use Rattle.spc700_table.specs.declared.OpRow.{OpRow}
 use Rattle.spc700_table.specs.declared.Form.{Form}
-use Rattle.spc700_table.specs.Opcodes.{row_of, operand_bytes, length_of, is_in_text_order}
-use Rattle.spc700_asm.specs.declared.pattern.Slot.{Slot}
-use Rattle.spc700_asm.specs.declared.pattern.Slot.TheVariants.{Target}
+use Rattle.spc700_table.specs.Opcodes.{row_of, is_distance, operand_bytes, length_of, is_in_text_order}
 use Rattle.spc700_asm.specs.declared.instruction.Instruction.{Instruction}
-use Rattle.spc700_asm.specs.Patterns.{pattern_of}
-
-abbrev pub is_target : Slot → Bool
-is_target Target = true
-is_target _ = false
-
--- the operand is the target of a branch
-abbrev pub is_relative : Form → Bool
-is_relative form = is_target (pattern_of form).slot
 
 -- where the bytes of each operand begin, after the opcode
 abbrev pub first_place : OpRow → ℕ
@@ -48,11 +37,11 @@ bytes_of_number (suc count) number = number % 0x100 ∷ bytes_of_number count (n
 
 -- the number that stands in the line for an operand whose bytes have this number
 abbrev pub number_in_line : Form → (next number : ℕ) → ℕ
-number_in_line form next number = if is_relative form then target_of next number else number
+number_in_line form next number = if is_distance form then target_of next number else number
 
 -- the number of its bytes for one that stands in the line
 abbrev pub number_in_bytes : Form → (next number : ℕ) → ℕ
-number_in_bytes form next number = if is_relative form then distance_ahead next number % 0x100 else number
+number_in_bytes form next number = if is_distance form then distance_ahead next number % 0x100 else number
 
 -- the bytes of an operand
 abbrev pub bytes_of_operand : Form → (next number : ℕ) → List ℕ

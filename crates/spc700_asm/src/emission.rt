@@ -15,7 +15,7 @@ ghost use Rattle.spc700_asm.specs.Names.{Holds, Adds, AddsLine, word_bytes, byte
 use crate::OutOfMemory;
 use crate::characters::{number, trim};
 use crate::faults::size_within;
-use crate::instruction::{Instruction, is_relative};
+use crate::instruction::{Instruction, is_distance};
 use crate::names::Names;
 use crate::operand::{Operand, Written, written_in};
 use crate::pattern::{Slot, pattern_for};
@@ -38,7 +38,7 @@ fn is_far_operand(form: Form, next: u32, number: u16) -> bool
     ensures { result ≡ is_far_operand form next number }
 {
     let ahead = distance_ahead(next, number);
-    is_relative(form) && !(ahead < 0x80 || ahead >= 0xff80)
+    is_distance(form) && !(ahead < 0x80 || ahead >= 0xff80)
 }
 
 /// Whether an instruction at an address has one.
@@ -57,7 +57,7 @@ fn push_operand(out: &mut Vec<u8>, form: Form, next: u32, number: u16) -> Result
     requires { operand_bytes form ≤ 2 }
     ensures { OnOk result (out.new.items ≡ out.old.items ++ bytes_of_operand form next number) }
 {
-    let bytes_number = if is_relative(form) {
+    let bytes_number = if is_distance(form) {
         (distance_ahead(next, number) % 0x100) as u16
     } else {
         number

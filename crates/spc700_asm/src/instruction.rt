@@ -1,10 +1,9 @@
 //! An instruction as its line shows it, and its bytes at an address.
 ghost use Rattle.std.specs.Prelude.{◌≡◌, ◌+◌, ◌<◌, ◌≤◌, ◌^◌, length, drop};
 ghost use Rattle.std.specs.Option.{option_map};
-ghost use Rattle.spc700_table.specs.Opcodes.{row_of, operand_bytes, length_of};
-ghost use Rattle.spc700_asm.specs.Instructions.{is_target, is_relative, first_place, second_place, target_of, number_at, number_in_line, instruction_in, instruction_at};
+ghost use Rattle.spc700_table.specs.Opcodes.{row_of, is_distance, operand_bytes, length_of};
+ghost use Rattle.spc700_asm.specs.Instructions.{first_place, second_place, target_of, number_at, number_in_line, instruction_in, instruction_at};
 
-use crate::pattern::{Slot, pattern_for};
 use spc700_table::{Form, OpRow, byte_count, is_in_text_order, length, row};
 
 /// An instruction: its opcode, and the number that stands in the line for each operand: the target of a branch, of a bit of
@@ -16,11 +15,11 @@ pub struct Instruction {
     pub second: u16,
 }
 
-/// Whether an operand is the target of a branch.
-pub fn is_relative(form: Form) -> bool
-    ensures { result ≡ is_relative form }
+/// Whether an operand is the distance of a branch, for which the target stands in the line.
+pub fn is_distance(form: Form) -> bool
+    ensures { result ≡ is_distance form }
 {
-    matches!(pattern_for(form).slot, Slot::Target)
+    matches!(form, Form::Rel)
 }
 
 /// The address that a distance leads to.
@@ -57,7 +56,7 @@ fn number_in_line_at(form: Form, next: u32, bytes: &[u8]) -> u16
     requires inside { operand_bytes form ≤ length bytes.now }
     ensures { result ≡ number_in_line form next (number_at (operand_bytes form) bytes.now) }
 {
-    if is_relative(form) {
+    if is_distance(form) {
         target(next, bytes[0])
     } else {
         number_at(byte_count(form), bytes)
