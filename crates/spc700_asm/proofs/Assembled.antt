@@ -7,8 +7,8 @@ use Rattle.spc700_asm.specs.declared.refusal.AsmRefusal.{AsmRefusal}
 use Rattle.spc700_asm.specs.declared.refusal.AsmRefusal.TheVariants as refusal
 use Rattle.spc700_asm.specs.Labels.{labels_of}
 use Rattle.spc700_asm.specs.Faults.{LineRefusal, first_refusal}
-use Rattle.spc700_asm.specs.Assembly.{unless_refused, bytes_of_lines, lines_of, assembly}
-use Rattle.spc700_asm.specs.Names.{IsRefusal, Refuses, AreFine}
+use Rattle.spc700_asm.specs.Assembly.{unless_refused, bytes_of_lines, lines_of, assembly, Refuses}
+use Rattle.spc700_asm.specs.Names.{IsRefusal, AreFine}
 use Rattle.spc700_asm.proofs.Emitted.{fine_from}
 
 pub assembly_where_fine : (source : List ℕ) (origin : ℕ) → first_refusal origin [] (lines_of source) ≡ None → assembly source origin ≡ bytes_of_lines (labels_of origin (lines_of source)) origin 1 (lines_of source)

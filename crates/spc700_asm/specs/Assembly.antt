@@ -1,11 +1,13 @@
 -- The bytes of a source, or the first fault that it has (own).
-use Rattle.std.specs.Prelude.{ℕ, ◌+◌, ◌*◌, ◌&&◌, ◌||◌, not, Bool, List, [], ◌∷◌, ◌++◌, map, Option, Some, None, unwrap_or, option_and_then, Result, Ok, Err, if◌then◌else◌}
+use Rattle.std.specs.Prelude.{◌≡◌, ℕ, ◌+◌, ◌*◌, ◌&&◌, ◌||◌, not, Bool, List, [], ◌∷◌, ◌++◌, map, Option, Some, None, unwrap_or, option_and_then, Result, Ok, Err, if◌then◌else◌}
 use Rattle.std.specs.Option.{option_map}
 use Rattle.std.specs.List.{slice_split, flat_map}
 use Rattle.spc700_table.specs.declared.Form.{Form}
 use Rattle.spc700_table.specs.Opcodes.{row_of, is_distance, length_of}
 use Rattle.spc700_asm.specs.declared.refusal.LineFault.{LineFault}
 use Rattle.spc700_asm.specs.declared.refusal.LineFault.TheVariants as fault
+use Rattle.spc700_asm.specs.declared.refusal.AsmRefusal.{AsmRefusal}
+use Rattle.spc700_asm.specs.declared.refusal.AsmRefusal.TheVariants as refusal
 use Rattle.spc700_asm.specs.declared.pattern.Slot.{Slot}
 use Rattle.spc700_asm.specs.declared.pattern.Slot.TheVariants.{Absent, Register, Byte, Address, Target, MemoryBit, OwnBit, OwnEntry}
 use Rattle.spc700_asm.specs.declared.instruction.Instruction.{Instruction}
@@ -111,3 +113,8 @@ assembly_of_lines origin lines = unless_refused (first_refusal origin [] lines) 
 -- the bytes of a source from an origin on, or the first fault
 unfoldable pub assembly : (source : List ℕ) → (origin : ℕ) → Result (List ℕ) LineRefusal
 assembly source origin = assembly_of_lines origin (lines_of source)
+
+-- a source has no bytes for this, unless there is no memory
+abbrev pub Refuses : AsmRefusal → Result (List ℕ) LineRefusal → Type 0
+Refuses refusal.OutOfMemory bytes = Unit {0}
+Refuses (refusal.Line number fault) bytes = bytes ≡ Err (record { number = number; fault = fault })

@@ -35,7 +35,7 @@ abbrev pub bytes_of_number : (count number : ℕ) → List ℕ
 bytes_of_number zero number = []
 bytes_of_number (suc count) number = number % 0x100 ∷ bytes_of_number count (number / 0x100)
 
--- the number that stands in the line for an operand whose bytes have this number
+-- the number that stands in the line for an operand whose bytes have this number: for a distance its target
 abbrev pub number_in_line : Form → (next number : ℕ) → ℕ
 number_in_line form next number = if is_distance form then target_of next number else number
 

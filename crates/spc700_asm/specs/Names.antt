@@ -73,8 +73,3 @@ IsFault (error.Fault fault) found = found ≡ Some fault
 abbrev pub IsRefusal : AsmRefusal → Option LineRefusal → Type 0
 IsRefusal refusal.OutOfMemory found = Unit {0}
 IsRefusal (refusal.Line number fault) found = found ≡ Some (record { number = number; fault = fault })
-
--- a source has no bytes for this, unless there is no memory
-abbrev pub Refuses : AsmRefusal → Result (List ℕ) LineRefusal → Type 0
-Refuses refusal.OutOfMemory bytes = Unit {0}
-Refuses (refusal.Line number fault) bytes = bytes ≡ Err (record { number = number; fault = fault })

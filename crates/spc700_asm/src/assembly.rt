@@ -1,7 +1,6 @@
 //! The bytes of a source.
 ghost use Rattle.std.specs.Prelude.{◌≡◌, ◌≤◌, length, Ok, IfOk, IfErr};
-ghost use Rattle.spc700_asm.specs.Assembly.{assembly, most_source};
-ghost use Rattle.spc700_asm.specs.Names.{Refuses};
+ghost use Rattle.spc700_asm.specs.Assembly.{assembly, most_source, Refuses};
 
 use crate::emission::emit;
 use crate::refusal::AsmRefusal;

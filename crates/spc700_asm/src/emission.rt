@@ -8,9 +8,9 @@ ghost use Rattle.spc700_asm.specs.Characters.{number_of};
 ghost use Rattle.spc700_asm.specs.Statements.{all_of, items_of, statement_of};
 ghost use Rattle.spc700_asm.specs.Labels.{Labels, size_of_line};
 ghost use Rattle.spc700_asm.specs.Faults.{has_great_operand, has_great_number};
-ghost use Rattle.spc700_asm.specs.Assembly.{number_written, plain_number, operand_number, instruction_written, is_far_operand, is_far, instruction_bytes, number_bytes, line_bytes, with_front, bytes_of_lines, lines_of, most_source};
+ghost use Rattle.spc700_asm.specs.Assembly.{number_written, plain_number, operand_number, instruction_written, is_far_operand, is_far, instruction_bytes, number_bytes, line_bytes, with_front, bytes_of_lines, lines_of, most_source, Refuses};
 ghost use Rattle.spc700_asm.specs.Seen.{written_seen, operand_seen, statement_seen, as_seen};
-ghost use Rattle.spc700_asm.specs.Names.{Holds, Adds, AddsLine, word_bytes, bytes_of_source, IsBytesFault, IsFine, AreFine, Refuses};
+ghost use Rattle.spc700_asm.specs.Names.{Holds, Adds, AddsLine, word_bytes, bytes_of_source, IsBytesFault, IsFine, AreFine};
 
 use crate::OutOfMemory;
 use crate::characters::{number, trim};
