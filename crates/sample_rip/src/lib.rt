@@ -6,6 +6,7 @@ mod blocks;
 mod entries;
 mod finding;
 mod found;
+mod laws;
 mod reencoding;
 #[cfg(test)]
 mod tests;
@@ -14,6 +15,7 @@ mod walk;
 pub use entries::wanted;
 pub use finding::rip;
 pub use found::{RipEnd, RipFound};
+pub use laws::a_sample_is_found_by_its_bits;
 pub use reencoding::{RipReport, reencode};
 pub use std::alloc::AllocError as OutOfMemory;
 pub use walk::RipWalk;
