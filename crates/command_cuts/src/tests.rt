@@ -61,13 +61,13 @@ fn cuts_of_a_tune(rt: HostRuntime) -> Result<(), Fail> {
         ),
         (
             ENDS_THE_BLOCK,
-            "0 1\r\n070 1\r\n60 2\r\n",
+            "0 1\n70 1\n60 2\n",
             &[(2, 0), (2, 4000)],
             "cuts 3 samples 4 checkpoints 3 pages 258 made 133\n",
         ),
         (
             TAGS,
-            "32016 1",
+            "032016 1\r\n",
             &[(1, 4000)],
             "cuts 1 samples 1 checkpoints 2 pages 256 made 32017\n",
         ),

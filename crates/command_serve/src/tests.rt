@@ -54,12 +54,12 @@ fn sessions_with_few_pages(rt: HostRuntime) -> Result<(), Fail> {
             [6, 58, 6],
         ),
         (
-            "play 1\nplay 115200000\r\nseek 0\nmark\n",
+            "play 1\nplay 115200000\nseek 0\nmark\n",
             4096,
             "played 1 at 1\nrefused 115200000\nat 0\nkept 0\n",
             [1, 0, 0],
         ),
-        ("seek 007\nplay 2", 256, "at 7\nplayed 2 at 9\n", [0, 2, 0]),
+        ("seek 007\r\nplay 2", 256, "at 7\nplayed 2 at 9\n", [0, 2, 0]),
         ("", 4096, "", [0, 0, 0]),
     ] {
         let outcome = served(rt.alloc(), ENDS_THE_BLOCK, script.as_bytes(), pages)?;
