@@ -40,7 +40,7 @@ fn wanted_in(alloc: Global, file: &SpcFile, range: Option<(u8, u8)>) -> Result<V
 }
 
 /// The name of an entry's output.
-fn entry_name(alloc: Global, prefix: &str, entry: u8) -> Result<String, OutOfMemory>
+pub(crate) fn entry_name(alloc: Global, prefix: &str, entry: u8) -> Result<String, OutOfMemory>
     ensures { IfOk result (λ name. string_bytes name ≡ entry_name prefix.now entry) }
 {
     let digits = two_digits(entry);

@@ -1,4 +1,5 @@
 // Runs of `rip` over a host in memory.
+use crate::command::entry_name;
 use crate::rip;
 use command_tests::{DSP, FIVE, MEMORY, Outcome, Pieces, file_of};
 use snd_host::MemHost;
@@ -62,6 +63,33 @@ fn a_sample_without_an_end(rt: HostRuntime) -> Result<(), Fail> {
         outcome.first().get(at..at + 8),
         Some(b"\x02\0\xfe\xff\xfe\xff\xfe\xff".as_slice())
     );
+    Ok(())
+}
+
+/// Two blocks under unlike headers, the second of which ends with a loop to itself.
+const CHANGED: Pieces = &[
+    (MEMORY + 0x0200, b"\x00\x05\x09\x05"),
+    (
+        MEMORY + 0x0500,
+        b"\x84\x77\x12\x34\0\0\0\0\x10\x8b\x10\0\0\xf0\0\0\0\x01",
+    ),
+    (DSP + 0x5d, b"\x02"),
+];
+
+#[test]
+fn a_sample_that_is_encoded_again_with_errors(rt: HostRuntime) -> Result<(), Fail> {
+    let outcome = rip_file(rt.alloc(), (CHANGED, &[]), None, &[], (1, 108))?;
+    let report = b"entry 00 start 0500 blocks 2 loop 16 worst 438 squares 1236604\nentries 1\n";
+    assert!(rt; outcome.report() == report.as_slice() && outcome.first().len() == 108);
+    Ok(())
+}
+
+#[test]
+fn names_of_outputs(rt: HostRuntime) -> Result<(), Fail> {
+    for (entry, name) in [(0x00, "S00.wav"), (0xFF, "Sff.wav")] {
+        let made = entry_name(rt.alloc(), "S", entry)?;
+        assert!(rt; made.as_bytes() == name.as_bytes());
+    }
     Ok(())
 }
 
