@@ -59,7 +59,12 @@ fn sessions_with_few_pages(rt: HostRuntime) -> Result<(), Fail> {
             "played 1 at 1\nrefused 115200000\nat 0\nkept 0\n",
             [1, 0, 0],
         ),
-        ("seek 007\r\nplay 2", 256, "at 7\nplayed 2 at 9\n", [0, 2, 0]),
+        (
+            "seek 007\r\nplay 2",
+            256,
+            "at 7\nplayed 2 at 9\n",
+            [0, 2, 0],
+        ),
         ("", 4096, "", [0, 0, 0]),
     ] {
         let outcome = served(rt.alloc(), ENDS_THE_BLOCK, script.as_bytes(), pages)?;
