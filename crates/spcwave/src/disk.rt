@@ -244,7 +244,7 @@ mod tests {
         })
     }
 
-    /// The words of a render with a trace, of three pieces.
+    /// The words of a render with a trace.
     fn render_words(alloc: Global, names: &Names) -> Result<Vec<String>, Fail> {
         let words = [
             "render",
@@ -256,7 +256,7 @@ mod tests {
             "--trace",
             names.trace.as_str(),
             "--voices",
-            "ff",
+            "00",
         ];
         list_words(alloc, &words)
     }
