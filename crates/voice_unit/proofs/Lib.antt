@@ -9,3 +9,5 @@ pub mod Played
 -- Silence: at level 0 a voice puts out 0. Glided: one sample more of a voice that glides.
 pub mod Silence
 pub mod Glided
+-- OneMoreStep: one step more of a voice over a batch, with what it gives.
+pub mod OneMoreStep

@@ -46,7 +46,7 @@ with_loop-bound loops n v i true long room below = by (i == n) refl
 with_loop-bound loops n v i false long room below = below
 
 -- the voice after one sample more
-more_steps : (lane : Lane) (n : ℕ) → voice_at lane (n + 1) ≡ voice_step (voice_at lane n) lane.regs (lane.inputs n) lane.memory (counter_at (lane.k + n))
+pub more_steps : (lane : Lane) (n : ℕ) → voice_at lane (n + 1) ≡ voice_step (voice_at lane n) lane.regs (lane.inputs n) lane.memory (counter_at (lane.k + n))
 unfolding steps
 more_steps lane n = rw add-one
 

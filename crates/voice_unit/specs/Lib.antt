@@ -5,6 +5,7 @@
 -- Rest: voices whose envelopes rest.
 -- Plain: a sample in which nothing but its blocks and registers tells what a voice plays.
 -- Play: a voice over a batch, as rows of numbers alone.
+-- Run: the same with what each step gives.
 pub mod Directory
 pub mod Voice
 pub mod Inside
@@ -12,3 +13,4 @@ pub mod Batch
 pub mod Rest
 pub mod Plain
 pub mod Play
+pub mod Run

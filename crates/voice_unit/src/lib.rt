@@ -8,6 +8,7 @@ mod interface;
 mod level;
 mod play;
 mod rest;
+mod run;
 #[cfg(test)]
 mod tests;
 mod voice;
@@ -15,4 +16,5 @@ mod voice;
 pub use batch::{BatchLane, BatchRows};
 pub use directory::{entry_address, loop_word, start_word};
 pub use interface::{VoiceIn, VoiceOut, VoiceRegs};
+pub use run::OutRow;
 pub use voice::Voice;
