@@ -37,6 +37,22 @@ results_last : (rows : ℕ → List VoiceOut) (registers : List ℕ) (n : ℕ) �
 results_last rows registers zero some eight long = absurd (omega (arith, some))
 results_last rows registers (suc m) some eight long = let same : suc m - 1 ≡ m = omega arith in rw same (results_once rows registers m eight long)
 
+-- the voices that are keyed in a sample
+pub keyed_are : (k n : ℕ) (s : ChipState) (memory : List ℕ) (rows : BatchRows) → length s.hidden.voices ≡ 8 → AreKeyRows k n s rows → ((j : ℕ) → j < n → slice_index rows.kon j < 0x100)
+    → (j : ℕ) → j < n → (if get_or rows.poll j false then slice_index rows.kon j else 0) ≡ bits_from (λ answer. answer.keyed) 0 (answers k s memory j)
+unfolding answers inputs
+keyed_are k n s memory rows eight are small j few =
+    keyed_bits (inputs k s memory j) (voices_after (inputs k s memory) 0 (λ j. pos 0) s.hidden.voices j) (if get_or rows.poll j false then slice_index rows.kon j else 0)
+    (length-voices_after (inputs k s memory) 0 (λ j. pos 0) s.hidden.voices j ∙ eight) (below (get_or rows.poll j false) (slice_index rows.kon j) (small j few)) same
+    ∙ ap (λ (results : List VoiceResult). bits_from (λ answer. answer.keyed) 0 (map (λ (one : VoiceResult). one.answer) results)) (results_from-lanes (inputs k s memory) 0 (λ j. pos 0) s.hidden.voices j)
+  where
+    same : (if get_or rows.poll j false then slice_index rows.kon j else 0) ≡ (if (inputs k s memory j).common.is_poll then (inputs k s memory j).common.taken else 0)
+    same = rw (are.polls j few, are.taken j few) refl
+
+    below : (b : Bool) (kon : ℕ) → kon < 0x100 → (if b then kon else 0) < 0x100
+    below true kon h = h
+    below false kon h = omega arith
+
 module _ (k n : ℕ) (s : ChipState) (memory : List ℕ) (voices : List VoiceState) (last : List VoiceOut) (loops : List ℕ) (sums : SumRows)
     (played : IsPlayedBatch (inputs k s memory) n (all_volumes s.registers) s.hidden.voices voices last loops sums) where
   pub echo_is : echo_run (echo_regs s.registers) (main_of sums) (sent_of sums) s.hidden.echo memory n ≡ echo_after k s memory n
@@ -53,22 +69,6 @@ module _ (k n : ℕ) (s : ChipState) (memory : List ℕ) (voices : List VoiceSta
   registers_are endx some eight long is =
       rw (played.last_is, is) (sym (results_last (answers k s memory) s.registers n some (λ j. length-answers_from (inputs k s memory) 0 (λ j. pos 0) s.hidden.voices j ∙ eight) long))
 
-  -- the voices that are keyed in a sample
-  keyed_same : (rows : BatchRows) (j : ℕ) → AreKeyRows k n s rows → j < n
-      → (if get_or rows.poll j false then slice_index rows.kon j else 0) ≡ (if (inputs k s memory j).common.is_poll then (inputs k s memory j).common.taken else 0)
-  unfolding inputs
-  keyed_same rows j are few = rw (are.polls j few, are.taken j few) refl
-
   pub bits_are : (rows : BatchRows) → length s.hidden.voices ≡ 8 → AreKeyRows k n s rows → ((j : ℕ) → j < n → slice_index rows.kon j < 0x100) → AreBits n (answers k s memory) rows loops
   unfolding answers
-  bits_are rows eight are small = record { looped = λ j few. played.loops_are j few; keyed = λ j few. keyed j few }
-    where
-      keyed : (j : ℕ) → j < n → (if get_or rows.poll j false then slice_index rows.kon j else 0) ≡ bits_from (λ answer. answer.keyed) 0 (answers_from (inputs k s memory) 0 (λ j. pos 0) s.hidden.voices j)
-      keyed j few =
-          keyed_bits (inputs k s memory j) (voices_after (inputs k s memory) 0 (λ j. pos 0) s.hidden.voices j) (if get_or rows.poll j false then slice_index rows.kon j else 0)
-          (length-voices_after (inputs k s memory) 0 (λ j. pos 0) s.hidden.voices j ∙ eight) (below (get_or rows.poll j false) (slice_index rows.kon j) (small j few)) (keyed_same rows j are few)
-          ∙ ap (λ (results : List VoiceResult). bits_from (λ answer. answer.keyed) 0 (map (λ (one : VoiceResult). one.answer) results)) (results_from-lanes (inputs k s memory) 0 (λ j. pos 0) s.hidden.voices j)
-        where
-          below : (b : Bool) (kon : ℕ) → kon < 0x100 → (if b then kon else 0) < 0x100
-          below true kon h = h
-          below false kon h = omega arith
+  bits_are rows eight are small = record { looped = λ j few. played.loops_are j few; keyed = λ j few. keyed_are k n s memory rows eight are small j few }

@@ -1,22 +1,22 @@
 -- A voice over the rows of a batch makes the steps of its lane.
-use Rattle.std.proofs.Common.{◌≡◌, ℕ, zero, suc, ◌+◌, ◌-◌, ◌^◌, ◌<◌, ◌≤◌, List, ℤ, slice_index, if◌then◌else◌, refl, ap, sym, ◌∙◌, arith}
+use Rattle.std.proofs.Common.{◌≡◌, ℕ, zero, suc, ◌+◌, ◌-◌, ◌^◌, ◌<◌, ◌≤◌, List, ℤ, slice_index, if◌then◌else◌, refl, ap, ◌∙◌, arith}
 use Rattle.num_fix.specs.Words.{number_at}
 use Rattle.rate_clock.specs.Counter.{counter_at}
 use Rattle.voice_unit.specs.Voice.{VoiceState}
 use Rattle.voice_unit.specs.Batch.{lane_input, lane_inputs, steps, answer_of_step}
-use Rattle.voice_unit.specs.Play.{Lane, lane_of, voice_at, answer_at, IsPlayed}
+use Rattle.voice_unit.specs.Play.{lane_of, answer_at, IsPlayed}
 use Rattle.voice_unit.specs.declared.batch.BatchLane.{BatchLane}
 use Rattle.voice_unit.specs.declared.batch.BatchRows.{BatchRows}
 use Rattle.voice_unit.specs.declared.interface.VoiceOut.{VoiceOut}
 use Rattle.dsp_form.specs.Registers.{voice_regs, is_soft_reset}
 use Rattle.dsp_form.specs.Settings.{voice_settings}
-use Rattle.dsp_form.specs.Sample.{SharedInput, voice_in, voice_result}
+use Rattle.dsp_form.specs.Sample.{voice_in, voice_result}
 use Rattle.dsp_form.specs.declared.registers.TheConstants.{DIR, PMON, NON, KOFF, FLG}
 use Rattle.dsp_form.specs.declared.state.ChipState.{ChipState}
 use Rattle.batch_rows.specs.KeyRows.{AreKeyRows}
-use Rattle.batch_rows.specs.Lane.{voice_after, lane, outs}
+use Rattle.batch_rows.specs.Lane.{voice_after, lane}
 use Rattle.batch_rows.specs.PlayedLane.{IsPlayedLane}
-use Rattle.batch_rows.specs.Rows.{inputs, keys_after}
+use Rattle.batch_rows.specs.Rows.{inputs}
 use Rattle.batch_rows.proofs.OneMore.{registers-keys_after, table-keys_after}
 
 -- what a voice reads of the registers that all voices share
@@ -37,7 +37,7 @@ module _ (k n v : ℕ) (s : ChipState) (memory : List ℕ) (rows : BatchRows) (p
   reads j few = rw (are.noise j few, are.polls j few, are.taken j few) refl
 
   -- its steps
-  steps_are : (j : ℕ) → j ≤ n
+  pub steps_are : (j : ℕ) → j ≤ n
       → steps (voice_regs s.registers v) (lane_inputs (lane_registers s.registers v) rows previous) memory (λ j. counter_at (k + j)) voice j
       ≡ voice_after (inputs k s memory) v (number_at previous) voice j
   unfolding steps voice_after voice_result inputs
@@ -45,7 +45,7 @@ module _ (k n v : ℕ) (s : ChipState) (memory : List ℕ) (rows : BatchRows) (p
   steps_are (suc j) few = rw (steps_are j (omega (arith, few)), reads j (omega (arith, few)), registers-keys_after k s (suc j)) refl
 
   -- and its answers
-  answers_are : (j : ℕ) → j < n
+  pub answers_are : (j : ℕ) → j < n
       → answer_of_step (voice_regs s.registers v) (lane_inputs (lane_registers s.registers v) rows previous) memory s.table (λ j. counter_at (k + j)) voice j
       ≡ (lane (inputs k s memory) v (number_at previous) voice j).answer
   unfolding answer_of_step lane voice_result inputs

@@ -7,6 +7,7 @@
 -- PlayedLane: what a voice leaves of a batch.
 -- SumRows: rows of sums with the shares of a voice.
 -- PlayedBatch: what the voices leave of a batch.
+-- Recorded: a batch whose voices give their answers of every sample.
 -- Laws: the laws of batches by rows.
 pub mod Lane
 pub mod Rows
@@ -17,4 +18,5 @@ pub mod KeyRows
 pub mod PlayedLane
 pub mod SumRows
 pub mod PlayedBatch
+pub mod Recorded
 pub mod Laws

@@ -9,7 +9,7 @@ ghost use Rattle.batch_rows.specs.Once.{endx_after, AreBits};
 use voice_unit::BatchRows;
 
 /// The voices that are keyed in sample `j`, as bits.
-fn keyed_in(rows: &BatchRows, j: u8) -> u8
+pub(crate) fn keyed_in(rows: &BatchRows, j: u8) -> u8
     requires { j < 64 }
     ensures { result ≡ (if get_or rows.now.poll j false then slice_index rows.now.kon j else 0) }
 {

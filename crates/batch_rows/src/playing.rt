@@ -23,7 +23,7 @@ use rate_clock::RateClock;
 use voice_unit::{BatchLane, BatchRows, Voice, VoiceOut};
 
 /// What voice `v` reads of the registers that all voices share.
-fn lane_of(registers: &Registers, v: u8) -> BatchLane
+pub(crate) fn lane_of(registers: &Registers, v: u8) -> BatchLane
     requires { v < 8 }
     ensures { result ≡ record {
       voice = v;

@@ -13,11 +13,10 @@ ghost use Rattle.dsp_form.specs.Reach.{chip_reach};
 ghost use Rattle.dsp_core.specs.Saved.{saved_state, loaded_state};
 
 use crate::OutOfMemory;
-use crate::records::push_records;
 use crate::sample::make_sample;
 use crate::saved::DspState;
 use aram_core::Aram;
-use batch_rows::{UNHEARD, is_echo_apart, make_batch};
+use batch_rows::{UNHEARD, is_echo_apart, make_batch, make_recorded_batch, push_records};
 use brr_decode::GroupMemory;
 use dsp_form::registers::{ENDX, KON};
 use dsp_form::{ChipState, Hidden, Settings, settings_of};
@@ -193,13 +192,48 @@ impl Dsp {
         self.number += u32::from(n);
     }
 
-    /// Whether the next n samples may be made by rows, and it pays: no record is wanted, they are more than two, and the echo
-    /// can't write what the voices read.
-    fn goes_by_rows(&self, n: u8, mask: u8, memory: &Aram) -> bool
-        ensures unwanted { result ≡ true → mask ≡ 0 }
+    /// Makes the next n samples by rows, and adds their frames and the records of the voices in the mask.
+    fn make_recorded_rows(
+        &mut self,
+        n: u8,
+        settings: &Settings,
+        memory: &mut Aram,
+        mask: u8,
+        frames: &mut Frames,
+        records: &mut Records,
+    )
+        requires settings { settings.now ≡ settings_of self.old.state.registers }
+        requires few { n ≤ most_samples_of_batch }
+        requires frame_room { length frames.old + n ≤ frame_room }
+        requires record_room { length records.old + 8 * n ≤ record_room }
+        requires number { self.old.sample + n ≤ most_samples_of_chip }
+        requires apart { (chip_reach self.old.state memory.old).entangled ≡ false }
+        ensures chip { self.new ≡ record self.old { state = (samples sample n self.old.sample self.old.state memory.old).state; sample = self.old.sample + n } }
+        ensures memory { memory.new ≡ (samples sample n self.old.sample self.old.state memory.old).memory }
+        ensures frames { frames.new ≡ frames.old ++ (samples sample n self.old.sample self.old.state memory.old).frames }
+        ensures records { records.new ≡ records.old ++ filter (in_mask mask) (samples sample n self.old.sample self.old.state memory.old).records }
+    {
+        make_recorded_batch(
+            &mut self.state,
+            self.number,
+            n,
+            &mut self.clock,
+            settings,
+            memory,
+            mask,
+            frames,
+            records,
+        );
+        self.number += u32::from(n);
+    }
+
+    /// Whether the next n samples may be made by rows, and it pays: they are more than two, and the echo can't write what the voices
+    /// read.
+    fn goes_by_rows(&self, n: u8, memory: &Aram) -> bool
+        ensures some { result ≡ true → 0 < n }
         ensures apart { result ≡ true → (chip_reach self.now.state memory.now).entangled ≡ false }
     {
-        if mask != 0 || n <= 2 {
+        if n <= 2 {
             return false;
         }
         is_echo_apart(&self.state, memory)
@@ -233,10 +267,13 @@ impl Dsp {
         }
         let settings = settings_of(&self.state.registers);
         self.batches = self.batches.saturating_add(1);
-        if self.goes_by_rows(n, mask, memory) {
+        if !self.goes_by_rows(n, memory) {
+            return self.make_each(n, &settings, memory, mask, frames, records);
+        }
+        if mask == 0 {
             self.make_rows(n, &settings, memory, frames);
         } else {
-            self.make_each(n, &settings, memory, mask, frames, records);
+            self.make_recorded_rows(n, &settings, memory, mask, frames, records);
         }
     }
 

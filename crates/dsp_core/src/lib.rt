@@ -2,7 +2,6 @@
 #![tactic(auto)]
 
 mod dsp;
-mod records;
 mod sample;
 mod saved;
 #[cfg(test)]

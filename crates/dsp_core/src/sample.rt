@@ -7,8 +7,8 @@ ghost use Rattle.dsp_form.specs.Settings.{settings_of};
 
 use crate::voices::step_voices;
 use aram_core::Aram;
-use batch_rows::{is_polled, poll, step_noise};
-use dsp_form::{ChipState, SILENCE, Settings, SharedByVoices, put_results, sum_voices};
+use batch_rows::{finish_sample, is_polled, poll, step_noise};
+use dsp_form::{ChipState, Settings, SharedByVoices};
 use num_fix::Frame;
 use rate_clock::RateClock;
 use voice_unit::VoiceOut;
@@ -77,12 +77,5 @@ pub fn make_sample(
     step_noise(state, settings.noise_rate, clock);
     step_chip_voices(state, number, clock, settings, memory, answers);
     let keyed = keyed_voices(state, number);
-    let mut sums = SILENCE;
-    sum_voices(&mut sums, &settings.volumes, answers);
-    let frame = state
-        .hidden
-        .echo
-        .step(memory, &settings.echo, sums.main, sums.sent);
-    put_results(&mut state.registers, keyed, answers);
-    frame
+    finish_sample(state, keyed, settings, memory, answers)
 }

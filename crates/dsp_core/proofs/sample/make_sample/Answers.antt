@@ -11,8 +11,8 @@ use Rattle.dsp_form.proofs.EightVoices.{length-results_from}
 use Rattle.batch_rows.proofs.Keyed.{keyed_bits}
 use Rattle.dsp_core.proofs.sample.make_sample.Goals as goal
 
-pub put_results-requires : goal.put_results-requires
-put_results-requires c =
+pub finish_sample-requires : goal.finish_sample-requires
+finish_sample-requires c =
     let shared : SharedInput = shared_input c.step_noise.new.state c.args.memory.now c.args.number in
     let voices : List VoiceState = c.step_noise.new.state.hidden.voices in
     let results : length (map (λ (one : VoiceResult). one.voice) (results_from shared 0 (pos 0) voices)) ≡ 8 = rw (c.step_chip_voices.ensures.voices c.requires.clock) at c.step_chip_voices.ensures.eight in
@@ -29,7 +29,7 @@ returns-clause-state c =
     let now : c.step_noise.new.state ≡ after_noise (after_poll c.args.state.now c.args.number) (counter_at c.args.number) = rw (← c.poll.ensures.state, ← c.requires.clock) c.step_noise.ensures.state in
     let is : c.args.settings.now ≡ settings_of c.step_noise.new.state.registers = search rules in
     let regs : c.args.settings.now.echo ≡ echo_regs c.step_noise.new.state.registers = ap (λ (s : Settings). s.echo) is in
-    rw (← now, c.put_results.ensures, c.step-frame.ensures.state, c.step_chip_voices.ensures.voices c.requires.clock, c.step_chip_voices.ensures.answers c.requires.clock, regs) refl
+    rw (← now, c.finish_sample.ensures.state, c.step_chip_voices.ensures.voices c.requires.clock, c.step_chip_voices.ensures.answers c.requires.clock, regs) refl
 
 pub returns-clause-memory : goal.returns-clause-memory
 unfolding sample settings_of
@@ -38,7 +38,7 @@ returns-clause-memory c =
     let is : c.args.settings.now ≡ settings_of c.step_noise.new.state.registers = search rules in
     let regs : c.args.settings.now.echo ≡ echo_regs c.step_noise.new.state.registers = ap (λ (s : Settings). s.echo) is in
     let volumes : c.args.settings.now.volumes ≡ all_volumes c.step_noise.new.state.registers = ap (λ (s : Settings). s.volumes) is in
-    rw (← now, c.step-frame.ensures.memory, c.step_chip_voices.ensures.voices c.requires.clock, regs, c.sum_voices.ensures.sent, volumes, c.step_chip_voices.ensures.answers c.requires.clock) refl
+    rw (← now, c.finish_sample.ensures.memory, c.step_chip_voices.ensures.voices c.requires.clock, regs, volumes, c.step_chip_voices.ensures.answers c.requires.clock) refl
 
 pub returns-clause-frame : goal.returns-clause-frame
 unfolding sample settings_of
@@ -47,7 +47,7 @@ returns-clause-frame c =
     let is : c.args.settings.now ≡ settings_of c.step_noise.new.state.registers = search rules in
     let regs : c.args.settings.now.echo ≡ echo_regs c.step_noise.new.state.registers = ap (λ (s : Settings). s.echo) is in
     let volumes : c.args.settings.now.volumes ≡ all_volumes c.step_noise.new.state.registers = ap (λ (s : Settings). s.volumes) is in
-    rw (← now, c.step-frame.ensures.frame, c.step_chip_voices.ensures.voices c.requires.clock, regs, c.sum_voices.ensures.main, volumes, c.step_chip_voices.ensures.answers c.requires.clock) refl
+    rw (← now, c.finish_sample.ensures.frame, c.step_chip_voices.ensures.voices c.requires.clock, regs, volumes, c.step_chip_voices.ensures.answers c.requires.clock) refl
 
 pub step_noise-requires : goal.step_noise-requires
 unfolding settings_of

@@ -1,7 +1,7 @@
-use Rattle.std.proofs.Common.{rules, ◌≡◌, refl, sym, arith}
+use Rattle.std.proofs.Common.{refl, sym}
 use Rattle.std.proofs.lemmas.List.{append-nil}
 use Rattle.dsp_form.proofs.OneMoreSample.{samples_none}
-use Rattle.dsp_core.proofs.NoRecords.{no_records}
+use Rattle.batch_rows.proofs.NoRecords.{no_records}
 use Rattle.dsp_core.proofs.dsp.Dsp.advance.Goals as goal
 
 pub returns-then-n-eq0-clause-state : goal.returns-then-n-eq0-clause-state
@@ -16,7 +16,5 @@ returns-then-n-eq0-clause-frames c = rw (c.if-n-eq0.true, samples_none) (sym (ap
 pub returns-then-n-eq0-clause-records : goal.returns-then-n-eq0-clause-records
 returns-then-n-eq0-clause-records c = rw (c.if-n-eq0.true, samples_none) (sym (append-nil c.args.records.now))
 
-pub returns-then-goes_by_rows-clause-records : goal.returns-then-goes_by_rows-clause-records
-returns-then-goes_by_rows-clause-records c =
-    let unwanted : c.args.mask ≡ 0 = c.goes_by_rows.ensures.unwanted c.if-goes_by_rows.true in
-    rw (unwanted, no_records) (sym (append-nil c.args.records.now))
+pub returns-then-mask-eq0-clause-records : goal.returns-then-mask-eq0-clause-records
+returns-then-mask-eq0-clause-records c = rw (c.if-mask-eq0.true, no_records) (sym (append-nil c.args.records.now))

@@ -1,7 +1,7 @@
 use Rattle.std.proofs.Common.{sym}
 use Rattle.std.proofs.lemmas.List.{append-nil}
-use Rattle.dsp_core.proofs.NoRecords.{none_in_mask}
-use Rattle.dsp_core.proofs.records.push_records.Goals as goal
+use Rattle.batch_rows.proofs.NoRecords.{none_in_mask}
+use Rattle.batch_rows.proofs.records.push_records.Goals as goal
 
 pub returns-then-mask-eq0-clause-records : goal.returns-then-mask-eq0-clause-records
 returns-then-mask-eq0-clause-records c =

@@ -2,7 +2,7 @@ use Rattle.std.proofs.Common.{◌≡◌, ◌+◌, ◌≤◌, ◌++◌, length, d
 use Rattle.std.specs.List.{filter}
 use Rattle.dsp_form.specs.Samples.{in_mask}
 use Rattle.dsp_form.specs.Sample.{records_from}
-use Rattle.dsp_core.proofs.records.push_records.Given as goal
+use Rattle.batch_rows.proofs.records.push_records.Given as goal
 
 abbrev pub invariant-loop-v : goal.invariant-loop-v
 invariant-loop-v l = record {

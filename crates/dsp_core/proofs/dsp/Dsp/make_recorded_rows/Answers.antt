@@ -1,0 +1,43 @@
+use Rattle.std.proofs.Common.{◌≡◌, false, refl}
+use Rattle.dsp_form.specs.Reach.{chip_reach}
+use Rattle.dsp_form.specs.declared.state.ChipState.{ChipState}
+use Rattle.dsp_core.proofs.Batches.{by_rows-samples, is_valid-samples}
+use Rattle.dsp_core.proofs.dsp.Dsp.make_recorded_rows.Goals as goal
+
+pub invariant_of-self : goal.invariant_of-self
+invariant_of-self c =
+    let s : ChipState = c.self.inside.state in
+    let apart : (chip_reach s c.args.memory.now).entangled ≡ false = rw (← c.self.view_is) at c.requires.apart in
+    let by = by_rows-samples c.args.n c.self.inside.number s c.args.memory.now c.requires.few c.self.invariant.valid apart in
+    record {
+      clock = rw c.from.ensures c.make_recorded_batch.ensures.clock;
+      valid = rw (c.make_recorded_batch.ensures.state, by) (is_valid-samples c.args.n c.self.inside.number s c.args.memory.now c.self.invariant.valid);
+    }
+
+pub returns-clause-chip : goal.returns-clause-chip
+returns-clause-chip c =
+    let s : ChipState = c.self.inside.state in
+    let apart : (chip_reach s c.args.memory.now).entangled ≡ false = rw (← c.self.view_is) at c.requires.apart in
+    let by = by_rows-samples c.args.n c.self.inside.number s c.args.memory.now c.requires.few c.self.invariant.valid apart in
+    rw (← c.self.view_is, c.from.ensures, c.make_recorded_batch.ensures.state, by) refl
+
+pub returns-clause-memory : goal.returns-clause-memory
+returns-clause-memory c =
+    let s : ChipState = c.self.inside.state in
+    let apart : (chip_reach s c.args.memory.now).entangled ≡ false = rw (← c.self.view_is) at c.requires.apart in
+    let by = by_rows-samples c.args.n c.self.inside.number s c.args.memory.now c.requires.few c.self.invariant.valid apart in
+    rw (← c.self.view_is, c.make_recorded_batch.ensures.memory, by) refl
+
+pub returns-clause-frames : goal.returns-clause-frames
+returns-clause-frames c =
+    let s : ChipState = c.self.inside.state in
+    let apart : (chip_reach s c.args.memory.now).entangled ≡ false = rw (← c.self.view_is) at c.requires.apart in
+    let by = by_rows-samples c.args.n c.self.inside.number s c.args.memory.now c.requires.few c.self.invariant.valid apart in
+    rw (← c.self.view_is, c.make_recorded_batch.ensures.frames, by) refl
+
+pub returns-clause-records : goal.returns-clause-records
+returns-clause-records c =
+    let s : ChipState = c.self.inside.state in
+    let apart : (chip_reach s c.args.memory.now).entangled ≡ false = rw (← c.self.view_is) at c.requires.apart in
+    let by = by_rows-samples c.args.n c.self.inside.number s c.args.memory.now c.requires.few c.self.invariant.valid apart in
+    rw (← c.self.view_is, c.make_recorded_batch.ensures.records, by) refl
