@@ -5,6 +5,7 @@
 -- InReach: where the voices of a batch read nothing that its echo writes.
 -- Once: the results of a batch, and its keys.
 -- KeyRows: one sample more of the rows of keys and noise.
+-- IdleKeys: samples that leave the keys and the noise as they are.
 -- PlayedLane: a voice over the rows of a batch makes the steps of its lane.
 -- Remains: the voices of a batch, one more of them played.
 -- Keyed: the voices that a sample keys are those whose key-ons its poll took.
@@ -19,6 +20,7 @@ pub mod InReach
 pub mod Once
 pub mod Afar
 pub mod KeyRows
+pub mod IdleKeys
 pub mod PlayedLane
 pub mod Remains
 pub mod Keyed
