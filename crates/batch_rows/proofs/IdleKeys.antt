@@ -1,9 +1,8 @@
 -- Samples that leave the keys and the noise as they are.
-use Rattle.std.proofs.Common.{◌≡◌, ◌≢◌, ℕ, zero, suc, ◌+◌, ◌%◌, ◌<◌, ◌≤◌, ◌==◌, List, Bool, true, false, get_or, slice_index, replicate, if◌then◌else◌, refl, ap, sym, ◌∙◌, arith}
+use Rattle.std.proofs.Common.{◌≡◌, ◌≢◌, ℕ, zero, suc, ◌+◌, ◌%◌, ◌<◌, ◌≤◌, ◌==◌, Bool, true, false, get_or, slice_index, replicate, if◌then◌else◌, refl, ap, sym, ◌∙◌, arith}
 use Rattle.std.proofs.lemmas.Bool.Decides.{nat_tests}
 use Rattle.std.proofs.lemmas.List.{get_or-replicate}
 use Rattle.rate_clock.specs.Counter.{counter_at, fires, IsQuiet}
-use Rattle.rate_clock.specs.Noise.{next_noise}
 use Rattle.voice_unit.specs.declared.batch.BatchRows.{BatchRows}
 use Rattle.dsp_form.specs.Registers.{noise_rate}
 use Rattle.dsp_form.specs.Results.{without_bits}

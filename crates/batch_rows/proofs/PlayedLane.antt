@@ -1,22 +1,22 @@
 -- A voice over the rows of a batch makes the steps of its lane.
-use Rattle.std.proofs.Common.{◌≡◌, ℕ, zero, suc, ◌+◌, ◌-◌, ◌^◌, ◌<◌, ◌≤◌, List, ℤ, slice_index, if◌then◌else◌, refl, ap, sym, ◌∙◌, arith}
+use Rattle.std.proofs.Common.{◌≡◌, ℕ, zero, suc, ◌+◌, ◌-◌, ◌^◌, ◌<◌, ◌≤◌, List, ℤ, slice_index, if◌then◌else◌, refl, ap, ◌∙◌, arith}
 use Rattle.num_fix.specs.Words.{number_at}
 use Rattle.rate_clock.specs.Counter.{counter_at}
 use Rattle.voice_unit.specs.Voice.{VoiceState}
 use Rattle.voice_unit.specs.Batch.{lane_input, lane_inputs, steps, answer_of_step}
-use Rattle.voice_unit.specs.Play.{Lane, lane_of, voice_at, answer_at, IsPlayed}
+use Rattle.voice_unit.specs.Play.{lane_of, answer_at, IsPlayed}
 use Rattle.voice_unit.specs.declared.batch.BatchLane.{BatchLane}
 use Rattle.voice_unit.specs.declared.batch.BatchRows.{BatchRows}
 use Rattle.voice_unit.specs.declared.interface.VoiceOut.{VoiceOut}
 use Rattle.dsp_form.specs.Registers.{voice_regs, is_soft_reset}
 use Rattle.dsp_form.specs.Settings.{voice_settings}
-use Rattle.dsp_form.specs.Sample.{SharedInput, voice_in, voice_result}
+use Rattle.dsp_form.specs.Sample.{voice_in, voice_result}
 use Rattle.dsp_form.specs.declared.registers.TheConstants.{DIR, PMON, NON, KOFF, FLG}
 use Rattle.dsp_form.specs.declared.state.ChipState.{ChipState}
 use Rattle.batch_rows.specs.KeyRows.{AreKeyRows}
-use Rattle.batch_rows.specs.Lane.{voice_after, lane, outs}
+use Rattle.batch_rows.specs.Lane.{voice_after, lane}
 use Rattle.batch_rows.specs.PlayedLane.{IsPlayedLane}
-use Rattle.batch_rows.specs.Rows.{inputs, keys_after}
+use Rattle.batch_rows.specs.Rows.{inputs}
 use Rattle.batch_rows.proofs.OneMore.{registers-keys_after, table-keys_after}
 
 -- what a voice reads of the registers that all voices share

@@ -1,5 +1,5 @@
 -- The voices of a batch, one more of them played.
-use Rattle.std.proofs.Common.{◌≡◌, ℕ, ◌+◌, ◌-◌, ◌^◌, ◌<◌, ◌≤◌, List, [], ◌∷◌, ◌++◌, ℤ, pos, ◌+ℤ◌, map, length, take, drop, get_or, slice_index, slice_set, if◌then◌else◌, refl, ap, sym, ◌∙◌, append_assoc, arith}
+use Rattle.std.proofs.Common.{◌≡◌, ℕ, ◌+◌, ◌-◌, ◌^◌, ◌<◌, List, [], ◌∷◌, ◌++◌, ℤ, pos, ◌+ℤ◌, map, length, take, drop, get_or, slice_index, slice_set, if◌then◌else◌, refl, ap, sym, ◌∙◌, append_assoc, arith}
 use Rattle.std.proofs.lemmas.List.{drop_more, take_more_set, drop-set-lt, drop_all, take_all, append-nil}
 use Rattle.num_fix.specs.Arithmetic.{clamp16, scaled}
 use Rattle.num_fix.specs.Words.{number_at}
@@ -9,7 +9,7 @@ use Rattle.dsp_form.specs.Mix.{shares_at, clamped_sum}
 use Rattle.dsp_form.specs.Results.{bits_from}
 use Rattle.dsp_form.specs.Sample.{SharedInput, VoiceResult}
 use Rattle.dsp_form.specs.declared.volumes.Volumes.{Volumes}
-use Rattle.batch_rows.specs.Lane.{voice_after, lane, outs, lanes, voices_after}
+use Rattle.batch_rows.specs.Lane.{lane, outs, voices_after}
 use Rattle.batch_rows.specs.PlayedBatch.{answers_from, sum_of, IsPlayedBatch}
 use Rattle.batch_rows.specs.PlayedLane.{IsPlayedLane}
 use Rattle.batch_rows.specs.declared.sums.SumRows.{SumRows}

@@ -1,7 +1,6 @@
 -- Registers that differ in results alone: voices read the same of them, and so do the sums and the echo.
 use Rattle.std.proofs.Common.{◌≡◌, ℕ, ◌+◌, List, [], ◌∷◌, ℤ, refl, ap}
 use Rattle.voice_unit.specs.Voice.{VoiceState}
-use Rattle.voice_unit.specs.declared.interface.VoiceRegs.{VoiceRegs}
 use Rattle.dsp_form.specs.Registers.{voice_regs, echo_regs}
 use Rattle.dsp_form.specs.Settings.{voice_settings, settings_of}
 use Rattle.dsp_form.specs.Volumes.{all_volumes}

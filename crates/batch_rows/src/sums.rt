@@ -1,9 +1,12 @@
 //! The sums over the voices, as rows.
 
-ghost use Rattle.std.specs.Prelude.{◌≡◌, pos, replicate};
+ghost use Rattle.std.specs.Prelude.{◌≡◌, ◌<◌, ℕ, ℤ, pos, ◌+ℤ◌, ◌*ℤ◌, replicate, unsigned_abs};
+ghost use Rattle.num_fix.specs.Arithmetic.{clamp16, scaled};
+ghost use Rattle.num_fix.specs.Words.{number_at};
 ghost use Rattle.batch_rows.specs.SumRows.{HasShares};
 
 use dsp_form::{Volumes, with_share};
+use num_fix::{add_clamped, scaled};
 
 /// The sums of each sample of a batch on both sides: of all voices, and of those that are sent to the echo.
 #[derive(Clone, Copy)]
@@ -14,12 +17,74 @@ pub struct SumRows {
     pub sent_right: [i16; 64],
 }
 
-/// Adds the shares of a voice at a volume.
-fn add_row(sums: &mut [i16; 64], outs: &[i16; 64], volume: i16)
+/// The high word of a product.
+fn high_product(out: i16, factor: i16) -> i16
+    ensures { result ≡ scaled out factor 16 }
+{
+    scaled(out, factor, 16) as i16
+}
+
+/// A sum with the share of an output at a volume whose product with 512 is the factor: one multiplication of 16-bit numbers.
+fn with_soft_share(sum: i16, out: i16, factor: i16) -> i16
+    ensures { (volume : ℤ) → factor ≡ volume *ℤ pos 512 → result ≡ clamp16 (sum +ℤ scaled out volume 7) }
+{
+    add_clamped(sum, high_product(out, factor))
+}
+
+/// The factor of a volume, as a row, so that 16-bit numbers meet 16-bit numbers.
+fn factors_of(volume: i16) -> [i16; 64]
+    requires { unsigned_abs volume < 64 }
+    ensures { (j : ℕ) → j < 64 → number_at result j ≡ volume *ℤ pos 512 }
+{
+    let factor = volume * 512;
+    [factor; 64]
+}
+
+/// Adds the shares of a voice at a volume from -63 to 63.
+fn add_soft_row(sums: &mut [i16; 64], outs: &[i16; 64], volume: i16)
+    requires { unsigned_abs volume < 64 }
+    ensures { HasShares outs.now volume sums.old sums.new }
+{
+    let factors = factors_of(volume);
+    for j in 0..64 {
+        sums[j] = with_soft_share(sums[j], outs[j], factors[j]);
+    }
+}
+
+/// Adds the shares of a voice at any volume.
+fn add_loud_row(sums: &mut [i16; 64], outs: &[i16; 64], volume: i16)
     ensures { HasShares outs.now volume sums.old sums.new }
 {
     for j in 0..64 {
         sums[j] = with_share(sums[j], outs[j], volume);
+    }
+}
+
+/// A number of 16 bits is within their limits. Nothing runs.
+fn is_limited(sum: i16)
+    ensures { clamp16 sum ≡ sum }
+{}
+
+/// Leaves the sums as they are, as shares at volume 0 do. Nothing runs.
+fn add_silent_row(sums: &[i16; 64], outs: &[i16; 64])
+    ensures { HasShares outs.now (pos 0) sums.now sums.now }
+{
+    for j in 0..64 {
+        is_limited(sums[j]);
+    }
+}
+
+/// Adds the shares of a voice at a volume.
+fn add_row(sums: &mut [i16; 64], outs: &[i16; 64], volume: i16)
+    ensures { HasShares outs.now volume sums.old sums.new }
+{
+    let size = volume.unsigned_abs();
+    if size >= 64 {
+        add_loud_row(sums, outs, volume);
+    } else if size > 0 {
+        add_soft_row(sums, outs, volume);
+    } else {
+        add_silent_row(sums, outs);
     }
 }
 

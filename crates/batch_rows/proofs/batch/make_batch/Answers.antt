@@ -1,15 +1,14 @@
-use Rattle.std.proofs.Common.{rules, ◌≡◌, ◌<◌, ◌+◌, ◌++◌, ℕ, List, length, slice_index, refl, ap, sym, ◌∙◌, arith}
-use Rattle.dsp_form.specs.Registers.{noise_rate, echo_regs}
+use Rattle.std.proofs.Common.{rules, ◌≡◌, ◌<◌, ℕ, length, slice_index, refl, ap, sym, ◌∙◌}
+use Rattle.dsp_form.specs.Registers.{echo_regs}
 use Rattle.dsp_form.specs.Settings.{settings_of}
 use Rattle.dsp_form.specs.Volumes.{all_volumes}
 use Rattle.dsp_form.specs.declared.settings.Settings.{Settings}
-use Rattle.dsp_form.specs.declared.registers.TheConstants.{FLG, ENDX}
+use Rattle.dsp_form.specs.declared.registers.TheConstants.{ENDX}
 use Rattle.dsp_form.specs.declared.state.ChipState.{ChipState}
-use Rattle.batch_rows.specs.PlayedBatch.{IsPlayedBatch}
-use Rattle.batch_rows.specs.Rows.{inputs, keys_after, by_rows, echo_after, answers}
+use Rattle.batch_rows.specs.Rows.{by_rows, answers}
 use Rattle.batch_rows.specs.Once.{endx_after}
 use Rattle.batch_rows.proofs.KeyRows.{voices-keys_after, echo-keys_after}
-use Rattle.batch_rows.proofs.OneMore.{registers-keys_after, table-keys_after}
+use Rattle.batch_rows.proofs.OneMore.{table-keys_after}
 use Rattle.batch_rows.proofs.MakeBatch.{echo_is, registers_are, bits_are}
 use Rattle.batch_rows.proofs.batch.make_batch.Goals as goal
 

@@ -1,4 +1,4 @@
-use Rattle.std.proofs.Common.{rules, ◌≡◌, ◌<◌, ◌+◌, ℕ, refl, sym, ◌∙◌, arith}
+use Rattle.std.proofs.Common.{◌<◌, refl}
 use Rattle.dsp_form.specs.Results.{next_endx}
 use Rattle.batch_rows.proofs.EchoRun.{endx_after-more}
 use Rattle.batch_rows.proofs.endx.endx_of_batch.Goals as goal

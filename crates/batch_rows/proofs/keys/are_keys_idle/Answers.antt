@@ -1,7 +1,5 @@
-use Rattle.std.proofs.Common.{◌≡◌, true, refl, arith}
+use Rattle.std.proofs.Common.{◌≡◌, arith}
 use Rattle.std.proofs.lemmas.Bool.Decides.{nat_tests}
-use Rattle.rate_clock.specs.Counter.{IsQuiet}
-use Rattle.dsp_form.specs.Registers.{noise_rate}
 use Rattle.batch_rows.proofs.IdleKeys.{keys_idle}
 use Rattle.batch_rows.proofs.keys.are_keys_idle.Goals as goal
 

@@ -1,4 +1,4 @@
-use Rattle.std.proofs.Common.{rules, ◌≡◌, ◌+◌, ◌%◌, ◌==◌, ◌<◌, ℕ, false, refl, arith}
+use Rattle.std.proofs.Common.{rules, ◌+◌, ◌%◌, ◌==◌, ℕ, false}
 use Rattle.std.proofs.lemmas.List.{length-set}
 use Rattle.echo_unit.proofs.Entries.{with_entry}
 use Rattle.batch_rows.proofs.IdleKeys.{poll_of}

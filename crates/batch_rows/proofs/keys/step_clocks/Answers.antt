@@ -1,6 +1,6 @@
-use Rattle.std.proofs.Common.{rules, ◌≡◌, ℕ, suc, ◌+◌, ◌<◌, length, refl, arith}
+use Rattle.std.proofs.Common.{rules, ◌≡◌, ℕ, suc, ◌+◌, ◌<◌, arith}
 use Rattle.std.proofs.lemmas.List.{length-set}
-use Rattle.rate_clock.specs.Counter.{counter_at, counter_after}
+use Rattle.rate_clock.specs.Counter.{counter_at}
 use Rattle.batch_rows.proofs.KeyRows.{one_more_count}
 use Rattle.batch_rows.proofs.keys.step_clocks.Goals as goal
 

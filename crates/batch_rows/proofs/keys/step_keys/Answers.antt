@@ -1,8 +1,6 @@
-use Rattle.std.proofs.Common.{rules, ◌≡◌, ◌+◌, ◌<◌, ◌≤◌, ℕ, length, slice_index, refl, sym, ◌∙◌, arith}
+use Rattle.std.proofs.Common.{rules, ◌≡◌, ◌+◌, ℕ, length, sym, ◌∙◌, arith}
 use Rattle.std.proofs.lemmas.List.{get_or-replicate}
 use Rattle.std.proofs.lemmas.Grind.{get_or_default_zero}
-use Rattle.rate_clock.specs.Counter.{counter_at}
-use Rattle.batch_rows.specs.Rows.{keys_after}
 use Rattle.batch_rows.proofs.IdleKeys.{idle_rows}
 use Rattle.batch_rows.proofs.keys.step_keys.Goals as goal
 

@@ -1,4 +1,4 @@
-use Rattle.std.proofs.Common.{◌≡◌, ◌+◌, ◌<◌, ℕ, length, slice_index}
+use Rattle.std.proofs.Common.{◌≡◌, ◌<◌, ℕ, length, slice_index}
 use Rattle.batch_rows.specs.KeyRows.{AreKeyRows}
 use Rattle.batch_rows.specs.Rows.{keys_after}
 use Rattle.batch_rows.proofs.keys.step_keys_each.Given as goal

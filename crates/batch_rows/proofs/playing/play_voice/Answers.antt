@@ -1,6 +1,4 @@
-use Rattle.std.proofs.Common.{rules, ◌≡◌, refl, sym, ◌∙◌}
-use Rattle.voice_unit.specs.declared.interface.VoiceRegs.{VoiceRegs}
-use Rattle.voice_unit.specs.declared.batch.BatchLane.{BatchLane}
+use Rattle.std.proofs.Common.{◌≡◌}
 use Rattle.dsp_form.specs.Registers.{voice_regs}
 use Rattle.batch_rows.proofs.PlayedLane.{lane_registers, played_lane}
 use Rattle.batch_rows.proofs.playing.play_voice.Goals as goal

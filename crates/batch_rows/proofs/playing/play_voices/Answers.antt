@@ -1,8 +1,5 @@
-use Rattle.std.proofs.Common.{rules, ◌≡◌, ◌<◌, ◌+◌, ◌^◌, ℕ, List, ℤ, pos, replicate, length, get_or, slice_index, refl, sym, ◌∙◌, arith}
+use Rattle.std.proofs.Common.{rules, ◌≡◌, ◌<◌, ℕ, pos, replicate, length, sym, ◌∙◌, arith}
 use Rattle.std.proofs.lemmas.List.{length-set, get_or-replicate}
-use Rattle.num_fix.specs.Words.{number_at}
-use Rattle.voice_unit.specs.Voice.{VoiceState}
-use Rattle.dsp_form.specs.declared.volumes.Volumes.{Volumes}
 use Rattle.batch_rows.specs.Rows.{inputs}
 use Rattle.batch_rows.proofs.Remains.{none_played, all_played, voices_more, last_more, loops_more, sum_more}
 use Rattle.batch_rows.proofs.playing.play_voices.Goals as goal
