@@ -24,6 +24,7 @@ poll_idle s k w t = by (k % 2 == 0)
   where
     none : without_bits s.hidden.waiting s.hidden.taken ≡ 0
     none = ap (λ (one : ℕ). without_bits one s.hidden.taken) w ∙ ap (λ (one : ℕ). without_bits 0 one) t
+
     by : (b : Bool) → (if b then record s { hidden = record s.hidden { waiting = without_bits s.hidden.waiting s.hidden.taken; taken = without_bits s.hidden.waiting s.hidden.taken } } else s) ≡ s
     by true = same_keys s (without_bits s.hidden.waiting s.hidden.taken) (none ∙ sym w) (none ∙ sym t)
     by false = refl

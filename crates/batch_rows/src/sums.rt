@@ -1,12 +1,12 @@
 //! The sums over the voices, as rows.
 
-ghost use Rattle.std.specs.Prelude.{◌≡◌, ◌<◌, ℕ, ℤ, pos, ◌+ℤ◌, ◌*ℤ◌, replicate, unsigned_abs};
-ghost use Rattle.num_fix.specs.Arithmetic.{clamp16, scaled};
+ghost use Rattle.std.specs.Prelude.{◌≡◌, ◌<◌, ℕ, ℤ, pos, ◌+ℤ◌, ◌*ℤ◌, ◌≤ℤ◌, ◌<ℤ◌, replicate, unsigned_abs};
+ghost use Rattle.num_fix.specs.Arithmetic.{clamp16, clear_bit0, scaled};
 ghost use Rattle.num_fix.specs.Words.{number_at};
 ghost use Rattle.batch_rows.specs.SumRows.{HasShares};
 
 use dsp_form::{Volumes, with_share};
-use num_fix::{add_clamped, scaled};
+use num_fix::{add_clamped, half, scaled};
 
 /// The sums of each sample of a batch on both sides: of all voices, and of those that are sent to the echo.
 #[derive(Clone, Copy)]
@@ -51,6 +51,27 @@ fn add_soft_row(sums: &mut [i16; 64], outs: &[i16; 64], volume: i16)
     }
 }
 
+/// A sum with the share of an even output at a volume from 64 on: half of it, and its share at the rest of the volume, whose
+/// product with 512 is the factor.
+fn with_strong_share(sum: i16, out: i16, factor: i16) -> i16
+    ensures { (rest : ℤ) → factor ≡ rest *ℤ pos 512 → unsigned_abs (rest +ℤ pos 64) < 128 → clear_bit0 out ≡ out
+        → result ≡ clamp16 (sum +ℤ scaled out (rest +ℤ pos 64) 7) }
+{
+    add_clamped(sum, add_clamped(half(out), high_product(out, factor)))
+}
+
+/// Adds the shares of a voice at a volume from 64 to 127.
+fn add_strong_row(sums: &mut [i16; 64], outs: &[i16; 64], volume: i16)
+    requires least { pos 64 ≤ℤ volume }
+    requires most { volume <ℤ pos 128 }
+    ensures { HasShares outs.now volume sums.old sums.new }
+{
+    let factors = factors_of(volume - 64);
+    for j in 0..64 {
+        sums[j] = with_strong_share(sums[j], outs[j], factors[j]);
+    }
+}
+
 /// Adds the shares of a voice at any volume.
 fn add_loud_row(sums: &mut [i16; 64], outs: &[i16; 64], volume: i16)
     ensures { HasShares outs.now volume sums.old sums.new }
@@ -78,13 +99,14 @@ fn add_silent_row(sums: &[i16; 64], outs: &[i16; 64])
 fn add_row(sums: &mut [i16; 64], outs: &[i16; 64], volume: i16)
     ensures { HasShares outs.now volume sums.old sums.new }
 {
-    let size = volume.unsigned_abs();
-    if size >= 64 {
-        add_loud_row(sums, outs, volume);
-    } else if size > 0 {
-        add_soft_row(sums, outs, volume);
-    } else {
+    if volume == 0 {
         add_silent_row(sums, outs);
+    } else if volume.unsigned_abs() < 64 {
+        add_soft_row(sums, outs, volume);
+    } else if volume < 64 || 128 <= volume {
+        add_loud_row(sums, outs, volume);
+    } else {
+        add_strong_row(sums, outs, volume);
     }
 }
 
