@@ -1,16 +1,10 @@
--- Shares at volume 0, at volumes that a factor of 16 bits has, and at those from 64 on of even outputs.
-use Rattle.std.proofs.Common.{refl, ◌≢◌, ◌≤◌, ◌==◌, Bool, true, false, List, length, slice_set, unsigned_abs, subst, sym, ◌≡◌, ℕ, ◌+◌, ◌-◌, ◌*◌, ◌%◌, ◌<◌, ℤ, pos, negsuc, ◌+ℤ◌, ◌*ℤ◌, neg_ℤ, FitsSigned, ap, ◌∙◌, arith}
+-- Shares at volume 0, at volumes that a factor of 16 bits has, and at those from 64 on.
+use Rattle.std.proofs.Common.{◌≤◌, unsigned_abs, sym, ◌≡◌, ℕ, ◌+◌, ◌-◌, ◌*◌, ◌%◌, ◌<◌, ℤ, pos, negsuc, ◌+ℤ◌, ◌*ℤ◌, neg_ℤ, FitsSigned, ap, ◌∙◌, arith}
 use Rattle.std.specs.Int.{w16, int_max, int_min}
-use Rattle.std.proofs.lemmas.Bool.Decides.{nat_tests}
 use Rattle.std.proofs.lemmas.Int.{ints, int_max_is, int_min_is, fits_signed_from_abs}
-use Rattle.std.proofs.lemmas.List.{get_or-set_same, get_or-set_other}
 use borrow.Author.Differences.{up, down, product_is}
-use Rattle.num_fix.specs.Arithmetic.{clamp16, clear_bit0, floor_shift, scaled}
-use Rattle.num_fix.specs.Words.{number_at}
+use Rattle.num_fix.specs.Arithmetic.{clamp16, floor_shift, scaled}
 use Rattle.num_fix.proofs.Bounds.{abs_fits_16, scaled_at_most}
-use Rattle.voice_unit.specs.Voice.{VoiceState, voice_answer, output}
-use Rattle.dsp_form.specs.Sample.{SharedInput, voice_result}
-use Rattle.batch_rows.specs.Lane.{lane, outs}
 
 -- a number by its quotient and its rest
 shift_is_7 : (z q : ℤ) (r : ℕ) → r < 128 → z ≡ pos 128 *ℤ q +ℤ pos r → floor_shift z 7 ≡ q
@@ -74,58 +68,26 @@ no_share sum out limited =
     rw (nothing, same) limited
 
 -- a sum of volumes
-times_sum : (out rest : ℤ) → out *ℤ (rest +ℤ pos 64) ≡ out *ℤ rest +ℤ pos 64 *ℤ out
+times_sum : (out rest : ℤ) → out *ℤ (rest +ℤ pos 128) ≡ out *ℤ rest +ℤ pos 128 *ℤ out
 times_sum out rest =
-    let all : ℤ = rest +ℤ pos 64 in
-    let same : up all + down rest ≡ down all + up rest + 64 = omega (arith, ints) in
-    let ups : (up all + down rest) * up out ≡ (down all + up rest + 64) * up out = ap (λ (n : ℕ). n * up out) same in
-    let downs : (up all + down rest) * down out ≡ (down all + up rest + 64) * down out = ap (λ (n : ℕ). n * down out) same in
+    let all : ℤ = rest +ℤ pos 128 in
+    let same : up all + down rest ≡ down all + up rest + 128 = omega (arith, ints) in
+    let ups : (up all + down rest) * up out ≡ (down all + up rest + 128) * up out = ap (λ (n : ℕ). n * up out) same in
+    let downs : (up all + down rest) * down out ≡ (down all + up rest + 128) * down out = ap (λ (n : ℕ). n * down out) same in
     omega (arith, ints, ups, downs, (product_is out all).0, (product_is out all).1, (product_is out rest).0, (product_is out rest).1)
 
--- an even number is twice its half
-twice_half : (z : ℤ) → clear_bit0 z ≡ z → z ≡ pos 2 *ℤ floor_shift z 1
-unfolding clear_bit0
-twice_half z even = sym even
-
--- half of an even output, and its share at a volume, are its share at a volume that is higher by 64
-pub share_with_half : (out rest : ℤ) → clear_bit0 out ≡ out → floor_shift out 1 +ℤ scaled out (rest *ℤ pos 512) 16 ≡ scaled out (rest +ℤ pos 64) 7
+-- an output and its share at a volume are its share at a volume that is higher by 128
+pub share_with_output : (out rest : ℤ) → out +ℤ scaled out (rest *ℤ pos 512) 16 ≡ scaled out (rest +ℤ pos 128) 7
 unfolding scaled
-share_with_half out rest even =
+share_with_output out rest =
     let p : ℤ = out *ℤ rest in
     let q : ℤ = floor_shift p 7 in
-    let half : ℤ = floor_shift out 1 in
-    let both : floor_shift (out *ℤ (rest +ℤ pos 64)) 7 ≡ half +ℤ q =
-    shift_is_7 _ (half +ℤ q) (rest_128 p) (rest_128-small p) (times_sum out rest ∙ omega (arith, ints, by_128 p, twice_half out even)) in
-    ap (λ (z : ℤ). half +ℤ z) (share_by_factor out rest) ∙ sym both
+    let both : floor_shift (out *ℤ (rest +ℤ pos 128)) 7 ≡ out +ℤ q =
+    shift_is_7 _ (out +ℤ q) (rest_128 p) (rest_128-small p) (times_sum out rest ∙ omega (arith, ints, by_128 p)) in
+    ap (λ (z : ℤ). out +ℤ z) (share_by_factor out rest) ∙ sym both
 
 -- a share at a volume below 128 has 16 bits
 pub share_within : (out volume : ℤ) → FitsSigned w16 out → unsigned_abs volume < 128 → clamp16 (scaled out volume 7) ≡ scaled out volume 7
 share_within out volume fits small =
     let most : unsigned_abs (scaled out volume 7) ≤ 32512 = scaled_at_most out volume 7 32768 127 32512 (abs_fits_16 out fits) (omega (arith, small)) (omega arith) in
     clamp_within (scaled out volume 7) (fits_signed_from_abs w16 (scaled out volume 7) (omega (arith, most)))
-
--- a number with bit 0 cleared is even
-half_twice : (z q : ℤ) → z ≡ pos 2 *ℤ q → floor_shift z 1 ≡ q
-unfolding floor_shift
-half_twice (pos x) (pos q) is = omega (arith, ints)
-half_twice (pos x) (negsuc q) is = omega (arith, ints)
-half_twice (negsuc x) (pos q) is = omega (arith, ints)
-half_twice (negsuc x) (negsuc q) is = omega (arith, ints)
-
-even_cleared : (z : ℤ) → clear_bit0 (clear_bit0 z) ≡ clear_bit0 z
-unfolding clear_bit0
-even_cleared z = ap (λ (q : ℤ). pos 2 *ℤ q) (half_twice (pos 2 *ℤ floor_shift z 1) (floor_shift z 1) refl)
-
--- the outputs of a voice are even
-pub even_outs : (shared : ℕ → SharedInput) (v : ℕ) (previous : ℕ → ℤ) (voice : VoiceState) (out : ℤ) (j : ℕ) → out ≡ outs shared v previous voice j → clear_bit0 out ≡ out
-unfolding lane voice_result voice_answer output
-even_outs shared v previous voice out j is = ap clear_bit0 is ∙ (even_cleared _ ∙ sym is)
-
--- an entry more of a row, each known under a premise
-pub with_entry_if : (Premise : ℕ → Type 0) (f : ℕ → ℤ) (row : List ℤ) (n : ℕ) (x : ℤ) → n < length row → ((j : ℕ) → j < n → Premise j → number_at row j ≡ f j)
-    → (Premise n → x ≡ f n) → (j : ℕ) → j < n + 1 → Premise j → number_at (slice_set row n x) j ≡ f j
-with_entry_if Premise f row n x within before is j below holds = by (j == n) refl
-  where
-    by : (b : Bool) → (j == n) ≡ b → number_at (slice_set row n x) j ≡ f j
-    by true e = let here : j ≡ n = grind (arith, nat_tests, e) in rw here (get_or-set_same row n x (pos 0) within ∙ is (subst Premise here holds))
-    by false e = let other : j ≢ n = grind (arith, nat_tests, e) in get_or-set_other row n j x (pos 0) other ∙ before j (omega (arith, below, other)) holds

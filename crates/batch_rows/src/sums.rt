@@ -1,12 +1,12 @@
 //! The sums over the voices, as rows.
 
-ghost use Rattle.std.specs.Prelude.{◌≡◌, ◌<◌, ℕ, ℤ, pos, ◌+ℤ◌, ◌*ℤ◌, ◌≤ℤ◌, ◌<ℤ◌, replicate, unsigned_abs};
-ghost use Rattle.num_fix.specs.Arithmetic.{clamp16, clear_bit0, scaled};
+ghost use Rattle.std.specs.Prelude.{◌≡◌, ◌<◌, ℕ, ℤ, pos, ◌+ℤ◌, ◌*ℤ◌, neg_ℤ, ◌≤ℤ◌, ◌<ℤ◌, replicate, unsigned_abs};
+ghost use Rattle.num_fix.specs.Arithmetic.{clamp16, scaled};
 ghost use Rattle.num_fix.specs.Words.{number_at};
 ghost use Rattle.batch_rows.specs.SumRows.{HasShares};
 
 use dsp_form::{Volumes, with_share};
-use num_fix::{add_clamped, half, scaled};
+use num_fix::{add_clamped, scaled};
 
 /// The sums of each sample of a batch on both sides: of all voices, and of those that are sent to the echo.
 #[derive(Clone, Copy)]
@@ -33,16 +33,18 @@ fn with_soft_share(sum: i16, out: i16, factor: i16) -> i16
 
 /// The factor of a volume, as a row, so that 16-bit numbers meet 16-bit numbers.
 fn factors_of(volume: i16) -> [i16; 64]
-    requires { unsigned_abs volume < 64 }
+    requires least { neg_ℤ (pos 64) ≤ℤ volume }
+    requires most { volume <ℤ pos 64 }
     ensures { (j : ℕ) → j < 64 → number_at result j ≡ volume *ℤ pos 512 }
 {
     let factor = volume * 512;
     [factor; 64]
 }
 
-/// Adds the shares of a voice at a volume from -63 to 63.
+/// Adds the shares of a voice at a volume from -64 to 63.
 fn add_soft_row(sums: &mut [i16; 64], outs: &[i16; 64], volume: i16)
-    requires { unsigned_abs volume < 64 }
+    requires least { neg_ℤ (pos 64) ≤ℤ volume }
+    requires most { volume <ℤ pos 64 }
     ensures { HasShares outs.now volume sums.old sums.new }
 {
     let factors = factors_of(volume);
@@ -51,13 +53,13 @@ fn add_soft_row(sums: &mut [i16; 64], outs: &[i16; 64], volume: i16)
     }
 }
 
-/// A sum with the share of an even output at a volume from 64 on: half of it, and its share at the rest of the volume, whose
-/// product with 512 is the factor.
+/// A sum with the share of an output at a volume from 64 on: the output, less its share at what the volume lacks to 128, whose
+/// product with -512 is the factor.
 fn with_strong_share(sum: i16, out: i16, factor: i16) -> i16
-    ensures { (rest : ℤ) → factor ≡ rest *ℤ pos 512 → unsigned_abs (rest +ℤ pos 64) < 128 → clear_bit0 out ≡ out
-        → result ≡ clamp16 (sum +ℤ scaled out (rest +ℤ pos 64) 7) }
+    ensures { (rest : ℤ) → factor ≡ rest *ℤ pos 512 → unsigned_abs (rest +ℤ pos 128) < 128
+        → result ≡ clamp16 (sum +ℤ scaled out (rest +ℤ pos 128) 7) }
 {
-    add_clamped(sum, add_clamped(half(out), high_product(out, factor)))
+    add_clamped(sum, add_clamped(out, high_product(out, factor)))
 }
 
 /// Adds the shares of a voice at a volume from 64 to 127.
@@ -66,7 +68,7 @@ fn add_strong_row(sums: &mut [i16; 64], outs: &[i16; 64], volume: i16)
     requires most { volume <ℤ pos 128 }
     ensures { HasShares outs.now volume sums.old sums.new }
 {
-    let factors = factors_of(volume - 64);
+    let factors = factors_of(volume - 128);
     for j in 0..64 {
         sums[j] = with_strong_share(sums[j], outs[j], factors[j]);
     }
@@ -101,10 +103,10 @@ fn add_row(sums: &mut [i16; 64], outs: &[i16; 64], volume: i16)
 {
     if volume == 0 {
         add_silent_row(sums, outs);
-    } else if volume.unsigned_abs() < 64 {
-        add_soft_row(sums, outs, volume);
-    } else if volume < 64 || 128 <= volume {
+    } else if volume < -64 || 128 <= volume {
         add_loud_row(sums, outs, volume);
+    } else if volume < 64 {
+        add_soft_row(sums, outs, volume);
     } else {
         add_strong_row(sums, outs, volume);
     }

@@ -2,7 +2,6 @@ use Rattle.std.proofs.Common.{rules, ◌≡◌, ◌<◌, ℕ, pos, replicate, le
 use Rattle.std.proofs.lemmas.List.{length-set, get_or-replicate}
 use Rattle.batch_rows.specs.Rows.{inputs}
 use Rattle.batch_rows.proofs.Remains.{none_played, all_played, voices_more, last_more, loops_more, sum_more}
-use Rattle.batch_rows.proofs.Shares.{even_outs}
 use Rattle.batch_rows.proofs.playing.play_voices.Goals as goal
 
 pub loop-v-init : goal.loop-v-init
@@ -42,16 +41,16 @@ loop-v-preserved c =
                 c.loop-v.loops c.play_voice-answer.new.loops c.play_voice-answer.result played j few (before.loops_are j few);
             main_left = sum_more shared c.args.n c.args.volumes.now c.args.voices.now v c.loop-v.previous c.loop-v.voices within _ c.play_voice-answer.new.voice c.play_voice-answer.new.row
                 c.loop-v.loops c.play_voice-answer.new.loops c.play_voice-answer.result played (λ one. one.left) _ c.loop-v.sums.main_left c.add.new.self.main_left within_volumes
-                (λ j few. rw place at (c.add.ensures.main_left j (omega (arith, few, c.requires.few)) (even_outs shared v _ _ _ j (played.row_is j few)))) before.main_left;
+                (λ j few. rw place at (c.add.ensures.main_left j (omega (arith, few, c.requires.few)))) before.main_left;
             main_right = sum_more shared c.args.n c.args.volumes.now c.args.voices.now v c.loop-v.previous c.loop-v.voices within _ c.play_voice-answer.new.voice c.play_voice-answer.new.row
                 c.loop-v.loops c.play_voice-answer.new.loops c.play_voice-answer.result played (λ one. one.right) _ c.loop-v.sums.main_right c.add.new.self.main_right within_volumes
-                (λ j few. rw place at (c.add.ensures.main_right j (omega (arith, few, c.requires.few)) (even_outs shared v _ _ _ j (played.row_is j few)))) before.main_right;
+                (λ j few. rw place at (c.add.ensures.main_right j (omega (arith, few, c.requires.few)))) before.main_right;
             sent_left = sum_more shared c.args.n c.args.volumes.now c.args.voices.now v c.loop-v.previous c.loop-v.voices within _ c.play_voice-answer.new.voice c.play_voice-answer.new.row
                 c.loop-v.loops c.play_voice-answer.new.loops c.play_voice-answer.result played (λ one. one.sent_left) _ c.loop-v.sums.sent_left c.add.new.self.sent_left within_volumes
-                (λ j few. rw place at (c.add.ensures.sent_left j (omega (arith, few, c.requires.few)) (even_outs shared v _ _ _ j (played.row_is j few)))) before.sent_left;
+                (λ j few. rw place at (c.add.ensures.sent_left j (omega (arith, few, c.requires.few)))) before.sent_left;
             sent_right = sum_more shared c.args.n c.args.volumes.now c.args.voices.now v c.loop-v.previous c.loop-v.voices within _ c.play_voice-answer.new.voice c.play_voice-answer.new.row
                 c.loop-v.loops c.play_voice-answer.new.loops c.play_voice-answer.result played (λ one. one.sent_right) _ c.loop-v.sums.sent_right c.add.new.self.sent_right within_volumes
-                (λ j few. rw place at (c.add.ensures.sent_right j (omega (arith, few, c.requires.few)) (even_outs shared v _ _ _ j (played.row_is j few)))) before.sent_right;
+                (λ j few. rw place at (c.add.ensures.sent_right j (omega (arith, few, c.requires.few)))) before.sent_right;
           };
       room = c.play_voice-answer.ensures.room;
       eight = length-set c.loop-v.voices c.from-place.result c.play_voice-answer.new.voice ∙ c.loop-v.invariant.eight;

@@ -25,4 +25,4 @@ loop-j-preserved c =
     record { limited = one_more (λ i. clamp16 (number_at c.args.sums.now i) ≡ number_at c.args.sums.now i) j c.loop-j.invariant.limited here }
 
 pub returns : goal.returns
-returns c j below even = sym (no_share (number_at c.args.sums.now j) (number_at c.args.outs.now j) (c.loop-j.invariant.limited j (omega (arith, below))))
+returns c j below = sym (no_share (number_at c.args.sums.now j) (number_at c.args.outs.now j) (c.loop-j.invariant.limited j (omega (arith, below))))

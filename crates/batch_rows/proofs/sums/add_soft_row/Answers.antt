@@ -1,9 +1,9 @@
 use Rattle.std.proofs.Common.{rules, ◌≡◌, ◌≢◌, ◌<◌, ℕ, ◌+ℤ◌, ◌*ℤ◌, pos, to_z, of_z, length, refl, ◌∙◌, arith}
 use Rattle.std.specs.Int.{w16}
 use Rattle.std.proofs.lemmas.List.{length-set, get_or-set_other}
-use Rattle.num_fix.specs.Arithmetic.{clamp16, clear_bit0, scaled}
+use Rattle.num_fix.specs.Arithmetic.{clamp16, scaled}
 use Rattle.num_fix.specs.Words.{number_at}
-use Rattle.batch_rows.proofs.Shares.{with_entry_if}
+use Rattle.echo_unit.proofs.Entries.{with_entry}
 use Rattle.batch_rows.proofs.sums.add_soft_row.Goals as goal
 
 pub loop-j-init : goal.loop-j-init
@@ -21,8 +21,8 @@ loop-j-preserved c =
     let is : c.with_soft_share.result ≡ clamp16 (number_at c.args.sums.now j +ℤ scaled (number_at c.args.outs.now j) (to_z w16 (of_z w16 c.args.volume)) 7) =
     rw (c.loop-j.invariant.rest j (omega arith)) at (rw (sum, out) at (c.with_soft_share.ensures (to_z w16 (of_z w16 c.args.volume)) (rw factor same))) in
     record {
-      added = rw whole (with_entry_if (λ i. clear_bit0 (number_at c.args.outs.now i) ≡ number_at c.args.outs.now i) (λ i. clamp16 (number_at c.args.sums.now i +ℤ scaled (number_at c.args.outs.now i) (to_z w16 (of_z w16 c.args.volume)) 7)) c.loop-j.sums j
-          c.with_soft_share.result within c.loop-j.invariant.added (λ even. is));
+      added = rw whole (with_entry (λ i. clamp16 (number_at c.args.sums.now i +ℤ scaled (number_at c.args.outs.now i) (to_z w16 (of_z w16 c.args.volume)) 7)) c.loop-j.sums j
+          c.with_soft_share.result (pos 0) within c.loop-j.invariant.added is);
       rest = λ i above.
           let other : i ≢ j = λ e. absurd (omega (arith, e, above)) in
           rw whole (get_or-set_other c.loop-j.sums j i c.with_soft_share.result (pos 0) other ∙ c.loop-j.invariant.rest i (omega (arith, above)));
