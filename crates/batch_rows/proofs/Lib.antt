@@ -5,8 +5,10 @@
 -- InReach: where the voices of a batch read nothing that its echo writes.
 -- Once: the results of a batch, and its keys.
 -- KeyRows: one sample more of the rows of keys and noise.
+-- IdleKeys: samples that leave the keys and the noise as they are.
 -- PlayedLane: a voice over the rows of a batch makes the steps of its lane.
 -- Remains: the voices of a batch, one more of them played.
+-- Shares: shares at volume 0, at volumes that a factor of 16 bits has, and at those from 64 on.
 -- Keyed: the voices that a sample keys are those whose key-ons its poll took.
 -- EchoRun: the echo's run over rows that agree, and one step more of ENDX.
 -- MakeBatch: what the voices, the echo and the results leave of a batch by rows.
@@ -19,8 +21,10 @@ pub mod InReach
 pub mod Once
 pub mod Afar
 pub mod KeyRows
+pub mod IdleKeys
 pub mod PlayedLane
 pub mod Remains
+pub mod Shares
 pub mod Keyed
 pub mod EchoRun
 pub mod MakeBatch

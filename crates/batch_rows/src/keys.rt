@@ -1,7 +1,7 @@
 //! The keys and the noise, of a sample and of a batch.
 
-ghost use Rattle.std.specs.Prelude.{◌≡◌, ◌≤◌, ◌+◌, ◌%◌, ◌==◌, ◌<◌, ℕ, slice_index};
-ghost use Rattle.rate_clock.specs.Counter.{counter_at, counter_after};
+ghost use Rattle.std.specs.Prelude.{◌≡◌, ◌≤◌, ◌+◌, ◌%◌, ◌==◌, ◌<◌, ℕ, true, false, get_or, slice_index, replicate};
+ghost use Rattle.rate_clock.specs.Counter.{counter_at, counter_after, IsQuiet};
 ghost use Rattle.voice_unit.specs.Play.{CountsFrom};
 ghost use Rattle.dsp_form.specs.Limits.{most_samples_of_chip, most_samples_of_batch};
 ghost use Rattle.dsp_form.specs.Registers.{noise_rate};
@@ -53,20 +53,103 @@ fn taken_keys(state: &ChipState) -> u8
 }
 
 /// The keys and the noise of one sample.
-fn step_keys_once(state: &mut ChipState, number: u32, rate: u8, clock: &mut RateClock)
+fn step_keys_once(state: &mut ChipState, number: u32, rate: u8, clock: &RateClock)
     requires rate { rate ≡ noise_rate (slice_index state.old.registers FLG) }
-    requires clock { clock.old ≡ counter_after number }
+    requires clock { clock.now ≡ counter_at number }
     ensures state { state.new ≡ polled state.old number }
     ensures registers { state.new.registers ≡ state.old.registers }
-    ensures clock { clock.new ≡ counter_at number }
 {
-    clock.step();
     poll(state, number);
     step_noise(state, rate, clock);
 }
 
+/// The keys and the noise of n samples, one after another.
+fn step_keys_each(
+    state: &mut ChipState,
+    number: u32,
+    n: u8,
+    rate: u8,
+    rows: &mut BatchRows,
+    clocks: &[RateClock; 64],
+)
+    requires few { n ≤ most_samples_of_batch }
+    requires number { number + n ≤ most_samples_of_chip }
+    requires rate { rate ≡ noise_rate (slice_index state.old.registers FLG) }
+    requires clocks { CountsFrom number n clocks.now }
+    ensures state { state.new ≡ keys_after number state.old n }
+    ensures rows { AreKeyRows number n state.old rows.new }
+    ensures noise { (j : ℕ) → j < n → slice_index rows.new.noise j < 0x8000 }
+    ensures taken { (j : ℕ) → j < n → slice_index rows.new.kon j < 0x100 }
+    ensures registers { state.new.registers ≡ state.old.registers }
+{
+    for j in 0..n {
+        let place = usize::from(j);
+        let at = number + u32::from(j);
+        step_keys_once(state, at, rate, &clocks[place]);
+        rows.noise[place] = state.hidden.noise.value();
+        rows.poll[place] = is_polled(at);
+        rows.kon[place] = taken_keys(state);
+    }
+}
+
+/// The clocks of n samples.
+fn step_clocks(n: u8, clock: &mut RateClock, clocks: &mut [RateClock; 64])
+    requires few { n ≤ most_samples_of_batch }
+    ensures clocks { (k : ℕ) → clock.old ≡ counter_after k → CountsFrom k n clocks.new }
+    ensures clock { (k : ℕ) → clock.old ≡ counter_after k → clock.new ≡ counter_after (k + n) }
+{
+    let mut now = *clock;
+    for j in 0..n {
+        now.step();
+        clocks[usize::from(j)] = now;
+    }
+    *clock = now;
+}
+
+/// Whether the noise stays as it is in n samples.
+fn is_noise_still(n: u8, rate: u8, first: &RateClock) -> bool
+    requires { rate < 32 }
+    ensures { (k : ℕ) → first.now ≡ counter_at k → result ≡ true → IsQuiet rate k n }
+{
+    rate == 0 || u16::from(n) <= first.until_fires(rate)
+}
+
+/// Whether the keys and the noise stay as they are in n samples: no key-on waits or was taken, and the noise's rate does not fire.
+fn are_keys_idle(state: &ChipState, n: u8, rate: u8, first: &RateClock) -> bool
+    requires { rate ≡ noise_rate (slice_index state.now.registers FLG) }
+    ensures idle { (k : ℕ) → first.now ≡ counter_at k → result ≡ true → (j : ℕ) → j ≤ n → keys_after k state.now j ≡ state.now }
+    ensures taken { result ≡ true → state.now.hidden.taken ≡ 0 }
+{
+    if state.hidden.waiting != 0 || state.hidden.taken != 0 {
+        return false;
+    }
+    is_noise_still(n, rate, first)
+}
+
+/// Puts which samples poll the keys, from a number on.
+fn put_polls(polls: &mut [bool; 64], number: u32)
+    ensures { (j : ℕ) → j < 64 → get_or polls.new j false ≡ ((number + j) % 2 == 0) }
+{
+    let odd = (number % 2) as u8;
+    for j in 0..64u8 {
+        polls[usize::from(j)] = j % 2 == odd;
+    }
+}
+
+/// The rows of samples that leave the keys and the noise as they are, from a number on.
+fn put_idle_rows(state: &ChipState, number: u32, rows: &mut BatchRows)
+    ensures noise { rows.new.noise ≡ replicate 64 state.now.hidden.noise }
+    ensures kon { rows.new.kon ≡ replicate 64 0 }
+    ensures polls { (j : ℕ) → j < 64 → get_or rows.new.poll j false ≡ ((number + j) % 2 == 0) }
+    ensures bound { state.now.hidden.noise < 0x8000 }
+{
+    rows.noise = [state.hidden.noise.value(); 64];
+    rows.kon = [0; 64];
+    put_polls(&mut rows.poll, number);
+}
+
 /// The keys and the noise of a batch of n samples from a number on, as rows of what its voices read of them, and the clocks
-/// of its samples.
+/// of its samples. Where neither keys nor noise change, the rows are put at once.
 pub fn step_keys(
     state: &mut ChipState,
     number: u32,
@@ -76,6 +159,7 @@ pub fn step_keys(
     rows: &mut BatchRows,
     clocks: &mut [RateClock; 64],
 )
+    requires some { 0 < n }
     requires few { n ≤ most_samples_of_batch }
     requires number { number + n ≤ most_samples_of_chip }
     requires rate { rate ≡ noise_rate (slice_index state.old.registers FLG) }
@@ -88,13 +172,12 @@ pub fn step_keys(
     ensures taken { (j : ℕ) → j < n → slice_index rows.new.kon j < 0x100 }
     ensures registers { state.new.registers ≡ state.old.registers }
 {
-    for j in 0..n {
-        let place = usize::from(j);
-        let at = number + u32::from(j);
-        step_keys_once(state, at, rate, clock);
-        rows.noise[place] = state.hidden.noise.value();
-        rows.poll[place] = is_polled(at);
-        rows.kon[place] = taken_keys(state);
-        clocks[place] = *clock;
+    step_clocks(n, clock, clocks);
+    let first = clocks[0];
+    let idle = are_keys_idle(state, n, rate, &first);
+    if idle {
+        put_idle_rows(state, number, rows);
+    } else {
+        step_keys_each(state, number, n, rate, rows, clocks);
     }
 }

@@ -108,6 +108,7 @@ pub fn make_recorded_batch(
     frames: &mut Frames,
     records: &mut Records,
 )
+    requires some { 0 < n }
     requires few { n ≤ most_samples_of_batch }
     requires number { number + n ≤ most_samples_of_chip }
     requires settings { settings.now ≡ settings_of state.old.registers }

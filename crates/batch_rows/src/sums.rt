@@ -1,9 +1,12 @@
 //! The sums over the voices, as rows.
 
-ghost use Rattle.std.specs.Prelude.{◌≡◌, pos, replicate};
+ghost use Rattle.std.specs.Prelude.{◌≡◌, ◌<◌, ℕ, ℤ, pos, ◌+ℤ◌, ◌*ℤ◌, neg_ℤ, ◌≤ℤ◌, ◌<ℤ◌, replicate, unsigned_abs};
+ghost use Rattle.num_fix.specs.Arithmetic.{clamp16, scaled};
+ghost use Rattle.num_fix.specs.Words.{number_at};
 ghost use Rattle.batch_rows.specs.SumRows.{HasShares};
 
 use dsp_form::{Volumes, with_share};
+use num_fix::{add_clamped, scaled};
 
 /// The sums of each sample of a batch on both sides: of all voices, and of those that are sent to the echo.
 #[derive(Clone, Copy)]
@@ -14,12 +17,98 @@ pub struct SumRows {
     pub sent_right: [i16; 64],
 }
 
-/// Adds the shares of a voice at a volume.
-fn add_row(sums: &mut [i16; 64], outs: &[i16; 64], volume: i16)
+/// The high word of a product.
+fn high_product(out: i16, factor: i16) -> i16
+    ensures { result ≡ scaled out factor 16 }
+{
+    scaled(out, factor, 16) as i16
+}
+
+/// A sum with the share of an output at a volume whose product with 512 is the factor: one multiplication of 16-bit numbers.
+fn with_soft_share(sum: i16, out: i16, factor: i16) -> i16
+    ensures { (volume : ℤ) → factor ≡ volume *ℤ pos 512 → result ≡ clamp16 (sum +ℤ scaled out volume 7) }
+{
+    add_clamped(sum, high_product(out, factor))
+}
+
+/// The factor of a volume, as a row, so that 16-bit numbers meet 16-bit numbers.
+fn factors_of(volume: i16) -> [i16; 64]
+    requires least { neg_ℤ (pos 64) ≤ℤ volume }
+    requires most { volume <ℤ pos 64 }
+    ensures { (j : ℕ) → j < 64 → number_at result j ≡ volume *ℤ pos 512 }
+{
+    let factor = volume * 512;
+    [factor; 64]
+}
+
+/// Adds the shares of a voice at a volume from -64 to 63.
+fn add_soft_row(sums: &mut [i16; 64], outs: &[i16; 64], volume: i16)
+    requires least { neg_ℤ (pos 64) ≤ℤ volume }
+    requires most { volume <ℤ pos 64 }
+    ensures { HasShares outs.now volume sums.old sums.new }
+{
+    let factors = factors_of(volume);
+    for j in 0..64 {
+        sums[j] = with_soft_share(sums[j], outs[j], factors[j]);
+    }
+}
+
+/// A sum with the share of an output at a volume from 64 on: the output, less its share at what the volume lacks to 128, whose
+/// product with -512 is the factor.
+fn with_strong_share(sum: i16, out: i16, factor: i16) -> i16
+    ensures { (rest : ℤ) → factor ≡ rest *ℤ pos 512 → unsigned_abs (rest +ℤ pos 128) < 128
+        → result ≡ clamp16 (sum +ℤ scaled out (rest +ℤ pos 128) 7) }
+{
+    add_clamped(sum, add_clamped(out, high_product(out, factor)))
+}
+
+/// Adds the shares of a voice at a volume from 64 to 127.
+fn add_strong_row(sums: &mut [i16; 64], outs: &[i16; 64], volume: i16)
+    requires least { pos 64 ≤ℤ volume }
+    requires most { volume <ℤ pos 128 }
+    ensures { HasShares outs.now volume sums.old sums.new }
+{
+    let factors = factors_of(volume - 128);
+    for j in 0..64 {
+        sums[j] = with_strong_share(sums[j], outs[j], factors[j]);
+    }
+}
+
+/// Adds the shares of a voice at any volume.
+fn add_loud_row(sums: &mut [i16; 64], outs: &[i16; 64], volume: i16)
     ensures { HasShares outs.now volume sums.old sums.new }
 {
     for j in 0..64 {
         sums[j] = with_share(sums[j], outs[j], volume);
+    }
+}
+
+/// A number of 16 bits is within their limits. Nothing runs.
+fn is_limited(sum: i16)
+    ensures { clamp16 sum ≡ sum }
+{}
+
+/// Leaves the sums as they are, as shares at volume 0 do. Nothing runs.
+fn add_silent_row(sums: &[i16; 64], outs: &[i16; 64])
+    ensures { HasShares outs.now (pos 0) sums.now sums.now }
+{
+    for j in 0..64 {
+        is_limited(sums[j]);
+    }
+}
+
+/// Adds the shares of a voice at a volume.
+fn add_row(sums: &mut [i16; 64], outs: &[i16; 64], volume: i16)
+    ensures { HasShares outs.now volume sums.old sums.new }
+{
+    if volume == 0 {
+        add_silent_row(sums, outs);
+    } else if volume < -64 || 128 <= volume {
+        add_loud_row(sums, outs, volume);
+    } else if volume < 64 {
+        add_soft_row(sums, outs, volume);
+    } else {
+        add_strong_row(sums, outs, volume);
     }
 }
 

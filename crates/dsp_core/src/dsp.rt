@@ -203,6 +203,7 @@ impl Dsp {
         records: &mut Records,
     )
         requires settings { settings.now ≡ settings_of self.old.state.registers }
+        requires some { 0 < n }
         requires few { n ≤ most_samples_of_batch }
         requires frame_room { length frames.old + n ≤ frame_room }
         requires record_room { length records.old + 8 * n ≤ record_room }

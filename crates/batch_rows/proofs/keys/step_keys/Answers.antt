@@ -1,52 +1,28 @@
-use Rattle.std.proofs.Common.{rules, ◌≡◌, suc, ◌+◌, ◌<◌, refl, ap, sym, ◌∙◌, arith}
-use Rattle.std.proofs.lemmas.List.{length-set}
-use Rattle.rate_clock.specs.Counter.{counter_at}
-use Rattle.dsp_form.specs.declared.state.ChipState.{ChipState}
-use Rattle.batch_rows.specs.Apart.{polled}
-use Rattle.batch_rows.specs.Rows.{keys_after}
-use Rattle.batch_rows.proofs.KeyRows.{keys_after-none, keys_after-more, no_rows, one_more_row_of_keys, one_more_count, below_bound}
+use Rattle.std.proofs.Common.{rules, ◌≡◌, ◌+◌, ℕ, length, sym, ◌∙◌, arith}
+use Rattle.std.proofs.lemmas.List.{get_or-replicate}
+use Rattle.std.proofs.lemmas.Grind.{get_or_default_zero}
+use Rattle.batch_rows.proofs.IdleKeys.{idle_rows}
 use Rattle.batch_rows.proofs.keys.step_keys.Goals as goal
 
-pub loop-j-init : goal.loop-j-init
-loop-j-init c = record {
-  state = sym (keys_after-none c.args.number c.args.state.now);
-  registers = refl;
-  clock = search rules;
-  rows = no_rows c.args.number c.args.state.now c.args.rows.now;
-  clocks = λ j below. absurd (omega (arith, below));
-  noise = λ i below. absurd (omega (arith, below));
-  taken = λ i below. absurd (omega (arith, below));
-  noise_long = search rules;
-  poll_long = search rules;
-  kon_long = search rules;
-  clocks_long = search rules;
-}
+pub returns-then-idle-clause-state : goal.returns-then-idle-clause-state
+returns-then-idle-clause-state c =
+    let long : length c.step_clocks.new.clocks ≡ 64 = search rules in
+    let here : c.args.number + 0 ≡ c.args.number = omega arith in
+    let first = rw here at (get_or_default_zero c.step_clocks.new.clocks 0 c.index-clocks-0.result (omega (arith, long)) ∙ c.step_clocks.ensures.clocks c.args.number c.requires.clock 0 c.requires.some) in
+    sym (c.are_keys_idle-idle.ensures.idle c.args.number first c.if-idle.true c.args.n (omega arith))
 
-pub loop-j-preserved : goal.loop-j-preserved
-loop-j-preserved c =
-    let j = c.loop-j.j in
-    let place : c.from-place.result ≡ j = c.from-place.ensures in
-    let from : c.from.result ≡ j = c.from.ensures in
-    let now : c.step_keys_once.new.state ≡ polled (keys_after c.args.number c.args.state.now j) (c.args.number + j) =
-    rw from at c.step_keys_once.ensures.state ∙ ap (λ (s : ChipState). polled s (c.args.number + j)) c.loop-j.invariant.state in
-    let clock : c.step_keys_once.new.clock ≡ counter_at (c.args.number + j) = rw from at c.step_keys_once.ensures.clock in
-    let noise : c.value.result ≡ c.step_keys_once.new.state.hidden.noise = c.value.ensures.value in
-    let further : c.args.number + (j + 1) ≡ suc (c.args.number + j) = omega arith in
-    let within : j < 64 = omega (arith, c.requires.few) in
-    let taken : c.taken_keys.result ≡ c.step_keys_once.new.state.hidden.taken = c.taken_keys.ensures in
-    let byte : c.taken_keys.result < 0x100 = search rules in
-    record {
-      state = now ∙ sym (keys_after-more c.args.number c.args.state.now j);
-      registers = c.step_keys_once.ensures.registers ∙ c.loop-j.invariant.registers;
-      clock = rw further clock;
-      rows =
-          rw (place, noise, taken) (one_more_row_of_keys c.args.number c.args.state.now c.step_keys_once.new.state j c.loop-j.rows c.is_polled.result c.loop-j.invariant.rows
-          (rw c.loop-j.invariant.noise_long within) (rw c.loop-j.invariant.poll_long within) (rw c.loop-j.invariant.kon_long within) now (rw from at c.is_polled.ensures));
-      clocks = rw place (one_more_count c.args.number j c.step_keys_once.new.clock c.loop-j.clocks (rw c.loop-j.invariant.clocks_long within) c.loop-j.invariant.clocks clock);
-      noise = rw place (below_bound c.loop-j.rows.noise j c.value.result 0x8000 (rw c.loop-j.invariant.noise_long within) c.loop-j.invariant.noise c.value.ensures.bound);
-      taken = rw place (below_bound c.loop-j.rows.kon j c.taken_keys.result 0x100 (rw c.loop-j.invariant.kon_long within) c.loop-j.invariant.taken byte);
-      noise_long = search (rules, length-set, c.loop-j.invariant.noise_long);
-      poll_long = search (rules, length-set, c.loop-j.invariant.poll_long);
-      kon_long = search (rules, length-set, c.loop-j.invariant.kon_long);
-      clocks_long = search (rules, length-set, c.loop-j.invariant.clocks_long);
-    }
+pub returns-then-idle-clause-rows : goal.returns-then-idle-clause-rows
+returns-then-idle-clause-rows c =
+    let long : length c.step_clocks.new.clocks ≡ 64 = search rules in
+    let here : c.args.number + 0 ≡ c.args.number = omega arith in
+    let first = rw here at (get_or_default_zero c.step_clocks.new.clocks 0 c.index-clocks-0.result (omega (arith, long)) ∙ c.step_clocks.ensures.clocks c.args.number c.requires.clock 0 c.requires.some) in
+    idle_rows c.args.number c.args.n c.args.state.now c.put_idle_rows.new.rows c.requires.few (c.are_keys_idle-idle.ensures.taken c.if-idle.true)
+    (c.are_keys_idle-idle.ensures.idle c.args.number first c.if-idle.true) c.put_idle_rows.ensures.noise c.put_idle_rows.ensures.kon c.put_idle_rows.ensures.polls
+
+pub returns-then-idle-clause-noise : goal.returns-then-idle-clause-noise
+returns-then-idle-clause-noise c j below =
+    rw (c.put_idle_rows.ensures.noise, get_or-replicate 64 j c.args.state.now.hidden.noise 0 (omega (arith, below, c.requires.few))) c.put_idle_rows.ensures.bound
+
+pub returns-then-idle-clause-taken : goal.returns-then-idle-clause-taken
+returns-then-idle-clause-taken c j below =
+    rw (c.put_idle_rows.ensures.kon, get_or-replicate {A = ℕ} 64 j 0 0 (omega (arith, below, c.requires.few))) (omega arith)

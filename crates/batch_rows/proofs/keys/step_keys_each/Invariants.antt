@@ -1,21 +1,16 @@
-use Rattle.std.proofs.Common.{◌≡◌, ◌+◌, ◌<◌, ℕ, length, slice_index}
-use Rattle.rate_clock.specs.Counter.{counter_after}
-use Rattle.voice_unit.specs.Play.{CountsFrom}
+use Rattle.std.proofs.Common.{◌≡◌, ◌<◌, ℕ, length, slice_index}
 use Rattle.batch_rows.specs.KeyRows.{AreKeyRows}
 use Rattle.batch_rows.specs.Rows.{keys_after}
-use Rattle.batch_rows.proofs.keys.step_keys.Given as goal
+use Rattle.batch_rows.proofs.keys.step_keys_each.Given as goal
 
 abbrev pub invariant-loop-j : goal.invariant-loop-j
 invariant-loop-j l = record {
   state : l.state ≡ keys_after l.number l.initial.state l.j;
   registers : l.state.registers ≡ l.initial.state.registers;
-  clock : l.clock ≡ counter_after (l.number + l.j);
   rows : AreKeyRows l.number l.j l.initial.state l.rows;
-  clocks : CountsFrom l.number l.j l.clocks;
   noise : (i : ℕ) → i < l.j → slice_index l.rows.noise i < 0x8000;
   taken : (i : ℕ) → i < l.j → slice_index l.rows.kon i < 0x100;
   noise_long : length l.rows.noise ≡ 64;
   poll_long : length l.rows.poll ≡ 64;
   kon_long : length l.rows.kon ≡ 64;
-  clocks_long : length l.clocks ≡ 64;
 }
