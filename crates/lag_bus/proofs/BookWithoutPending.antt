@@ -4,7 +4,7 @@ use Rattle.std.proofs.lemmas.Bool.{and_right}
 use Rattle.std.proofs.lemmas.Bool.Decides.{nat_tests}
 use Rattle.reach_map.specs.declared.ReachPages.{ReachPages}
 use Rattle.ports_timers.specs.declared.io.Io.{Io}
-use Rattle.ports_timers.proofs.Idle.{after_ticks_of-idle}
+use Rattle.ports_timers.specs.Io.{after_ticks_of}
 use Rattle.lag_bus.specs.declared.cause.Cause.{Cause}
 use Rattle.lock_step.specs.declared.counts.Counts.{Counts}
 use Rattle.lock_step.specs.ChipMeaning.{ChipMeaning}
@@ -25,13 +25,12 @@ after_cause-idle chip None m at book reach none now same =
 after_cause-idle chip (Some cause) m at book reach none now same = rw (now, none) refl
 
 pub pass-idle : {S : Type 0} (chip : ChipMeaning S) (late : Late S) (io : Io) (clock : ℕ) (counts : Counts) (calls cycles : ℕ)
-    → late.batches ≡ counts.batches → late.made ≡ clock / 32 → clock % 16 + cycles < 16
-    → lagging_of late io (clock + cycles) counts (calls + 1) ≡ (lagging chip).pass (lagging_of late io clock counts calls) cycles
+    → late.batches ≡ counts.batches → late.made ≡ clock / 32 → clock % 32 + cycles < 32
+    → lagging_of late (after_ticks_of io clock cycles) (clock + cycles) counts (calls + 1) ≡ (lagging chip).pass (lagging_of late io clock counts calls) cycles
 pass-idle chip late io clock counts calls cycles batches made idle =
-    let before : (clock + cycles) / 32 ≤ clock / 32 = omega arith in
     let same : late.made ≡ (clock + cycles) / 32 = omega arith in
     let none : crosses_sample clock cycles ≡ false = grind (arith, nat_tests) in
-    rw none (λ i. record (lagging_of late (after_ticks_of-idle io clock cycles idle i) (clock + cycles) counts (calls + 1)) {
+    rw none (λ i. record (lagging_of late (after_ticks_of io clock cycles) (clock + cycles) counts (calls + 1)) {
       chip_batches = batches i;
       chip_sample = same i - late.pending;
     })

@@ -22,3 +22,5 @@ pub mod PassesOfAWait
 pub mod RoundsOfAWait
 -- TotalOfCalls: over calls that load nothing the chip counts on
 pub mod TotalOfCalls
+-- LateTicks: ticks that are done late are those of the cycles since
+pub mod LateTicks

@@ -28,3 +28,5 @@ pub mod IsLagging
 -- Words of rounds that only wait, which no promise speaks of:
 -- the bus after cycles in which it is only looked at
 pub mod Waiting
+-- The clock with the ports and timers, of which no promise speaks either
+pub mod Clocked

@@ -2,14 +2,13 @@
 ghost use Rattle.std.specs.Prelude.{◌≡◌, ◌+◌, ◌*◌, ◌/◌, ◌-◌, ◌<◌, ◌≤◌, ◌%◌, ◌++◌, ◌∷◌, [], ◌==◌, unwrap_or, ◌||◌, not, true, false, length, if◌then◌else◌, IfOk};
 ghost use Rattle.std.proofs.Common.{refl};
 ghost use Rattle.aram_core.specs.Memory.{byte_at, with_byte};
-ghost use Rattle.ports_timers.specs.Io.{after_read};
 ghost use Rattle.dsp_form.specs.Results.{is_result};
 ghost use Rattle.dsp_form.specs.Samples.{next_count, count_after};
 ghost use Rattle.trace_form.specs.Rooms.{record_room, event_room};
 ghost use Rattle.num_fix.specs.Limits.{most_frames};
 ghost use Rattle.dsp_form.specs.Limits.{most_samples_of_chip, most_samples_of_batch};
 ghost use Rattle.lock_step.specs.Machine.{opened_machine};
-ghost use Rattle.lock_step.specs.LockStep.{writes_register, writes_port, write_records, byte_answered};
+ghost use Rattle.lock_step.specs.LockStep.{writes_register, writes_port, write_records};
 ghost use Rattle.lag_bus.specs.Ready.{ready_frames, ready_records};
 ghost use Rattle.lag_bus.specs.Book.{counts_with_batch, AddsUp, may_be_read, may_be_written};
 ghost use Rattle.lag_bus.specs.Lagging.{lagging, opened_lagging, after_settle, MatchesBook};
@@ -21,6 +20,7 @@ ghost use Rattle.lag_bus.specs.Waiting.{byte_seen, samples_in};
 
 use crate::OutOfMemory;
 use crate::cause::Cause;
+use crate::clocked::ClockedIo;
 use crate::counting::{counts_with_batch, no_counts};
 use crate::late::LateChip;
 use crate::saved::BusState;
@@ -28,7 +28,7 @@ use crate::waiting::{counter_is_0, pend_all};
 use aram_core::Aram;
 use idle_rounds::{Looks, try_round};
 use lock_step::{Chip, Counts, DrainedBus};
-use ports_timers::{Io, cycles_of_zeros, tick_through};
+use ports_timers::{Io, cycles_of_zeros};
 use spc_form::OpenState;
 use spc700_exec::{Bus, Cpu};
 use std::alloc::Global;
@@ -43,10 +43,8 @@ const MOST_PENDING: u8 = 64;
 #[derive(Drop)]
 pub struct LagBus<C: Chip> {
     late: LateChip<C>,
-    io: Io,
-    clock: u64,
+    time: ClockedIo,
     counts: Counts,
-    calls: u8,
 }
 
 impl<C: Chip> Model for LagBus<C> {
@@ -59,9 +57,9 @@ impl<C: Chip> Model for LagBus<C> {
 
     ghost coded = { Prim.hlevel (codes, page_set.the_row.coded) };
 
-    ghost view = { λ b. lagging_of b.late b.io b.clock b.counts b.calls };
+    ghost view = { λ b. lagging_of b.late b.time.io b.time.clock b.counts b.time.calls };
 
-    ghost invariant = { λ b. IsLagging b.late b.counts b.clock b.calls };
+    ghost invariant = { λ b. IsLagging b.late b.counts b.time.clock b.time.calls };
 }
 
 /// Makes the pending samples, for a cause.
@@ -103,10 +101,8 @@ impl<C: Chip> LagBus<C> {
         let ring = EventRing::new(alloc)?;
         Ok(LagBus {
             late: LateChip::new(chip, opening.memory, mask, frames, records, voices, ring),
-            io: Io::from_cells(opening.cells, opening.rom),
-            clock: 0,
+            time: ClockedIo::new(Io::from_cells(opening.cells, opening.rom), 0),
             counts: no_counts(),
-            calls: 0,
         })
     }
 
@@ -155,8 +151,8 @@ impl<C: Chip> LagBus<C> {
         ensures can_be_loaded { CanBeLoaded C.saving result }
     {
         BusState {
-            io: self.io,
-            clock: self.clock,
+            io: self.time.io(),
+            clock: self.time.clock(),
             chip: self.late.save(),
         }
     }
@@ -181,9 +177,7 @@ impl<C: Chip> LagBus<C> {
         ensures total { self.new.chip_total ≡ self.old.chip_total }
     {
         self.late.load(&saved.chip, memory);
-        self.io = saved.io;
-        self.clock = saved.clock;
-        self.calls = 0;
+        self.time = ClockedIo::new(saved.io, saved.clock);
     }
 
     /// A read of F3h.
@@ -193,14 +187,15 @@ impl<C: Chip> LagBus<C> {
         ensures answer { result ≡ ((lagging C.meaning).read self.old 0xF3).0 }
         ensures next { self.new ≡ ((lagging C.meaning).read self.old 0xF3).1 }
     {
-        self.calls += 1;
-        let address = self.io.dsp_address();
+        self.time.count();
+        let address = self.time.dsp_address();
         if self.late.pending() > 0 {
             if let Some(cause) = self.late.cause_of_read(address, 0xF3) {
                 settle_for(&mut self.late, &mut self.counts, cause);
             }
         }
-        answer_of(&self.late, &mut self.io, 0xF3)
+        let told = self.time.read(0xF3);
+        answer_of(&self.late, address, told, 0xF3)
     }
 
     /// A read of an address of which no mark tells anything.
@@ -213,11 +208,13 @@ impl<C: Chip> LagBus<C> {
         if addr == 0xF3 {
             return self.read_register();
         }
-        self.calls += 1;
+        self.time.count();
         if self.late.pending_may_write(addr) {
             settle_for(&mut self.late, &mut self.counts, Cause::Echo);
         }
-        answer_of(&self.late, &mut self.io, addr)
+        let address = self.time.dsp_address();
+        let told = self.time.read(addr);
+        answer_of(&self.late, address, told, addr)
     }
 
     /// A read of an address that no mark shows to be of memory alone. Mostly it is a port, in page 0, which no sample writes.
@@ -230,8 +227,10 @@ impl<C: Chip> LagBus<C> {
         if addr >= 0x100 || addr == 0xF3 || !self.late.is_unwritten(addr) {
             return self.read_unmarked(addr);
         }
-        self.calls += 1;
-        answer_of(&self.late, &mut self.io, addr)
+        self.time.count();
+        let address = self.time.dsp_address();
+        let told = self.time.read(addr);
+        answer_of(&self.late, address, told, addr)
     }
 
     /// A write to an address that no mark shows to be of memory alone which no sample reads.
@@ -243,7 +242,7 @@ impl<C: Chip> LagBus<C> {
         match addr {
             0xF0..=0xFF => self.write_port(addr, value),
             _ => {
-                self.calls += 1;
+                self.time.count();
                 if self.late.pending() > 0 && self.late.may_be_read(addr) {
                     settle_for(&mut self.late, &mut self.counts, Cause::Memory);
                 }
@@ -252,20 +251,18 @@ impl<C: Chip> LagBus<C> {
         }
     }
 
-    /// A pass that comes to a multiple of 16 of the clock, where timers may tick and a sample may be due.
+    /// A pass that comes to a multiple of 32 of the clock, where a sample is due.
     #[inline(never)]
-    fn pass_ticks(&mut self, cycles: u8)
+    fn pass_sample(&mut self, cycles: u8)
         requires room { self.old.machine.calls < 64 }
         requires some { 1 ≤ cycles }
         requires few { cycles ≤ 32 }
         requires time { self.old.machine.clock / 32 < most_samples_of_chip }
         ensures { self.new ≡ (lagging C.meaning).pass self.old cycles }
     {
-        self.calls += 1;
-        let from = self.clock;
-        self.clock = from + u64::from(cycles);
-        self.io.ticks(from, cycles);
-        if from / 32 < self.clock / 32 {
+        let from = self.time.clock();
+        self.time.pass(cycles);
+        if from / 32 < self.time.clock() / 32 {
             self.late.pend();
             if self.late.pending() == MOST_PENDING {
                 settle_for(&mut self.late, &mut self.counts, Cause::Full);
@@ -282,9 +279,10 @@ impl<C: Chip> LagBus<C> {
         ensures below { (self.now.machine.clock + result) / 32 < samples }
         ensures timers { AreTimers self.now.machine.io }
     {
-        let free = 32 * u64::from(MOST_PENDING - self.late.pending()) - 1 - self.clock % 32;
-        let rest = 32 * u64::from(samples) - 1 - self.clock;
-        cycles_of_zeros(&self.io, self.clock).min(free.min(rest))
+        let clock = self.time.clock();
+        let free = 32 * u64::from(MOST_PENDING - self.late.pending()) - 1 - clock % 32;
+        let rest = 32 * u64::from(samples) - 1 - clock;
+        cycles_of_zeros(&self.time.io(), clock).min(free.min(rest))
     }
 
     /// A write of F0h to FFh.
@@ -293,10 +291,10 @@ impl<C: Chip> LagBus<C> {
         requires { self.old.machine.calls < 64 }
         ensures { self.new ≡ (lagging C.meaning).write self.old addr value }
     {
-        self.calls += 1;
+        self.time.count();
         let sample = self.made();
-        let address = self.io.dsp_address();
-        self.io.write(addr, value);
+        let address = self.time.dsp_address();
+        self.time.write(addr, value);
         if self.late.pending() == 0 {
             return write_now(&mut self.late, address, addr, value, sample);
         }
@@ -310,19 +308,16 @@ impl<C: Chip> LagBus<C> {
     }
 }
 
-/// The answer of a read for which no pending sample is needed.
-fn answer_of<C: Chip>(late: &LateChip<C>, io: &mut Io, at: u16) -> u8
+/// The answer of a read for which no pending sample is needed, by what the ports and timers tell, if they do.
+fn answer_of<C: Chip>(late: &LateChip<C>, address: u8, told: Option<u8>, at: u16) -> u8
     requires memory { (late.now.pending == 0 || not (may_be_written late.now.reach at)) ≡ true }
-    requires register { at ≡ 0xF3 → (late.now.pending == 0 || not (is_result io.old.dsp_address)) ≡ true }
-    ensures answer { result ≡ byte_answered C.meaning late.now.chip io.old late.now.memory at }
-    ensures io { io.new ≡ after_read io.old at }
+    requires register { at ≡ 0xF3 → (late.now.pending == 0 || not (is_result address)) ≡ true }
+    ensures { result ≡ if at == 0xF3 then C.meaning.register_read late.now.chip (address % 0x80) else unwrap_or told (byte_at late.now.memory at) }
 {
-    let address = io.dsp_address();
-    let answer = io.read(at);
     if at == 0xF3 {
         return late.reg_read(address % 0x80);
     }
-    match answer {
+    match told {
         Some(byte) => byte,
         None => late.get(at),
     }
@@ -393,7 +388,7 @@ impl<C: Chip> Bus for LagBus<C> {
     #[inline(always)]
     fn read(&mut self, addr: u16) -> u8 {
         if self.late.is_plain(addr) {
-            self.calls += 1;
+            self.time.count();
             return self.late.get(addr);
         }
         self.read_elsewhere(addr)
@@ -402,7 +397,7 @@ impl<C: Chip> Bus for LagBus<C> {
     #[inline(always)]
     fn write(&mut self, addr: u16, value: u8) {
         if self.late.is_unread(addr) {
-            self.calls += 1;
+            self.time.count();
             return self.late.put_unread(addr, value);
         }
         self.write_elsewhere(addr, value)
@@ -410,18 +405,16 @@ impl<C: Chip> Bus for LagBus<C> {
 
     #[inline(always)]
     fn pass(&mut self, cycles: u8) {
-        let clock = self.clock + u64::from(cycles);
-        if clock % 16 < u64::from(cycles) {
-            self.pass_ticks(cycles);
+        if self.time.comes_to_sample(cycles) {
+            self.pass_sample(cycles);
         } else {
-            self.calls += 1;
-            self.clock = clock;
+            self.time.pass(cycles);
         }
     }
 
     #[inline]
     fn to_sample(&self) -> u8 {
-        (32 - self.clock % 32) as u8
+        (32 - self.time.clock() % 32) as u8
     }
 
     ghost lawful = { record {
@@ -439,11 +432,16 @@ impl<C: Chip> Looks for LagBus<C> {
     ghost sees = { byte_seen C.meaning };
 
     fn see(&self, addr: u16) -> Option<u8> {
-        if addr == 0xF3 || self.late.is_written(addr) || !counter_is_0(&self.io, addr) {
+        if addr == 0xF3 || self.late.is_written(addr) {
             return None;
         }
-        let mut io = self.io;
-        Some(answer_of(&self.late, &mut io, addr))
+        let mut io = self.time.io();
+        if !counter_is_0(&io, addr) {
+            return None;
+        }
+        let address = io.dsp_address();
+        let told = io.read(addr);
+        Some(answer_of(&self.late, address, told, addr))
     }
 }
 
@@ -451,11 +449,11 @@ impl<C: Chip> DrainedBus for LagBus<C> {
     ghost emits = { lag_emits C.meaning };
 
     fn made(&self) -> u32 {
-        (self.clock / 32) as u32
+        (self.time.clock() / 32) as u32
     }
 
     fn has_room(&self) -> bool {
-        self.calls <= 32
+        self.time.calls() <= 32
     }
 
     fn wait(&mut self, cpu: &Cpu, samples: u32) {
@@ -468,10 +466,10 @@ impl<C: Chip> DrainedBus for LagBus<C> {
         };
         let rounds = self.cycles_to_wait(samples) / u64::from(round);
         let cycles = rounds * u64::from(round);
-        let due = ((self.clock + cycles) / 32 - self.clock / 32) as u8;
-        tick_through(&mut self.io, self.clock, cycles);
+        let clock = self.time.clock();
+        let due = ((clock + cycles) / 32 - clock / 32) as u8;
+        self.time.wait(cycles);
         pend_all(&mut self.late, due);
-        self.clock += cycles;
     }
 
     /// Makes the pending samples, as one batch.
@@ -492,7 +490,7 @@ impl<C: Chip> DrainedBus for LagBus<C> {
         ensures none_waits { self.old.book.pending ≡ 0 → self.new.machine.records ≡ [] }
     {
         self.late.drain(frames, records);
-        self.calls = 0;
+        self.time.restart();
     }
 
     ghost emits_frames = { emits_frames C.meaning };

@@ -2,6 +2,7 @@
 #![tactic(auto)]
 
 mod cause;
+mod clocked;
 mod counting;
 mod lag;
 mod late;

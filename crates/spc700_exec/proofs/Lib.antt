@@ -9,3 +9,5 @@ pub mod Makes
 pub mod Short
 pub mod Bounds
 pub mod Alike
+pub mod Counts
+pub mod Passed

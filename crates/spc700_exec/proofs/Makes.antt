@@ -5,7 +5,7 @@ use Rattle.std.proofs.lemmas.List.{append-nil, append_assoc}
 use Rattle.spc700_table.specs.declared.Form.{Form}
 use Rattle.spc700_table.specs.declared.Form.TheVariants as F
 use Rattle.spc700_table.specs.declared.OpRow.{OpRow}
-use Rattle.spc700_table.specs.Opcodes.{is_in_text_order, is_distance}
+use Rattle.spc700_table.specs.Opcodes.{is_distance}
 use Rattle.spc700_alu.specs.Flags.{with_nz, with_nz16}
 use Rattle.spc700_alu.specs.Bytes.{cmp_of}
 use Rattle.spc700_alu.specs.Bits.{bitop_of}
@@ -17,16 +17,20 @@ use Rattle.spc700_exec.specs.declared.operand.Operand.TheVariants as P
 use Rattle.spc700_exec.specs.Script.{Script}
 use Rattle.spc700_exec.specs.Operands.{with_next_pc, next_in_page, call_entry, addressed, both_addressed, loaded, stored, address_of, bit_of, loaded_word, stored_word, pushed, popped, pushed_word}
 use Rattle.spc700_exec.specs.Operations.{Operation, ya, flag_is, OnStatus, OnA, OnYa, Branch, BitBranch, CompareBranch, CountBranch, Move, Calculate, Compare, Modify, BitToCarry, BitInPlace, BitTest, WordOnYa, WordStore, WordModify, Push, Pop, Jump, Call, TableCall, Break, Return, InterruptReturn, Halt}
-use Rattle.spc700_exec.specs.Forms.{is_none, is_register, is_source, is_entry}
+use Rattle.spc700_exec.specs.Forms.{is_none, is_register, is_bit, is_address, is_target, is_source, is_entry}
 use Rattle.spc700_exec.specs.Lines.{branched, done, with_nz_of_move, with_ya}
 use Rattle.spc700_exec.specs.Instruction.{line_of}
 use Rattle.spc700_exec.proofs.Steady.{changes_x, looks_at_x, is_steady, not_both, IsListed}
 use Rattle.spc700_exec.proofs.OperandReads.{at_memory, IsFound, Follows, after_addressed}
-use Rattle.spc700_exec.specs.Accesses.{after_access, Side, First, Second, Access, OperandRead, SourceRead, SourceReadHigh, DestinationWrite, DestinationWriteHigh, StackWrite, StackRead, VectorRead, VectorReadHigh, Progress, begun, bytes_of, byte_address, form_of, Makes, operand_reads, both_reads, if_in_memory, source, destination, entry_number, accesses_of}
+use Rattle.spc700_exec.specs.Accesses.{after_access, Side, First, Second, Access, OperandRead, SourceRead, SourceReadHigh, DestinationWrite, DestinationWriteHigh, StackWrite, StackRead, VectorRead, VectorReadHigh, Progress, begun, bytes_of, byte_address, form_of, Makes, operand_reads, source_first, distance_last, if_in_memory, source, destination, entry_number, accesses_of}
 
 form_of_distance : (form : Form) → is_distance form ≡ true → form ≡ F.Rel
 form_of_distance F.Rel h = refl
 form_of_distance _ h = absurd (cc)
+
+no_distance : (form : Form) → is_source form ≡ true → is_distance form ≡ false
+no_distance F.Rel h = absurd (cc)
+no_distance _ h = refl
 
 no_entry : (form : Form) → is_none form ≡ true → entry_number form ≡ 0
 no_entry F.None h = refl
@@ -128,19 +132,21 @@ module _ (row : OpRow) (start : Cpu) where
       (second_operand (operand_reads First row.first ++ n) (λ second cpu. addressed row.first cpu (λ first cpu. next (pair first second) cpu)) (λ second bytes pc y g stays.
       after_addressed row start First row.first (record { pc = pc; sp = start.sp; first = []; second = bytes }) y n (λ first cpu. next (pair first second) cpu) refl (λ looks. stays (apart looks)) (λ first more pc z f _. h (pair first second) _ _ f g)))
 
-  after_both : (op : Operation) (n : List Access) (next : Both → Cpu → Script) → IsListed row op → AfterBoth n next → Makes row start (begun start) (both_reads row ++ n) (both_addressed row start next)
+  abbrev in_order : (Both → Cpu → Script) → Script
+  in_order next = addressed row.first start (λ first cpu. addressed row.second cpu (λ second cpu. next (pair first second) cpu))
+
+  abbrev second_first : (Both → Cpu → Script) → Script
+  second_first next = addressed row.second start (λ second cpu. addressed row.first cpu (λ first cpu. next (pair first second) cpu))
+
+  after_distance_last : (n : List Access) (next : Both → Cpu → Script) → is_steady row ≡ true → is_distance row.second ≡ true → AfterBoth n next → Makes row start (begun start) (distance_last row ++ n) (both_addressed row start next)
   unfolding both_addressed
-  after_both op n next listed h = by (is_in_text_order row)
-    where
-      in_order : Script
-      in_order = addressed row.first start (λ first cpu. addressed row.second cpu (λ second cpu. next (pair first second) cpu))
+  after_distance_last n next steady is h =
+      subst (λ (b : Bool). Makes row start (begun start) (distance_last row ++ n) (if b then in_order next else second_first next)) (sym is) (first_then_second n next steady h)
 
-      second_first : Script
-      second_first = addressed row.second start (λ second cpu. addressed row.first cpu (λ first cpu. next (pair first second) cpu))
-
-      by : (b : Bool) → Makes row start (begun start) ((if b then operand_reads First row.first ++ operand_reads Second row.second else operand_reads Second row.second ++ operand_reads First row.first) ++ n) (if b then in_order else second_first)
-      by true = first_then_second n next listed.steady h
-      by false = second_then_first n next listed.steady h
+  after_source_first : (n : List Access) (next : Both → Cpu → Script) → is_steady row ≡ true → is_source row.second ≡ true → AfterBoth n next → Makes row start (begun start) (source_first row ++ n) (both_addressed row start next)
+  unfolding both_addressed
+  after_source_first n next steady is h =
+      subst (λ (b : Bool). Makes row start (begun start) (source_first row ++ n) (if b then in_order next else second_first next)) (sym (no_distance row.second is)) (second_then_first n next steady h)
 
   -- the first operand read, changed and written
   changed_in_place : (next : Operand → Cpu → Script) → ((operand : Operand) (p : Progress) (cpu : Cpu) → IsFound row start row.first p.first operand → Makes row start p (source First row ++ destination row) (next operand cpu)) → Makes row start (begun start) (operand_reads First row.first ++ (source First row ++ destination row)) (addressed row.first start next)
@@ -161,23 +167,23 @@ module _ (row : OpRow) (start : Cpu) where
       ((refl, refl), λ r. after_branched (after_access (OperandRead First) r (begun start)) (condition start.psw) r (with_next_pc start))
   Makes-line_of (BitBranch on) listed =
       let next : Both → Cpu → Script = λ both cpu. loaded both.first cpu (λ byte. loaded both.second cpu (λ r. branched (flag_is (2 ^ bit_of both.first) on byte) r row cpu)) in
-      after_both (BitBranch on) (source First row ++ source Second row) next listed (λ both p cpu f g. after_loaded First p both.first (source Second row) _ _ f (λ v. last_loaded Second p both.second _ _ g (λ r. after_branched p _ r _)))
+      after_distance_last (source First row ++ source Second row) next listed.steady (and_right (is_bit row.first) (is_distance row.second) listed.suits) (λ both p cpu f g. after_loaded First p both.first (source Second row) _ _ f (λ v. last_loaded Second p both.second _ _ g (λ r. after_branched p _ r _)))
   Makes-line_of CompareBranch listed =
       let next : Both → Cpu → Script = λ both cpu. loaded both.first cpu (λ byte. loaded both.second cpu (λ r. branched (not (cpu.a == byte)) r row cpu)) in
-      after_both CompareBranch (source First row ++ source Second row) next listed (λ both p cpu f g. after_loaded First p both.first (source Second row) _ _ f (λ v. last_loaded Second p both.second _ _ g (λ r. after_branched p _ r _)))
+      after_distance_last (source First row ++ source Second row) next listed.steady (and_right (is_address row.first) (is_distance row.second) listed.suits) (λ both p cpu f g. after_loaded First p both.first (source Second row) _ _ f (λ v. last_loaded Second p both.second _ _ g (λ r. after_branched p _ r _)))
   Makes-line_of CountBranch listed =
       let less : ℕ → ℕ = λ byte. (byte + 0x100 - 1) % 0x100 in
       let next : Both → Cpu → Script = λ both cpu. loaded both.first cpu (λ byte. loaded both.second cpu (λ r. stored both.first (less byte) cpu (λ cpu. branched (not (less byte == 0)) r row cpu))) in
-      after_both CountBranch (source First row ++ (source Second row ++ destination row)) next listed (λ both p cpu f g. after_loaded First p both.first (source Second row ++ destination row) _ _ f (λ v. after_loaded Second p both.second (destination row) _ _ g (λ r. last_stored p both.first _ _ _ f (λ cpu. after_branched p _ r cpu))))
+      after_distance_last (source First row ++ (source Second row ++ destination row)) next listed.steady (and_right (is_target row.first) (is_distance row.second) listed.suits) (λ both p cpu f g. after_loaded First p both.first (source Second row ++ destination row) _ _ f (λ v. after_loaded Second p both.second (destination row) _ _ g (λ r. last_stored p both.first _ _ _ f (λ cpu. after_branched p _ r cpu))))
   Makes-line_of Move listed =
       let next : Both → Cpu → Script = λ both cpu. loaded both.second cpu (λ v. stored both.first v cpu (λ cpu. done row (with_nz_of_move both.first v cpu))) in
-      after_both Move (source Second row ++ destination row) next listed (λ both p cpu f g. after_loaded Second p both.second (destination row) _ _ g (λ v. last_stored p both.first v _ _ f (λ cpu. inl refl)))
+      after_source_first (source Second row ++ destination row) next listed.steady (and_right (is_target row.first) (is_source row.second) listed.suits) (λ both p cpu f g. after_loaded Second p both.second (destination row) _ _ g (λ v. last_stored p both.first v _ _ f (λ cpu. inl refl)))
   Makes-line_of (Calculate calculate) listed =
       let next : Both → Cpu → Script = λ both cpu. loaded both.second cpu (λ b. loaded both.first cpu (λ a. let out = calculate a b cpu.psw in stored both.first out.value (record cpu { psw = out.psw }) (λ cpu. done row cpu))) in
-      after_both (Calculate calculate) (source Second row ++ (source First row ++ destination row)) next listed (λ both p cpu f g. after_loaded Second p both.second (source First row ++ destination row) _ _ g (λ b. after_loaded First p both.first (destination row) _ _ f (λ a. last_stored p both.first _ _ _ f (λ cpu. inl refl))))
+      after_source_first (source Second row ++ (source First row ++ destination row)) next listed.steady (and_right (is_target row.first) (is_source row.second) listed.suits) (λ both p cpu f g. after_loaded Second p both.second (source First row ++ destination row) _ _ g (λ b. after_loaded First p both.first (destination row) _ _ f (λ a. last_stored p both.first _ _ _ f (λ cpu. inl refl))))
   Makes-line_of Compare listed =
       let next : Both → Cpu → Script = λ both cpu. loaded both.second cpu (λ b. loaded both.first cpu (λ a. done row (record cpu { psw = cmp_of a b cpu.psw }))) in
-      after_both Compare (source Second row ++ source First row) next listed (λ both p cpu f g. after_loaded Second p both.second (source First row) _ _ g (λ b. last_loaded First p both.first _ _ f (λ a. inl refl)))
+      after_source_first (source Second row ++ source First row) next listed.steady (and_right (is_target row.first) (is_source row.second) listed.suits) (λ both p cpu f g. after_loaded Second p both.second (source First row) _ _ g (λ b. last_loaded First p both.first _ _ f (λ a. inl refl)))
   Makes-line_of (Modify change) listed =
       let next : Operand → Cpu → Script = λ o cpu. loaded o cpu (λ byte. let out = change byte cpu.psw in stored o out.value (record cpu { psw = out.psw }) (λ cpu. done row cpu)) in
       changed_in_place next (λ o p cpu f. after_loaded First p o (destination row) _ _ f (λ v. last_stored p o _ _ _ f (λ cpu. inl refl)))

@@ -1,5 +1,5 @@
 -- What every row of the instruction list keeps, by one test of the whole list.
-use Rattle.std.proofs.Common.{◌≡◌, ℕ, ◌+◌, ◌<◌, ◌≤◌, length, Bool, true, false, ◌&&◌, ◌||◌, nat_lt, nat_le, nat_eq, not, if◌then◌else◌, refl, arith, subst, sym}
+use Rattle.std.proofs.Common.{◌≡◌, ℕ, ◌+◌, ◌<◌, ◌≤◌, length, Bool, true, false, ◌&&◌, ◌||◌, nat_lt, nat_le, nat_eq, not, if◌then◌else◌, refl, arith, subst, sym, ◌∙◌, ◌⊎◌, inl, inr}
 use Rattle.std.specs.List.{range_with_len, list_all}
 use Rattle.std.proofs.lemmas.Bool.Decides.{nat_tests}
 use Rattle.spc700_table.specs.declared.Form.{Form}
@@ -122,25 +122,18 @@ same_test false true h = absurd (cc)
 halts-row_of : (op : ℕ) → op < 256 → (nat_eq op 0xef || nat_eq op 0xff) ≡ halts (row_of op).kind
 halts-row_of op below = same_test _ _ (list_all_below (λ op. if halts (row_of op).kind then nat_eq op 0xef || nat_eq op 0xff else not (nat_eq op 0xef || nat_eq op 0xff)) 256 op all_halts below)
 
-first_holds : (a b c : Bool) → (a || b) ≡ c → a ≡ true → a ≡ c
-first_holds true b c e h = e
-first_holds false b c e h = absurd (cc)
+either_test : (op : ℕ) → (op ≡ 0xef) ⊎ (op ≡ 0xff) → (nat_eq op 0xef || nat_eq op 0xff) ≡ true
+either_test op (inl h) = grind (arith, nat_tests)
+either_test op (inr h) = grind (arith, nat_tests)
 
-first_fails : (a b c : Bool) → (a || b) ≡ c → a ≡ false → b ≡ c
-first_fails false b c e h = e
-first_fails true b c e h = absurd (cc)
+neither_test : (op : ℕ) → (op ≡ 0xef → ⊥) → (op ≡ 0xff → ⊥) → (nat_eq op 0xef || nat_eq op 0xff) ≡ false
+neither_test op h k = grind (arith, nat_tests)
 
-is_equal : (a b : ℕ) → a ≡ b → nat_eq a b ≡ true
-is_equal a b h = grind (arith, nat_tests)
+pub halting_halts : (op : ℕ) → op < 256 → (op ≡ 0xef) ⊎ (op ≡ 0xff) → true ≡ halts (row_of op).kind
+halting_halts op below h = sym (either_test op h) ∙ halts-row_of op below
 
-is_different : (a b : ℕ) → (a ≡ b → ⊥) → nat_eq a b ≡ false
-is_different a b h = grind (arith, nat_tests)
-
-pub sleep_halts : (op : ℕ) → op < 256 → op ≡ 0xef → nat_eq op 0xef ≡ halts (row_of op).kind
-sleep_halts op below h = first_holds _ _ _ (halts-row_of op below) (is_equal op 0xef h)
-
-pub stop_halts : (op : ℕ) → op < 256 → (op ≡ 0xef → ⊥) → nat_eq op 0xff ≡ halts (row_of op).kind
-stop_halts op below h = first_fails _ _ _ (halts-row_of op below) (is_different op 0xef h)
+pub other_runs : (op : ℕ) → op < 256 → (op ≡ 0xef → ⊥) → (op ≡ 0xff → ⊥) → false ≡ halts (row_of op).kind
+other_runs op below h k = sym (neither_test op h k) ∙ halts-row_of op below
 
 -- the time of a row's instruction is 1 to 12 cycles
 pub IsTime-bounds : (row : OpRow) (cycles : ℕ) → IsRow row → IsTime row cycles → (1 ≤ cycles) × (cycles ≤ 12)

@@ -4,7 +4,7 @@ use Rattle.std.specs.Prelude.{◌≡◌, ◌⊎◌, ℕ, ◌+◌, ◌*◌, ◌%�
 use Rattle.spc700_table.specs.declared.Form.{Form}
 use Rattle.spc700_table.specs.declared.Form.TheVariants.{None, A, X, Y, Ya, Psw, Sp, Carry, Imm, Direct, DirectX, DirectY, Abs, AbsX, AbsY, PtrX, PtrY, PtrXInc, IndX, IndY, AbsPtrX, Bit, NotBit, DirectBit, Rel, Upper, Table}
 use Rattle.spc700_table.specs.declared.OpRow.{OpRow}
-use Rattle.spc700_table.specs.Opcodes.{operand_bytes, is_in_text_order}
+use Rattle.spc700_table.specs.Opcodes.{operand_bytes}
 use Rattle.spc700_exec.specs.declared.cpu.Cpu.{Cpu}
 use Rattle.spc700_exec.specs.Script.{Script, Read, Write, End, Time, Cycles, ToSample}
 use Rattle.spc700_exec.specs.Operands.{direct, next_in_page, call_entry, sp_after_push, sp_after_pop}
@@ -157,11 +157,13 @@ pointer_bytes _ = 0
 abbrev pub operand_reads : Side → Form → List Access
 operand_reads side form = replicate (operand_bytes form) (OperandRead side) ++ replicate (pointer_bytes form) (PointerRead side)
 
--- those of both operands, in the order in which their bytes stand in the instruction
-abbrev pub both_reads : OpRow → List Access
-both_reads row =
-    if is_in_text_order row then operand_reads First row.first ++ operand_reads Second row.second
-    else operand_reads Second row.second ++ operand_reads First row.first
+-- Those of both operands. The bytes of the source, the second operand, stand before those of the destination; but the distance of
+-- a relative branch stands last.
+abbrev pub source_first : OpRow → List Access
+source_first row = operand_reads Second row.second ++ operand_reads First row.first
+
+abbrev pub distance_last : OpRow → List Access
+distance_last row = operand_reads First row.first ++ operand_reads Second row.second
 
 -- whether the byte of a form stands in memory; else it is a register, or came with the operand bytes
 abbrev pub in_memory : Form → Bool
@@ -210,12 +212,12 @@ accesses_of (OnStatus change) row = []
 accesses_of (OnA change) row = []
 accesses_of (OnYa change) row = []
 accesses_of (Branch condition) row = operand_reads First row.first
-accesses_of (BitBranch on) row = both_reads row ++ (source First row ++ source Second row)
-accesses_of CompareBranch row = both_reads row ++ (source First row ++ source Second row)
-accesses_of CountBranch row = both_reads row ++ (source First row ++ (source Second row ++ destination row))
-accesses_of Move row = both_reads row ++ (source Second row ++ destination row)
-accesses_of (Calculate calculate) row = both_reads row ++ (source Second row ++ (source First row ++ destination row))
-accesses_of Compare row = both_reads row ++ (source Second row ++ source First row)
+accesses_of (BitBranch on) row = distance_last row ++ (source First row ++ source Second row)
+accesses_of CompareBranch row = distance_last row ++ (source First row ++ source Second row)
+accesses_of CountBranch row = distance_last row ++ (source First row ++ (source Second row ++ destination row))
+accesses_of Move row = source_first row ++ (source Second row ++ destination row)
+accesses_of (Calculate calculate) row = source_first row ++ (source Second row ++ (source First row ++ destination row))
+accesses_of Compare row = source_first row ++ (source Second row ++ source First row)
 accesses_of (Modify change) row = operand_reads First row.first ++ (source First row ++ destination row)
 accesses_of (BitToCarry kind) row = operand_reads Second row.second ++ source Second row
 accesses_of (BitInPlace kind) row = operand_reads First row.first ++ (source First row ++ destination row)

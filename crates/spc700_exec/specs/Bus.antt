@@ -1,6 +1,17 @@
 -- What contracts see of a bus: three functions on the bus as plain data, and three numbers of it.
 use Rattle.std.specs.Prelude.{◌≡◌, ℕ, ◌+◌, ◌/◌}
 
+-- a bus makes fewer samples than so many
+abbrev pub most_samples_of_bus : ℕ
+most_samples_of_bus = 4000000000
+
+-- the calls between two drains at most, and those before a step
+abbrev pub most_calls : ℕ
+most_calls = 64
+
+abbrev pub most_calls_before_step : ℕ
+most_calls_before_step = 32
+
 pub record BusMeaning (S : Type 0) : Type 0 where
   -- a read of an address: the byte, and the bus after it
   pub read : S → ℕ → ℕ × S

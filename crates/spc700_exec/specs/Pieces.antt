@@ -1,5 +1,5 @@
 -- Words of the contracts of the parts of a step. The promise on a step doesn't speak of them.
-use Rattle.std.specs.Prelude.{◌≡◌, ℕ, ◌+◌, ◌-◌, ◌*◌, ◌/◌, ◌%◌, ◌<◌, ◌≤◌, Bool, true, false}
+use Rattle.std.specs.Prelude.{◌≡◌, ℕ, ◌+◌, ◌-◌, ◌*◌, ◌/◌, ◌%◌, ◌<◌, ◌≤◌, length, Bool, true, false}
 use Rattle.spc700_table.specs.declared.Form.{Form}
 use Rattle.spc700_table.specs.declared.Form.TheVariants as F
 use Rattle.spc700_table.specs.declared.Kind.{Kind}
@@ -8,7 +8,8 @@ use Rattle.spc700_table.specs.declared.OpRow.{OpRow}
 use Rattle.spc700_exec.specs.declared.cpu.Cpu.{Cpu}
 use Rattle.spc700_exec.specs.declared.operand.Operand.{Operand}
 use Rattle.spc700_exec.specs.declared.operand.Operand.TheVariants.{BitAt}
-use Rattle.spc700_exec.specs.Bus.{BusMeaning, byte_read, after_read, after_write}
+use Rattle.spc700_exec.specs.Bus.{BusMeaning, most_calls, most_samples_of_bus, byte_read, after_read, after_write}
+use Rattle.spc700_exec.specs.Accesses.{row_accesses}
 use Rattle.spc700_exec.specs.Operands.{sp_after_push}
 use Rattle.spc700_exec.specs.Instruction.{instruction}
 use Rattle.spc700_exec.specs.Script.{Script, Read, Write, End, cycles_at, after_rest}
@@ -62,8 +63,8 @@ after_word_push bus sp value s =
 
 -- n more accesses and a pass may be made
 pub record HasRoom {S : Type 0} (n : ℕ) (bus : BusMeaning S) (s : S) : Type 0 where
-  pub calls : bus.calls s + 2 * n < 64
-  pub samples : bus.clock s + n < 32 * 4000000000
+  pub calls : bus.calls s + 2 * n < most_calls
+  pub samples : bus.clock s + n < 32 * most_samples_of_bus
 
 -- at most n accesses, each with its cycle, lie between two states of a bus
 pub record IsWithin {S : Type 0} (n : ℕ) (bus : BusMeaning S) (old new : S) : Type 0 where
@@ -95,6 +96,10 @@ pub record IsRow (row : OpRow) : Type 0 where
   pub some : 1 ≤ row.cycles
   pub more : row.cycles ≤ row.taken
   pub few : row.taken ≤ 12
+
+-- the accesses of a row's instruction, the read of its opcode among them
+abbrev pub access_count : OpRow → ℕ
+access_count row = length (row_accesses row) + 1
 
 -- the cycles of an instruction lie between those of its row
 pub record IsTime (row : OpRow) (cycles : ℕ) : Type 0 where

@@ -1,7 +1,7 @@
 //! What the processor is connected to.
 
 ghost use Rattle.std.specs.Prelude.{◌≡◌, ◌-◌, ◌%◌, ◌<◌, ◌≤◌};
-ghost use Rattle.spc700_exec.specs.Bus.{BusMeaning, IsLawful};
+ghost use Rattle.spc700_exec.specs.Bus.{BusMeaning, IsLawful, most_calls, most_samples_of_bus};
 
 /// A bus: what its calls answer and leave is told by three functions and three numbers.
 pub trait Bus {
@@ -10,21 +10,21 @@ pub trait Bus {
 
     /// The byte at an address.
     fn read(&mut self, addr: u16) -> u8
-        requires { means.calls self.old < 64 }
+        requires { means.calls self.old < most_calls }
         ensures answer { result ≡ (means.read self.old addr).0 }
         ensures next { self.new ≡ (means.read self.old addr).1 };
 
     /// Writes a byte to an address.
     fn write(&mut self, addr: u16, value: u8)
-        requires { means.calls self.old < 64 }
+        requires { means.calls self.old < most_calls }
         ensures { self.new ≡ means.write self.old addr value };
 
     /// Lets 1 to 32 cycles pass.
     fn pass(&mut self, cycles: u8)
-        requires room { means.calls self.old < 64 }
+        requires room { means.calls self.old < most_calls }
         requires some { 1 ≤ cycles }
         requires few { cycles ≤ 32 }
-        requires time { means.made self.old < 4000000000 }
+        requires time { means.made self.old < most_samples_of_bus }
         ensures { self.new ≡ means.pass self.old cycles };
 
     /// The cycles up to the next multiple of 32 of the clock, 1 to 32.

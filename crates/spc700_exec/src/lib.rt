@@ -2,6 +2,7 @@
 #![tactic(auto)]
 
 mod access;
+mod access_counts;
 mod bits;
 mod branches;
 pub mod bus;

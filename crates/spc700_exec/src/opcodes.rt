@@ -1,9 +1,10 @@
 //! The instruction of each opcode. Each has an arm of its own with everything in it inlined: its row is a constant there, so
-//! that no form is told apart and no cycles are looked up while a program runs. The functions of sixteen opcodes are inlined
-//! into `instruct`, and that into the step, so that a step goes to its arm at once.
+//! that no form is told apart and no cycles are looked up while a program runs. Each function of sixteen opcodes hands the
+//! others on to the next one and is inlined into the one before it, so that all of them are one match, and a step goes to
+//! its arm at once.
 #![tactic(auto, unfolding(spc700_table::specs::Opcodes::row_of, spc700_table::specs::Opcodes::columns, spc700_table::specs::Cycles::printed_cycles, spc700_table::specs::Cycles::cycle_map))]
 
-ghost use Rattle.std.specs.Prelude.{◌≡◌, ◌/◌, false};
+ghost use Rattle.std.specs.Prelude.{◌≡◌, ◌≤◌, false};
 ghost use Rattle.spc700_table.specs.Opcodes.{row_of};
 ghost use Rattle.spc700_exec.specs.Pieces.{HasRoom, IsRow, IsInstruction, halts};
 
@@ -32,24 +33,25 @@ fn fitting_row(op: u8) -> OpRow
     row(op)
 }
 
-/// Makes the instruction of an opcode: each arm is given the row of its opcode. No other opcode comes.
+/// Makes the instruction of an opcode: each arm is given the row of its opcode. No opcode below them comes, and those above
+/// them are handed on.
 macro_rules! instruction_of {
-    ($op:expr, $row:ident, $($code:literal => $instruction:expr,)* others $others:pat) => {
+    ($op:expr, $row:ident, $($code:literal => $instruction:expr,)* $(below $below:pat,)? $(above $above:pat => $next:expr)?) => {
         match $op {
             $($code => {
                 let $row = fitting_row($code);
                 $instruction
             })*
-            $others => unreachable!(),
+            $($below => unreachable!(),)?
+            $($above => $next,)?
         }
     };
 }
 
-/// The opcodes 0x00 to 0x0F.
-#[inline]
+/// The opcodes from 0x00 on.
+#[inline(always)]
 fn from_00<B: Bus>(cpu: &mut Cpu, bus: &mut B, op: u8) -> u8
     requires room { HasRoom 12 B.means bus.old }
-    requires digit { op / 16 ≡ 0 }
     requires runs { halts (row_of op).kind ≡ false }
     ensures { IsInstruction B.means (row_of op) cpu.old bus.old cpu.new result bus.new }
 {
@@ -70,15 +72,15 @@ fn from_00<B: Bus>(cpu: &mut Cpu, bus: &mut B, op: u8) -> u8
         0x0D => push_register(cpu, bus, row),
         0x0E => test_and_set(cpu, bus, row),
         0x0F => brk(cpu, bus, row),
-        others 0x10..
+        above 0x10.. => from_10(cpu, bus, op)
     )
 }
 
-/// The opcodes 0x10 to 0x1F.
-#[inline]
+/// The opcodes from 0x10 on.
+#[inline(always)]
 fn from_10<B: Bus>(cpu: &mut Cpu, bus: &mut B, op: u8) -> u8
     requires room { HasRoom 12 B.means bus.old }
-    requires digit { op / 16 ≡ 1 }
+    requires from { 0x10 ≤ op }
     requires runs { halts (row_of op).kind ≡ false }
     ensures { IsInstruction B.means (row_of op) cpu.old bus.old cpu.new result bus.new }
 {
@@ -99,15 +101,16 @@ fn from_10<B: Bus>(cpu: &mut Cpu, bus: &mut B, op: u8) -> u8
         0x1D => modify(cpu, bus, row, Down),
         0x1E => compare(cpu, bus, row),
         0x1F => jump(cpu, bus, row),
-        others ..0x10 | 0x20..
+        below ..0x10,
+        above 0x20.. => from_20(cpu, bus, op)
     )
 }
 
-/// The opcodes 0x20 to 0x2F.
-#[inline]
+/// The opcodes from 0x20 on.
+#[inline(always)]
 fn from_20<B: Bus>(cpu: &mut Cpu, bus: &mut B, op: u8) -> u8
     requires room { HasRoom 12 B.means bus.old }
-    requires digit { op / 16 ≡ 2 }
+    requires from { 0x20 ≤ op }
     requires runs { halts (row_of op).kind ≡ false }
     ensures { IsInstruction B.means (row_of op) cpu.old bus.old cpu.new result bus.new }
 {
@@ -128,15 +131,16 @@ fn from_20<B: Bus>(cpu: &mut Cpu, bus: &mut B, op: u8) -> u8
         0x2D => push_register(cpu, bus, row),
         0x2E => branch_if_different(cpu, bus, row),
         0x2F => branch_always(cpu, bus, row),
-        others ..0x20 | 0x30..
+        below ..0x20,
+        above 0x30.. => from_30(cpu, bus, op)
     )
 }
 
-/// The opcodes 0x30 to 0x3F.
-#[inline]
+/// The opcodes from 0x30 on.
+#[inline(always)]
 fn from_30<B: Bus>(cpu: &mut Cpu, bus: &mut B, op: u8) -> u8
     requires room { HasRoom 12 B.means bus.old }
-    requires digit { op / 16 ≡ 3 }
+    requires from { 0x30 ≤ op }
     requires runs { halts (row_of op).kind ≡ false }
     ensures { IsInstruction B.means (row_of op) cpu.old bus.old cpu.new result bus.new }
 {
@@ -157,15 +161,16 @@ fn from_30<B: Bus>(cpu: &mut Cpu, bus: &mut B, op: u8) -> u8
         0x3D => modify(cpu, bus, row, Up),
         0x3E => compare(cpu, bus, row),
         0x3F => call(cpu, bus, row),
-        others ..0x30 | 0x40..
+        below ..0x30,
+        above 0x40.. => from_40(cpu, bus, op)
     )
 }
 
-/// The opcodes 0x40 to 0x4F.
-#[inline]
+/// The opcodes from 0x40 on.
+#[inline(always)]
 fn from_40<B: Bus>(cpu: &mut Cpu, bus: &mut B, op: u8) -> u8
     requires room { HasRoom 12 B.means bus.old }
-    requires digit { op / 16 ≡ 4 }
+    requires from { 0x40 ≤ op }
     requires runs { halts (row_of op).kind ≡ false }
     ensures { IsInstruction B.means (row_of op) cpu.old bus.old cpu.new result bus.new }
 {
@@ -186,15 +191,16 @@ fn from_40<B: Bus>(cpu: &mut Cpu, bus: &mut B, op: u8) -> u8
         0x4D => push_register(cpu, bus, row),
         0x4E => test_and_clear(cpu, bus, row),
         0x4F => call(cpu, bus, row),
-        others ..0x40 | 0x50..
+        below ..0x40,
+        above 0x50.. => from_50(cpu, bus, op)
     )
 }
 
-/// The opcodes 0x50 to 0x5F.
-#[inline]
+/// The opcodes from 0x50 on.
+#[inline(always)]
 fn from_50<B: Bus>(cpu: &mut Cpu, bus: &mut B, op: u8) -> u8
     requires room { HasRoom 12 B.means bus.old }
-    requires digit { op / 16 ≡ 5 }
+    requires from { 0x50 ≤ op }
     requires runs { halts (row_of op).kind ≡ false }
     ensures { IsInstruction B.means (row_of op) cpu.old bus.old cpu.new result bus.new }
 {
@@ -215,15 +221,16 @@ fn from_50<B: Bus>(cpu: &mut Cpu, bus: &mut B, op: u8) -> u8
         0x5D => mov(cpu, bus, row),
         0x5E => compare(cpu, bus, row),
         0x5F => jump(cpu, bus, row),
-        others ..0x50 | 0x60..
+        below ..0x50,
+        above 0x60.. => from_60(cpu, bus, op)
     )
 }
 
-/// The opcodes 0x60 to 0x6F.
-#[inline]
+/// The opcodes from 0x60 on.
+#[inline(always)]
 fn from_60<B: Bus>(cpu: &mut Cpu, bus: &mut B, op: u8) -> u8
     requires room { HasRoom 12 B.means bus.old }
-    requires digit { op / 16 ≡ 6 }
+    requires from { 0x60 ≤ op }
     requires runs { halts (row_of op).kind ≡ false }
     ensures { IsInstruction B.means (row_of op) cpu.old bus.old cpu.new result bus.new }
 {
@@ -244,15 +251,16 @@ fn from_60<B: Bus>(cpu: &mut Cpu, bus: &mut B, op: u8) -> u8
         0x6D => push_register(cpu, bus, row),
         0x6E => count_down(cpu, bus, row),
         0x6F => ret(cpu, bus, row),
-        others ..0x60 | 0x70..
+        below ..0x60,
+        above 0x70.. => from_70(cpu, bus, op)
     )
 }
 
-/// The opcodes 0x70 to 0x7F.
-#[inline]
+/// The opcodes from 0x70 on.
+#[inline(always)]
 fn from_70<B: Bus>(cpu: &mut Cpu, bus: &mut B, op: u8) -> u8
     requires room { HasRoom 12 B.means bus.old }
-    requires digit { op / 16 ≡ 7 }
+    requires from { 0x70 ≤ op }
     requires runs { halts (row_of op).kind ≡ false }
     ensures { IsInstruction B.means (row_of op) cpu.old bus.old cpu.new result bus.new }
 {
@@ -273,15 +281,16 @@ fn from_70<B: Bus>(cpu: &mut Cpu, bus: &mut B, op: u8) -> u8
         0x7D => mov(cpu, bus, row),
         0x7E => compare(cpu, bus, row),
         0x7F => reti(cpu, bus, row),
-        others ..0x70 | 0x80..
+        below ..0x70,
+        above 0x80.. => from_80(cpu, bus, op)
     )
 }
 
-/// The opcodes 0x80 to 0x8F.
-#[inline]
+/// The opcodes from 0x80 on.
+#[inline(always)]
 fn from_80<B: Bus>(cpu: &mut Cpu, bus: &mut B, op: u8) -> u8
     requires room { HasRoom 12 B.means bus.old }
-    requires digit { op / 16 ≡ 8 }
+    requires from { 0x80 ≤ op }
     requires runs { halts (row_of op).kind ≡ false }
     ensures { IsInstruction B.means (row_of op) cpu.old bus.old cpu.new result bus.new }
 {
@@ -302,15 +311,16 @@ fn from_80<B: Bus>(cpu: &mut Cpu, bus: &mut B, op: u8) -> u8
         0x8D => mov(cpu, bus, row),
         0x8E => pop_register(cpu, bus, row),
         0x8F => mov(cpu, bus, row),
-        others ..0x80 | 0x90..
+        below ..0x80,
+        above 0x90.. => from_90(cpu, bus, op)
     )
 }
 
-/// The opcodes 0x90 to 0x9F.
-#[inline]
+/// The opcodes from 0x90 on.
+#[inline(always)]
 fn from_90<B: Bus>(cpu: &mut Cpu, bus: &mut B, op: u8) -> u8
     requires room { HasRoom 12 B.means bus.old }
-    requires digit { op / 16 ≡ 9 }
+    requires from { 0x90 ≤ op }
     requires runs { halts (row_of op).kind ≡ false }
     ensures { IsInstruction B.means (row_of op) cpu.old bus.old cpu.new result bus.new }
 {
@@ -331,15 +341,16 @@ fn from_90<B: Bus>(cpu: &mut Cpu, bus: &mut B, op: u8) -> u8
         0x9D => mov(cpu, bus, row),
         0x9E => put_ya(cpu, row, div(word(cpu), cpu.x, cpu.psw)),
         0x9F => put_a(cpu, row, exchange(cpu.a, cpu.psw)),
-        others ..0x90 | 0xA0..
+        below ..0x90,
+        above 0xA0.. => from_a0(cpu, bus, op)
     )
 }
 
-/// The opcodes 0xA0 to 0xAF.
-#[inline]
+/// The opcodes from 0xA0 on.
+#[inline(always)]
 fn from_a0<B: Bus>(cpu: &mut Cpu, bus: &mut B, op: u8) -> u8
     requires room { HasRoom 12 B.means bus.old }
-    requires digit { op / 16 ≡ 10 }
+    requires from { 0xA0 ≤ op }
     requires runs { halts (row_of op).kind ≡ false }
     ensures { IsInstruction B.means (row_of op) cpu.old bus.old cpu.new result bus.new }
 {
@@ -360,15 +371,16 @@ fn from_a0<B: Bus>(cpu: &mut Cpu, bus: &mut B, op: u8) -> u8
         0xAD => compare(cpu, bus, row),
         0xAE => pop_register(cpu, bus, row),
         0xAF => mov(cpu, bus, row),
-        others ..0xA0 | 0xB0..
+        below ..0xA0,
+        above 0xB0.. => from_b0(cpu, bus, op)
     )
 }
 
-/// The opcodes 0xB0 to 0xBF.
-#[inline]
+/// The opcodes from 0xB0 on.
+#[inline(always)]
 fn from_b0<B: Bus>(cpu: &mut Cpu, bus: &mut B, op: u8) -> u8
     requires room { HasRoom 12 B.means bus.old }
-    requires digit { op / 16 ≡ 11 }
+    requires from { 0xB0 ≤ op }
     requires runs { halts (row_of op).kind ≡ false }
     ensures { IsInstruction B.means (row_of op) cpu.old bus.old cpu.new result bus.new }
 {
@@ -389,15 +401,16 @@ fn from_b0<B: Bus>(cpu: &mut Cpu, bus: &mut B, op: u8) -> u8
         0xBD => mov(cpu, bus, row),
         0xBE => put_a(cpu, row, das(cpu.a, cpu.psw)),
         0xBF => mov(cpu, bus, row),
-        others ..0xB0 | 0xC0..
+        below ..0xB0,
+        above 0xC0.. => from_c0(cpu, bus, op)
     )
 }
 
-/// The opcodes 0xC0 to 0xCF.
-#[inline]
+/// The opcodes from 0xC0 on.
+#[inline(always)]
 fn from_c0<B: Bus>(cpu: &mut Cpu, bus: &mut B, op: u8) -> u8
     requires room { HasRoom 12 B.means bus.old }
-    requires digit { op / 16 ≡ 12 }
+    requires from { 0xC0 ≤ op }
     requires runs { halts (row_of op).kind ≡ false }
     ensures { IsInstruction B.means (row_of op) cpu.old bus.old cpu.new result bus.new }
 {
@@ -418,15 +431,16 @@ fn from_c0<B: Bus>(cpu: &mut Cpu, bus: &mut B, op: u8) -> u8
         0xCD => mov(cpu, bus, row),
         0xCE => pop_register(cpu, bus, row),
         0xCF => put_ya(cpu, row, mul(cpu.y, cpu.a, cpu.psw)),
-        others ..0xC0 | 0xD0..
+        below ..0xC0,
+        above 0xD0.. => from_d0(cpu, bus, op)
     )
 }
 
-/// The opcodes 0xD0 to 0xDF.
-#[inline]
+/// The opcodes from 0xD0 on.
+#[inline(always)]
 fn from_d0<B: Bus>(cpu: &mut Cpu, bus: &mut B, op: u8) -> u8
     requires room { HasRoom 12 B.means bus.old }
-    requires digit { op / 16 ≡ 13 }
+    requires from { 0xD0 ≤ op }
     requires runs { halts (row_of op).kind ≡ false }
     ensures { IsInstruction B.means (row_of op) cpu.old bus.old cpu.new result bus.new }
 {
@@ -447,15 +461,16 @@ fn from_d0<B: Bus>(cpu: &mut Cpu, bus: &mut B, op: u8) -> u8
         0xDD => mov(cpu, bus, row),
         0xDE => branch_if_different(cpu, bus, row),
         0xDF => put_a(cpu, row, daa(cpu.a, cpu.psw)),
-        others ..0xD0 | 0xE0..
+        below ..0xD0,
+        above 0xE0.. => from_e0(cpu, bus, op)
     )
 }
 
-/// The opcodes 0xE0 to 0xEF.
-#[inline]
+/// The opcodes from 0xE0 on.
+#[inline(always)]
 fn from_e0<B: Bus>(cpu: &mut Cpu, bus: &mut B, op: u8) -> u8
     requires room { HasRoom 12 B.means bus.old }
-    requires digit { op / 16 ≡ 14 }
+    requires from { 0xE0 ≤ op }
     requires runs { halts (row_of op).kind ≡ false }
     ensures { IsInstruction B.means (row_of op) cpu.old bus.old cpu.new result bus.new }
 {
@@ -476,15 +491,16 @@ fn from_e0<B: Bus>(cpu: &mut Cpu, bus: &mut B, op: u8) -> u8
         0xED => turn_carry(cpu, row),
         0xEE => pop_register(cpu, bus, row),
         0xEF => unreachable!(),
-        others ..0xE0 | 0xF0..
+        below ..0xE0,
+        above 0xF0.. => from_f0(cpu, bus, op)
     )
 }
 
-/// The opcodes 0xF0 to 0xFF.
-#[inline]
+/// The opcodes from 0xF0 on.
+#[inline(always)]
 fn from_f0<B: Bus>(cpu: &mut Cpu, bus: &mut B, op: u8) -> u8
     requires room { HasRoom 12 B.means bus.old }
-    requires digit { op / 16 ≡ 15 }
+    requires from { 0xF0 ≤ op }
     requires runs { halts (row_of op).kind ≡ false }
     ensures { IsInstruction B.means (row_of op) cpu.old bus.old cpu.new result bus.new }
 {
@@ -505,35 +521,18 @@ fn from_f0<B: Bus>(cpu: &mut Cpu, bus: &mut B, op: u8) -> u8
         0xFD => mov(cpu, bus, row),
         0xFE => count_down(cpu, bus, row),
         0xFF => unreachable!(),
-        others ..0xF0
+        below ..0xF0,
     )
 }
 
-/// The instruction of an opcode, once it was read, by the high digit of the opcode. It gives its cycles.
+/// The instruction of an opcode, once it was read. It gives its cycles.
 #[inline(always)]
 pub fn instruct<B: Bus>(cpu: &mut Cpu, bus: &mut B, op: u8) -> u8
     requires room { HasRoom 12 B.means bus.old }
     requires runs { halts (row_of op).kind ≡ false }
     ensures { IsInstruction B.means (row_of op) cpu.old bus.old cpu.new result bus.new }
 {
-    match op / 16 {
-        0 => from_00(cpu, bus, op),
-        1 => from_10(cpu, bus, op),
-        2 => from_20(cpu, bus, op),
-        3 => from_30(cpu, bus, op),
-        4 => from_40(cpu, bus, op),
-        5 => from_50(cpu, bus, op),
-        6 => from_60(cpu, bus, op),
-        7 => from_70(cpu, bus, op),
-        8 => from_80(cpu, bus, op),
-        9 => from_90(cpu, bus, op),
-        10 => from_a0(cpu, bus, op),
-        11 => from_b0(cpu, bus, op),
-        12 => from_c0(cpu, bus, op),
-        13 => from_d0(cpu, bus, op),
-        14 => from_e0(cpu, bus, op),
-        _ => from_f0(cpu, bus, op),
-    }
+    from_00(cpu, bus, op)
 }
 
 /// Whether the instruction of an opcode halts the processor: SLEEP and STOP.
@@ -541,5 +540,8 @@ pub fn instruct<B: Bus>(cpu: &mut Cpu, bus: &mut B, op: u8) -> u8
 pub fn is_halting(op: u8) -> bool
     ensures { result ≡ halts (row_of op).kind }
 {
-    op == 0xEF || op == 0xFF
+    match op {
+        0xEF | 0xFF => true,
+        ..0xEF | 0xF0..0xFF => false,
+    }
 }

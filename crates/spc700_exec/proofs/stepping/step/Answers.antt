@@ -1,4 +1,4 @@
-use Rattle.std.proofs.Common.{◌≡◌, ℕ, ◌+◌, ◌-◌, ◌%◌, ◌≤◌, sym, ap, subst, ◌∙◌, arith}
+use Rattle.std.proofs.Common.{◌≡◌, ℕ, ◌+◌, ◌-◌, ◌≤◌, sym, ap, subst, ◌∙◌, arith}
 use Rattle.spc700_exec.specs.declared.cpu.Cpu.{Cpu}
 use Rattle.spc700_exec.specs.Bus.{BusMeaning, IsLawful}
 use Rattle.spc700_exec.specs.Script.{after_rest}
@@ -20,13 +20,9 @@ pub returns-clause-does : goal.returns-clause-does
 returns-clause-does g c =
     let bus = g.B.Bus.means in
     let from = bus.clock c.args.bus.now in
-    let to = bus.clock c.advance-cycles.new.bus in
-    let least : from ≤ to = c.advance-cycles.ensures.within.least in
-    let most : to ≤ from + 12 = c.advance-cycles.ensures.within.most in
-    let left : c.to_sample-left.result ≡ 32 - from % 32 = c.to_sample-left.ensures in
-    let then_left : c.to_sample.result ≡ 32 - to % 32 = c.to_sample.ensures in
-    let same : (c.to_sample-left.result + 32 - c.to_sample.result) % 32 ≡ to - from = omega arith in
-    step_outcome-is bus g.met.B.Bus.lawful c.args.cpu.now c.advance-cycles.new.cpu c.args.bus.now c.advance-cycles.new.bus c.pass_rest.new.bus c.advance-cycles.result _ c.advance-cycles.ensures.does same c.pass_rest.ensures
+    let to = bus.clock c.advance-timing.new.bus in
+    let same : c.advance-timing.result.passed ≡ to - from = omega (arith, c.advance-timing.ensures.passed) in
+    step_outcome-is bus g.met.B.Bus.lawful c.args.cpu.now c.advance-timing.new.cpu c.args.bus.now c.advance-timing.new.bus c.pass_rest.new.bus c.advance-timing.result.cycles _ c.advance-timing.ensures.does same c.pass_rest.ensures
 
 pub returns-clause-calls : goal.returns-clause-calls
 returns-clause-calls g c =

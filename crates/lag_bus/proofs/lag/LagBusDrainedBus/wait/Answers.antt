@@ -30,10 +30,10 @@ pub returns : goal.returns
 returns g c =
     let chip = g.C.Chip.meaning in
     let late : Late g.row.C-State.Denot = c.self.inside.late in
-    let io : Io = c.self.inside.io in
-    let clock : ℕ = c.self.inside.clock in
+    let io : Io = c.self.inside.time.io in
+    let clock : ℕ = c.self.inside.time.clock in
     let counts : Counts = c.self.inside.counts in
-    let calls : ℕ = c.self.inside.calls in
+    let calls : ℕ = c.self.inside.time.calls in
     let most : ℕ = c.cycles_to_wait.result in
     let d : ℕ = c.from-2.result in
     let k : ℕ = most / c.from.result in
@@ -57,8 +57,9 @@ returns g c =
     let whole : k * c.from.result ≤ most = omega arith in
     let fits : k * d ≤ most = subst (λ (n : ℕ). k * n ≤ most) same whole in
     let due : ℕ = samples_in clock (k * d) in
-    let pends : c.pend_all.new.late ≡ late_with_samples chip late due = c.pend_all.ensures ∙ ap (λ (l : Late g.row.C-State.Denot). late_with_samples chip l due) reached in
+    let moment : c.clock-clock.result ≡ clock = c.clock-clock.ensures.clock in
+    let pends : c.pend_all.new.late ≡ late_with_samples chip late due = c.pend_all.ensures ∙ (λ i. late_with_samples chip (reached i) (samples_in (moment i) (k * d))) in
     rw (← c.self.view_is)
-    (is_wait chip c.args.samples c.args.cpu.now (lagging_of late io clock counts calls) (lagging_of c.pend_all.new.late c.tick_through.new.io (clock + k * d) counts calls)
+    (is_wait chip c.args.samples c.args.cpu.now (lagging_of late io clock counts calls) (lagging_of c.pend_all.new.late c.wait.new.self.io c.wait.new.self.clock counts c.wait.new.self.calls)
     most k tried.0 d kept small c.cycles_to_wait.ensures.zeros free c.cycles_to_wait.ensures.below round fits
-    ((λ i. lagging_of (pends i) (c.tick_through.ensures i) (clock + k * d) counts calls) ∙ lagging_of-wait chip late io clock counts calls (k * d) due c.self.invariant.same_batches made refl))
+    ((λ i. lagging_of (pends i) (c.wait.ensures i).io (c.wait.ensures i).clock counts (c.wait.ensures i).calls) ∙ lagging_of-wait chip late io clock counts calls (k * d) due c.self.invariant.same_batches made refl))

@@ -1,0 +1,160 @@
+// The clock, the calls of the bus, and the ports and timers at the clock, whose ticks are done where they are looked at or changed.
+ghost use Rattle.std.specs.Prelude.{◌≡◌, ◌+◌, ◌/◌, ◌%◌, ◌<◌, ◌^◌, nat_lt};
+ghost use Rattle.ports_timers.specs.Io.{read_answer, after_read, after_write};
+ghost use Rattle.lag_bus.specs.Clocked.{clocked_after};
+
+use ports_timers::{Io, tick_through};
+use std::marker::Model;
+
+/// A cycle, in the steps of the time: a call takes one of them, so that one number tells both.
+const CYCLE: u64 = 256;
+
+/// The clock, the calls since the last drain, and the ports, the ROM and the timers as they are at the clock. The ticks of
+/// the cycles that passed are done late, where something asks for them.
+#[derive(Drop)]
+pub struct ClockedIo {
+    io: Io,
+    /// The moment of the clock up to which the timers have ticked.
+    ticked: u64,
+    /// The clock in steps of a cycle, and the calls.
+    time: u64,
+}
+
+impl Model for ClockedIo {
+    ghost use Rattle.std.specs.Prelude.{◌-◌, ◌/◌, ◌%◌, ◌<◌, ◌≤◌, ◌^◌};
+    ghost use Rattle.ports_timers.specs.Io.{after_ticks_of};
+    ghost use Rattle.lag_bus.specs.Clocked.{Clocked};
+
+    ghost Value = { Clocked };
+
+    ghost view = { λ c. record { io = after_ticks_of c.io c.ticked (c.time / 256 - c.ticked); clock = c.time / 256; calls = c.time % 256 } };
+
+    ghost invariant = { λ c. (c.ticked ≤ c.time / 256) × (c.time < 2 ^ 48) };
+}
+
+impl ClockedIo {
+    /// The ports and timers at a moment of the clock, and no calls.
+    pub fn new(io: Io, clock: u64) -> Self
+        requires { clock < 2 ^ 40 }
+        ensures { result ≡ record { io = io; clock = clock; calls = 0 } }
+    {
+        ClockedIo {
+            io,
+            ticked: clock,
+            time: CYCLE * clock,
+        }
+    }
+
+    /// The clock.
+    #[inline(always)]
+    pub fn clock(&self) -> u64
+        ensures clock { result ≡ self.now.clock }
+        ensures fits { result < 2 ^ 40 }
+    {
+        self.time / CYCLE
+    }
+
+    /// The calls since the last drain.
+    #[inline(always)]
+    pub fn calls(&self) -> u64
+        ensures { result ≡ self.now.calls }
+    {
+        self.time % CYCLE
+    }
+
+    /// Counts a call.
+    #[inline(always)]
+    pub fn count(&mut self)
+        requires { self.old.calls < 255 }
+        ensures { self.new ≡ record self.old { calls = self.old.calls + 1 } }
+    {
+        self.time += 1;
+    }
+
+    /// Begins the calls anew.
+    pub fn restart(&mut self)
+        ensures { self.new ≡ record self.old { calls = 0 } }
+    {
+        self.time -= self.time % CYCLE;
+    }
+
+    /// The time after a call that lets some cycles pass.
+    #[inline(always)]
+    fn time_after(&self, cycles: u8) -> u64
+        requires calls { self.now.calls < 255 }
+        requires clock { self.now.clock + cycles < 2 ^ 40 }
+        ensures clock { result / 256 ≡ self.now.clock + cycles }
+        ensures calls { result % 256 ≡ self.now.calls + 1 }
+        ensures fits { result < 2 ^ 48 }
+    {
+        self.time + CYCLE * u64::from(cycles) + 1
+    }
+
+    /// Whether some cycles come to a multiple of 32 of the clock.
+    #[inline(always)]
+    pub fn comes_to_sample(&self, cycles: u8) -> bool
+        requires calls { self.now.calls < 255 }
+        requires clock { self.now.clock + cycles < 2 ^ 40 }
+        ensures { result ≡ nat_lt ((self.now.clock + cycles) % 32) cycles }
+    {
+        self.time_after(cycles) / CYCLE % 32 < u64::from(cycles)
+    }
+
+    /// Counts a call that lets some cycles pass.
+    #[inline(always)]
+    #[tactic(auto, using(crate::proofs::LateTicks::ticks_to_come))]
+    pub fn pass(&mut self, cycles: u8)
+        requires calls { self.old.calls < 255 }
+        requires clock { self.old.clock + cycles < 2 ^ 40 }
+        ensures { self.new ≡ record (clocked_after cycles self.old) { calls = self.old.calls + 1 } }
+    {
+        self.time = self.time_after(cycles);
+    }
+
+    /// Lets some cycles pass.
+    pub fn wait(&mut self, cycles: u64)
+        requires { self.old.clock + cycles < 2 ^ 40 }
+        ensures { self.new ≡ clocked_after cycles self.old }
+    {
+        self.time += CYCLE * cycles;
+    }
+
+    /// The ports and timers.
+    pub fn io(&self) -> Io
+        ensures { result ≡ self.now.io }
+    {
+        let mut io = self.io;
+        tick_through(&mut io, self.ticked, self.clock() - self.ticked);
+        io
+    }
+
+    /// The address of the S-DSP's register that F3h reaches.
+    pub fn dsp_address(&self) -> u8
+        ensures { result ≡ self.now.io.dsp_address }
+    {
+        self.io.dsp_address()
+    }
+
+    /// Answers a read as the ports and timers do.
+    #[tactic(auto, using(crate::proofs::LateTicks::no_ticks))]
+    pub fn read(&mut self, at: u16) -> Option<u8>
+        ensures answer { result ≡ read_answer self.old.io at }
+        ensures after { self.new ≡ record self.old { io = after_read self.old.io at } }
+    {
+        let clock = self.clock();
+        tick_through(&mut self.io, self.ticked, clock - self.ticked);
+        self.ticked = clock;
+        self.io.read(at)
+    }
+
+    /// Takes a write as the ports and timers do.
+    #[tactic(auto, using(crate::proofs::LateTicks::no_ticks))]
+    pub fn write(&mut self, at: u16, value: u8)
+        ensures { self.new ≡ record self.old { io = after_write self.old.io at value } }
+    {
+        let cycles = self.clock() - self.ticked;
+        tick_through(&mut self.io, self.ticked, cycles);
+        self.ticked = self.clock();
+        self.io.write(at, value);
+    }
+}
