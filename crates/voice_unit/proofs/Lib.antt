@@ -9,3 +9,14 @@ pub mod Played
 -- Silence: at level 0 a voice puts out 0. Glided: one sample more of a voice that glides.
 pub mod Silence
 pub mod Glided
+-- RowOfVoice: the row of kept samples.
+pub mod RowOfVoice
+-- Counting: how many groups are read before each sample. Marks: the bits of a voice that loops, group by group.
+pub mod Counting
+pub mod Marks
+-- OverRow: a stretch of samples of a voice that glides.
+pub mod OverRow
+-- Rows: rows of numbers, one more entry at a time.
+pub mod Rows
+-- Growing: one group more of a stretch of samples.
+pub mod Growing

@@ -12,3 +12,6 @@ pub mod Batch
 pub mod Rest
 pub mod Plain
 pub mod Play
+-- Row: the row of kept samples that a voice reads in a stretch of samples. Stretch: its outputs over that row.
+pub mod Row
+pub mod Stretch

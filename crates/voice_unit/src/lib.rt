@@ -2,12 +2,16 @@
 #![tactic(auto)]
 
 mod batch;
+mod course;
 mod directory;
 mod glide;
 mod interface;
+mod laws;
 mod level;
 mod play;
 mod rest;
+mod row;
+mod sounding;
 #[cfg(test)]
 mod tests;
 mod voice;
@@ -15,4 +19,5 @@ mod voice;
 pub use batch::{BatchLane, BatchRows};
 pub use directory::{entry_address, loop_word, start_word};
 pub use interface::{VoiceIn, VoiceOut, VoiceRegs};
+pub use laws::kept_rows;
 pub use voice::Voice;
