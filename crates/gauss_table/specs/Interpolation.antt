@@ -7,12 +7,11 @@ use Rattle.num_fix.specs.Words.{number_at}
 abbrev pub tap : ℤ → ℤ → ℤ
 tap weight sample = scaled weight sample 11
 
--- the sum of the three older taps at place i of 256
-abbrev pub older_taps : List ℤ → ℕ → ℤ → ℤ → ℤ → ℤ
-older_taps table i x0 x1 x2 = tap (number_at table (255 - i)) x0 +ℤ tap (number_at table (511 - i)) x1 +ℤ tap (number_at table (256 + i)) x2
+-- what comes of four taps, oldest first: the sum of the three older ones is wrapped, and the sum with the newest is clamped
+unfoldable pub mix_of : (oldest older newer newest : ℤ) → ℤ
+mix_of oldest older newer newest = clear_bit0 (clamp16 (wrap16 (oldest +ℤ older +ℤ newer) +ℤ newest))
 
--- the interpolation of four samples, oldest first, at place i of 256 between the middle two:
--- the sum of the older taps is wrapped, and the sum with the newest is clamped
+-- the interpolation of four samples, oldest first, at place i of 256 between the middle two
 unfoldable pub mix : List ℤ → ℕ → ℤ → ℤ → ℤ → ℤ → ℤ
 mix table i x0 x1 x2 x3 =
-    clear_bit0 (clamp16 (wrap16 (older_taps table i x0 x1 x2) +ℤ tap (number_at table i) x3))
+    mix_of (tap (number_at table (255 - i)) x0) (tap (number_at table (511 - i)) x1) (tap (number_at table (256 + i)) x2) (tap (number_at table i) x3)

@@ -1,11 +1,14 @@
 //! The table of weights by which a voice interpolates its samples, and the interpolation.
 #![tactic(auto)]
 
+mod quad;
 mod refusal;
 mod table;
+mod taps;
 #[cfg(test)]
 mod tests;
 
 pub use refusal::TableRefusal;
 pub use std::alloc::AllocError as OutOfMemory;
 pub use table::GaussTable;
+pub use taps::Taps;

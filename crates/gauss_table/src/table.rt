@@ -1,15 +1,14 @@
 //! The table and the interpolation.
 
-ghost use Rattle.std.specs.Prelude.{◌≡◌, ◌+◌, ◌<◌, ◌≤◌, ◌⊎◌, unsigned_abs, IfOk, IfErr};
-ghost use Rattle.num_fix.specs.Arithmetic.{wrap16};
-ghost use Rattle.num_fix.specs.Words.{number_at};
-ghost use Rattle.gauss_table.specs.Interpolation.{mix, older_taps, tap};
+ghost use Rattle.std.specs.Prelude.{◌≡◌, ◌<◌, ◌⊎◌, IfOk, IfErr};
+ghost use Rattle.gauss_table.specs.Interpolation.{mix, mix_of};
 ghost use Rattle.gauss_table.specs.StraightTable.{straight_table, straight_weight};
 ghost use Rattle.gauss_table.specs.Weights.{weights_in};
 
+use crate::quad::{Quad, quads_of};
+use crate::taps::Taps;
 use crate::{OutOfMemory, TableRefusal};
 use byteorder::{ByteOrder, LittleEndian};
-use num_fix::{clamp16, clear_bit0, scaled, wrap16};
 use std::alloc::Global;
 use std::marker::Model;
 
@@ -18,16 +17,19 @@ use std::marker::Model;
 #[derive(Drop)]
 pub struct GaussTable {
     weights: Box<[i16; 512]>,
+    /// The four weights of each place, side by side.
+    quads: Box<[Quad; 256]>,
 }
 
 impl Model for GaussTable {
-    ghost use Rattle.std.specs.Prelude.{◌≡◌, List, ℤ, length};
+    ghost use Rattle.std.specs.Prelude.{List, ℤ};
+    ghost use Rattle.gauss_table.specs.Quads.{AreQuads};
 
     ghost Value = { List ℤ };
 
     ghost view = { λ t. t.weights.value };
 
-    ghost invariant = { λ t. length t.weights.value ≡ 512 };
+    ghost invariant = { λ t. AreQuads t.weights.value t.quads.value };
 }
 
 /// Entry `i` of the table of straight lines.
@@ -47,8 +49,10 @@ impl GaussTable {
     fn from_weights(alloc: Global, weights: [i16; 512]) -> Result<GaussTable, OutOfMemory>
         ensures { IfOk result (λ table. table ≡ weights) }
     {
+        let quads = quads_of(&weights);
         let weights = Box::new(alloc, weights)?;
-        Ok(GaussTable { weights })
+        let quads = Box::new(alloc, quads)?;
+        Ok(GaussTable { weights, quads })
     }
 
     /// Reads a table of 1,024 bytes: 512 numbers, the low byte of each first.
@@ -76,39 +80,18 @@ impl GaussTable {
         GaussTable::from_weights(alloc, weights)
     }
 
-    /// What one sample gives under the weight at a place.
-    fn tap(&self, place: usize, sample: i16) -> i32
-        requires { place < 512 }
-        ensures value { result ≡ tap (number_at self.now place) sample }
-        ensures bound { unsigned_abs result ≤ 0x80000 }
+    /// What four samples, oldest first, give under their weights at place `i` of 256 between the middle two.
+    #[tactic(auto, unfolding(crate::specs::Interpolation::mix))]
+    pub fn taps(&self, i: u8, x0: i16, x1: i16, x2: i16, x3: i16) -> Taps
+        ensures { mix_of result.oldest result.older result.newer result.newest ≡ mix self.now i x0 x1 x2 x3 }
     {
-        scaled(self.weights[place], sample, 11)
-    }
-
-    /// The sum of the three older taps at place `i` of 256.
-    fn older_taps(&self, i: u8, x0: i16, x1: i16, x2: i16) -> i32
-        ensures value { result ≡ older_taps self.now i x0 x1 x2 }
-        ensures bound { unsigned_abs result ≤ 0x180000 }
-    {
-        let place = usize::from(i);
-        self.tap(255 - place, x0) + self.tap(511 - place, x1) + self.tap(256 + place, x2)
-    }
-
-    /// That sum at 16 bits, where it wraps.
-    fn wrapped_taps(&self, i: u8, x0: i16, x1: i16, x2: i16) -> i16
-        ensures { result ≡ wrap16 (older_taps self.now i x0 x1 x2) }
-    {
-        wrap16(self.older_taps(i, x0, x1, x2))
+        Taps::new(&self.quads[usize::from(i)], x0, x1, x2, x3)
     }
 
     /// The interpolation of four samples, oldest first, at place `i` of 256 between the middle two.
-    /// The sum of the three older taps wraps at 16 bits, and the sum with the newest is clamped.
-    #[tactic(auto, unfolding(crate::specs::Interpolation::mix))]
     pub fn mix(&self, i: u8, x0: i16, x1: i16, x2: i16, x3: i16) -> i16
         ensures { result ≡ mix self.now i x0 x1 x2 x3 }
     {
-        let older = i32::from(self.wrapped_taps(i, x0, x1, x2));
-        let newest = self.tap(usize::from(i), x3);
-        clear_bit0(clamp16(older + newest))
+        self.taps(i, x0, x1, x2, x3).mixed()
     }
 }

@@ -91,7 +91,7 @@ unfolding after_pitch
 block-after_pitch v pitch = refl
 
 -- envelope and delay after reading and moving on
-envelope-after_reading : (v : VoiceState) (memory : List ℕ) (header loop_to pitch : ℕ) → (after_pitch (after_reading v memory header loop_to) pitch).envelope ≡ v.envelope
+pub envelope-after_reading : (v : VoiceState) (memory : List ℕ) (header loop_to pitch : ℕ) → (after_pitch (after_reading v memory header loop_to) pitch).envelope ≡ v.envelope
 unfolding after_pitch after_reading at_next_group after_decoding
 envelope-after_reading v memory header loop_to pitch = by (needs_group v) (is_at_last_group v) _ _
   where

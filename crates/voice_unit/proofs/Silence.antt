@@ -5,7 +5,7 @@ use Rattle.num_fix.specs.Arithmetic.{clear_bit0, floor_shift, scaled}
 use Rattle.voice_unit.specs.Voice.{VoiceState, output}
 use Rattle.voice_unit.specs.declared.interface.VoiceIn.{VoiceIn}
 
-silence : (z : ℤ) → pos 0 ≡ clear_bit0 (scaled z (pos 0) 11)
+pub silence : (z : ℤ) → pos 0 ≡ clear_bit0 (scaled z (pos 0) 11)
 unfolding clear_bit0 floor_shift scaled
 silence z = rw *ℤ-zero refl
 

@@ -14,3 +14,6 @@ pub mod Rest
 pub mod Plain
 pub mod Play
 pub mod Run
+-- Row: the row of kept samples that a voice reads in a stretch of samples. Stretch: its outputs over that row.
+pub mod Row
+pub mod Stretch

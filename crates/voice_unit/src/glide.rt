@@ -1,17 +1,22 @@
-//! Samples in which a voice at rest plays on in one loop: nothing changes its envelope or its pitch, and it goes from group to group.
+//! Samples in which a voice at rest plays on over the row of its kept samples: nothing changes its envelope or its pitch.
 
-ghost use Rattle.std.specs.Prelude.{◌≡◌, ◌<◌, ◌≤◌, ◌+◌, ◌-◌, ◌^◌, ℕ, List, true, false, length, slice_index};
+ghost use Rattle.std.specs.Prelude.{◌≡◌, ◌<◌, ◌≤◌, ◌+◌, ◌-◌, ◌*◌, ◌%◌, ◌^◌, ℕ, List, true, false, slice_index};
 ghost use Rattle.num_fix.specs.Arithmetic.{has_bit};
+ghost use Rattle.voice_unit.specs.Directory.{loop_word};
+ghost use Rattle.voice_unit.specs.Rest.{IsSilent};
+ghost use Rattle.voice_unit.specs.Row.{groups_before, place_of};
 ghost use Rattle.voice_unit.specs.Play.{Lane, Glides, IsOnItsWay};
-ghost use Rattle.voice_unit.specs.declared.batch.BatchLane.{BatchLane as Row};
 
 use crate::batch::{BatchLane, BatchRows};
+use crate::course::{Course, Stretch};
+use crate::directory::loop_word;
 use crate::interface::VoiceRegs;
-use crate::play::mark_loop;
+use crate::rest::is_silent;
+use crate::sounding::sound;
 use crate::voice::Voice;
 use aram_core::Aram;
 use brr_decode::GroupMemory;
-use gauss_table::GaussTable;
+use gauss_table::{GaussTable, Taps};
 use num_fix::has_bit;
 
 /// Whether a key on of a voice is taken in any sample of a batch.
@@ -26,25 +31,45 @@ fn is_ever_taken(kon: &[u8; 64], voice: u8) -> bool
     taken
 }
 
-/// The sample to which a voice glides at most from sample `j` on, before the last one.
-fn glide_end(glides: bool, j: u8, last: u8) -> u8
+/// How many samples a voice glides at most, from sample `j` on, before the last one and while its envelope rests.
+fn glide_length(glides: bool, j: u8, last: u8, rest: u16) -> u8
     requires { j ≤ last }
-    ensures from { j ≤ result }
-    ensures to { result ≤ last }
-    ensures glides { glides ≡ false → result ≡ j }
+    ensures to { j + result ≤ last }
+    ensures rest { result ≤ rest }
+    ensures glides { 0 < result → glides ≡ true }
 {
-    if glides { last } else { j }
+    if glides {
+        rest.min(u16::from(last - j)) as u8
+    } else {
+        0
+    }
 }
 
-/// The sample before which a voice glides at most from sample `at` on, where it rests for so many: one is left, before the end.
-fn stretch_end(at: u8, end: u8, left: u16) -> u8
-    requires some { at < end }
-    requires resting { 0 < left }
-    ensures from { at ≤ result }
-    ensures within { result < end }
-    ensures rest { result < at + left }
+/// The position of a voice behind so many samples, in which so many groups were read.
+fn position_after(position: u16, pitch: u16, stretch: &Stretch) -> u16
+    requires position { position < 0x8000 }
+    requires pitch { pitch < 0x4000 }
+    requires some { 0 < stretch.now.samples }
+    requires few { stretch.now.samples ≤ 64 }
+    requires groups { stretch.now.groups ≡ groups_before position pitch stretch.now.samples }
+    ensures value { result + 0x4000 * stretch.now.groups ≡ position + stretch.now.samples * pitch }
+    ensures within { result < 0x8000 }
 {
-    at + (left - 1).min(u16::from(end - 1 - at)) as u8
+    let way = u32::from(position) + u32::from(stretch.samples) * u32::from(pitch);
+    (way - 0x4000 * u32::from(stretch.groups)) as u16
+}
+
+/// For how many more samples a voice rests behind a stretch.
+fn rest_after(rest: u16, stretch: &Stretch) -> u16
+    requires { stretch.now.samples ≤ rest }
+    ensures woken { stretch.now.woken ≡ true → result ≡ 0 }
+    ensures goes_on { stretch.now.woken ≡ false → result ≡ rest - stretch.now.samples }
+{
+    if stretch.woken {
+        0
+    } else {
+        rest - u16::from(stretch.samples)
+    }
 }
 
 /// Where a voice that glided has come to.
@@ -72,35 +97,82 @@ impl BatchLane {
 }
 
 impl Voice {
-    /// Makes samples from sample `j` on up to an end, of a voice at rest, until it comes to a group, and tells the sample that is next.
-    #[inline(always)]
-    fn glide_between(
-        &mut self,
-        j: u8,
-        end: u8,
-        regs: &VoiceRegs,
-        table: &GaussTable,
-        outs: &mut [i16; 64],
-    ) -> u8
-        requires few { end < 64 }
-        requires from { j ≤ end }
-        requires pitch { regs.now.pitch < 0x4000 }
-        ensures from { j ≤ result }
-        ensures to { result ≤ end }
-        ensures way { (own : Row) (plays : Lane) (rest : ℕ) (before loops : List ℕ) → plays.regs ≡ regs.now → plays.table ≡ table.now → length loops ≡ 64
-            → Glides own plays end → end ≤ j + rest → IsOnItsWay own plays j rest before loops outs.old self.old
-            → IsOnItsWay own plays result (rest - (result - j)) before loops outs.new self.new }
+    /// What the voice goes by in a stretch of samples.
+    fn course(&self, regs: &VoiceRegs, lane: &BatchLane, memory: &Aram) -> Course
+        ensures voice { result.voice ≡ lane.now.voice }
+        ensures first { result.first ≡ place_of self.now }
+        ensures group { result.first.offset < 8 }
+        ensures odd { result.first.offset % 2 ≡ 1 }
+        ensures loop_to { result.loop_to ≡ loop_word lane.now.dir regs.now.srcn memory.now }
+        ensures position { result.position ≡ self.now.position }
+        ensures within { result.position < 0x8000 }
+        ensures pitch { result.pitch ≡ regs.now.pitch }
+        ensures reset { result.reset ≡ lane.now.reset }
+        ensures silent { result.silent ≡ true → IsSilent self.now.envelope }
     {
-        // it is so anyway, and the compiler sees here that the position needs no limit
-        let pitch = regs.pitch % 0x4000;
-        for at in j..end {
-            if self.needs_group() {
-                return at;
-            }
-            outs[usize::from(at)] = self.sounding(table);
-            self.move_on(pitch);
+        Course {
+            voice: lane.voice,
+            first: self.place(),
+            loop_to: loop_word(lane.dir, regs.srcn, memory),
+            position: self.position(),
+            pitch: regs.pitch,
+            reset: lane.reset,
+            silent: is_silent(&self.envelope()),
         }
-        end
+    }
+
+    /// Plays n samples from sample `at` on over the row of its kept samples, or fewer, where the header of a block silences the voice.
+    fn play_stretch(
+        &mut self,
+        at: u8,
+        n: u8,
+        rest: u16,
+        regs: &VoiceRegs,
+        lane: &BatchLane,
+        memory: &Aram,
+        table: &GaussTable,
+        groups: &mut GroupMemory,
+        row: &mut [i16; 268],
+        taps: &mut [Taps; 64],
+        outs: &mut [i16; 64],
+        loops: &mut [u8; 64],
+    ) -> Glided
+        requires some { 0 < n }
+        requires few { at + n ≤ 64 }
+        requires resting { n ≤ rest }
+        requires voice { lane.now.voice < 8 }
+        requires pitch { regs.now.pitch < 0x4000 }
+        requires room { (i : ℕ) → at ≤ i → i < 64 → slice_index loops.old i < 2 ^ lane.now.voice }
+        ensures from { at ≤ result.at }
+        ensures to { result.at ≤ at + n }
+        ensures way { (plays : Lane) (before : List ℕ) → plays.regs ≡ regs.now → plays.memory ≡ memory.now → plays.table ≡ table.now
+            → Glides lane.now plays (at + n) → IsOnItsWay lane.now plays at rest before loops.old outs.old self.old
+            → IsOnItsWay lane.now plays result.at result.rest before loops.new outs.new self.new }
+        ensures later { (i : ℕ) → result.at ≤ i → slice_index loops.new i ≡ slice_index loops.old i }
+        ensures before { (i : ℕ) → i < at → slice_index loops.new i ≡ slice_index loops.old i }
+        ensures room { (i : ℕ) → at ≤ i → i < 64 → slice_index loops.new i < 2 ^ (lane.now.voice + 1) }
+    {
+        let course = self.course(regs, lane, memory);
+        self.begin_row(row);
+        let stretch = course.read_stretch(row, at, n, memory, groups, loops);
+        let level = self.level();
+        sound(
+            outs,
+            taps,
+            at,
+            stretch.samples,
+            row,
+            table,
+            course.position,
+            course.pitch,
+            level,
+        );
+        let position = position_after(course.position, course.pitch, &stretch);
+        self.go_to(row, stretch.groups, position, stretch.next);
+        Glided {
+            at: at + stretch.samples,
+            rest: rest_after(rest, &stretch),
+        }
     }
 
     /// Makes samples from sample `j` on up to the last one, where the voice glides and while its envelope rests.
@@ -115,6 +187,8 @@ impl Voice {
         memory: &Aram,
         table: &GaussTable,
         groups: &mut GroupMemory,
+        row: &mut [i16; 268],
+        taps: &mut [Taps; 64],
         outs: &mut [i16; 64],
         loops: &mut [u8; 64],
     ) -> Glided
@@ -132,21 +206,12 @@ impl Voice {
         ensures later { (i : ℕ) → result.at ≤ i → slice_index loops.new i ≡ slice_index loops.old i }
         ensures room { (i : ℕ) → i < 64 → slice_index loops.new i < 2 ^ (lane.now.voice + 1) }
     {
-        // a copy, so that the voice need not stand in memory between two samples
-        let mut voice = *self;
-        let mut left = rest;
-        let mut at = j;
-        let end = glide_end(glides, j, last);
-        'samples: while at < end && left > 0 {
-            let to = voice.glide_between(at, stretch_end(at, end, left), regs, table, outs);
-            left -= u16::from(to - at);
-            let played = voice.play_plainly(left, regs, lane, memory, table, groups);
-            outs[usize::from(to)] = played.out;
-            mark_loop(loops, to, played.looped, lane.voice);
-            left = played.rest;
-            at = to + 1;
+        let samples = glide_length(glides, j, last, rest);
+        if samples == 0 {
+            return Glided { at: j, rest };
         }
-        *self = voice;
-        Glided { at, rest: left }
+        self.play_stretch(
+            j, samples, rest, regs, lane, memory, table, groups, row, taps, outs, loops,
+        )
     }
 }

@@ -2,13 +2,17 @@
 #![tactic(auto)]
 
 mod batch;
+mod course;
 mod directory;
 mod glide;
 mod interface;
+mod laws;
 mod level;
 mod play;
 mod rest;
+mod row;
 mod run;
+mod sounding;
 #[cfg(test)]
 mod tests;
 mod voice;
@@ -16,5 +20,6 @@ mod voice;
 pub use batch::{BatchLane, BatchRows};
 pub use directory::{entry_address, loop_word, start_word};
 pub use interface::{VoiceIn, VoiceOut, VoiceRegs};
+pub use laws::kept_rows;
 pub use run::OutRow;
 pub use voice::Voice;

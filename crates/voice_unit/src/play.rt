@@ -123,6 +123,8 @@ impl Voice {
         let first = clocks[0];
         let mut rest = self.rest_from(regs, own.reset, koff, memory, &first);
         let glides = own.lets_glide(rows);
+        let mut row = [0; 268];
+        let mut taps = [table.taps(0, 0, 0, 0, 0); 64];
         let mut j = 0;
         'samples: while j < n {
             let glided = self.glide(
@@ -135,6 +137,8 @@ impl Voice {
                 memory,
                 table,
                 groups,
+                &mut row,
+                &mut taps,
                 outs,
                 loops,
             );

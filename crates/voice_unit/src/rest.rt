@@ -7,11 +7,9 @@ ghost use Rattle.voice_unit.specs.Directory.{loop_word};
 ghost use Rattle.voice_unit.specs.Voice.{voice_step, voice_answer, is_keyed, is_looped, needs_group, after_reading, after_pitch};
 ghost use Rattle.voice_unit.specs.declared.interface.VoiceRegs.{VoiceRegs as Registers};
 ghost use Rattle.voice_unit.specs.declared.interface.VoiceIn.{VoiceIn as Input};
-ghost use Rattle.voice_unit.specs.Plain.{PlaysPlainly};
 ghost use Rattle.envelope.specs.declared.Mode.TheVariants.{Release};
 ghost use Rattle.voice_unit.specs.Rest.{is_silencing, IsSilent, IsAtRest};
 
-use crate::batch::BatchLane;
 use crate::interface::{VoiceIn, VoiceOut, VoiceRegs};
 use crate::level::high_byte;
 use crate::voice::{Voice, is_keyed, pitch_of};
@@ -41,14 +39,14 @@ struct GoneOn {
 }
 
 /// Whether the soft reset or the header of a block that ends without a loop silences a voice.
-fn is_silencing(reset: bool, header: u8) -> bool
+pub(crate) fn is_silencing(reset: bool, header: u8) -> bool
     ensures { result ≡ is_silencing reset header }
 {
     reset || header & 3 == 1
 }
 
 /// Whether an envelope is released at level 0.
-fn is_silent(envelope: &Envelope) -> bool
+pub(crate) fn is_silent(envelope: &Envelope) -> bool
     ensures { result ≡ true → IsSilent envelope.now }
 {
     envelope.mode == Mode::Release && envelope.level() == 0
@@ -280,39 +278,6 @@ impl Voice {
             block: self.block(),
             looped: played.looped,
             keyed: false,
-        }
-    }
-
-    /// A step of a voice at rest in a sample in which it plays its samples at its own pitch and isn't keyed.
-    #[inline(always)]
-    pub(crate) fn play_plainly(
-        &mut self,
-        rest: u16,
-        regs: &VoiceRegs,
-        lane: &BatchLane,
-        memory: &Aram,
-        table: &GaussTable,
-        groups: &mut GroupMemory,
-    ) -> Played
-        requires pitch { regs.now.pitch < 0x4000 }
-        requires resting { 0 < rest }
-        ensures voice { (i : Input) (k : ℕ) → PlaysPlainly lane.now i → IsAtRest i.reset i.koff regs.now memory.now k rest self.old
-            → self.new ≡ voice_step self.old regs.now i memory.now (counter_at k) }
-        ensures out { (i : Input) (k : ℕ) → PlaysPlainly lane.now i → IsAtRest i.reset i.koff regs.now memory.now k rest self.old
-            → result.out ≡ (voice_answer self.old regs.now i memory.now table.now (counter_at k)).out }
-        ensures looped { (i : Input) (k : ℕ) → PlaysPlainly lane.now i → IsAtRest i.reset i.koff regs.now memory.now k rest self.old
-            → result.looped ≡ (voice_answer self.old regs.now i memory.now table.now (counter_at k)).looped }
-        ensures rest { (i : Input) (k : ℕ) → PlaysPlainly lane.now i → IsAtRest i.reset i.koff regs.now memory.now k rest self.old
-            → IsAtRest i.reset i.koff regs.now memory.now (k + 1) result.rest self.new }
-    {
-        let out = self.sounding(table);
-        // it is so anyway, and the compiler sees here that the position needs no limit
-        let pitch = regs.pitch % 0x4000;
-        let gone = self.go_on(rest, pitch, lane.dir, regs.srcn, lane.reset, memory, groups);
-        Played {
-            out,
-            looped: gone.looped,
-            rest: gone.rest,
         }
     }
 }

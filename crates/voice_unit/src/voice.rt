@@ -1,16 +1,17 @@
 //! The voice and its step.
 
-ghost use Rattle.std.specs.Prelude.{◌≡◌, ◌+◌, ◌*◌, ◌/◌, ◌%◌, ◌<◌, ◌≤◌, ◌++◌, pos, true, false, drop};
+ghost use Rattle.std.specs.Prelude.{◌≡◌, ◌+◌, ◌*◌, ◌/◌, ◌%◌, ◌<◌, ◌≤◌, ◌++◌, pos, true, drop, take, length, slice_range};
 ghost use Rattle.num_fix.specs.Words.{number_at};
 ghost use Rattle.aram_core.specs.Memory.{byte_at};
 ghost use Rattle.brr_decode.specs.Kept.{with_group};
 ghost use Rattle.voice_unit.specs.Directory.{start_word, loop_word};
-ghost use Rattle.voice_unit.specs.declared.interface.VoiceIn.{VoiceIn as Input};
+ghost use Rattle.voice_unit.specs.Row.{place_of};
 ghost use Rattle.voice_unit.specs.Voice.{silent_voice, pitch_of, step_pitch, step_header, after_delay, interpolation, source_sample, output, is_keyed, needs_group, after_envelope, is_looped, after_decoding, at_next_group, after_reading, after_pitch, voice_step, voice_answer};
 
 use crate::directory::{loop_word, start_word};
 use crate::interface::{VoiceIn, VoiceOut, VoiceRegs};
 use crate::level::{at_level, bent_pitch, high_byte};
+use crate::row::Place;
 use aram_core::Aram;
 use brr_decode::{GroupMemory, decode_group};
 use envelope::Envelope;
@@ -110,6 +111,54 @@ impl Voice {
         self.delay
     }
 
+    /// The position that the voice plays among its samples.
+    pub(crate) fn position(&self) -> u16
+        ensures value { result ≡ self.now.position }
+        ensures within { result < 0x8000 }
+    {
+        self.position
+    }
+
+    /// The group that the voice reads next.
+    pub(crate) fn place(&self) -> Place
+        ensures value { result ≡ place_of self.now }
+        ensures group { result.offset < 8 }
+        ensures odd { result.offset % 2 ≡ 1 }
+    {
+        Place {
+            block: self.block,
+            offset: self.offset,
+        }
+    }
+
+    /// Begins a row with the twelve samples of the voice.
+    pub(crate) fn begin_row(&self, row: &mut [i16; 268])
+        ensures row { take 12 row.new ≡ self.now.samples }
+        ensures twelve { length self.now.samples ≡ 12 }
+    {
+        row[..12].copy_from_slice(&self.samples);
+    }
+
+    /// Goes on to a position among the last twelve of a row of so many groups, with another group before it.
+    pub(crate) fn go_to(&mut self, row: &[i16; 268], groups: u8, position: u16, next: Place)
+        requires few { groups ≤ 64 }
+        requires position { position < 0x8000 }
+        requires group { next.offset < 8 }
+        requires odd { next.offset % 2 ≡ 1 }
+        ensures { self.new ≡ record self.old {
+          samples = slice_range row.now (4 * groups) (4 * groups + 12);
+          position = position;
+          block = next.block;
+          offset = next.offset;
+        } }
+    {
+        let from = 4 * usize::from(groups);
+        self.samples.copy_from_slice(&row[from..from + 12]);
+        self.position = position;
+        self.block = next.block;
+        self.offset = next.offset;
+    }
+
     /// The envelope.
     pub(crate) fn envelope(&self) -> Envelope
         ensures { result ≡ self.now.envelope }
@@ -197,7 +246,7 @@ impl Voice {
     }
 
     /// The level of the envelope.
-    fn level(&self) -> u16
+    pub(crate) fn level(&self) -> u16
         ensures value { result ≡ self.now.envelope.level }
         ensures bound { result ≤ 0x7ff }
     {
@@ -215,17 +264,6 @@ impl Voice {
             return 0;
         }
         clear_bit0(at_level(self.source_sample(input, table), level))
-    }
-
-    /// The output of a voice that plays its samples. At level 0 it is 0, whatever they are.
-    pub(crate) fn sounding(&self, table: &GaussTable) -> i16
-        ensures { (i : Input) → i.noisy ≡ false → result ≡ output self.now i table.now }
-    {
-        let level = self.level();
-        if level == 0 {
-            return 0;
-        }
-        clear_bit0(at_level(self.interpolation(table), level))
     }
 
     /// Silencing, keys, and the step of the envelope where there is no delay.

@@ -1,0 +1,65 @@
+//! What four samples give under their weights, and the interpolation that comes of it.
+
+ghost use Rattle.std.specs.Prelude.{◌≡◌, ◌≤◌, ◌+ℤ◌, unsigned_abs};
+ghost use Rattle.num_fix.specs.Arithmetic.{wrap16};
+ghost use Rattle.gauss_table.specs.Interpolation.{mix_of, tap};
+ghost use Rattle.gauss_table.specs.Small.{AreSmall};
+
+use crate::quad::Quad;
+use num_fix::{clamp16, clear_bit0, scaled, wrap16};
+
+/// What four samples give, oldest first, each under its weight.
+#[derive(Clone, Copy, Debug)]
+pub struct Taps {
+    pub oldest: i32,
+    pub older: i32,
+    pub newer: i32,
+    pub newest: i32,
+    ghost are_small: { AreSmall oldest older newer newest },
+}
+
+/// What one sample gives under its weight.
+fn tap(weight: i16, sample: i16) -> i32
+    ensures value { result ≡ tap weight sample }
+    ensures bound { unsigned_abs result ≤ 0x80000 }
+{
+    scaled(weight, sample, 11)
+}
+
+impl Taps {
+    /// What four samples give, oldest first, each under its weight.
+    pub(crate) fn new(weights: &Quad, x0: i16, x1: i16, x2: i16, x3: i16) -> Taps
+        ensures oldest { result.oldest ≡ tap weights.now.oldest x0 }
+        ensures older { result.older ≡ tap weights.now.older x1 }
+        ensures newer { result.newer ≡ tap weights.now.newer x2 }
+        ensures newest { result.newest ≡ tap weights.now.newest x3 }
+    {
+        Taps {
+            oldest: tap(weights.oldest, x0),
+            older: tap(weights.older, x1),
+            newer: tap(weights.newer, x2),
+            newest: tap(weights.newest, x3),
+        }
+    }
+
+    /// The sum of the three older taps.
+    fn older_sum(&self) -> i32
+        ensures { result ≡ self.now.oldest +ℤ self.now.older +ℤ self.now.newer }
+    {
+        self.oldest + self.older + self.newer
+    }
+
+    /// That sum at 16 bits, where it wraps.
+    fn wrapped(&self) -> i16
+        ensures { result ≡ wrap16 (self.now.oldest +ℤ self.now.older +ℤ self.now.newer) }
+    {
+        wrap16(self.older_sum())
+    }
+
+    /// The interpolation: the sum of the older taps, which wraps, with the newest is clamped.
+    pub fn mixed(&self) -> i16
+        ensures { result ≡ mix_of self.now.oldest self.now.older self.now.newer self.now.newest }
+    {
+        clear_bit0(clamp16(i32::from(self.wrapped()) + self.newest))
+    }
+}

@@ -1,0 +1,264 @@
+-- A stretch of samples of a voice that glides, over the row of its kept samples.
+use Rattle.std.proofs.Common.{◌≡◌, ◌≢◌, ℕ, zero, suc, ◌+◌, ◌-◌, ◌*◌, ◌/◌, ◌%◌, ◌^◌, ◌<◌, ◌≤◌, ◌==◌, nat_lt, nat_le, ◌&&◌, ◌⊎◌, inl, inr, List, ℤ, pos, Bool, true, false, length, take, drop, slice_index, if◌then◌else◌, refl, sym, ap, ◌∙◌, arith, add-one}
+use Rattle.std.proofs.Math.Nat.{add-suc}
+use Rattle.std.proofs.lemmas.List.{get_or-take}
+use Rattle.std.proofs.lemmas.Bool.{and_from, eq-eqb}
+use Rattle.std.proofs.lemmas.Bool.Decides.{nat_tests}
+use Rattle.num_fix.specs.Arithmetic.{has_bit}
+use Rattle.num_fix.specs.Words.{number_at}
+use Rattle.aram_core.specs.Memory.{byte_at}
+use Rattle.brr_decode.specs.Header.{has_end}
+use Rattle.rate_clock.specs.Counter.{counter_at}
+use Rattle.envelope.specs.Envelope.{EnvelopeState}
+use Rattle.voice_unit.specs.Directory.{loop_word}
+use Rattle.voice_unit.specs.Batch.{steps, answer_of_step}
+use Rattle.voice_unit.specs.Plain.{PlaysPlainly}
+use Rattle.voice_unit.specs.Play.{Lane, Glides, IsPlayed, IsOnItsWay, voice_at, answer_at}
+use Rattle.voice_unit.specs.Rest.{is_silencing, IsSilent, IsAtRest}
+use Rattle.voice_unit.specs.Row.{place_after, kept_row, groups_before, is_end, is_read_in, loops_in, PlaysOn, row_of, place_of, StandsAt}
+use Rattle.voice_unit.specs.Stretch.{out_over_row}
+use Rattle.voice_unit.specs.Voice.{VoiceState, interpolation, output, source_sample, needs_group, is_at_last_group, is_looped, after_reading, after_pitch, pitch_of, voice_step, voice_answer}
+use Rattle.voice_unit.specs.declared.batch.BatchLane.{BatchLane}
+use Rattle.voice_unit.specs.declared.interface.VoiceRegs.{VoiceRegs}
+use Rattle.voice_unit.specs.declared.interface.VoiceIn.{VoiceIn}
+use Rattle.voice_unit.specs.declared.row.Place.{Place}
+use Rattle.voice_unit.proofs.AtRest.{step_at_rest, out_at_rest, looped_at_rest, rests_on, envelope-after_reading, no_rest}
+use Rattle.voice_unit.proofs.Glided.{own_pitch}
+use Rattle.voice_unit.proofs.Counting.{groups_before-zero, groups_before-more, groups_before-rise, earlier}
+use Rattle.voice_unit.proofs.RowOfVoice.{plays_row, reads_row, length-kept_row}
+
+-- an interpolation looks at four samples of a row
+pub interpolation-same : (table xs ys : List ℤ) (way : ℕ) → ((k : ℕ) → k < way / 0x1000 + 4 → number_at xs k ≡ number_at ys k) → interpolation table xs way ≡ interpolation table ys way
+unfolding interpolation
+interpolation-same table xs ys way same =
+    let m : ℕ = way / 0x1000 in
+    rw (same m (omega arith), same (m + 1) (omega arith), same (m + 2) (omega arith), same (m + 3) (omega arith)) refl
+
+-- what a voice puts out that plays its samples
+sampled_output : (v : VoiceState) (i : VoiceIn) (table : List ℤ) (samples : ℤ) (level : ℕ) → i.noisy ≡ false → interpolation table v.samples v.position ≡ samples → v.envelope.level ≡ level
+    → output v i table ≡ Rattle.voice_unit.specs.Stretch.sounding_at level samples
+unfolding output source_sample
+sampled_output v i table samples level sampled is at = rw (sampled, is, at) refl
+
+-- a voice is its parts
+same_voice : (a b : VoiceState) → a.samples ≡ b.samples → a.position ≡ b.position → place_of a ≡ place_of b → a.delay ≡ b.delay → a.envelope ≡ b.envelope → a ≡ b
+same_voice a b samples position place delay envelope =
+    ap (λ (x : List ℤ). record { samples = x; position = a.position; block = a.block; offset = a.offset; delay = a.delay; envelope = a.envelope }) samples
+    ∙ ap (λ (x : ℕ). record { samples = b.samples; position = x; block = a.block; offset = a.offset; delay = a.delay; envelope = a.envelope }) position
+    ∙ ap (λ (x : Place). record { samples = b.samples; position = b.position; block = x.block; offset = x.offset; delay = a.delay; envelope = a.envelope }) place
+    ∙ ap (λ (x : ℕ). record { samples = b.samples; position = b.position; block = b.block; offset = b.offset; delay = x; envelope = a.envelope }) delay
+    ∙ ap (λ (x : EnvelopeState). record { samples = b.samples; position = b.position; block = b.block; offset = b.offset; delay = b.delay; envelope = x }) envelope
+
+-- what is so where a voice has come to so many groups
+reads_a_group : (position pitch j now : ℕ) → position < 0x8000 → now + 0x4000 * groups_before position pitch j ≡ position + j * pitch → now < 0x8000
+    → nat_le 0x4000 now ≡ is_read_in position pitch (groups_before position pitch j) j
+reads_a_group position pitch j now low stands within = by (nat_le 0x4000 now) refl
+  where
+    g : ℕ
+    g = groups_before position pitch j
+
+    same : (b : Bool) → (g == g) ≡ true → (groups_before position pitch (j + 1) == g + 1) ≡ b → b ≡ ((g == g) && (groups_before position pitch (j + 1) == g + 1))
+    same b e f = rw (e, f) refl
+
+    by : (b : Bool) → nat_le 0x4000 now ≡ b → b ≡ is_read_in position pitch g j
+    by true e =
+        let late : 0x4000 ≤ now = grind (arith, nat_tests, e) in
+        let next : groups_before position pitch (j + 1) ≡ g + 1 = groups_before-more position pitch j ∙ omega (arith, stands, within, late) in
+        same true (eq-eqb g g refl) (eq-eqb _ _ next)
+    by false e =
+        let early : now < 0x4000 = grind (arith, nat_tests, e) in
+        let next : groups_before position pitch (j + 1) ≡ g = groups_before-more position pitch j ∙ omega (arith, stands, early) in
+        let other : groups_before position pitch (j + 1) ≢ g + 1 = λ is. absurd (omega (arith, next, is)) in
+        let test : (groups_before position pitch (j + 1) == g + 1) ≡ false = grind (arith, nat_tests, other) in
+        same false (eq-eqb g g refl) test
+
+-- the last of three tests grouped the other way
+regrouped : (a b c : Bool) → (a && b && c) ≡ (a && (b && c))
+regrouped true b c = refl
+regrouped false b c = refl
+
+module _ (own : BatchLane) (lane : Lane) (n m rest : ℕ) (before loops : List ℕ) (outs : List ℤ) (voice : VoiceState)
+    (way : IsOnItsWay own lane n rest before loops outs voice) (twelve : length voice.samples ≡ 12) (low : voice.position < 0x8000) (slow : lane.regs.pitch < 0x4000)
+    (glides : (j : ℕ) → j < m → PlaysPlainly own (lane.inputs (n + j))) (some : 0 < m) (resting : m ≤ rest)
+    (quiet : (j : ℕ) → j < m → 0 < groups_before voice.position lane.regs.pitch j
+    → is_silencing own.reset (byte_at lane.memory (place_after lane.memory (loop_word own.dir lane.regs.srcn lane.memory) (place_of voice) (groups_before voice.position lane.regs.pitch j)).block) ≡ true
+    → IsSilent voice.envelope) where
+  abbrev koff : Bool
+  koff = has_bit own.koff own.voice
+
+  abbrev loop_to : ℕ
+  loop_to = loop_word own.dir lane.regs.srcn lane.memory
+
+  abbrev g : ℕ → ℕ
+  g j = groups_before voice.position lane.regs.pitch j
+
+  abbrev there : ℕ → Place
+  there d = place_after lane.memory loop_to (place_of voice) d
+
+  -- the voice after j more samples
+  abbrev s : ℕ → VoiceState
+  s j = steps lane.regs (λ i. lane.inputs (n + i)) lane.memory (λ i. counter_at (lane.k + (n + i))) voice j
+
+  on : (j : ℕ) → voice_at lane (n + j) ≡ s j
+  unfolding steps
+  on zero = let none : n + 0 ≡ n = omega arith in rw none (sym way.played.voice_is)
+  on (suc j) = rw add-suc (ap (λ (v : VoiceState). voice_step v lane.regs (lane.inputs (n + j)) lane.memory (counter_at (lane.k + (n + j)))) (on j))
+
+  plays_on : PlaysOn lane.regs (λ i. lane.inputs (n + i)) own.dir m voice
+  plays_on = record {
+    delay = way.at_rest.delay (omega (arith, some, resting));
+    twelve = twelve;
+    position = low;
+    pitch = slow;
+    unkeyed = λ j below. (glides j below).unkeyed;
+    unbent = λ j below. (glides j below).unbent;
+    same_dir = λ j below. (glides j below).dir;
+  }
+
+  stands : (j : ℕ) → j ≤ m → StandsAt lane.regs own.dir lane.memory voice (g j) (voice.position + j * lane.regs.pitch) (s j)
+  stands j few = reads_row lane.regs (λ i. lane.inputs (n + i)) own.dir m lane.memory (λ i. counter_at (lane.k + (n + i))) voice j plays_on few
+
+  abbrev Rests : ℕ → Type 0
+  Rests j = IsAtRest own.reset koff lane.regs lane.memory (lane.k + (n + j)) (rest - j) (s j)
+
+  -- a step reads and moves on
+  moved : (j : ℕ) → j < m → Rests j → s (j + 1) ≡ after_pitch (after_reading (s j) lane.memory (byte_at lane.memory (s j).block) loop_to) lane.regs.pitch
+  unfolding steps
+  moved j below rests =
+      let plain = glides j below in
+      let at : IsAtRest (lane.inputs (n + j)).reset (lane.inputs (n + j)).koff lane.regs lane.memory (lane.k + (n + j)) (rest - j) (s j) = rw (plain.reset, plain.koff) rests in
+      rw add-one (step_at_rest lane.regs (lane.inputs (n + j)) lane.memory (lane.k + (n + j)) (rest - j) (s j) at (omega (arith, below, resting)) plain.unkeyed
+      ∙ ap (λ (p : ℕ). after_pitch (after_reading (s j) lane.memory (byte_at lane.memory (s j).block) (loop_word (lane.inputs (n + j)).dir lane.regs.srcn lane.memory)) p) (own_pitch lane.regs (lane.inputs (n + j)) plain.unbent)
+      ∙ ap (λ (dir : ℕ). after_pitch (after_reading (s j) lane.memory (byte_at lane.memory (s j).block) (loop_word dir lane.regs.srcn lane.memory)) lane.regs.pitch) plain.dir)
+
+  same_on : (j : ℕ) → j < m → Rests j → (s j).envelope ≡ voice.envelope → (s (j + 1)).envelope ≡ voice.envelope
+  same_on j below rests same =
+      ap (λ (v : VoiceState). v.envelope) (moved j below rests) ∙ envelope-after_reading (s j) lane.memory (byte_at lane.memory (s j).block) loop_to lane.regs.pitch ∙ same
+
+  rests_more : (j : ℕ) → j < m → Rests j → (is_silencing own.reset (byte_at lane.memory (s (j + 1)).block) ≡ true → IsSilent (s (j + 1)).envelope) → Rests (j + 1)
+  rests_more j below rests heard =
+      let further : lane.k + (n + (j + 1)) ≡ lane.k + (n + j) + 1 = omega arith in
+      let less : rest - (j + 1) ≡ rest - j - 1 = omega arith in
+      rw (further, less) (rests_on own.reset koff lane.regs lane.memory (lane.k + (n + j)) (rest - j) (byte_at lane.memory (s j).block) loop_to lane.regs.pitch (s j) (s (j + 1))
+      rests (omega (arith, below, resting)) (moved j below rests) (inl heard))
+
+  -- the header that the voice sees in a sample
+  block_is : (j : ℕ) → j ≤ m → (s j).block ≡ (there (g j)).block
+  block_is j few = ap (λ (p : Place). p.block) (stands j few).place
+
+  silent_at : (j : ℕ) → j < m → is_silencing own.reset (byte_at lane.memory (there (g j)).block) ≡ true → IsSilent voice.envelope
+  unfolding place_after
+  silent_at j below loud = by (g j) refl
+    where
+      by : (d : ℕ) → g j ≡ d → IsSilent voice.envelope
+      by zero e = way.at_rest.silencing (omega (arith, some, resting)) (rw e at loud)
+      by (suc d) e = quiet j below (omega (arith, e)) loud
+
+  rests : (j : ℕ) → j < m → Rests j × ((s j).envelope ≡ voice.envelope)
+  unfolding steps
+  rests zero below =
+      let none : n + 0 ≡ n = omega arith in
+      let all : rest - 0 ≡ rest = omega arith in
+      (rw (none, all) way.at_rest, refl)
+  rests (suc j) below =
+      let now = rests j (omega (arith, below)) in
+      let same : (s (suc j)).envelope ≡ voice.envelope = rw add-one at (same_on j (omega (arith, below)) now.0 now.1) in
+      let heard : is_silencing own.reset (byte_at lane.memory (s (suc j)).block) ≡ true → IsSilent (s (suc j)).envelope =
+      λ loud. rw same (silent_at (suc j) below (rw (block_is (suc j) (omega (arith, below))) at loud)) in
+      (rw add-one at (rests_more j (omega (arith, below)) now.0 (rw (add-one) heard)), same)
+
+  -- what sample j gives
+  out_is : (j : ℕ) → j < m → (row : List ℤ) → take (12 + 4 * g m) row ≡ row_of lane.regs own.dir lane.memory voice (g m)
+      → (answer_at lane (n + j)).out ≡ out_over_row lane.table row voice.position lane.regs.pitch voice.envelope.level j
+  unfolding answer_of_step
+  out_is j below row is =
+      let plain = glides j below in
+      let now = rests j below in
+      let at : IsAtRest (lane.inputs (n + j)).reset (lane.inputs (n + j)).koff lane.regs lane.memory (lane.k + (n + j)) (rest - j) (s j) = rw (plain.reset, plain.koff) now.0 in
+      let gave = out_at_rest lane.regs (lane.inputs (n + j)) lane.memory (lane.k + (n + j)) (rest - j) (s j) at (omega (arith, below, resting)) plain.unkeyed lane.table in
+      let rise = groups_before-rise voice.position lane.regs.pitch j m (omega (arith, below)) in
+      let more : (g m - g j) + g j ≡ g m = omega (arith, rise) in
+      let at_row = rw more at (plays_row lane.regs (λ i. lane.inputs (n + i)) own.dir m lane.memory (λ i. counter_at (lane.k + (n + i))) voice lane.table j (g m - g j) plays_on (omega (arith, below))) in
+      let total : ℕ = voice.position + j * lane.regs.pitch in
+      let here : (s j).position + 0x4000 * g j ≡ total = (stands j (omega (arith, below))).position in
+      let inside : (s j).position < 0x8000 = (stands j (omega (arith, below))).within in
+      let same : interpolation lane.table (row_of lane.regs own.dir lane.memory voice (g m)) total ≡ interpolation lane.table row total =
+      interpolation-same lane.table _ row total (λ k few. ap (λ (xs : List ℤ). number_at xs k) (sym is) ∙ get_or-take (12 + 4 * g m) row k (pos 0) (omega (arith, few, here, inside, rise))) in
+      rw (on j) (gave ∙ sampled_output (s j) (lane.inputs (n + j)) lane.table (interpolation lane.table row total) voice.envelope.level plain.sampled (at_row ∙ same) (ap (λ (e : EnvelopeState). e.level) now.1))
+
+  looped_is : (j : ℕ) → j < m → (answer_at lane (n + j)).looped ≡ loops_in lane.memory loop_to (place_of voice) voice.position lane.regs.pitch j
+  unfolding answer_of_step
+  looped_is j below =
+      let plain = glides j below in
+      let now = rests j below in
+      let at : IsAtRest (lane.inputs (n + j)).reset (lane.inputs (n + j)).koff lane.regs lane.memory (lane.k + (n + j)) (rest - j) (s j) = rw (plain.reset, plain.koff) now.0 in
+      let marked = looped_at_rest lane.regs (lane.inputs (n + j)) lane.memory (lane.k + (n + j)) (rest - j) (s j) at (omega (arith, below, resting)) plain.unkeyed lane.table in
+      let here = stands j (omega (arith, below)) in
+      let needs = reads_a_group voice.position lane.regs.pitch j (s j).position low here.position here.within in
+      rw (on j) (marked ∙ regrouped (needs_group (s j)) (is_at_last_group (s j)) (has_end (byte_at lane.memory (s j).block))
+      ∙ ap (λ (b : Bool). b && is_end lane.memory (place_of (s j))) needs ∙ ap (λ (p : Place). is_read_in voice.position lane.regs.pitch (g j) j && is_end lane.memory p) here.place)
+
+  -- what the stretch leaves
+  pub glided_over : (now : VoiceState) (left : ℕ) (after : List ℕ) (given row : List ℤ) → take (12 + 4 * g m) row ≡ row_of lane.regs own.dir lane.memory voice (g m)
+      → now.samples ≡ drop (4 * g m) (row_of lane.regs own.dir lane.memory voice (g m)) → now.position + 0x4000 * g m ≡ voice.position + m * lane.regs.pitch
+      → place_of now ≡ there (g m) → now.delay ≡ voice.delay → now.envelope ≡ voice.envelope
+      → ((left ≡ 0) ⊎ ((left ≡ rest - m) × (0 < g m → is_silencing own.reset (byte_at lane.memory (there (g m)).block) ≡ true → IsSilent voice.envelope)))
+      → ((j : ℕ) → j < n → number_at given j ≡ number_at outs j)
+      → ((j : ℕ) → j < m → number_at given (n + j) ≡ out_over_row lane.table row voice.position lane.regs.pitch voice.envelope.level j)
+      → ((j : ℕ) → j < n → slice_index after j ≡ slice_index loops j)
+      → ((j : ℕ) → j < m → slice_index after (n + j) ≡ slice_index loops (n + j) + (if loops_in lane.memory loop_to (place_of voice) voice.position lane.regs.pitch j then 2 ^ own.voice else 0))
+      → ((j : ℕ) → n + m ≤ j → slice_index after j ≡ slice_index loops j)
+      → IsOnItsWay own lane (n + m) left before after given now
+  unfolding place_after
+  glided_over now left after given row is samples position place delay envelope ends outs_before outs_then loops_before loops_then loops_later = record {
+    played = record {
+      voice_is = voice_is ∙ sym (on m);
+      outs_are = λ j below. outs_by j (nat_lt j n) refl below;
+      loops_are = λ j below. loops_by j (nat_lt j n) refl below;
+      others = λ j above. loops_later j above ∙ way.played.others j (omega (arith, above));
+    };
+    at_rest = rw voice_is (elim ends [
+      | inl none ↦ rw none (no_rest own.reset koff lane.regs lane.memory (lane.k + (n + m)) (s m))
+      | inr more ↦ rw more.0 (rw all at (rests_more (m - 1) last (rests (m - 1) last).0 (rw all (silent_after more.1))))
+    ]);
+  }
+    where
+      last : m - 1 < m
+      last = omega (arith, some)
+
+      all : m - 1 + 1 ≡ m
+      all = omega (arith, some)
+
+      same : (s m).envelope ≡ voice.envelope
+      same = rw all at (same_on (m - 1) last (rests (m - 1) last).0 (rests (m - 1) last).1)
+
+      here : StandsAt lane.regs own.dir lane.memory voice (g m) (voice.position + m * lane.regs.pitch) (s m)
+      here = stands m (omega arith)
+
+      voice_is : now ≡ s m
+      voice_is = same_voice now (s m) (samples ∙ sym here.last) (omega (arith, position, here.position)) (place ∙ sym here.place)
+          (delay ∙ way.at_rest.delay (omega (arith, some, resting)) ∙ sym here.delay) (envelope ∙ sym same)
+
+      silent_after : (0 < g m → is_silencing own.reset (byte_at lane.memory (there (g m)).block) ≡ true → IsSilent voice.envelope)
+          → is_silencing own.reset (byte_at lane.memory (s m).block) ≡ true → IsSilent (s m).envelope
+      silent_after heard loud = rw same (by (g m) refl)
+        where
+          by : (d : ℕ) → g m ≡ d → IsSilent voice.envelope
+          by zero e = way.at_rest.silencing (omega (arith, some, resting)) (rw e at (rw (block_is m (omega arith)) at loud))
+          by (suc d) e = heard (omega (arith, e)) (rw (block_is m (omega arith)) at loud)
+
+      outs_by : (j : ℕ) (b : Bool) → nat_lt j n ≡ b → j < n + m → number_at given j ≡ (answer_at lane j).out
+      outs_by j true e below = let old : j < n = grind (arith, nat_tests, e) in outs_before j old ∙ way.played.outs_are j old
+      outs_by j false e below =
+          let new : n ≤ j = grind (arith, nat_tests, e) in
+          let part : n + (j - n) ≡ j = omega arith in
+          rw part at (outs_then (j - n) (omega (arith, below)) ∙ sym (out_is (j - n) (omega (arith, below)) row is))
+
+      loops_by : (j : ℕ) (b : Bool) → nat_lt j n ≡ b → j < n + m → slice_index after j ≡ slice_index before j + (if (answer_at lane j).looped then 2 ^ own.voice else 0)
+      loops_by j true e below = let old : j < n = grind (arith, nat_tests, e) in loops_before j old ∙ way.played.loops_are j old
+      loops_by j false e below =
+          let new : n ≤ j = grind (arith, nat_tests, e) in
+          let part : n + (j - n) ≡ j = omega arith in
+          let marked = ap (λ (b : Bool). slice_index loops (n + (j - n)) + (if b then 2 ^ own.voice else 0)) (sym (looped_is (j - n) (omega (arith, below)))) in
+          let earlier = ap (λ (b : ℕ). b + (if (answer_at lane (n + (j - n))).looped then 2 ^ own.voice else 0)) (way.played.others (n + (j - n)) (omega arith)) in
+          rw part at (loops_then (j - n) (omega (arith, below)) ∙ marked ∙ earlier)

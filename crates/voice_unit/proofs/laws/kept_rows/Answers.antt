@@ -1,0 +1,8 @@
+use Rattle.voice_unit.proofs.RowOfVoice.{plays_row, reads_row}
+use Rattle.voice_unit.proofs.laws.kept_rows.Goals as goal
+
+pub returns-clause-plays : goal.returns-clause-plays
+returns-clause-plays c = plays_row
+
+pub returns-clause-stands : goal.returns-clause-stands
+returns-clause-stands c = reads_row

@@ -1,0 +1,78 @@
+-- The row of kept samples that a voice reads in a stretch of samples.
+use Rattle.std.specs.Prelude.{◌≡◌, ℕ, zero, suc, ◌+◌, ◌*◌, ◌/◌, ◌<◌, ◌==◌, nat_lt, Bool, ◌&&◌, List, ℤ, false, length, drop, if◌then◌else◌}
+use Rattle.aram_core.specs.Memory.{byte_at}
+use Rattle.brr_decode.specs.Header.{has_end, next_block}
+use Rattle.brr_decode.specs.Kept.{with_group}
+use Rattle.voice_unit.specs.Directory.{loop_word}
+use Rattle.voice_unit.specs.Voice.{VoiceState, is_keyed}
+use Rattle.voice_unit.specs.declared.interface.VoiceRegs.{VoiceRegs}
+use Rattle.voice_unit.specs.declared.interface.VoiceIn.{VoiceIn}
+use Rattle.voice_unit.specs.declared.row.Place.{Place}
+
+-- the group that follows
+abbrev pub next_place : (memory : List ℕ) → (loop_to : ℕ) → Place → Place
+next_place memory loop_to at =
+    if at.offset == 7 then record { block = next_block (byte_at memory at.block) at.block loop_to; offset = 1 }
+    else record { block = at.block; offset = at.offset + 2 }
+
+-- the group that stands so many behind one
+unfoldable pub place_after : (memory : List ℕ) → (loop_to : ℕ) → Place → (groups : ℕ) → Place
+place_after memory loop_to first zero = first
+place_after memory loop_to first (suc d) = next_place memory loop_to (place_after memory loop_to first d)
+
+-- samples, and behind them the kept samples of so many groups, from one on
+unfoldable pub kept_row : (memory : List ℕ) → (loop_to : ℕ) → Place → (samples : List ℤ) → (groups : ℕ) → List ℤ
+kept_row memory loop_to first samples zero = samples
+kept_row memory loop_to first samples (suc d) =
+    let at = place_after memory loop_to first d in
+    with_group (kept_row memory loop_to first samples d) (byte_at memory at.block) (byte_at memory (at.block + at.offset)) (byte_at memory (at.block + at.offset + 1))
+
+-- how many groups a voice has read before sample j, from a position on, at a pitch that stays
+unfoldable pub groups_before : (position pitch j : ℕ) → ℕ
+groups_before position pitch zero = 0
+groups_before position pitch (suc j) = (position + j * pitch) / 0x4000
+
+-- a group is the last of a block that has its end bit
+abbrev pub is_end : (memory : List ℕ) → Place → Bool
+is_end memory at = at.offset == 7 && has_end (byte_at memory at.block)
+
+-- sample j reads the group behind so many others
+abbrev pub is_read_in : (position pitch group j : ℕ) → Bool
+is_read_in position pitch group j = groups_before position pitch j == group && groups_before position pitch (j + 1) == group + 1
+
+-- sample j reads a group, behind so many others, that ends a block which has its end bit
+abbrev pub ends_in : (memory : List ℕ) → Place → (position pitch group j : ℕ) → Bool
+ends_in memory at position pitch group j = is_read_in position pitch group j && is_end memory at
+
+-- in sample j a voice reads the last group of a block that has its end bit
+abbrev pub loops_in : (memory : List ℕ) → (loop_to : ℕ) → Place → (position pitch j : ℕ) → Bool
+loops_in memory loop_to first position pitch j =
+    let group = groups_before position pitch j in
+    ends_in memory (place_after memory loop_to first group) position pitch group j
+
+-- a voice that plays on for n samples: it has no delay, isn't keyed, and its pitch is that of its registers
+pub record PlaysOn (r : VoiceRegs) (inputs : ℕ → VoiceIn) (dir n : ℕ) (voice : VoiceState) : Type 0 where
+  pub delay : voice.delay ≡ 0
+  pub twelve : length voice.samples ≡ 12
+  pub position : voice.position < 0x8000
+  pub pitch : r.pitch < 0x4000
+  pub unkeyed : (j : ℕ) → j < n → is_keyed (inputs j) ≡ false
+  pub unbent : (j : ℕ) → j < n → (inputs j).modulated ≡ false
+  pub same_dir : (j : ℕ) → j < n → (inputs j).dir ≡ dir
+
+-- the group that a voice reads next
+abbrev pub place_of : VoiceState → Place
+place_of voice = record { block = voice.block; offset = voice.offset }
+
+-- the row that such a voice reads, with so many groups
+abbrev pub row_of : VoiceRegs → (dir : ℕ) → (memory : List ℕ) → VoiceState → (groups : ℕ) → List ℤ
+row_of r dir memory voice d = kept_row memory (loop_word dir r.srcn memory) (place_of voice) voice.samples d
+
+-- Where such a voice stands once it has read so many groups: its samples are the last twelve of the row, and its position is what is
+-- left of the whole way.
+pub record StandsAt (r : VoiceRegs) (dir : ℕ) (memory : List ℕ) (before : VoiceState) (groups way : ℕ) (now : VoiceState) : Type 0 where
+  pub delay : now.delay ≡ 0
+  pub last : now.samples ≡ drop (4 * groups) (row_of r dir memory before groups)
+  pub place : place_of now ≡ place_after memory (loop_word dir r.srcn memory) (place_of before) groups
+  pub position : now.position + 0x4000 * groups ≡ way
+  pub within : now.position < 0x8000

@@ -1,0 +1,23 @@
+-- The outputs of a stretch of samples over a row of kept samples.
+use Rattle.std.specs.Prelude.{ℕ, ◌+◌, ◌*◌, List, ℤ, pos, Option, Some, None, slice_get}
+use Rattle.num_fix.specs.Arithmetic.{scaled, clear_bit0}
+use Rattle.gauss_table.specs.Interpolation.{mix_of}
+use Rattle.gauss_table.specs.declared.taps.Taps.{Taps}
+use Rattle.voice_unit.specs.Voice.{interpolation}
+
+-- the interpolation that comes of four taps; of none, 0
+abbrev pub mixed : Option Taps → ℤ
+mixed (Some t) = mix_of t.oldest t.older t.newer t.newest
+mixed None = pos 0
+
+-- that of sample j of a row of taps
+abbrev pub mixed_at : List Taps → (j : ℕ) → ℤ
+mixed_at taps j = mixed (slice_get taps j)
+
+-- a sample at a level
+abbrev pub sounding_at : (level : ℕ) → (sample : ℤ) → ℤ
+sounding_at level sample = clear_bit0 (scaled sample (pos level) 11)
+
+-- what sample j puts out at a level, over a row of kept samples, from a position in it on
+abbrev pub out_over_row : (table row : List ℤ) → (position pitch level j : ℕ) → ℤ
+out_over_row table row position pitch level j = sounding_at level (interpolation table row (position + j * pitch))
