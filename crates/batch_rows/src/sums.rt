@@ -41,7 +41,8 @@ fn factors_of(volume: i16) -> [i16; 64]
     [factor; 64]
 }
 
-/// Adds the shares of a voice at a volume from -64 to 63.
+/// Adds the shares of a voice at a volume from -64 to 63. Inlined, since only there the rows are known to lie apart.
+#[inline(always)]
 fn add_soft_row(sums: &mut [i16; 64], outs: &[i16; 64], volume: i16)
     requires least { neg_ℤ (pos 64) ≤ℤ volume }
     requires most { volume <ℤ pos 64 }
@@ -62,7 +63,8 @@ fn with_strong_share(sum: i16, out: i16, factor: i16) -> i16
     add_clamped(sum, add_clamped(out, high_product(out, factor)))
 }
 
-/// Adds the shares of a voice at a volume from 64 to 127.
+/// Adds the shares of a voice at a volume from 64 to 127. Inlined, as the softer ones.
+#[inline(always)]
 fn add_strong_row(sums: &mut [i16; 64], outs: &[i16; 64], volume: i16)
     requires least { pos 64 ≤ℤ volume }
     requires most { volume <ℤ pos 128 }
@@ -74,7 +76,8 @@ fn add_strong_row(sums: &mut [i16; 64], outs: &[i16; 64], volume: i16)
     }
 }
 
-/// Adds the shares of a voice at any volume.
+/// Adds the shares of a voice at any volume. It stands apart, since few volumes want it.
+#[inline(never)]
 fn add_loud_row(sums: &mut [i16; 64], outs: &[i16; 64], volume: i16)
     ensures { HasShares outs.now volume sums.old sums.new }
 {
@@ -97,7 +100,8 @@ fn add_silent_row(sums: &[i16; 64], outs: &[i16; 64])
     }
 }
 
-/// Adds the shares of a voice at a volume.
+/// Adds the shares of a voice at a volume. Inlined with them.
+#[inline(always)]
 fn add_row(sums: &mut [i16; 64], outs: &[i16; 64], volume: i16)
     ensures { HasShares outs.now volume sums.old sums.new }
 {
