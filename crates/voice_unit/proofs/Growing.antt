@@ -1,5 +1,5 @@
 -- One group more of a stretch of samples.
-use Rattle.std.proofs.Common.{◌≡◌, ℕ, ◌+◌, ◌<◌, ◌≤◌, ◌^◌, List, ℤ, true, length, take, ◌++◌, slice_index, nat_lt, Bool, false, ap, sym, ◌∙◌, arith}
+use Rattle.std.proofs.Common.{◌≡◌, ℕ, ◌+◌, List, ℤ, length, take, ◌++◌, ap, sym, ◌∙◌, arith}
 use Rattle.std.proofs.Math.Seq.{take-append_seam}
 use Rattle.aram_core.specs.Memory.{byte_at}
 use Rattle.brr_decode.specs.Kept.{with_group}

@@ -6,7 +6,7 @@ pub mod Twelve
 pub mod Groups
 pub mod AtRest
 pub mod Played
--- Silence: at level 0 a voice puts out 0. Glided: one sample more of a voice that glides.
+-- Silence: at level 0 a voice puts out 0. Glided: lanes that let their voice glide.
 pub mod Silence
 pub mod Glided
 -- OneMoreStep: one step more of a voice over a batch, with what it gives.

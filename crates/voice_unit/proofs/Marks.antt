@@ -1,12 +1,12 @@
 -- The bits of a voice that loops, group by group.
-use Rattle.std.proofs.Common.{◌≡◌, ◌≢◌, ℕ, ◌+◌, ◌^◌, ◌<◌, ◌≤◌, ◌==◌, nat_lt, ◌&&◌, ◌⊎◌, inl, inr, List, Bool, true, false, slice_index, slice_set, length, if◌then◌else◌, refl, sym, ap, ◌∙◌, arith}
-use Rattle.std.proofs.lemmas.Bool.{and_parts, and_from}
+use Rattle.std.proofs.Common.{◌≡◌, ◌≢◌, ℕ, ◌+◌, ◌^◌, ◌<◌, ◌≤◌, ◌==◌, nat_lt, ◌&&◌, List, Bool, true, false, slice_index, slice_set, length, if◌then◌else◌, refl, ◌∙◌, arith}
+use Rattle.std.proofs.lemmas.Bool.{and_parts}
 use Rattle.std.proofs.lemmas.List.{get_or-set_same, get_or-set_other}
 use Rattle.std.proofs.lemmas.Bool.Decides.{nat_tests}
 use Rattle.voice_unit.specs.Row.{place_after, groups_before, is_end, is_read_in, ends_in, loops_in}
 use Rattle.voice_unit.specs.declared.row.Place.{Place}
 use Rattle.voice_unit.proofs.Played.{doubled}
-use Rattle.voice_unit.proofs.Counting.{earlier, groups_before-rise, is_read-behind, is_read-same, is_read-other, Reads}
+use Rattle.voice_unit.proofs.Counting.{groups_before-rise, is_read-behind, is_read-same, is_read-other, Reads}
 
 -- the bit, where a test holds
 abbrev pub bit_if : (b : Bool) → (v : ℕ) → ℕ

@@ -1,8 +1,8 @@
 -- A stretch of samples of a voice that glides, over the row of its kept samples.
-use Rattle.std.proofs.Common.{◌≡◌, ◌≢◌, ℕ, zero, suc, ◌+◌, ◌-◌, ◌*◌, ◌/◌, ◌%◌, ◌^◌, ◌<◌, ◌≤◌, ◌==◌, nat_lt, nat_le, ◌&&◌, ◌⊎◌, inl, inr, List, ℤ, pos, Bool, true, false, length, take, drop, slice_index, if◌then◌else◌, refl, sym, ap, ◌∙◌, arith, add-one}
+use Rattle.std.proofs.Common.{◌≡◌, ◌≢◌, ℕ, zero, suc, ◌+◌, ◌-◌, ◌*◌, ◌/◌, ◌^◌, ◌<◌, ◌≤◌, ◌==◌, nat_lt, nat_le, ◌&&◌, ◌⊎◌, inl, inr, List, ℤ, pos, Bool, true, false, length, take, drop, slice_index, if◌then◌else◌, refl, sym, ap, ◌∙◌, arith, add-one}
 use Rattle.std.proofs.Math.Nat.{add-suc}
 use Rattle.std.proofs.lemmas.List.{get_or-take}
-use Rattle.std.proofs.lemmas.Bool.{and_from, eq-eqb}
+use Rattle.std.proofs.lemmas.Bool.{eq-eqb}
 use Rattle.std.proofs.lemmas.Bool.Decides.{nat_tests}
 use Rattle.num_fix.specs.Arithmetic.{has_bit}
 use Rattle.num_fix.specs.Words.{number_at}
@@ -13,19 +13,18 @@ use Rattle.envelope.specs.Envelope.{EnvelopeState}
 use Rattle.voice_unit.specs.Directory.{loop_word}
 use Rattle.voice_unit.specs.Batch.{steps, answer_of_step}
 use Rattle.voice_unit.specs.Plain.{PlaysPlainly}
-use Rattle.voice_unit.specs.Play.{Lane, Glides, IsPlayed, IsOnItsWay, voice_at, answer_at}
+use Rattle.voice_unit.specs.Play.{Lane, IsOnItsWay, voice_at, answer_at}
 use Rattle.voice_unit.specs.Rest.{is_silencing, IsSilent, IsAtRest}
-use Rattle.voice_unit.specs.Row.{place_after, kept_row, groups_before, is_end, is_read_in, loops_in, PlaysOn, row_of, place_of, StandsAt}
+use Rattle.voice_unit.specs.Row.{place_after, groups_before, is_end, is_read_in, loops_in, PlaysOn, row_of, place_of, StandsAt}
 use Rattle.voice_unit.specs.Stretch.{out_over_row}
-use Rattle.voice_unit.specs.Voice.{VoiceState, interpolation, output, source_sample, needs_group, is_at_last_group, is_looped, after_reading, after_pitch, pitch_of, voice_step, voice_answer}
+use Rattle.voice_unit.specs.Voice.{VoiceState, interpolation, output, source_sample, needs_group, is_at_last_group, after_reading, after_pitch, voice_step}
 use Rattle.voice_unit.specs.declared.batch.BatchLane.{BatchLane}
-use Rattle.voice_unit.specs.declared.interface.VoiceRegs.{VoiceRegs}
 use Rattle.voice_unit.specs.declared.interface.VoiceIn.{VoiceIn}
 use Rattle.voice_unit.specs.declared.row.Place.{Place}
 use Rattle.voice_unit.proofs.AtRest.{step_at_rest, out_at_rest, looped_at_rest, rests_on, envelope-after_reading, no_rest}
 use Rattle.voice_unit.proofs.Glided.{own_pitch}
-use Rattle.voice_unit.proofs.Counting.{groups_before-zero, groups_before-more, groups_before-rise, earlier}
-use Rattle.voice_unit.proofs.RowOfVoice.{plays_row, reads_row, length-kept_row}
+use Rattle.voice_unit.proofs.Counting.{groups_before-more, groups_before-rise}
+use Rattle.voice_unit.proofs.RowOfVoice.{plays_row, reads_row}
 
 -- an interpolation looks at four samples of a row
 pub interpolation-same : (table xs ys : List ℤ) (way : ℕ) → ((k : ℕ) → k < way / 0x1000 + 4 → number_at xs k ≡ number_at ys k) → interpolation table xs way ≡ interpolation table ys way

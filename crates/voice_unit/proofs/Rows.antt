@@ -1,5 +1,5 @@
 -- Rows of numbers, one more entry at a time, and parts of them.
-use Rattle.std.proofs.Common.{◌≡◌, ◌≢◌, ℕ, ◌+◌, ◌-◌, ◌<◌, ◌≤◌, ◌==◌, List, ℤ, pos, Bool, true, false, length, take, drop, slice_set, refl, sym, ◌∙◌, arith}
+use Rattle.std.proofs.Common.{◌≡◌, ◌≢◌, ℕ, ◌+◌, ◌-◌, ◌<◌, ◌==◌, List, ℤ, pos, Bool, true, false, length, take, drop, slice_set, refl, sym, ◌∙◌, arith}
 use Rattle.std.proofs.lemmas.Bool.Decides.{nat_tests}
 use Rattle.std.proofs.lemmas.List.{get_or-set_same, get_or-set_other, drop-take}
 use Rattle.std.specs.List.{slice_range}

@@ -1,5 +1,5 @@
 -- The row of kept samples that a voice reads in a stretch of samples.
-use Rattle.std.specs.Prelude.{◌≡◌, ℕ, zero, suc, ◌+◌, ◌*◌, ◌/◌, ◌<◌, ◌==◌, nat_lt, Bool, ◌&&◌, List, ℤ, false, length, drop, if◌then◌else◌}
+use Rattle.std.specs.Prelude.{◌≡◌, ℕ, zero, suc, ◌+◌, ◌*◌, ◌/◌, ◌<◌, ◌==◌, Bool, ◌&&◌, List, ℤ, false, length, drop, if◌then◌else◌}
 use Rattle.aram_core.specs.Memory.{byte_at}
 use Rattle.brr_decode.specs.Header.{has_end, next_block}
 use Rattle.brr_decode.specs.Kept.{with_group}

@@ -131,9 +131,10 @@ impl Course {
         ensures before { (i : ℕ) → i < at → slice_index loops.new i ≡ slice_index loops.old i }
         ensures later { (i : ℕ) → at + result.samples ≤ i → slice_index loops.new i ≡ slice_index loops.old i }
         ensures quiet { (j : ℕ) → j < result.samples → 0 < groups_before self.now.position self.now.pitch j
-            → is_silencing self.now.reset (byte_at memory.now (place_after memory.now self.now.loop_to self.now.first (groups_before self.now.position self.now.pitch j)).block) ≡ true
-            → self.now.silent ≡ true }
-        ensures goes_on { result.woken ≡ false → 0 < result.groups → is_silencing self.now.reset (byte_at memory.now result.next.block) ≡ true → self.now.silent ≡ true }
+            → let next = place_after memory.now self.now.loop_to self.now.first (groups_before self.now.position self.now.pitch j) in
+            is_silencing self.now.reset (byte_at memory.now next.block) ≡ true → self.now.silent ≡ true }
+        ensures goes_on { result.woken ≡ false → 0 < result.groups
+            → is_silencing self.now.reset (byte_at memory.now result.next.block) ≡ true → self.now.silent ≡ true }
     {
         let count = groups_in(self.position, self.pitch, n);
         let mut place = self.first;

@@ -128,21 +128,13 @@ impl Voice {
         let mut j = 0;
         'samples: while j < n {
             let glided = self.glide(
-                glides,
-                j,
-                n - 1,
-                rest,
-                regs,
-                &own,
-                memory,
-                table,
-                groups,
-                &mut row,
-                &mut taps,
-                outs,
+                glides, j, n, rest, regs, &own, memory, table, groups, &mut row, &mut taps, outs,
                 loops,
             );
             let to = glided.at;
+            if to == n {
+                return glided.rest;
+            }
             let place = usize::from(to);
             let input = own.input(rows, previous[place], to);
             let clock = clocks[place];

@@ -36,7 +36,8 @@ pub(crate) fn read_group(
     requires some { 2 ≤ len }
     requires room { len + 4 ≤ 268 }
     ensures { take (len + 4) row.new
-        ≡ with_group (take len row.old) (byte_at memory.now at.now.block) (byte_at memory.now (at.now.block + at.now.offset)) (byte_at memory.now (at.now.block + at.now.offset + 1)) }
+        ≡ with_group (take len row.old) (byte_at memory.now at.now.block)
+        (byte_at memory.now (at.now.block + at.now.offset)) (byte_at memory.now (at.now.block + at.now.offset + 1)) }
 {
     let address = at.block.wrapping_add(u16::from(at.offset));
     let header = memory.get(at.block);

@@ -1,4 +1,4 @@
-use Rattle.std.proofs.Common.{◌≡◌, ◌<◌, ◌≤◌, ◌+◌, ◌*◌, arith}
+use Rattle.std.proofs.Common.{arith}
 use Rattle.voice_unit.proofs.Counting.{groups_before-zero, earlier, moves, reads_at_once, reader}
 use Rattle.voice_unit.proofs.course.reading_sample.Goals as goal
 

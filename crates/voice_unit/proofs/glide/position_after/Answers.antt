@@ -1,4 +1,4 @@
-use Rattle.std.proofs.Common.{◌≡◌, ◌<◌, ◌≤◌, ◌+◌, ◌*◌, arith}
+use Rattle.std.proofs.Common.{arith}
 use Rattle.voice_unit.proofs.Counting.{behind, IsBehind}
 use Rattle.voice_unit.proofs.glide.position_after.Goals as goal
 

@@ -1,4 +1,4 @@
-use Rattle.std.proofs.Common.{rules, ◌≡◌, ◌+◌, ◌<◌, true, length, sym, ◌∙◌, arith}
+use Rattle.std.proofs.Common.{rules, ◌≡◌, ◌+◌, ◌<◌, true, length}
 use Rattle.voice_unit.specs.Row.{is_end}
 use Rattle.voice_unit.proofs.Counting.{Reads}
 use Rattle.voice_unit.proofs.Marks.{mark_one}

@@ -1,4 +1,4 @@
-use Rattle.std.proofs.Common.{◌≡◌, ◌<◌, true, arith}
+use Rattle.std.proofs.Common.{◌≡◌, true, arith}
 use Rattle.voice_unit.proofs.voice.Voice.glide.Goals as goal
 
 pub returns-clause-way : goal.returns-clause-way

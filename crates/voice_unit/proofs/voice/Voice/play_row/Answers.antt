@@ -1,4 +1,4 @@
-use Rattle.std.proofs.Common.{rules, ◌≡◌, ◌≢◌, ◌<◌, ◌≤◌, ◌+◌, ◌-◌, ◌^◌, ℕ, to_z, of_z, length, slice_index, refl, sym, ◌∙◌, arith}
+use Rattle.std.proofs.Common.{rules, ◌≡◌, ◌≢◌, ◌<◌, ◌≤◌, ◌+◌, ◌^◌, ℕ, to_z, of_z, length, slice_index, refl, sym, ◌∙◌, arith}
 use Rattle.std.specs.Int.{w16}
 use Rattle.std.proofs.lemmas.List.{get_or_default, length-set}
 use Rattle.num_fix.specs.Arithmetic.{has_bit}
@@ -35,13 +35,13 @@ samples-preserved c =
     let j : ℕ = c.samples.j in
     let to : ℕ = c.glide-glided.result.at in
     let from : j ≤ to = c.glide-glided.ensures.from in
-    let below : to < c.args.n = omega (arith, c.samples-test.true, c.glide-glided.ensures.to) in
+    let below : to < c.args.n = omega (arith, c.glide-glided.ensures.to, c.if-to-n.false) in
     let place : c.from-place.result ≡ to = c.from-place.ensures in
     let way : (k : ℕ) → CountsFrom k c.args.n c.args.clocks.now
     → IsOnItsWay c.args.lane.now (lane_of c.args.regs.now c.args.lane.now c.args.rows.now c.args.previous.now c.args.memory.now c.args.table.now c.args.self.now k)
     to c.glide-glided.result.rest c.args.loops.now c.glide-glided.new.loops c.glide-glided.new.outs c.glide-glided.new.self =
     λ k counts. c.glide-glided.ensures.way _ c.args.loops.now refl refl refl
-    (λ is. lane_glides c.args.regs.now c.args.lane.now c.args.rows.now c.args.previous.now c.args.memory.now c.args.table.now c.args.self.now k (c.args.n - 1)
+    (λ is. lane_glides c.args.regs.now c.args.lane.now c.args.rows.now c.args.previous.now c.args.memory.now c.args.table.now c.args.self.now k c.args.n
     (omega (arith, c.requires.few)) (c.lets_glide-glides.ensures.noisy is) (c.lets_glide-glides.ensures.modulated is) (c.lets_glide-glides.ensures.keyed is))
     (c.samples.invariant.way k counts) in
     let whole : to_z w16 (of_z w16 (number_at c.args.previous.now to)) ≡ number_at c.args.previous.now to = search rules in
@@ -96,3 +96,11 @@ returns-then-n-eq0-clause-way c k counts =
       played = none_played (lane_of c.args.regs.now c.args.lane.now c.args.rows.now c.args.previous.now c.args.memory.now c.args.table.now c.args.self.now k) c.args.lane.now.voice c.args.loops.now c.args.outs.now;
       at_rest = no_rest c.args.lane.now.reset (has_bit c.args.lane.now.koff c.args.lane.now.voice) c.args.regs.now c.args.memory.now (k + 0) c.args.self.now;
     }
+
+pub returns-then-to-n-clause-way : goal.returns-then-to-n-clause-way
+returns-then-to-n-clause-way c k counts =
+    let done : c.glide-glided.result.at ≡ c.args.n = c.if-to-n.true in
+    rw done at (c.glide-glided.ensures.way _ c.args.loops.now refl refl refl
+    (λ is. lane_glides c.args.regs.now c.args.lane.now c.args.rows.now c.args.previous.now c.args.memory.now c.args.table.now c.args.self.now k c.args.n
+    (omega (arith, c.requires.few)) (c.lets_glide-glides.ensures.noisy is) (c.lets_glide-glides.ensures.modulated is) (c.lets_glide-glides.ensures.keyed is))
+    (c.samples.invariant.way k counts))

@@ -1,12 +1,10 @@
-use Rattle.std.proofs.Common.{rules, ◌≡◌, ◌+◌, ◌-◌, ◌*◌, ◌^◌, ◌<◌, ◌≤◌, nat_lt, ℕ, Bool, true, false, List, ℤ, ◌⊎◌, inl, inr, take, drop, slice_index, refl, sym, ap, ◌∙◌, arith}
+use Rattle.std.proofs.Common.{◌≡◌, ◌+◌, ◌-◌, ◌*◌, ◌^◌, ◌<◌, ◌≤◌, nat_lt, ℕ, Bool, true, false, List, ℤ, ◌⊎◌, inl, inr, drop, slice_index, refl, ap, ◌∙◌, arith}
 use Rattle.std.proofs.lemmas.Bool.Decides.{nat_tests}
 use Rattle.aram_core.specs.Memory.{byte_at}
-use Rattle.envelope.specs.Envelope.{EnvelopeState}
 use Rattle.voice_unit.specs.Directory.{loop_word}
 use Rattle.voice_unit.specs.Rest.{is_silencing, IsSilent}
-use Rattle.voice_unit.specs.Row.{place_after, groups_before, loops_in, place_of, row_of}
+use Rattle.voice_unit.specs.Row.{place_after, groups_before, loops_in, place_of}
 use Rattle.voice_unit.specs.Voice.{VoiceState}
-use Rattle.voice_unit.specs.declared.row.Place.{Place}
 use Rattle.voice_unit.proofs.Marks.{bit-bound}
 use Rattle.voice_unit.proofs.Played.{doubled}
 use Rattle.voice_unit.proofs.Rows.{last_twelve}
