@@ -1,5 +1,5 @@
 -- No record of a voice is in the mask 0.
-use Rattle.std.proofs.Common.{◌≡◌, ℕ, zero, suc, ◌+◌, ◌%◌, List, [], ◌∷◌, pos, map, false, refl}
+use Rattle.std.proofs.Common.{◌≡◌, ℕ, zero, suc, ◌+◌, List, [], ◌∷◌, false, refl}
 use Rattle.std.proofs.lemmas.List.Elements.{filter-append}
 use Rattle.std.proofs.Math.Nat.{zero-div}
 use Rattle.std.specs.List.{filter}
@@ -7,7 +7,7 @@ use Rattle.num_fix.specs.Arithmetic.{has_bit}
 use Rattle.voice_unit.specs.declared.interface.VoiceOut.{VoiceOut}
 use Rattle.dsp_form.specs.Samples.{samples, in_mask}
 use Rattle.dsp_form.specs.declared.state.ChipState.{ChipState}
-use Rattle.dsp_form.specs.Sample.{SharedInput, VoiceResult, results_from, shared_input, records_from, sample}
+use Rattle.dsp_form.specs.Sample.{records_from, sample}
 
 -- 0 has no bit
 no_bit : (v : ℕ) → has_bit 0 v ≡ false

@@ -1,4 +1,4 @@
-use Rattle.std.proofs.Common.{rules, ◌≡◌, refl, sym, arith}
+use Rattle.std.proofs.Common.{◌≡◌, refl, sym}
 use Rattle.std.proofs.lemmas.List.{append-nil}
 use Rattle.dsp_form.proofs.OneMoreSample.{samples_none}
 use Rattle.dsp_core.proofs.NoRecords.{no_records}
