@@ -13,7 +13,8 @@ use Rattle.status_lines.specs.declared.cause.Cause.{Cause}
 use Rattle.status_lines.specs.declared.cause.Cause.TheVariants.{SpcLength, SpcSignature, TableLength, BrrLength, WavForm, EncodeSize, InputTooLong, AsmLine, CodeLength, CutList, Script}
 use Rattle.status_lines.specs.declared.status.Status.{Status}
 use Rattle.status_lines.specs.declared.status.Status.TheVariants as statuses
-use Rattle.spcwave.specs.Command.{Command, usage, names_input, answer_of}
+use Rattle.command_line.specs.Command.{Command, usage, names_input}
+use Rattle.spcwave.specs.Answers.{answer_of}
 use Rattle.status_lines.specs.Statuses.{status_of, answer_status, plain_end}
 use Rattle.status_lines.specs.Lines.{end_line, refusal_line}
 use Rattle.spcwave.specs.Run as clause

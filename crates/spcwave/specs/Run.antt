@@ -7,7 +7,8 @@ use Rattle.command_frame.specs.Delivery.{HaveRooms}
 use Rattle.command_frame.specs.Leaves.{LeavesNothing, LeavesAll, LeavesPart, ReportsLast, Complains}
 use Rattle.status_lines.specs.declared.status.Status.{Status}
 use Rattle.status_lines.specs.declared.status.Status.TheVariants as statuses
-use Rattle.spcwave.specs.Command.{Command, usage, names_input, answer_of}
+use Rattle.command_line.specs.Command.{Command, usage, names_input}
+use Rattle.spcwave.specs.Answers.{answer_of}
 use Rattle.status_lines.specs.Statuses.{answer_status, plain_end}
 use Rattle.status_lines.specs.Lines.{end_line, status_line}
 

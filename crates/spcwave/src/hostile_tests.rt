@@ -1,6 +1,6 @@
-// Damaged files, failing hosts and awkward programs: each run over a host in memory, and over one that gives and takes
-// one byte at a time.
-use crate::test_support::{drips_alike, list_words, run_dripping, run_failing, run_over};
+// Damaged files, awkward programs and outputs without room: each run over a host in memory, and over one that gives and
+// takes one byte at a time.
+use crate::test_support::{MONO, drips_alike, list_words, run_dripping, run_over};
 use command_tests::{
     DSP, FIVE, Frames, MEMORY, Outcome, Pieces, ROOM, file_of, frame_bytes, straight_table,
 };
@@ -286,10 +286,6 @@ fn programs_that_meet_their_own_sound_are_heard_in_time(rt: HostRuntime) -> Resu
     Ok(())
 }
 
-/// What a file of one channel begins with, whose samples go on to its end.
-const MONO: &[u8] =
-    b"RIFF\xff\xff\xff\xffWAVEfmt \x10\0\0\0\x01\0\x01\0\0\x7d\0\0\0\xfa\0\0\x02\0\x10\0data\xff\xff\xff\xff";
-
 /// Whether a sound file of this front and of zeros up to this length is refused so, over both hosts.
 fn sound_is_refused(
     alloc: Global,
@@ -315,83 +311,6 @@ fn sounds_of_no_length_and_of_too_great_a_length_are_refused(rt: HostRuntime) ->
     assert!(rt; sound_is_refused(alloc, 16777217, Status::InputTooLong, long)?);
     let empty = "spcwave: 0 samples cannot be encoded\n";
     assert!(rt; sound_is_refused(alloc, 44, Status::EncodeSize, empty)?);
-    Ok(())
-}
-
-/// A command over the inputs of `run_on_all`, and how many of its calls are on inputs.
-const COMMANDS: &[(&[&str], u32)] = &[
-    (&["help"], 0),
-    (&["version"], 0),
-    (&["brr", "BRR", "OUT"], 3),
-    (&["info", "SPC"], 19),
-    (&["encode", "WAV", "OUT"], 3),
-    (&["asm", "SOURCE", "0400", "OUT"], 3),
-    (&["dis", "BRR", "0400", "OUT"], 3),
-    (&["rip", "SPC", "OUT"], 19),
-    (&["demo", "7", "OUT"], 0),
-    (&["check", "7"], 0),
-    (
-        &[
-            "render",
-            "SPC",
-            "TABLE",
-            "OUT",
-            "--samples",
-            "8",
-            "--trace",
-            "TRACE",
-        ],
-        22,
-    ),
-    (&["cuts", "SPC", "TABLE", "LIST", "OUT"], 25),
-    (
-        &["serve", "SPC", "TABLE", "SCRIPT", "OUT", "--pages", "257"],
-        25,
-    ),
-];
-
-/// Runs a command over these inputs, where the calls of these numbers fail.
-fn run_on_all(alloc: Global, words: &[&str], failing: &[u32]) -> Result<Outcome, Fail> {
-    let words = list_words(alloc, words)?;
-    let file = file_of(alloc, 66048, FIVE, &[])?;
-    let table = straight_table(alloc)?;
-    let mut sound = Vec::from_slice(alloc, MONO)?;
-    sound.resize(76, 0)?;
-    let blocks = vec![in alloc; 0u8; 9]?;
-    let inputs = [
-        ("SPC", file.as_slice()),
-        ("TABLE", table.as_slice()),
-        ("WAV", sound.as_slice()),
-        ("BRR", blocks.as_slice()),
-        ("SOURCE", b"NOP\n".as_slice()),
-        ("LIST", b"2 3\n0 1\n".as_slice()),
-        ("SCRIPT", b"play 3\nmark\nfree\n".as_slice()),
-    ];
-    run_failing(alloc, words.as_slice(), &inputs, failing)
-}
-
-/// Whether each call of a command may fail: those on inputs, which come first, leave nothing, the others prefixes.
-fn each_call_may_fail(alloc: Global, words: &[&str], reads: u32) -> Result<bool, Fail> {
-    let whole = run_on_all(alloc, words, &[])?;
-    let mut holds = whole.status() == Status::Ok && whole.calls() > reads;
-    for call in 0..whole.calls() {
-        let outcome = run_on_all(alloc, words, &[call])?;
-        holds = holds
-            && if call < reads {
-                outcome.is_unread(call)
-            } else {
-                outcome.is_cut_off(&whole)
-            };
-    }
-    let after = run_on_all(alloc, words, &[whole.calls()])?;
-    Ok(holds && after.status() == Status::Ok && after.report() == whole.report())
-}
-
-#[test]
-fn each_call_of_each_command_may_fail(rt: HostRuntime) -> Result<(), Fail> {
-    for (words, reads) in COMMANDS {
-        assert!(rt; each_call_may_fail(rt.alloc(), words, *reads)?, "{words:?}");
-    }
     Ok(())
 }
 

@@ -1,23 +1,23 @@
 //! Renders music of the SPC700 and its S-DSP to sound files: the program, over any host and over real files.
 #![tactic(auto)]
 
-mod cut_words;
 #[cfg(test)]
 mod demo_tests;
-mod disk;
+#[cfg(test)]
+mod disk_tests;
+#[cfg(test)]
+mod failing_tests;
 mod given;
 #[cfg(test)]
 mod hostile_tests;
-mod options;
 mod run;
 #[cfg(test)]
 mod test_support;
 #[cfg(test)]
 mod tests;
-mod words;
 
-use crate::disk::DiskHost;
 use crate::given::{Given, run_given};
+use disk_host::DiskHost;
 use std::alloc::Global;
 use std::process::ExitCode;
 use std::{env, fs, io};

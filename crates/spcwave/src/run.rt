@@ -2,10 +2,10 @@
 ghost use Rattle.std.specs.Prelude.{◌≡◌, ◌↔◌, map, string_bytes};
 ghost use Rattle.snd_host.specs.Host.{HostState};
 ghost use Rattle.command_frame.specs.Conduct.{Attempts};
-ghost use Rattle.spcwave.specs.Command.{command_of, usage, names_input, answer_of};
+ghost use Rattle.command_line.specs.Command.{command_of, usage, names_input};
+ghost use Rattle.spcwave.specs.Answers.{answer_of};
 ghost use Rattle.spcwave.specs.Run.{HasFewOutputs, Content, ReadFault, WriteFault, Memory, IsTruthful, CompletesCalmly, CompletesInputs, CompletesOutputs, CompletesComplaint, Untold};
 
-use crate::words::{Command, read_words};
 use command_asm::asm;
 use command_brr::brr;
 use command_check::check;
@@ -16,6 +16,7 @@ use command_encode::encode;
 use command_frame::{Refusal, complain};
 use command_help::{help, version};
 use command_info::info;
+use command_line::{Command, read_words};
 use command_render::render;
 use command_rip::rip;
 use command_serve::serve;

@@ -1,6 +1,7 @@
 use Rattle.std.proofs.Common.{Some, subst}
 use Rattle.command_frame.specs.declared.refusals.Refusal.TheVariants.{Usage}
-use Rattle.spcwave.specs.Command.{Command, names_input, answer_of}
+use Rattle.command_line.specs.Command.{Command, names_input}
+use Rattle.spcwave.specs.Answers.{answer_of}
 use Rattle.command_frame.specs.Conduct.{Attempts}
 use Rattle.command_frame.proofs.Obeying.{attempts_usage}
 use Rattle.spcwave.proofs.run.attempt.Goals as goal

@@ -1,11 +1,11 @@
 -- What the words that were read mean.
 use Rattle.std.specs.Prelude.{◌≤◌}
 use Rattle.page_pool.specs.Pool.{most_pages}
-use Rattle.spcwave.specs.Command as command
+use Rattle.command_line.specs.Command as command
 use Rattle.cut_form.specs.Checkpoints.{fewest_pages}
 use Rattle.command_render.specs.Options.{options_of, SamplesWithinHour}
-use Rattle.spcwave.specs.declared.words.Command.{Command}
-use Rattle.spcwave.specs.declared.words.Command.TheVariants.{Usage, Help, Version, Brr, Info, Encode, Render, Demo, Check, Asm, Dis, Rip, Cuts, Serve}
+use Rattle.command_line.specs.declared.words.Command.{Command}
+use Rattle.command_line.specs.declared.words.Command.TheVariants.{Usage, Help, Version, Brr, Info, Encode, Render, Demo, Check, Asm, Dis, Rip, Cuts, Serve}
 
 -- The numbers are in range: an hour of frames at most, and pages that a pool may have.
 abbrev pub AreInRange : Command → Type 0

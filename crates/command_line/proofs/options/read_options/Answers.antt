@@ -1,9 +1,9 @@
 use Rattle.std.proofs.Common.{◌≡◌, ◌∙◌, sym, ap, ◌-◌, Option, Some, None, length, take, drop, map, string_bytes, Global}
 use Rattle.command_render.specs.Options.{Options}
-use Rattle.spcwave.specs.Options.{options_with, options_from}
+use Rattle.command_line.specs.Options.{options_with, options_from}
 use Rattle.command_render.specs.Options.{options_of}
-use Rattle.spcwave.proofs.OptionWords.{next_options}
-use Rattle.spcwave.proofs.options.read_options.Goals as goal
+use Rattle.command_line.proofs.OptionWords.{next_options}
+use Rattle.command_line.proofs.options.read_options.Goals as goal
 
 pub returns-in-None-clause-options : goal.returns-in-None-clause-options
 returns-in-None-clause-options c =

@@ -2,7 +2,7 @@
 use Rattle.std.proofs.Common.{◌≡◌, sym, ℕ, ◌-◌, ◌<◌, ◌≤◌, ◌^◌, List, [], ◌∷◌, length, take, drop, map, get_or, Some, arith}
 use Rattle.std.proofs.lemmas.List.{take_rest}
 use Rattle.command_render.specs.Options.{Options}
-use Rattle.spcwave.specs.Options.{options_with, options_from}
+use Rattle.command_line.specs.Options.{options_with, options_from}
 
 -- two words more are one option more
 pub next_options : {X : Type 0} (f : X → List ℕ) (o : Options) (rest : List X) (name value : X) → 2 ≤ length rest → name ≡ get_or rest 0 name → value ≡ get_or rest 1 value →

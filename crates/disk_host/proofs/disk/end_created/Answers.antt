@@ -1,7 +1,7 @@
 use Rattle.std.proofs.Common.{ap}
 use Rattle.std.proofs.Math.Seq.{map-set_same}
 use Rattle.std.proofs.lemmas.List.{map-set}
-use Rattle.spcwave.proofs.disk.end_created.Goals as goal
+use Rattle.disk_host.proofs.disk.end_created.Goals as goal
 
 pub returns-then-is_err-clause-not_ended : goal.returns-then-is_err-clause-not_ended
 returns-then-is_err-clause-not_ended g c = map-set_same (λ output. output.ended) c.args.created.now.items c.args.place _ c.in-Some.output.now (ap (λ output. output.ended) c.in-Some.ensures.value)

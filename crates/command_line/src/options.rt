@@ -3,7 +3,7 @@ ghost use Rattle.std.specs.Prelude.{◌≡◌, ◌≤◌, map, string_bytes, opt
 ghost use Rattle.page_pool.specs.Pool.{most_pages};
 ghost use Rattle.cut_form.specs.Checkpoints.{fewest_pages};
 ghost use Rattle.command_render.specs.Options.{options_of, SamplesWithinHour};
-ghost use Rattle.spcwave.specs.Options.{is_name, count_in, demo_number_in, name_in, voices_in, origin_in, range_in, pages_in, options_with, options_in};
+ghost use Rattle.command_line.specs.Options.{is_name, count_in, demo_number_in, name_in, voices_in, origin_in, range_in, pages_in, options_with, options_in};
 
 use command_render::RenderOptions;
 use cut_form::MOST_FRAMES;

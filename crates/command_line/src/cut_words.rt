@@ -1,9 +1,9 @@
 // The words after `cuts` and `serve`.
 ghost use Rattle.std.specs.Prelude.{◌≡◌, ◌≤◌, map, string_bytes, IfSome};
 ghost use Rattle.page_pool.specs.Pool.{most_pages};
-ghost use Rattle.spcwave.specs.Command.{cuts_command, serve_with, serve_over, serve_command};
+ghost use Rattle.command_line.specs.Command.{cuts_command, serve_with, serve_over, serve_command};
 ghost use Rattle.cut_form.specs.Checkpoints.{fewest_pages};
-ghost use Rattle.spcwave.specs.Meaning.{meaning_of, AreInRange};
+ghost use Rattle.command_line.specs.Meaning.{meaning_of, AreInRange};
 
 use crate::options::{is_name, pages_in};
 use crate::words::Command;

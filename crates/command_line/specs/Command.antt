@@ -1,24 +1,8 @@
--- The commands of the program, as its words say them, and what they answer.
+-- The commands of the program, as its words say them.
 use Rattle.std.specs.Prelude.{ℕ, ◌&&◌, ◌||◌, Bool, true, false, List, [], ◌∷◌, Option, Some, None, codes, if◌then◌else◌}
 use Rattle.std.specs.Str.{bytes_eq}
-use Rattle.snd_host.specs.Host.{Files}
-use Rattle.command_frame.specs.Answer.{Answer, refused}
-use Rattle.command_frame.specs.declared.refusals.Refusal.TheVariants.{Usage}
-use Rattle.status_lines.specs.declared.cause.Cause.{Cause}
-use Rattle.command_brr.specs.Brr.{brr_answer}
-use Rattle.command_encode.specs.Encode.{encode_answer}
-use Rattle.command_check.specs.Check.{check_answer}
-use Rattle.command_demo.specs.Demo.{demo_answer}
-use Rattle.command_help.specs.Help.{help_answer, version_answer}
 use Rattle.command_render.specs.Options.{Options}
-use Rattle.spcwave.specs.Options.{is_name, options_in, demo_number_in, origin_in, range_in, usual_pages, pages_in}
-use Rattle.command_render.specs.Render.{render_answer}
-use Rattle.command_info.specs.Info.{info_answer}
-use Rattle.command_asm.specs.Asm.{asm_answer}
-use Rattle.command_dis.specs.Dis.{dis_answer}
-use Rattle.command_rip.specs.Rip.{rip_answer}
-use Rattle.command_cuts.specs.Cuts.{cuts_answer}
-use Rattle.command_serve.specs.Serve.{serve_answer}
+use Rattle.command_line.specs.Options.{is_name, options_in, demo_number_in, origin_in, range_in, usual_pages, pages_in}
 
 -- a command with its names
 pub data Command : Type 0 where
@@ -202,20 +186,3 @@ names_input (dis input origin output) = true
 names_input (rip file prefix range) = true
 names_input (cuts file table list wave) = true
 names_input (serve file table script wave pages) = true
-
--- what a command answers, by what the names hold
-abbrev pub answer_of : Command → Files → Answer Cause
-answer_of usage files = refused Usage
-answer_of help files = help_answer
-answer_of version files = version_answer
-answer_of (brr input output) files = brr_answer output (files input)
-answer_of (info input) files = info_answer (files input)
-answer_of (encode input output looped) files = encode_answer output looped (files input)
-answer_of (render file table wave options) files = render_answer wave options (files file) (files table)
-answer_of (demo number output) files = demo_answer number output
-answer_of (check number) files = check_answer number
-answer_of (asm input origin output) files = asm_answer origin output (files input)
-answer_of (dis input origin output) files = dis_answer origin output (files input)
-answer_of (rip file prefix range) files = rip_answer prefix range (files file)
-answer_of (cuts file table list wave) files = cuts_answer wave (files file) (files table) (files list)
-answer_of (serve file table script wave pages) files = serve_answer wave pages (files file) (files table) (files script)

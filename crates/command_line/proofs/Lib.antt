@@ -1,0 +1,2 @@
+-- OptionWords: the options of `render`, word by word.
+pub mod OptionWords

@@ -1,0 +1,6 @@
+-- the commands, as words say them
+pub mod Command
+-- the options of `render`, numbers, addresses and pages, as words say them
+pub mod Options
+-- what the words that were read mean
+pub mod Meaning

@@ -1,0 +1,8 @@
+//! The words of the command line, and the command that they say.
+#![tactic(auto)]
+
+mod cut_words;
+mod options;
+mod words;
+
+pub use words::{Command, read_words};

@@ -1,0 +1,6 @@
+//! The host of real files: it tells no contents.
+#![tactic(auto)]
+
+mod disk;
+
+pub use disk::DiskHost;

@@ -1,0 +1,164 @@
+// A render over real files, beside the same over a host in memory.
+ghost use Rattle.std.specs.Prelude.{◌≡◌, [], IfOk};
+ghost use Rattle.snd_host.specs.Memory.{memory_state};
+
+use crate::run::run;
+use crate::test_support::list_words;
+use command_tests::{Outcome, straight_table};
+use disk_host::DiskHost;
+use snd_host::MemHost;
+use status_lines::Status;
+use std::alloc::Global;
+use std::rt::{Env, Files};
+use std::test::Fail;
+use std::{env, fs};
+
+/// The bytes of the trace of eight voices over a thousand samples that there is room for: it has 208,926.
+const TRACE_ROOM: usize = 250000;
+
+/// The names of real files, which all begin alike.
+#[derive(Drop)]
+struct Names {
+    tune: String,
+    table: String,
+    wave: String,
+    trace: String,
+    report: String,
+    complaint: String,
+}
+
+/// What the names of this process's files begin with.
+fn front_of(alloc: Global, rt: &(impl Env + AllocGlobal), process: u32) -> Result<String, Fail> {
+    let folder = env::temp_dir(rt)?;
+    Ok(format!(in alloc; "{}/spcwave-{process}", folder.display())?)
+}
+
+fn name_of(alloc: Global, front: &str, end: &str) -> Result<String, Fail> {
+    let mut name = String::from_str(alloc, front)?;
+    name.push_str(end)?;
+    Ok(name)
+}
+
+fn names_of(alloc: Global, front: &str) -> Result<Names, Fail> {
+    Ok(Names {
+        tune: name_of(alloc, front, ".spc")?,
+        table: name_of(alloc, front, ".table")?,
+        wave: name_of(alloc, front, ".wav")?,
+        trace: name_of(alloc, front, ".txt")?,
+        report: name_of(alloc, front, ".report")?,
+        complaint: name_of(alloc, front, ".complaint")?,
+    })
+}
+
+/// The words of a render with a trace of all voices, which comes in several pieces.
+fn render_words(alloc: Global, names: &Names) -> Result<Vec<String>, Fail> {
+    let words = [
+        "render",
+        names.tune.as_str(),
+        names.table.as_str(),
+        names.wave.as_str(),
+        "--samples",
+        "1000",
+        "--trace",
+        names.trace.as_str(),
+        "--voices",
+        "ff",
+    ];
+    list_words(alloc, &words)
+}
+
+/// Runs these words over real files, the report and the complaint among them.
+fn run_on_disk<R: Files>(
+    alloc: Global,
+    files: &R,
+    names: &Names,
+    words: &[String],
+) -> Result<Status, Fail> {
+    let report = fs::create(files, names.report.as_str())?;
+    let complaint = fs::create(files, names.complaint.as_str())?;
+    let mut host = DiskHost::new(alloc, files, report, complaint);
+    Ok(run(alloc, words, &mut host))
+}
+
+/// What the files hold.
+#[derive(Drop)]
+struct Held {
+    tune: Vec<u8>,
+    table: Vec<u8>,
+    wave: Vec<u8>,
+    trace: Vec<u8>,
+    report: Vec<u8>,
+    complaint: Vec<u8>,
+}
+
+fn read_all<R: Files + AllocGlobal>(files: &R, names: &Names) -> Result<Held, Fail> {
+    Ok(Held {
+        tune: fs::read(files, names.tune.as_str())?,
+        table: fs::read(files, names.table.as_str())?,
+        wave: fs::read(files, names.wave.as_str())?,
+        trace: fs::read(files, names.trace.as_str())?,
+        report: fs::read(files, names.report.as_str())?,
+        complaint: fs::read(files, names.complaint.as_str())?,
+    })
+}
+
+fn remove_all<R: Files>(files: &R, names: &Names) -> Result<(), Fail> {
+    for name in [
+        &names.tune,
+        &names.table,
+        &names.wave,
+        &names.trace,
+        &names.report,
+        &names.complaint,
+    ] {
+        fs::remove_file(files, name.as_str())?;
+    }
+    Ok(())
+}
+
+/// A host in memory that has the same inputs, and room for both outputs.
+fn host_like(alloc: Global, names: &Names, held: &Held) -> Result<MemHost, Fail>
+    ensures { IfOk result (λ host. (memory_state host).ended ≡ []) }
+{
+    let tune = (names.tune.clone()?, held.tune.clone()?);
+    let table = (names.table.clone()?, held.table.clone()?);
+    let files = vec![in alloc; tune, table]?;
+    let rooms = vec![in alloc; 2000, 100, 10000, TRACE_ROOM]?;
+    Ok(MemHost::new(alloc, files, Vec::new(alloc), rooms)?)
+}
+
+/// The same render over that host.
+fn render_inside(alloc: Global, names: &Names, held: &Held) -> Result<Outcome, Fail> {
+    let words = render_words(alloc, names)?;
+    let mut host = host_like(alloc, names, held)?;
+    let status = run(alloc, words.as_slice(), &mut host);
+    Ok(Outcome::of_run(status, host))
+}
+
+/// Whether real files hold what the outputs in memory do.
+fn is_alike(held: &Held, inside: &Outcome) -> bool {
+    held.wave.as_slice() == inside.first()
+        && held.trace.as_slice() == inside.second()
+        && held.report.as_slice() == inside.report()
+        && held.complaint.as_slice() == inside.complaint()
+}
+
+/// From a file that was written over real files too.
+#[test]
+fn a_render_over_real_files_is_that_in_memory(rt: HostRuntime) -> Result<(), Fail> {
+    let alloc = rt.alloc();
+    let front = front_of(alloc, &rt, std::process::id(rt.process()))?;
+    let names = names_of(alloc, front.as_str())?;
+    fs::write(&rt, names.table.as_str(), straight_table(alloc)?.as_slice())?;
+    let demo = list_words(alloc, &["demo", "7", names.tune.as_str()])?;
+    let made = run_on_disk(alloc, &rt, &names, demo.as_slice())?;
+    let words = render_words(alloc, &names)?;
+    let ended = run_on_disk(alloc, &rt, &names, words.as_slice())?;
+    let held = read_all(&rt, &names)?;
+    remove_all(&rt, &names)?;
+    let inside = render_inside(alloc, &names, &held)?;
+    assert!(rt; made == Status::Ok && ended == Status::Ok && inside.status() == Status::Ok);
+    assert!(rt; held.wave.len() == 44 + 4 * 1000 && held.trace.len() == 208926);
+    assert!(rt; is_alike(&held, &inside));
+    Ok(())
+}
