@@ -65,7 +65,7 @@ impl Model for GroupMemory {
 }
 
 impl GroupMemory {
-    /// A memory of a group of zeros.
+    /// A memory of a group of zeros. Its type's invariant says all that is promised.
     pub fn new(alloc: Global) -> Result<GroupMemory, OutOfMemory> {
         let zeros = RememberedGroup::decoded(0, 0, 0, 0, 0, 0);
         let groups = [zeros; GROUPS];

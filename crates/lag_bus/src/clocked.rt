@@ -1,13 +1,10 @@
 // The clock, the calls of the bus, and the ports and timers at the clock, whose ticks are done where they are looked at or changed.
-ghost use Rattle.std.specs.Prelude.{◌≡◌, ◌+◌, ◌/◌, ◌%◌, ◌<◌, ◌^◌, nat_lt};
+ghost use Rattle.std.specs.Prelude.{◌≡◌, ◌+◌, ◌%◌, ◌<◌, ◌^◌, nat_lt};
 ghost use Rattle.ports_timers.specs.Io.{read_answer, after_read, after_write};
 ghost use Rattle.lag_bus.specs.Clocked.{clocked_after};
 
 use ports_timers::{Io, tick_through};
 use std::marker::Model;
-
-/// A cycle, in the steps of the time: a call takes one of them, so that one number tells both.
-const CYCLE: u64 = 256;
 
 /// The clock, the calls since the last drain, and the ports, the ROM and the timers as they are at the clock. The ticks of
 /// the cycles that passed are done late, where something asks for them.
@@ -16,24 +13,25 @@ pub struct ClockedIo {
     io: Io,
     /// The moment of the clock up to which the timers have ticked.
     ticked: u64,
-    /// The clock in steps of a cycle, and the calls.
-    time: u64,
+    clock: u64,
+    calls: u8,
 }
 
 impl Model for ClockedIo {
-    ghost use Rattle.std.specs.Prelude.{◌-◌, ◌/◌, ◌%◌, ◌<◌, ◌≤◌, ◌^◌};
+    ghost use Rattle.std.specs.Prelude.{◌-◌, ◌<◌, ◌≤◌, ◌^◌};
     ghost use Rattle.ports_timers.specs.Io.{after_ticks_of};
     ghost use Rattle.lag_bus.specs.Clocked.{Clocked};
 
     ghost Value = { Clocked };
 
-    ghost view = { λ c. record { io = after_ticks_of c.io c.ticked (c.time / 256 - c.ticked); clock = c.time / 256; calls = c.time % 256 } };
+    ghost view = { λ c. record { io = after_ticks_of c.io c.ticked (c.clock - c.ticked); clock = c.clock; calls = c.calls } };
 
-    ghost invariant = { λ c. (c.ticked ≤ c.time / 256) × (c.time < 2 ^ 48) };
+    ghost invariant = { λ c. (c.ticked ≤ c.clock) × (c.clock < 2 ^ 40) };
 }
 
 impl ClockedIo {
     /// The ports and timers at a moment of the clock, and no calls.
+    #[tactic(auto, using(crate::proofs::LateTicks::no_ticks))]
     pub fn new(io: Io, clock: u64) -> Self
         requires { clock < 2 ^ 40 }
         ensures { result ≡ record { io = io; clock = clock; calls = 0 } }
@@ -41,7 +39,8 @@ impl ClockedIo {
         ClockedIo {
             io,
             ticked: clock,
-            time: CYCLE * clock,
+            clock,
+            calls: 0,
         }
     }
 
@@ -51,15 +50,15 @@ impl ClockedIo {
         ensures clock { result ≡ self.now.clock }
         ensures fits { result < 2 ^ 40 }
     {
-        self.time / CYCLE
+        self.clock
     }
 
     /// The calls since the last drain.
     #[inline(always)]
-    pub fn calls(&self) -> u64
+    pub fn calls(&self) -> u8
         ensures { result ≡ self.now.calls }
     {
-        self.time % CYCLE
+        self.calls
     }
 
     /// Counts a call.
@@ -68,36 +67,23 @@ impl ClockedIo {
         requires { self.old.calls < 255 }
         ensures { self.new ≡ record self.old { calls = self.old.calls + 1 } }
     {
-        self.time += 1;
+        self.calls += 1;
     }
 
     /// Begins the calls anew.
     pub fn restart(&mut self)
         ensures { self.new ≡ record self.old { calls = 0 } }
     {
-        self.time -= self.time % CYCLE;
-    }
-
-    /// The time after a call that lets some cycles pass.
-    #[inline(always)]
-    fn time_after(&self, cycles: u8) -> u64
-        requires calls { self.now.calls < 255 }
-        requires clock { self.now.clock + cycles < 2 ^ 40 }
-        ensures clock { result / 256 ≡ self.now.clock + cycles }
-        ensures calls { result % 256 ≡ self.now.calls + 1 }
-        ensures fits { result < 2 ^ 48 }
-    {
-        self.time + CYCLE * u64::from(cycles) + 1
+        self.calls = 0;
     }
 
     /// Whether some cycles come to a multiple of 32 of the clock.
     #[inline(always)]
     pub fn comes_to_sample(&self, cycles: u8) -> bool
-        requires calls { self.now.calls < 255 }
-        requires clock { self.now.clock + cycles < 2 ^ 40 }
+        requires { self.now.clock + cycles < 2 ^ 40 }
         ensures { result ≡ nat_lt ((self.now.clock + cycles) % 32) cycles }
     {
-        self.time_after(cycles) / CYCLE % 32 < u64::from(cycles)
+        (self.clock + u64::from(cycles)) % 32 < u64::from(cycles)
     }
 
     /// Counts a call that lets some cycles pass.
@@ -108,15 +94,17 @@ impl ClockedIo {
         requires clock { self.old.clock + cycles < 2 ^ 40 }
         ensures { self.new ≡ record (clocked_after cycles self.old) { calls = self.old.calls + 1 } }
     {
-        self.time = self.time_after(cycles);
+        self.clock += u64::from(cycles);
+        self.calls += 1;
     }
 
     /// Lets some cycles pass.
+    #[tactic(auto, using(crate::proofs::LateTicks::ticks_to_come))]
     pub fn wait(&mut self, cycles: u64)
         requires { self.old.clock + cycles < 2 ^ 40 }
         ensures { self.new ≡ clocked_after cycles self.old }
     {
-        self.time += CYCLE * cycles;
+        self.clock += cycles;
     }
 
     /// The ports and timers.
@@ -124,7 +112,7 @@ impl ClockedIo {
         ensures { result ≡ self.now.io }
     {
         let mut io = self.io;
-        tick_through(&mut io, self.ticked, self.clock() - self.ticked);
+        tick_through(&mut io, self.ticked, self.clock - self.ticked);
         io
     }
 
@@ -135,15 +123,22 @@ impl ClockedIo {
         self.io.dsp_address()
     }
 
+    /// Does the ticks of the cycles that passed.
+    #[tactic(auto, using(crate::proofs::LateTicks::no_ticks))]
+    fn tick(&mut self)
+        ensures { self.new ≡ self.old }
+    {
+        tick_through(&mut self.io, self.ticked, self.clock - self.ticked);
+        self.ticked = self.clock;
+    }
+
     /// Answers a read as the ports and timers do.
     #[tactic(auto, using(crate::proofs::LateTicks::no_ticks))]
     pub fn read(&mut self, at: u16) -> Option<u8>
         ensures answer { result ≡ read_answer self.old.io at }
         ensures after { self.new ≡ record self.old { io = after_read self.old.io at } }
     {
-        let clock = self.clock();
-        tick_through(&mut self.io, self.ticked, clock - self.ticked);
-        self.ticked = clock;
+        self.tick();
         self.io.read(at)
     }
 
@@ -152,9 +147,8 @@ impl ClockedIo {
     pub fn write(&mut self, at: u16, value: u8)
         ensures { self.new ≡ record self.old { io = after_write self.old.io at value } }
     {
-        let cycles = self.clock() - self.ticked;
-        tick_through(&mut self.io, self.ticked, cycles);
-        self.ticked = self.clock();
+        // under the targets that were there
+        self.tick();
         self.io.write(at, value);
     }
 }

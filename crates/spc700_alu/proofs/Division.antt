@@ -2,7 +2,7 @@
 use Rattle.std.proofs.Common.{◌≡◌, ℕ, ◌*◌, ◌/◌, ◌%◌, ◌<◌, true, arith}
 use Rattle.std.proofs.lemmas.Bool.Decides.{nat_tests}
 use Rattle.std.proofs.lemmas.Nat.{div_below}
-use Rattle.spc700_alu.specs.Words.{div_is_exact}
+use Rattle.spc700_alu.specs.WordArithmetic.{div_is_exact}
 
 pub exact : (ya x : ℕ) → ya < 0x100 * x → div_is_exact ya x ≡ true
 exact ya x fits =

@@ -3,7 +3,7 @@ pub mod Flags
 -- ADC, SBC, CMP, the logic, the shifts, INC and DEC
 pub mod Bytes
 -- ADDW, SUBW, CMPW, MUL and DIV
-pub mod Words
+pub mod WordArithmetic
 -- DAA and DAS
 pub mod Decimal
 -- the operations on one bit

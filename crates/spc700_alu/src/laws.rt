@@ -4,7 +4,7 @@ ghost use Rattle.std.specs.Prelude.{◌≡◌, ◌+◌, ◌*◌, ◌/◌, ◌%�
 ghost use Rattle.spc700_alu.specs.Flags.{V, C, flag, with_flag, carry_in, SameFlags};
 ghost use Rattle.spc700_alu.specs.Ranges.{borrow_in, sum_fits, difference_fits, IsDecimalSum};
 ghost use Rattle.spc700_alu.specs.Bytes.{adc_of, sbc_of, cmp_of, logic_of, shift_of, bump_of};
-ghost use Rattle.spc700_alu.specs.Words.{addw_of, subw_of, cmpw_of, mul_of, div_of};
+ghost use Rattle.spc700_alu.specs.WordArithmetic.{addw_of, subw_of, cmpw_of, mul_of, div_of};
 ghost use Rattle.spc700_alu.specs.Decimal.{daa_of, das_of};
 ghost use Rattle.spc700_alu.specs.Bits.{bitop_of};
 ghost use Rattle.spc700_alu.specs.declared.bytes.LogicKind.{LogicKind};

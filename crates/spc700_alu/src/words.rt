@@ -3,14 +3,14 @@
 //! Each operation is inlined into the arm of its opcode, where its kind is a constant.
 
 ghost use Rattle.std.specs.Prelude.{◌≡◌, ◌≤◌};
-ghost use Rattle.spc700_alu.specs.Words.{word_sum, addw_of, subw_of, cmpw_of, mul_of, div_of};
+ghost use Rattle.spc700_alu.specs.WordArithmetic.{word_sum, addw_of, subw_of, cmpw_of, mul_of, div_of};
 
 use crate::Out16;
 use crate::flags::{CARRY, HALF, OVERFLOW, put, put_nz, put_nz16};
 
 /// The sum with a carry in of 0 or 1.
 #[inline]
-#[tactic(auto, unfolding(crate::specs::Words::word_sum))]
+#[tactic(auto, unfolding(crate::specs::WordArithmetic::word_sum))]
 fn add_words(a: u16, b: u16, carry: u16, psw: u8) -> Out16
     requires { carry ≤ 1 }
     ensures { result ≡ word_sum a b carry psw }
@@ -46,7 +46,7 @@ pub fn subw(ya: u16, w: u16, psw: u8) -> Out16
 
 /// The status after CMPW of `ya` with `w`.
 #[inline]
-#[tactic(auto, unfolding(crate::specs::Words::cmpw_of))]
+#[tactic(auto, unfolding(crate::specs::WordArithmetic::cmpw_of))]
 pub fn cmpw(ya: u16, w: u16, psw: u8) -> u8
     ensures { result ≡ cmpw_of ya w psw }
 {
@@ -55,7 +55,7 @@ pub fn cmpw(ya: u16, w: u16, psw: u8) -> u8
 
 /// MUL: `y` times `a`.
 #[inline]
-#[tactic(auto, unfolding(crate::specs::Words::mul_of))]
+#[tactic(auto, unfolding(crate::specs::WordArithmetic::mul_of))]
 pub fn mul(y: u8, a: u8, psw: u8) -> Out16
     ensures { result ≡ mul_of y a psw }
 {
@@ -68,7 +68,7 @@ pub fn mul(y: u8, a: u8, psw: u8) -> Out16
 
 /// DIV: the low byte of the quotient of `ya` by `x` goes to A, the rest to Y. A quotient above 511, or a divisor of 0, has
 /// the processor's own result.
-#[tactic(auto, unfolding(crate::specs::Words::div_of))]
+#[tactic(auto, unfolding(crate::specs::WordArithmetic::div_of))]
 pub fn div(ya: u16, x: u8, psw: u8) -> Out16
     ensures { result ≡ div_of ya x psw }
 {

@@ -3,7 +3,7 @@ use Rattle.std.specs.Prelude.{ℕ, true, false}
 use Rattle.spc700_alu.specs.declared.Out8.{Out8}
 use Rattle.spc700_alu.specs.declared.Out16.{Out16}
 use Rattle.spc700_alu.specs.Bytes.{adc_of, sbc_of, logic_of, shift_of, bump_of}
-use Rattle.spc700_alu.specs.Words.{addw_of, subw_of}
+use Rattle.spc700_alu.specs.WordArithmetic.{addw_of, subw_of}
 use Rattle.spc700_exec.specs.declared.bytes.Calculation.{Calculation}
 use Rattle.spc700_exec.specs.declared.bytes.Calculation.TheVariants as Calculate
 use Rattle.spc700_exec.specs.declared.bytes.Modification.{Modification}

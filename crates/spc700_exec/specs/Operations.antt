@@ -9,7 +9,7 @@ use Rattle.spc700_alu.specs.declared.bits.BitKind.{BitKind}
 use Rattle.spc700_alu.specs.declared.bits.BitKind.TheVariants as Bit
 use Rattle.spc700_alu.specs.Flags.{N, V, P, H, I, Z, C, flag, with_flag, with_nz16}
 use Rattle.spc700_alu.specs.Bytes.{nz_result, adc_of, sbc_of, logic_of, shift_of, bump_of}
-use Rattle.spc700_alu.specs.Words.{addw_of, subw_of, cmpw_of, mul_of, div_of}
+use Rattle.spc700_alu.specs.WordArithmetic.{addw_of, subw_of, cmpw_of, mul_of, div_of}
 use Rattle.spc700_alu.specs.Decimal.{daa_of, das_of}
 use Rattle.spc700_table.specs.declared.Form.{Form}
 use Rattle.spc700_table.specs.declared.Form.TheVariants as F

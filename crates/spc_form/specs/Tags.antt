@@ -52,6 +52,10 @@ length_of_times seconds milliseconds = record { frames = 32000 * seconds + 32 * 
 abbrev pub default_length : Length
 default_length = record { frames = 5760000; fade = 0 }
 
+-- the most frames that both fields can tell: 999 seconds, and a fade of 99,999 milliseconds
+abbrev pub most_told_frames : ℕ
+most_told_frames = 35167968
+
 -- the length by the numbers of both fields
 abbrev pub length_of_numbers : (seconds fade : Option ℕ) → Length
 length_of_numbers None fade = default_length

@@ -3,7 +3,7 @@ ghost use Rattle.std.specs.Prelude.{◌≡◌, ◌+◌, ◌*◌, ◌-◌, ◌^�
 ghost use Rattle.std.specs.List.{before_first, list_all, prefix_len};
 ghost use Rattle.std.specs.Option.{ForSome};
 ghost use Rattle.std.specs.Char.{IsAsciiDigit, is_ascii_digit};
-ghost use Rattle.spc_form.specs.Tags.{field_start, field_size, text_of, number_in, length_of, length_of_numbers};
+ghost use Rattle.spc_form.specs.Tags.{most_told_frames, field_start, field_size, text_of, number_in, length_of, length_of_numbers};
 
 use crate::SpcFile;
 use crate::parts::part;
@@ -117,7 +117,7 @@ fn length_of_numbers(seconds: Option<u32>, fade: Option<u32>) -> Length
     requires seconds { ForSome seconds (λ number. number < 1000) }
     requires fade { ForSome fade (λ number. number < 100000) }
     ensures length { result ≡ length_of_numbers seconds fade }
-    ensures most { result.frames ≤ 35167968 }
+    ensures most { result.frames ≤ most_told_frames }
     ensures fade_within { result.fade ≤ result.frames }
 {
     match seconds {
@@ -141,7 +141,7 @@ impl SpcFile {
     #[tactic(auto, unfolding(crate::specs::Tags::length_of))]
     pub fn length(&self) -> Length
         ensures length { result ≡ length_of self.now }
-        ensures most { result.frames ≤ 35167968 }
+        ensures most { result.frames ≤ most_told_frames }
         ensures fade_within { result.fade ≤ result.frames }
     {
         let tagged = self.tag_mark() == 0x1A;

@@ -1,7 +1,7 @@
 use Rattle.std.proofs.Common.{◌+◌, ◌-◌, ◌∙◌, arith}
 use Rattle.spc700_alu.specs.Flags.{carry_in}
 use Rattle.spc700_alu.specs.Bytes.{byte_sum}
-use Rattle.spc700_alu.specs.Words.{word_sum}
+use Rattle.spc700_alu.specs.WordArithmetic.{word_sum}
 use Rattle.spc700_alu.specs.Ranges.{borrow_in}
 use Rattle.spc700_alu.proofs.SumFlags.{c_of_five}
 use Rattle.spc700_alu.proofs.Overflow.{carry_in-few, same_tests}

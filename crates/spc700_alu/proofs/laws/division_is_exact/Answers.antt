@@ -1,5 +1,5 @@
 use Rattle.std.proofs.Common.{◌≡◌, ℕ, ◌+◌, ◌*◌, ◌/◌, ◌%◌, true, ap}
-use Rattle.spc700_alu.specs.Words.{div_of, div_is_exact}
+use Rattle.spc700_alu.specs.WordArithmetic.{div_of, div_is_exact}
 use Rattle.spc700_alu.proofs.Division.{exact, quotient_small}
 use Rattle.spc700_alu.proofs.laws.division_is_exact.Goals as goal
 

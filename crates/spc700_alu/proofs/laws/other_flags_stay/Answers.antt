@@ -5,7 +5,7 @@ use Rattle.spc700_alu.specs.declared.bits.BitKind.{BitKind}
 use Rattle.spc700_alu.specs.declared.bits.BitKind.TheVariants as Bit
 use Rattle.spc700_alu.specs.Flags.{SameFlags}
 use Rattle.spc700_alu.specs.Bytes.{byte_sum, cmp_of, logic_of, shift_of, bump_of}
-use Rattle.spc700_alu.specs.Words.{word_sum, cmpw_of, mul_of, div_of}
+use Rattle.spc700_alu.specs.WordArithmetic.{word_sum, cmpw_of, mul_of, div_of}
 use Rattle.spc700_alu.specs.Decimal.{daa_of, das_of}
 use Rattle.spc700_alu.specs.Bits.{bitop_of}
 use Rattle.spc700_alu.proofs.Others.{nz_alone, nzc_alone, nvhz_alone, nvhzc_alone, c_alone}

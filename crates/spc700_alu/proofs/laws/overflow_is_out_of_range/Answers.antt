@@ -1,7 +1,7 @@
 use Rattle.std.proofs.Common.{◌≡◌, ◌+◌, ◌-◌, ◌∙◌, arith}
 use Rattle.spc700_alu.specs.Flags.{carry_in}
 use Rattle.spc700_alu.specs.Bytes.{byte_sum}
-use Rattle.spc700_alu.specs.Words.{word_sum}
+use Rattle.spc700_alu.specs.WordArithmetic.{word_sum}
 use Rattle.spc700_alu.specs.Ranges.{borrow_in}
 use Rattle.spc700_alu.proofs.SumFlags.{v_of_five}
 use Rattle.spc700_alu.proofs.Overflow.{carry_in-few, overflow_of_sum8, overflow_of_sum16, overflow_of_difference8, overflow_of_difference16}
