@@ -1,4 +1,5 @@
 // The clock, the calls of the bus, and the ports and timers at the clock, whose ticks are done where they are looked at or changed.
+// What each access asks of it is inlined into the access.
 ghost use Rattle.std.specs.Prelude.{◌≡◌, ◌+◌, ◌%◌, ◌<◌, ◌^◌, nat_lt};
 ghost use Rattle.ports_timers.specs.Io.{read_answer, after_read, after_write};
 ghost use Rattle.lag_bus.specs.Clocked.{clocked_after};
@@ -123,32 +124,26 @@ impl ClockedIo {
         self.io.dsp_address()
     }
 
-    /// Does the ticks of the cycles that passed.
-    #[tactic(auto, using(crate::proofs::LateTicks::no_ticks))]
-    fn tick(&mut self)
-        ensures { self.new ≡ self.old }
-    {
-        tick_through(&mut self.io, self.ticked, self.clock - self.ticked);
-        self.ticked = self.clock;
-    }
-
     /// Answers a read as the ports and timers do.
     #[tactic(auto, using(crate::proofs::LateTicks::no_ticks))]
     pub fn read(&mut self, at: u16) -> Option<u8>
         ensures answer { result ≡ read_answer self.old.io at }
         ensures after { self.new ≡ record self.old { io = after_read self.old.io at } }
     {
-        self.tick();
+        let clock = self.clock;
+        tick_through(&mut self.io, self.ticked, clock - self.ticked);
+        self.ticked = clock;
         self.io.read(at)
     }
 
-    /// Takes a write as the ports and timers do.
+    /// Takes a write as the ports and timers do, which tick up to it under the targets that were there.
     #[tactic(auto, using(crate::proofs::LateTicks::no_ticks))]
     pub fn write(&mut self, at: u16, value: u8)
         ensures { self.new ≡ record self.old { io = after_write self.old.io at value } }
     {
-        // under the targets that were there
-        self.tick();
+        let cycles = self.clock - self.ticked;
+        tick_through(&mut self.io, self.ticked, cycles);
+        self.ticked = self.clock;
         self.io.write(at, value);
     }
 }
