@@ -1,7 +1,7 @@
 -- What contracts see of a bus: three functions on the bus as plain data, and three numbers of it.
 use Rattle.std.specs.Prelude.{◌≡◌, ℕ, ◌+◌, ◌/◌}
 
--- a bus makes fewer samples than so many
+-- a bus has made fewer samples than so many before a pass
 abbrev pub most_samples_of_bus : ℕ
 most_samples_of_bus = 4000000000
 

@@ -1,10 +1,9 @@
 //! The instruction of each opcode. Each has an arm of its own with everything in it inlined: its row is a constant there, so
-//! that no form is told apart and no cycles are looked up while a program runs. Each function of sixteen opcodes hands the
-//! others on to the next one and is inlined into the one before it, so that all of them are one match, and a step goes to
-//! its arm at once.
+//! that no form is told apart while a program runs and its cycles are constants. The functions of sixteen opcodes are inlined
+//! into `instruct`, and that into the step, so that a step goes to its arm at once.
 #![tactic(auto, unfolding(spc700_table::specs::Opcodes::row_of, spc700_table::specs::Opcodes::columns, spc700_table::specs::Cycles::printed_cycles, spc700_table::specs::Cycles::cycle_map))]
 
-ghost use Rattle.std.specs.Prelude.{◌≡◌, ◌≤◌, false};
+ghost use Rattle.std.specs.Prelude.{◌≡◌, ◌/◌, false};
 ghost use Rattle.spc700_table.specs.Opcodes.{row_of};
 ghost use Rattle.spc700_exec.specs.Pieces.{HasRoom, IsRow, IsInstruction, halts};
 
@@ -33,25 +32,24 @@ fn fitting_row(op: u8) -> OpRow
     row(op)
 }
 
-/// Makes the instruction of an opcode: each arm is given the row of its opcode. No opcode below them comes, and those above
-/// them are handed on.
+/// Makes the instruction of an opcode: each arm is given the row of its opcode. No other opcode comes.
 macro_rules! instruction_of {
-    ($op:expr, $row:ident, $($code:literal => $instruction:expr,)* $(below $below:pat,)? $(above $above:pat => $next:expr)?) => {
+    ($op:expr, $row:ident, $($code:literal => $instruction:expr,)* others $others:pat) => {
         match $op {
             $($code => {
                 let $row = fitting_row($code);
                 $instruction
             })*
-            $($below => unreachable!(),)?
-            $($above => $next,)?
+            $others => unreachable!(),
         }
     };
 }
 
-/// The opcodes from 0x00 on.
-#[inline(always)]
+/// The opcodes 0x00 to 0x0F.
+#[inline]
 fn from_00<B: Bus>(cpu: &mut Cpu, bus: &mut B, op: u8) -> u8
     requires room { HasRoom 12 B.means bus.old }
+    requires digit { op / 16 ≡ 0 }
     requires runs { halts (row_of op).kind ≡ false }
     ensures { IsInstruction B.means (row_of op) cpu.old bus.old cpu.new result bus.new }
 {
@@ -72,15 +70,15 @@ fn from_00<B: Bus>(cpu: &mut Cpu, bus: &mut B, op: u8) -> u8
         0x0D => push_register(cpu, bus, row),
         0x0E => test_and_set(cpu, bus, row),
         0x0F => brk(cpu, bus, row),
-        above 0x10.. => from_10(cpu, bus, op)
+        others 0x10..
     )
 }
 
-/// The opcodes from 0x10 on.
-#[inline(always)]
+/// The opcodes 0x10 to 0x1F.
+#[inline]
 fn from_10<B: Bus>(cpu: &mut Cpu, bus: &mut B, op: u8) -> u8
     requires room { HasRoom 12 B.means bus.old }
-    requires from { 0x10 ≤ op }
+    requires digit { op / 16 ≡ 1 }
     requires runs { halts (row_of op).kind ≡ false }
     ensures { IsInstruction B.means (row_of op) cpu.old bus.old cpu.new result bus.new }
 {
@@ -101,16 +99,15 @@ fn from_10<B: Bus>(cpu: &mut Cpu, bus: &mut B, op: u8) -> u8
         0x1D => modify(cpu, bus, row, Down),
         0x1E => compare(cpu, bus, row),
         0x1F => jump(cpu, bus, row),
-        below ..0x10,
-        above 0x20.. => from_20(cpu, bus, op)
+        others ..0x10 | 0x20..
     )
 }
 
-/// The opcodes from 0x20 on.
-#[inline(always)]
+/// The opcodes 0x20 to 0x2F.
+#[inline]
 fn from_20<B: Bus>(cpu: &mut Cpu, bus: &mut B, op: u8) -> u8
     requires room { HasRoom 12 B.means bus.old }
-    requires from { 0x20 ≤ op }
+    requires digit { op / 16 ≡ 2 }
     requires runs { halts (row_of op).kind ≡ false }
     ensures { IsInstruction B.means (row_of op) cpu.old bus.old cpu.new result bus.new }
 {
@@ -131,16 +128,15 @@ fn from_20<B: Bus>(cpu: &mut Cpu, bus: &mut B, op: u8) -> u8
         0x2D => push_register(cpu, bus, row),
         0x2E => branch_if_different(cpu, bus, row),
         0x2F => branch_always(cpu, bus, row),
-        below ..0x20,
-        above 0x30.. => from_30(cpu, bus, op)
+        others ..0x20 | 0x30..
     )
 }
 
-/// The opcodes from 0x30 on.
-#[inline(always)]
+/// The opcodes 0x30 to 0x3F.
+#[inline]
 fn from_30<B: Bus>(cpu: &mut Cpu, bus: &mut B, op: u8) -> u8
     requires room { HasRoom 12 B.means bus.old }
-    requires from { 0x30 ≤ op }
+    requires digit { op / 16 ≡ 3 }
     requires runs { halts (row_of op).kind ≡ false }
     ensures { IsInstruction B.means (row_of op) cpu.old bus.old cpu.new result bus.new }
 {
@@ -161,16 +157,15 @@ fn from_30<B: Bus>(cpu: &mut Cpu, bus: &mut B, op: u8) -> u8
         0x3D => modify(cpu, bus, row, Up),
         0x3E => compare(cpu, bus, row),
         0x3F => call(cpu, bus, row),
-        below ..0x30,
-        above 0x40.. => from_40(cpu, bus, op)
+        others ..0x30 | 0x40..
     )
 }
 
-/// The opcodes from 0x40 on.
-#[inline(always)]
+/// The opcodes 0x40 to 0x4F.
+#[inline]
 fn from_40<B: Bus>(cpu: &mut Cpu, bus: &mut B, op: u8) -> u8
     requires room { HasRoom 12 B.means bus.old }
-    requires from { 0x40 ≤ op }
+    requires digit { op / 16 ≡ 4 }
     requires runs { halts (row_of op).kind ≡ false }
     ensures { IsInstruction B.means (row_of op) cpu.old bus.old cpu.new result bus.new }
 {
@@ -191,16 +186,15 @@ fn from_40<B: Bus>(cpu: &mut Cpu, bus: &mut B, op: u8) -> u8
         0x4D => push_register(cpu, bus, row),
         0x4E => test_and_clear(cpu, bus, row),
         0x4F => call(cpu, bus, row),
-        below ..0x40,
-        above 0x50.. => from_50(cpu, bus, op)
+        others ..0x40 | 0x50..
     )
 }
 
-/// The opcodes from 0x50 on.
-#[inline(always)]
+/// The opcodes 0x50 to 0x5F.
+#[inline]
 fn from_50<B: Bus>(cpu: &mut Cpu, bus: &mut B, op: u8) -> u8
     requires room { HasRoom 12 B.means bus.old }
-    requires from { 0x50 ≤ op }
+    requires digit { op / 16 ≡ 5 }
     requires runs { halts (row_of op).kind ≡ false }
     ensures { IsInstruction B.means (row_of op) cpu.old bus.old cpu.new result bus.new }
 {
@@ -221,16 +215,15 @@ fn from_50<B: Bus>(cpu: &mut Cpu, bus: &mut B, op: u8) -> u8
         0x5D => mov(cpu, bus, row),
         0x5E => compare(cpu, bus, row),
         0x5F => jump(cpu, bus, row),
-        below ..0x50,
-        above 0x60.. => from_60(cpu, bus, op)
+        others ..0x50 | 0x60..
     )
 }
 
-/// The opcodes from 0x60 on.
-#[inline(always)]
+/// The opcodes 0x60 to 0x6F.
+#[inline]
 fn from_60<B: Bus>(cpu: &mut Cpu, bus: &mut B, op: u8) -> u8
     requires room { HasRoom 12 B.means bus.old }
-    requires from { 0x60 ≤ op }
+    requires digit { op / 16 ≡ 6 }
     requires runs { halts (row_of op).kind ≡ false }
     ensures { IsInstruction B.means (row_of op) cpu.old bus.old cpu.new result bus.new }
 {
@@ -251,16 +244,15 @@ fn from_60<B: Bus>(cpu: &mut Cpu, bus: &mut B, op: u8) -> u8
         0x6D => push_register(cpu, bus, row),
         0x6E => count_down(cpu, bus, row),
         0x6F => ret(cpu, bus, row),
-        below ..0x60,
-        above 0x70.. => from_70(cpu, bus, op)
+        others ..0x60 | 0x70..
     )
 }
 
-/// The opcodes from 0x70 on.
-#[inline(always)]
+/// The opcodes 0x70 to 0x7F.
+#[inline]
 fn from_70<B: Bus>(cpu: &mut Cpu, bus: &mut B, op: u8) -> u8
     requires room { HasRoom 12 B.means bus.old }
-    requires from { 0x70 ≤ op }
+    requires digit { op / 16 ≡ 7 }
     requires runs { halts (row_of op).kind ≡ false }
     ensures { IsInstruction B.means (row_of op) cpu.old bus.old cpu.new result bus.new }
 {
@@ -281,16 +273,15 @@ fn from_70<B: Bus>(cpu: &mut Cpu, bus: &mut B, op: u8) -> u8
         0x7D => mov(cpu, bus, row),
         0x7E => compare(cpu, bus, row),
         0x7F => reti(cpu, bus, row),
-        below ..0x70,
-        above 0x80.. => from_80(cpu, bus, op)
+        others ..0x70 | 0x80..
     )
 }
 
-/// The opcodes from 0x80 on.
-#[inline(always)]
+/// The opcodes 0x80 to 0x8F.
+#[inline]
 fn from_80<B: Bus>(cpu: &mut Cpu, bus: &mut B, op: u8) -> u8
     requires room { HasRoom 12 B.means bus.old }
-    requires from { 0x80 ≤ op }
+    requires digit { op / 16 ≡ 8 }
     requires runs { halts (row_of op).kind ≡ false }
     ensures { IsInstruction B.means (row_of op) cpu.old bus.old cpu.new result bus.new }
 {
@@ -311,16 +302,15 @@ fn from_80<B: Bus>(cpu: &mut Cpu, bus: &mut B, op: u8) -> u8
         0x8D => mov(cpu, bus, row),
         0x8E => pop_register(cpu, bus, row),
         0x8F => mov(cpu, bus, row),
-        below ..0x80,
-        above 0x90.. => from_90(cpu, bus, op)
+        others ..0x80 | 0x90..
     )
 }
 
-/// The opcodes from 0x90 on.
-#[inline(always)]
+/// The opcodes 0x90 to 0x9F.
+#[inline]
 fn from_90<B: Bus>(cpu: &mut Cpu, bus: &mut B, op: u8) -> u8
     requires room { HasRoom 12 B.means bus.old }
-    requires from { 0x90 ≤ op }
+    requires digit { op / 16 ≡ 9 }
     requires runs { halts (row_of op).kind ≡ false }
     ensures { IsInstruction B.means (row_of op) cpu.old bus.old cpu.new result bus.new }
 {
@@ -341,16 +331,15 @@ fn from_90<B: Bus>(cpu: &mut Cpu, bus: &mut B, op: u8) -> u8
         0x9D => mov(cpu, bus, row),
         0x9E => put_ya(cpu, row, div(word(cpu), cpu.x, cpu.psw)),
         0x9F => put_a(cpu, row, exchange(cpu.a, cpu.psw)),
-        below ..0x90,
-        above 0xA0.. => from_a0(cpu, bus, op)
+        others ..0x90 | 0xA0..
     )
 }
 
-/// The opcodes from 0xA0 on.
-#[inline(always)]
+/// The opcodes 0xA0 to 0xAF.
+#[inline]
 fn from_a0<B: Bus>(cpu: &mut Cpu, bus: &mut B, op: u8) -> u8
     requires room { HasRoom 12 B.means bus.old }
-    requires from { 0xA0 ≤ op }
+    requires digit { op / 16 ≡ 10 }
     requires runs { halts (row_of op).kind ≡ false }
     ensures { IsInstruction B.means (row_of op) cpu.old bus.old cpu.new result bus.new }
 {
@@ -371,16 +360,15 @@ fn from_a0<B: Bus>(cpu: &mut Cpu, bus: &mut B, op: u8) -> u8
         0xAD => compare(cpu, bus, row),
         0xAE => pop_register(cpu, bus, row),
         0xAF => mov(cpu, bus, row),
-        below ..0xA0,
-        above 0xB0.. => from_b0(cpu, bus, op)
+        others ..0xA0 | 0xB0..
     )
 }
 
-/// The opcodes from 0xB0 on.
-#[inline(always)]
+/// The opcodes 0xB0 to 0xBF.
+#[inline]
 fn from_b0<B: Bus>(cpu: &mut Cpu, bus: &mut B, op: u8) -> u8
     requires room { HasRoom 12 B.means bus.old }
-    requires from { 0xB0 ≤ op }
+    requires digit { op / 16 ≡ 11 }
     requires runs { halts (row_of op).kind ≡ false }
     ensures { IsInstruction B.means (row_of op) cpu.old bus.old cpu.new result bus.new }
 {
@@ -401,16 +389,15 @@ fn from_b0<B: Bus>(cpu: &mut Cpu, bus: &mut B, op: u8) -> u8
         0xBD => mov(cpu, bus, row),
         0xBE => put_a(cpu, row, das(cpu.a, cpu.psw)),
         0xBF => mov(cpu, bus, row),
-        below ..0xB0,
-        above 0xC0.. => from_c0(cpu, bus, op)
+        others ..0xB0 | 0xC0..
     )
 }
 
-/// The opcodes from 0xC0 on.
-#[inline(always)]
+/// The opcodes 0xC0 to 0xCF.
+#[inline]
 fn from_c0<B: Bus>(cpu: &mut Cpu, bus: &mut B, op: u8) -> u8
     requires room { HasRoom 12 B.means bus.old }
-    requires from { 0xC0 ≤ op }
+    requires digit { op / 16 ≡ 12 }
     requires runs { halts (row_of op).kind ≡ false }
     ensures { IsInstruction B.means (row_of op) cpu.old bus.old cpu.new result bus.new }
 {
@@ -431,16 +418,15 @@ fn from_c0<B: Bus>(cpu: &mut Cpu, bus: &mut B, op: u8) -> u8
         0xCD => mov(cpu, bus, row),
         0xCE => pop_register(cpu, bus, row),
         0xCF => put_ya(cpu, row, mul(cpu.y, cpu.a, cpu.psw)),
-        below ..0xC0,
-        above 0xD0.. => from_d0(cpu, bus, op)
+        others ..0xC0 | 0xD0..
     )
 }
 
-/// The opcodes from 0xD0 on.
-#[inline(always)]
+/// The opcodes 0xD0 to 0xDF.
+#[inline]
 fn from_d0<B: Bus>(cpu: &mut Cpu, bus: &mut B, op: u8) -> u8
     requires room { HasRoom 12 B.means bus.old }
-    requires from { 0xD0 ≤ op }
+    requires digit { op / 16 ≡ 13 }
     requires runs { halts (row_of op).kind ≡ false }
     ensures { IsInstruction B.means (row_of op) cpu.old bus.old cpu.new result bus.new }
 {
@@ -461,16 +447,15 @@ fn from_d0<B: Bus>(cpu: &mut Cpu, bus: &mut B, op: u8) -> u8
         0xDD => mov(cpu, bus, row),
         0xDE => branch_if_different(cpu, bus, row),
         0xDF => put_a(cpu, row, daa(cpu.a, cpu.psw)),
-        below ..0xD0,
-        above 0xE0.. => from_e0(cpu, bus, op)
+        others ..0xD0 | 0xE0..
     )
 }
 
-/// The opcodes from 0xE0 on.
-#[inline(always)]
+/// The opcodes 0xE0 to 0xEF.
+#[inline]
 fn from_e0<B: Bus>(cpu: &mut Cpu, bus: &mut B, op: u8) -> u8
     requires room { HasRoom 12 B.means bus.old }
-    requires from { 0xE0 ≤ op }
+    requires digit { op / 16 ≡ 14 }
     requires runs { halts (row_of op).kind ≡ false }
     ensures { IsInstruction B.means (row_of op) cpu.old bus.old cpu.new result bus.new }
 {
@@ -491,16 +476,15 @@ fn from_e0<B: Bus>(cpu: &mut Cpu, bus: &mut B, op: u8) -> u8
         0xED => turn_carry(cpu, row),
         0xEE => pop_register(cpu, bus, row),
         0xEF => unreachable!(),
-        below ..0xE0,
-        above 0xF0.. => from_f0(cpu, bus, op)
+        others ..0xE0 | 0xF0..
     )
 }
 
-/// The opcodes from 0xF0 on.
-#[inline(always)]
+/// The opcodes 0xF0 to 0xFF.
+#[inline]
 fn from_f0<B: Bus>(cpu: &mut Cpu, bus: &mut B, op: u8) -> u8
     requires room { HasRoom 12 B.means bus.old }
-    requires from { 0xF0 ≤ op }
+    requires digit { op / 16 ≡ 15 }
     requires runs { halts (row_of op).kind ≡ false }
     ensures { IsInstruction B.means (row_of op) cpu.old bus.old cpu.new result bus.new }
 {
@@ -521,18 +505,35 @@ fn from_f0<B: Bus>(cpu: &mut Cpu, bus: &mut B, op: u8) -> u8
         0xFD => mov(cpu, bus, row),
         0xFE => count_down(cpu, bus, row),
         0xFF => unreachable!(),
-        below ..0xF0,
+        others ..0xF0
     )
 }
 
-/// The instruction of an opcode, once it was read. It gives its cycles.
+/// The instruction of an opcode, once it was read, by the high digit of the opcode. It gives its cycles.
 #[inline(always)]
 pub fn instruct<B: Bus>(cpu: &mut Cpu, bus: &mut B, op: u8) -> u8
     requires room { HasRoom 12 B.means bus.old }
     requires runs { halts (row_of op).kind ≡ false }
     ensures { IsInstruction B.means (row_of op) cpu.old bus.old cpu.new result bus.new }
 {
-    from_00(cpu, bus, op)
+    match op / 16 {
+        0 => from_00(cpu, bus, op),
+        1 => from_10(cpu, bus, op),
+        2 => from_20(cpu, bus, op),
+        3 => from_30(cpu, bus, op),
+        4 => from_40(cpu, bus, op),
+        5 => from_50(cpu, bus, op),
+        6 => from_60(cpu, bus, op),
+        7 => from_70(cpu, bus, op),
+        8 => from_80(cpu, bus, op),
+        9 => from_90(cpu, bus, op),
+        10 => from_a0(cpu, bus, op),
+        11 => from_b0(cpu, bus, op),
+        12 => from_c0(cpu, bus, op),
+        13 => from_d0(cpu, bus, op),
+        14 => from_e0(cpu, bus, op),
+        _ => from_f0(cpu, bus, op),
+    }
 }
 
 /// Whether the instruction of an opcode halts the processor: SLEEP and STOP.

@@ -1,6 +1,6 @@
 //! The step of the processor.
 //!
-//! Its parts are inlined: what a bus passes and how many cycles are left is then known at each arm.
+//! Its parts are inlined, so that a step goes to the arm of its opcode at once.
 
 ghost use Rattle.std.specs.Prelude.{◌≡◌, ◌+◌, ◌-◌, ◌%◌, ◌<◌, ◌≤◌};
 ghost use Rattle.spc700_exec.specs.Bus.{most_calls, most_calls_before_step, most_samples_of_bus};
