@@ -18,3 +18,10 @@ ticks_to_come io ticked clock cycles before =
     ap (λ (n : ℕ). after_ticks_of io ticked n) all
     ∙ after_ticks_of-then io ticked (clock - ticked) cycles
     ∙ ap (λ (n : ℕ). after_ticks_of (after_ticks_of io ticked (clock - ticked)) n cycles) moment
+
+-- the ticks up to a later moment of the clock
+pub ticks_between : (io : Io) (ticked clock later : ℕ) → ticked ≤ clock → clock ≤ later
+    → after_ticks_of io ticked (later - ticked) ≡ after_ticks_of (after_ticks_of io ticked (clock - ticked)) clock (later - clock)
+ticks_between io ticked clock later before after =
+    let all : later ≡ clock + (later - clock) = omega arith in
+    ap (λ (n : ℕ). after_ticks_of io ticked (n - ticked)) all ∙ ticks_to_come io ticked clock (later - clock) before

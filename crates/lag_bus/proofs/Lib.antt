@@ -24,3 +24,7 @@ pub mod RoundsOfAWait
 pub mod TotalOfCalls
 -- LateTicks: ticks that are done late are those of the cycles since
 pub mod LateTicks
+-- PassesInHand: a bus that is behind, and passes of the one that runs on it
+pub mod PassesInHand
+-- StepsInHand: steps on a bus in hand are those on the bus
+pub mod StepsInHand

@@ -30,3 +30,5 @@ pub mod IsLagging
 pub mod Waiting
 -- The clock with the ports and timers, of which no promise speaks either
 pub mod Clocked
+-- Words of a bus while the processor runs on it, of which no promise speaks
+pub mod Running

@@ -1,7 +1,6 @@
 // The clock, the calls of the bus, and the ports and timers at the clock, whose ticks are done where they are looked at or changed.
-// What each access asks of it is inlined into the access.
-ghost use Rattle.std.specs.Prelude.{◌≡◌, ◌+◌, ◌%◌, ◌<◌, ◌^◌, nat_lt};
-ghost use Rattle.ports_timers.specs.Io.{read_answer, after_read, after_write};
+ghost use Rattle.std.specs.Prelude.{◌≡◌, ◌+◌, ◌-◌, ◌%◌, ◌<◌, ◌≤◌, ◌^◌};
+ghost use Rattle.ports_timers.specs.Io.{read_answer, after_read, after_write, after_ticks_of};
 ghost use Rattle.lag_bus.specs.Clocked.{clocked_after};
 
 use ports_timers::{Io, tick_through};
@@ -71,20 +70,27 @@ impl ClockedIo {
         self.calls += 1;
     }
 
+    /// Lets the clock and the calls catch up with a later moment.
+    #[inline(always)]
+    #[tactic(auto, using(crate::proofs::LateTicks::ticks_between))]
+    pub fn catch_up(&mut self, clock: u64, calls: u8)
+        requires later { self.old.clock ≤ clock }
+        requires fits { clock < 2 ^ 40 }
+        ensures { self.new ≡ record {
+          io = after_ticks_of self.old.io self.old.clock (clock - self.old.clock);
+          clock = clock;
+          calls = calls;
+        } }
+    {
+        self.clock = clock;
+        self.calls = calls;
+    }
+
     /// Begins the calls anew.
     pub fn restart(&mut self)
         ensures { self.new ≡ record self.old { calls = 0 } }
     {
         self.calls = 0;
-    }
-
-    /// Whether some cycles come to a multiple of 32 of the clock.
-    #[inline(always)]
-    pub fn comes_to_sample(&self, cycles: u8) -> bool
-        requires { self.now.clock + cycles < 2 ^ 40 }
-        ensures { result ≡ nat_lt ((self.now.clock + cycles) % 32) cycles }
-    {
-        (self.clock + u64::from(cycles)) % 32 < u64::from(cycles)
     }
 
     /// Counts a call that lets some cycles pass.

@@ -19,10 +19,12 @@ ghost use Rattle.ports_timers.specs.Zeros.{zeros_stay, AreTimers};
 ghost use Rattle.lag_bus.specs.Waiting.{byte_seen, samples_in};
 
 use crate::OutOfMemory;
+use crate::behind::BehindBus;
 use crate::cause::Cause;
 use crate::clocked::ClockedIo;
 use crate::counting::{counts_with_batch, no_counts};
 use crate::late::LateChip;
+use crate::running::take_steps;
 use crate::saved::BusState;
 use crate::waiting::{counter_is_0, pend_all};
 use aram_core::Aram;
@@ -217,59 +219,6 @@ impl<C: Chip> LagBus<C> {
         answer_of(&self.late, address, told, addr)
     }
 
-    /// A read of an address that no mark shows to be of memory alone. Mostly it is a port, in page 0, which no sample writes.
-    #[inline(never)]
-    fn read_elsewhere(&mut self, addr: u16) -> u8
-        requires { self.old.machine.calls < 64 }
-        ensures answer { result ≡ ((lagging C.meaning).read self.old addr).0 }
-        ensures next { self.new ≡ ((lagging C.meaning).read self.old addr).1 }
-    {
-        if addr >= 0x100 || addr == 0xF3 || !self.late.is_unwritten(addr) {
-            return self.read_unmarked(addr);
-        }
-        self.time.count();
-        let address = self.time.dsp_address();
-        let told = self.time.read(addr);
-        answer_of(&self.late, address, told, addr)
-    }
-
-    /// A write to an address that no mark shows to be of memory alone which no sample reads.
-    #[inline(never)]
-    fn write_elsewhere(&mut self, addr: u16, value: u8)
-        requires { self.old.machine.calls < 64 }
-        ensures { self.new ≡ (lagging C.meaning).write self.old addr value }
-    {
-        match addr {
-            0xF0..=0xFF => self.write_port(addr, value),
-            _ => {
-                self.time.count();
-                if self.late.pending() > 0 && self.late.may_be_read(addr) {
-                    settle_for(&mut self.late, &mut self.counts, Cause::Memory);
-                }
-                self.late.put(addr, value);
-            }
-        }
-    }
-
-    /// A pass that comes to a multiple of 32 of the clock, where a sample is due.
-    #[inline(never)]
-    fn pass_sample(&mut self, cycles: u8)
-        requires room { self.old.machine.calls < 64 }
-        requires some { 1 ≤ cycles }
-        requires few { cycles ≤ 32 }
-        requires time { self.old.machine.clock / 32 < most_samples_of_chip }
-        ensures { self.new ≡ (lagging C.meaning).pass self.old cycles }
-    {
-        let from = self.time.clock();
-        self.time.pass(cycles);
-        if from / 32 < self.time.clock() / 32 {
-            self.late.pend();
-            if self.late.pending() == MOST_PENDING {
-                settle_for(&mut self.late, &mut self.counts, Cause::Full);
-            }
-        }
-    }
-
     /// Cycles for which it can be waited before the end of a run to so many samples.
     fn cycles_to_wait(&self, samples: u32) -> u64
         requires more { self.now.machine.clock / 32 < samples }
@@ -384,35 +333,41 @@ fn write_beside_pending<C: Chip>(late: &mut LateChip<C>, at: u16, value: u8, sam
 impl<C: Chip> Bus for LagBus<C> {
     ghost means = { lagging C.meaning };
 
-    // In line with each access of the processor, as are `pass` and `write`: a call would cost more than what they mostly do.
-    #[inline(always)]
+    // Mostly the address is a port, in page 0, which no sample writes.
     fn read(&mut self, addr: u16) -> u8 {
-        if self.late.is_plain(addr) {
-            self.time.count();
-            return self.late.get(addr);
+        if addr >= 0x100 || addr == 0xF3 || !self.late.is_unwritten(addr) {
+            return self.read_unmarked(addr);
         }
-        self.read_elsewhere(addr)
+        self.time.count();
+        let address = self.time.dsp_address();
+        let told = self.time.read(addr);
+        answer_of(&self.late, address, told, addr)
     }
 
-    #[inline(always)]
     fn write(&mut self, addr: u16, value: u8) {
-        if self.late.is_unread(addr) {
-            self.time.count();
-            return self.late.put_unread(addr, value);
+        match addr {
+            0xF0..=0xFF => self.write_port(addr, value),
+            _ => {
+                self.time.count();
+                if self.late.pending() > 0 && self.late.may_be_read(addr) {
+                    settle_for(&mut self.late, &mut self.counts, Cause::Memory);
+                }
+                self.late.put(addr, value);
+            }
         }
-        self.write_elsewhere(addr, value)
     }
 
-    #[inline(always)]
     fn pass(&mut self, cycles: u8) {
-        if self.time.comes_to_sample(cycles) {
-            self.pass_sample(cycles);
-        } else {
-            self.time.pass(cycles);
+        let from = self.time.clock();
+        self.time.pass(cycles);
+        if from / 32 < self.time.clock() / 32 {
+            self.late.pend();
+            if self.late.pending() == MOST_PENDING {
+                settle_for(&mut self.late, &mut self.counts, Cause::Full);
+            }
         }
     }
 
-    #[inline]
     fn to_sample(&self) -> u8 {
         (32 - self.time.clock() % 32) as u8
     }
@@ -426,6 +381,72 @@ impl<C: Chip> Bus for LagBus<C> {
       pass_clock = λ _ _. refl;
       samples = λ _. refl;
     } };
+}
+
+impl<C: Chip> BehindBus for LagBus<C> {
+    type C = C;
+
+    ghost shows = { λ bus. bus };
+
+    #[inline(always)]
+    fn is_plain(&self, addr: u16) -> bool {
+        self.late.is_plain(addr)
+    }
+
+    #[inline(always)]
+    fn is_unread(&self, addr: u16) -> bool {
+        self.late.is_unread(addr)
+    }
+
+    #[inline(always)]
+    fn byte(&self, addr: u16) -> u8 {
+        self.late.get(addr)
+    }
+
+    #[inline(always)]
+    fn put_unread(&mut self, addr: u16, value: u8) {
+        self.late.put_unread(addr, value);
+    }
+
+    fn clock(&self) -> u64 {
+        let _total = self.total();
+        self.time.clock()
+    }
+
+    fn calls(&self) -> u8 {
+        self.time.calls()
+    }
+
+    #[inline]
+    fn begin_calls_anew(&mut self) -> bool {
+        if !self.late.is_drained() {
+            return false;
+        }
+        self.time.restart();
+        true
+    }
+
+    fn catch_up(&mut self, clock: u64, calls: u8) {
+        self.time.catch_up(clock, calls);
+    }
+
+    #[inline(never)]
+    fn read_later(&mut self, clock: u64, calls: u8, addr: u16) -> u8 {
+        self.catch_up(clock, calls);
+        self.read(addr)
+    }
+
+    #[inline(never)]
+    fn write_later(&mut self, clock: u64, calls: u8, addr: u16, value: u8) {
+        self.catch_up(clock, calls);
+        self.write(addr, value);
+    }
+
+    #[inline(never)]
+    fn pass_later(&mut self, clock: u64, calls: u8, cycles: u8) {
+        self.catch_up(clock, calls);
+        self.pass(cycles);
+    }
 }
 
 impl<C: Chip> Looks for LagBus<C> {
@@ -454,6 +475,10 @@ impl<C: Chip> DrainedBus for LagBus<C> {
 
     fn has_room(&self) -> bool {
         self.time.calls() <= 32
+    }
+
+    fn take_steps(&mut self, cpu: &mut Cpu, samples: u32, rooms: u8) -> u8 {
+        take_steps(self, cpu, samples, rooms)
     }
 
     fn wait(&mut self, cpu: &Cpu, samples: u32) {

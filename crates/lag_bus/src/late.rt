@@ -267,7 +267,7 @@ impl<C: Chip> LateChip<C> {
         self.memory.get(at)
     }
 
-    /// Puts a byte at an address. Where samples may read it, none is pending.
+    /// Puts a byte at an address. Where samples may read it, none is pending, and the reach is taken anew.
     #[inline]
     pub fn put(&mut self, at: u16, value: u8)
         requires { (self.old.pending == 0 || not (may_be_read self.old.reach at)) ≡ true }
@@ -277,7 +277,9 @@ impl<C: Chip> LateChip<C> {
     {
         self.memory.put(at, value);
         if self.pending == 0 {
-            self.taken.forget();
+            if self.taken.may_change(at) {
+                self.taken.forget();
+            }
         }
     }
 

@@ -1,6 +1,7 @@
 //! The bus that lags: it lets samples wait until something needs them, and answers and emits as the machine in lock step does.
 #![tactic(auto)]
 
+mod behind;
 mod cause;
 mod clocked;
 mod counting;
@@ -8,6 +9,7 @@ mod lag;
 mod late;
 mod laws;
 mod merging;
+mod running;
 mod saved;
 mod taken;
 mod waiting;

@@ -3,6 +3,7 @@ ghost use Rattle.std.specs.Prelude.{◌≡◌, ◌/◌, Some, None, true, false,
 ghost use Rattle.lag_bus.specs.Book.{may_be_read, may_be_written};
 ghost use Rattle.lag_bus.specs.Held.{plain_end, IsPlain};
 
+use crate::cause;
 use reach_map::ReachPages;
 use std::marker::Model;
 
@@ -105,6 +106,21 @@ impl TakenReach {
         ensures plain { result ≡ true → IsPlain at }
     {
         at < self.unread[usize::from(at / 0x100)]
+    }
+
+    /// Whether a write at an address may make the reach another one. The page of an address where it can't is marked.
+    pub fn may_change(&mut self, at: u16) -> bool
+        ensures rest { self.new ≡ self.old }
+        ensures unread { result ≡ false → IfSome self.old (λ reach. may_be_read reach at ≡ false) }
+    {
+        let Some(reach) = self.reach else {
+            return false;
+        };
+        if cause::may_be_read(&reach, at) {
+            return true;
+        }
+        self.mark_unread(at);
+        false
     }
 
     /// Marks the page of an address, which no sample writes.

@@ -6,3 +6,5 @@ pub mod PassWithoutTick
 pub mod NoWait
 -- ChipCounts: a chip counts on over nothing, and over one stretch after another
 pub mod ChipCounts
+-- StepsTaken: steps one after another, over a bus that emits
+pub mod StepsTaken

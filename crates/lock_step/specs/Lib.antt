@@ -25,3 +25,5 @@ pub mod DspLaws
 pub mod LockStepLaws
 -- And what a call leaves that makes whole rounds at once, which no promise speaks of:
 pub mod WaitOfRounds
+-- and what one leaves that took some steps
+pub mod StepsOfRun

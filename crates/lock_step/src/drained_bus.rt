@@ -4,6 +4,8 @@ ghost use Rattle.spc700_exec.specs.Emitting.{IsEmitting};
 ghost use Rattle.lock_step.specs.Emits.{Emits, IsFrameEach, IsCountedOn, IsCounting, IsBeside};
 ghost use Rattle.num_fix.specs.Limits.{most_frames};
 ghost use Rattle.lock_step.specs.WaitOfRounds.{IsWaitOf};
+ghost use Rattle.lock_step.specs.StepsOfRun.{AreStepsOf};
+ghost use Rattle.spc700_exec.specs.Bus.{most_calls_before_step};
 
 use spc700_exec::{Bus, Cpu};
 use trace_form::{Frames, Records};
@@ -21,6 +23,16 @@ pub trait DrainedBus: Bus {
     /// Whether there is room for one more step before the next drain.
     fn has_room(&self) -> bool
         ensures { result ≡ nat_le (Self.means.calls self.now) 32 };
+
+    /// Takes steps of the processor, one at least, of which none begins at the end of a run to so many samples. They end there,
+    /// or where something is to be drained, or once the room for calls was filled so many times again: the answer is how many of
+    /// these times are left.
+    fn take_steps(&mut self, cpu: &mut Cpu, samples: u32, rooms: u8) -> u8
+        requires calls { Self.means.calls self.old ≤ most_calls_before_step }
+        requires more { Self.means.made self.old < samples }
+        requires few { samples ≤ most_frames }
+        ensures steps { AreStepsOf Self.means emits samples cpu.old self.old cpu.new self.new }
+        ensures some { Self.means.clock self.old < Self.means.clock self.new };
 
     /// Makes at once whole rounds of the loop at which the processor stands, as far as they do nothing but wait and none comes
     /// to the end of a run to so many samples.

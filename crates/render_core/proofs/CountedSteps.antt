@@ -1,5 +1,5 @@
--- Between two states of a bus its chip counts on: over a step, and over a drain.
-use Rattle.std.proofs.Common.{◌≡◌, ℕ, zero, suc, ◌+◌, ◌-◌, ◌≤◌, Bool, true, false, nat_lt, List, sym, ap, subst, ◌∙◌, arith}
+-- Between two states of a bus its chip counts on: over a step, over a drain, and over steps that were taken.
+use Rattle.std.proofs.Common.{◌≡◌, ℕ, zero, suc, ◌+◌, ◌-◌, ◌≤◌, Bool, true, false, nat_lt, List, refl, sym, ap, subst, ◌∙◌, arith}
 use Rattle.std.specs.Prelude.{if◌then◌else◌, ◌%◌}
 use Rattle.spc700_exec.specs.declared.cpu.Cpu.{Cpu}
 use Rattle.spc700_exec.specs.Bus.{BusMeaning, IsLawful, byte_read, after_read, after_write}
@@ -10,6 +10,8 @@ use Rattle.spc700_exec.specs.Emitting.{IsEmitting}
 use Rattle.spc700_exec.proofs.Short.{IsShort-script}
 use Rattle.lock_step.specs.Emits.{Emits, IsCountedOn, IsCounting, IsBeside}
 use Rattle.lock_step.proofs.ChipCounts.{counts_on_none, counts_on_then, counts_on_same}
+use Rattle.lock_step.specs.StepsOfRun.{AreStepsOf}
+use Rattle.idle_rounds.specs.Looking.{after_n_steps}
 use Rattle.render_core.specs.MachineRun.{Whole}
 use Rattle.render_core.proofs.ItemsBeforeRun.{made-cleared}
 
@@ -42,3 +44,17 @@ module _ {S : Type 0} (bus : BusMeaning S) (emits : Emits S) (law : IsCounting b
       counts_on_same (made-cleared bus lawful emits.cleared items emitting t s same)
       (sym (beside.pending t) ∙ ap emits.pending same ∙ beside.pending s)
       (sym (beside.total t) ∙ ap emits.total same ∙ beside.total s)
+
+  counted-after_n_steps : (n : ℕ) (w : Whole S) → IsCountedOn bus emits w.1 (after_n_steps bus n w).1
+  unfolding after_n_steps
+  counted-after_n_steps zero w = counts_on_none (bus.made w.1) (emits.pending w.1) (emits.total w.1)
+  counted-after_n_steps (suc n) w =
+      let v : Whole S = after_n_steps bus n w in
+      counts_on_then (counted-after_n_steps n w) (counted-stepped v.0 (step_outcome bus v.0 v.1).0 v.1 (step_outcome bus v.0 v.1).1 refl)
+
+  -- over steps that were taken
+  pub counted-steps : IsLawful bus → {I : Type 0} (items : S → List I) → IsEmitting bus emits.cleared items → IsBeside emits
+      → (samples : ℕ) (cpu next : Cpu) (old new : S) → AreStepsOf bus emits samples cpu old next new → IsCountedOn bus emits old new
+  counted-steps lawful items emitting beside samples cpu next old new taken =
+      counts_on_then (counted-after_n_steps taken.steps (cpu, old))
+      (counted-drained lawful items emitting beside (after_n_steps bus taken.steps (cpu, old)).1 new (sym taken.cleared))

@@ -1,4 +1,4 @@
--- A run goes on after rounds that were made at once.
+-- A run goes on after rounds that were made at once, and after steps that were taken.
 use Rattle.std.proofs.Common.{◌≡◌, ℕ, zero, suc, ◌/◌, ◌<◌, ◌≤◌, List, [], refl, sym, ap, ◌∙◌, arith}
 use Rattle.spc700_exec.specs.declared.cpu.Cpu.{Cpu}
 use Rattle.spc700_exec.specs.Bus.{BusMeaning, IsLawful}
@@ -12,6 +12,7 @@ use Rattle.render_core.proofs.RunBySteps.{after_run-next}
 use Rattle.render_core.proofs.ItemsBeforeRun.{items-after_run-drained, end-after_run-drained}
 use Rattle.idle_rounds.specs.Looking.{after_n_steps}
 use Rattle.lock_step.specs.WaitOfRounds.{IsWaitOf}
+use Rattle.lock_step.specs.StepsOfRun.{AreStepsOf}
 
 module _ {S : Type 0} (bus : BusMeaning S) (lawful : IsLawful bus) (samples : ℕ) where
   -- steps that end before the last sample are the first ones of the run
@@ -25,6 +26,13 @@ module _ {S : Type 0} (bus : BusMeaning S) (lawful : IsLawful bus) (samples : �
       let next_made = lawful.samples (step_outcome bus v.0 v.1).1 in
       let before : bus.made v.1 < samples = omega arith in
       after_run-steps n w before ∙ after_run-next bus lawful samples v before
+
+  -- steps of which none begins at the end of the run are its first ones
+  after_run-begun : (n : ℕ) (w : Whole S) → ((k : ℕ) → k < n → bus.made (after_n_steps bus k w).1 < samples) → after_run bus samples w ≡ after_run bus samples (after_n_steps bus n w)
+  unfolding after_n_steps after_step
+  after_run-begun zero w begun = refl
+  after_run-begun (suc n) w begun =
+      after_run-begun n w (λ k few. begun k (omega arith)) ∙ after_run-next bus lawful samples (after_n_steps bus n w) (begun n (omega arith))
 
   clock-after_n_steps : (n : ℕ) (w : Whole S) → bus.clock w.1 ≤ bus.clock (after_n_steps bus n w).1
   unfolding after_n_steps
@@ -70,3 +78,24 @@ module _ {S : Type 0} (bus : BusMeaning S) (lawful : IsLawful bus) (samples : �
         let clock : bus.clock reached ≡ bus.clock new = sym (law.clock reached) ∙ ap bus.clock wait.cleared ∙ law.clock new in
         let later = clock-after_n_steps wait.steps (cpu, old) in
         omega arith
+
+  -- and after steps that were taken
+  module _ (emits : Emits S) (cpu next : Cpu) (old new : S) (taken : AreStepsOf bus emits samples cpu old next new) where
+    abbrev came : S
+    came = (after_n_steps bus taken.steps (cpu, old)).1
+
+    after_run-came : after_run bus samples (cpu, old) ≡ after_run bus samples (next, came)
+    after_run-came =
+        after_run-begun taken.steps (cpu, old) taken.begun ∙ ap (λ (c : Cpu). after_run bus samples (c, came)) taken.registers
+
+    pub items-after_run-steps : {I : Type 0} (items : S → List I) → IsEmitting bus emits.cleared items → items came ≡ items new
+        → items (after_run bus samples (cpu, old)).1 ≡ items (after_run bus samples (next, new)).1
+    items-after_run-steps items law same =
+        ap (λ (w : Whole S). items w.1) after_run-came
+        ∙ items-after_run-drained bus lawful emits.cleared items law samples next came new [] same (sym taken.cleared)
+
+    pub end-after_run-steps : {I : Type 0} (items : S → List I) → IsEmitting bus emits.cleared items → IsBeside emits → items came ≡ items new
+        → end_of_run bus emits samples (cpu, old) ≡ end_of_run bus emits samples (next, new)
+    end-after_run-steps items law beside same =
+        ap (whole_at_rest emits) after_run-came
+        ∙ end-after_run-drained bus lawful emits.cleared items law samples emits.at_rest beside.at_rest next came new [] same (sym taken.cleared)

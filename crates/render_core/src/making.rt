@@ -7,7 +7,7 @@ ghost use Rattle.render_core.specs.Items.{run_frames, run_records, records_befor
 ghost use Rattle.lock_step.specs.Emits.{IsCountedOn};
 
 use lock_step::{DrainedBus, sample_number};
-use spc700_exec::{Cpu, step};
+use spc700_exec::Cpu;
 use trace_form::{Frames, Records};
 
 /// Takes over the records that stand before the last frame. After it a step may have emitted more.
@@ -49,18 +49,6 @@ pub(crate) struct Lists {
     pub(crate) pause: TrialPause,
 }
 
-/// A step of the run, which isn't at its end.
-fn step_on<B: DrainedBus>(cpu: &mut Cpu, bus: &mut B, samples: u32)
-    requires calls { B.means.calls bus.old ≤ 32 }
-    requires more { B.means.made bus.old < samples }
-    requires few { samples ≤ most_frames }
-    ensures run { after_run B.means samples (cpu.old, bus.old) ≡ after_run B.means samples (cpu.new, bus.new) }
-    ensures counted { IsCountedOn B.means B.emits bus.old bus.new }
-    ensures later { B.means.clock bus.old < B.means.clock bus.new }
-{
-    step(cpu, bus);
-}
-
 /// Makes at once whole rounds of the loop at which the processor stands, as far as they only wait.
 fn make_rounds<B: DrainedBus>(cpu: &Cpu, bus: &mut B, samples: u32)
     requires more { B.means.made bus.old < samples }
@@ -76,7 +64,7 @@ fn make_rounds<B: DrainedBus>(cpu: &Cpu, bus: &mut B, samples: u32)
     bus.wait(cpu, samples);
 }
 
-/// How long no rounds are tried: after a trial that found none twice as long as before it.
+/// How long no rounds are tried, in fillings of the bus's room for calls: after a trial that found none twice as long as before it.
 #[derive(Drop)]
 pub(crate) struct TrialPause {
     left: u8,
@@ -89,12 +77,8 @@ impl TrialPause {
     }
 
     /// Whether it is time for a trial.
-    fn is_over(&mut self) -> bool {
-        if self.left > 0 {
-            self.left -= 1;
-            return false;
-        }
-        true
+    fn is_over(&self) -> bool {
+        self.left == 0
     }
 
     /// Begins the pause after a trial.
@@ -127,10 +111,9 @@ fn make_rounds_if_due<B: DrainedBus>(cpu: &Cpu, bus: &mut B, samples: u32, pause
     }
 }
 
-/// Steps of the run, one at least: rounds that only wait, and as many as there is room for, unless the run ends.
-// In line, as is `step_and_drain`: what the steps need at hand is then got once for many drains.
-#[inline(always)]
-fn take_steps<B: DrainedBus>(cpu: &mut Cpu, bus: &mut B, samples: u32, pause: &mut TrialPause)
+/// Steps of the run, one at least: rounds that only wait, where it is time for a trial, and steps one by one until something is to
+/// be drained, or it is time for a trial again, or the run ends.
+fn go_on<B: DrainedBus>(cpu: &mut Cpu, bus: &mut B, samples: u32, pause: &mut TrialPause)
     requires calls { B.means.calls bus.old ≡ 0 }
     requires more { B.means.made bus.old < samples }
     requires few { samples ≤ most_frames }
@@ -141,16 +124,10 @@ fn take_steps<B: DrainedBus>(cpu: &mut Cpu, bus: &mut B, samples: u32, pause: &m
     ensures later { B.means.clock bus.old < B.means.clock bus.new }
 {
     make_rounds_if_due(cpu, bus, samples, pause);
-    'steps: loop {
-        step_on(cpu, bus, samples);
-        if !bus.has_room() || bus.made() >= samples {
-            break;
-        }
-    }
+    pause.left = bus.take_steps(cpu, samples, pause.left);
 }
 
 /// Some steps, and what was emitted with them.
-#[inline(always)]
 fn step_and_drain<B: DrainedBus>(cpu: &mut Cpu, bus: &mut B, samples: u32, lists: &mut Lists)
     requires idle { B.means.calls bus.old ≡ 0 }
     requires more { B.means.made bus.old < samples }
@@ -162,7 +139,7 @@ fn step_and_drain<B: DrainedBus>(cpu: &mut Cpu, bus: &mut B, samples: u32, lists
     ensures idle { IsBetweenSteps B.means B.emits samples bus.new }
     ensures later { B.means.clock bus.old < B.means.clock bus.new }
 {
-    take_steps(cpu, bus, samples, &mut lists.pause);
+    go_on(cpu, bus, samples, &mut lists.pause);
     settle_at_end(bus, samples);
     bus.drain(&mut lists.frames, &mut lists.drained);
     keep_records_before(&lists.drained, samples, &mut lists.records);

@@ -15,7 +15,7 @@ use aram_core::Aram;
 use lock_step::{Chip, Counts, DrainedBus};
 use ports_timers::Io;
 use spc_form::OpenState;
-use spc700_exec::{Bus, Cpu};
+use spc700_exec::{Bus, Cpu, step};
 use std::alloc::Global;
 use std::marker::Model;
 use trace_form::{Frames, Record, Records};
@@ -203,6 +203,12 @@ impl<C: Chip> DrainedBus for PlainBus<C> {
 
     fn has_room(&self) -> bool {
         self.calls <= 32
+    }
+
+    /// Takes one step.
+    fn take_steps(&mut self, cpu: &mut Cpu, _samples: u32, rooms: u8) -> u8 {
+        step(cpu, self);
+        rooms
     }
 
     /// Makes no round at once.

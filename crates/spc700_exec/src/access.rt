@@ -9,7 +9,7 @@ ghost use Rattle.spc700_exec.specs.Pieces.{HasRoom, IsWithin};
 use crate::bus::Bus;
 
 /// The byte at an address.
-#[inline]
+#[inline(always)]
 pub fn read<B: Bus>(bus: &mut B, at: u16) -> u8
     requires { HasRoom 1 B.means bus.old }
     ensures byte { result ≡ byte_read B.means at bus.old }
@@ -21,7 +21,7 @@ pub fn read<B: Bus>(bus: &mut B, at: u16) -> u8
 }
 
 /// Writes a byte to an address.
-#[inline]
+#[inline(always)]
 pub fn write<B: Bus>(bus: &mut B, at: u16, value: u8)
     requires { HasRoom 1 B.means bus.old }
     ensures bus { bus.new ≡ after_write B.means at value bus.old }

@@ -1,0 +1,84 @@
+// A bus that may be behind what runs on it.
+ghost use Rattle.std.specs.Prelude.{◌≡◌, ◌/◌, ◌<◌, ◌≤◌, true, false};
+ghost use Rattle.aram_core.specs.Memory.{byte_at, with_byte};
+ghost use Rattle.dsp_form.specs.Limits.{most_samples_of_chip};
+ghost use Rattle.lag_bus.specs.Book.{may_be_read, may_be_written};
+ghost use Rattle.lag_bus.specs.Held.{IsPlain};
+ghost use Rattle.lag_bus.specs.Lagging.{Lagging, lagging, MatchesBook};
+ghost use Rattle.lag_bus.specs.Waiting.{without_calls};
+ghost use Rattle.lag_bus.specs.Running.{caught_up, IsBehind};
+
+use lock_step::Chip;
+
+/// A bus that may be behind what runs on it, by cycles in which no sample falls due. What needs its clock and its calls is given
+/// them, and lets it catch up.
+pub trait BehindBus {
+    /// Its chip.
+    type C: Chip;
+
+    /// What contracts see of it.
+    ghost shows: { Self → Lagging Self.C.State };
+
+    /// Whether a mark tells that memory alone is at an address and that no pending sample writes it.
+    fn is_plain(&self, addr: u16) -> bool
+        ensures unwritten { result ≡ true → may_be_written (shows self.now).book.reach addr ≡ false }
+        ensures plain { result ≡ true → IsPlain addr };
+
+    /// Whether a mark tells that memory alone is at an address and that no pending sample reads it.
+    fn is_unread(&self, addr: u16) -> bool
+        ensures unread { result ≡ true → may_be_read (shows self.now).book.reach addr ≡ false }
+        ensures plain { result ≡ true → IsPlain addr };
+
+    /// The byte of memory at an address. Samples to come don't write it.
+    fn byte(&self, addr: u16) -> u8
+        requires { may_be_written (shows self.now).book.reach addr ≡ false }
+        ensures { result ≡ byte_at (shows self.now).machine.memory addr };
+
+    /// Puts a byte of memory at an address. Samples to come don't read it.
+    fn put_unread(&mut self, addr: u16, value: u8)
+        requires { may_be_read (shows self.old).book.reach addr ≡ false }
+        ensures { let old = shows self.old in
+            shows self.new ≡ record old { machine = record old.machine { memory = with_byte old.machine.memory addr value } } };
+
+    /// The clock.
+    fn clock(&self) -> u64
+        ensures clock { result ≡ (shows self.now).machine.clock }
+        ensures book { MatchesBook (shows self.now) };
+
+    /// The calls since the last drain.
+    fn calls(&self) -> u8
+        ensures calls { result ≡ (shows self.now).machine.calls }
+        ensures few { result ≤ 64 };
+
+    /// Begins the calls anew, where nothing is to be drained but what waits for pending samples.
+    fn begin_calls_anew(&mut self) -> bool
+        ensures anew { result ≡ true → shows self.new ≡ without_calls (shows self.old) }
+        ensures same { result ≡ false → shows self.new ≡ shows self.old };
+
+    /// Lets the clock and the calls catch up with a later moment, up to which no sample falls due.
+    fn catch_up(&mut self, clock: u64, calls: u8)
+        requires { IsBehind clock calls (shows self.old) }
+        ensures { shows self.new ≡ caught_up clock calls (shows self.old) };
+
+    /// A read at a later moment, of an address that no mark shows to be of memory alone.
+    fn read_later(&mut self, clock: u64, calls: u8, addr: u16) -> u8
+        requires behind { IsBehind clock calls (shows self.old) }
+        requires room { calls < 64 }
+        ensures answer { result ≡ ((lagging Self.C.meaning).read (caught_up clock calls (shows self.old)) addr).0 }
+        ensures next { shows self.new ≡ ((lagging Self.C.meaning).read (caught_up clock calls (shows self.old)) addr).1 };
+
+    /// A write at a later moment, to an address that no mark shows to be of memory alone which no sample reads.
+    fn write_later(&mut self, clock: u64, calls: u8, addr: u16, value: u8)
+        requires behind { IsBehind clock calls (shows self.old) }
+        requires room { calls < 64 }
+        ensures { shows self.new ≡ (lagging Self.C.meaning).write (caught_up clock calls (shows self.old)) addr value };
+
+    /// A pass at a later moment, to a multiple of 32 of the clock.
+    fn pass_later(&mut self, clock: u64, calls: u8, cycles: u8)
+        requires behind { IsBehind clock calls (shows self.old) }
+        requires room { calls < 64 }
+        requires some { 1 ≤ cycles }
+        requires few { cycles ≤ 32 }
+        requires time { clock / 32 < most_samples_of_chip }
+        ensures { shows self.new ≡ (lagging Self.C.meaning).pass (caught_up clock calls (shows self.old)) cycles };
+}
