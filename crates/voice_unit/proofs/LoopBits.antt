@@ -6,7 +6,7 @@ use Rattle.std.proofs.lemmas.Bool.Decides.{nat_tests}
 use Rattle.voice_unit.specs.Row.{place_after, groups_before, is_end, is_read_in, ends_in, loops_in}
 use Rattle.voice_unit.specs.declared.row.Place.{Place}
 use Rattle.voice_unit.proofs.Played.{doubled}
-use Rattle.voice_unit.proofs.Counting.{groups_before-rise, is_read-behind, is_read-same, is_read-other, Reads}
+use Rattle.voice_unit.proofs.Counting.{groups_before-rise, is_read-elsewhere, is_read-same, is_read-other, Reads}
 
 -- the bit, where a test holds
 abbrev pub bit_if : (b : Bool) → (v : ℕ) → ℕ
@@ -65,7 +65,7 @@ module _ (memory : List ℕ) (loop_to : ℕ) (first : Place) (position pitch v :
 
       other : (b : Bool) → nat_lt g d ≡ b → nat_lt g (d + 1) ≡ b → g ≢ d
           → bit_if (marked d j) v + bit_if (is_read_in position pitch d j && is_end memory (place_after memory loop_to first d)) v ≡ bit_if (marked (d + 1) j) v
-      other b now soon apart = rw (is_read-behind position pitch d j apart, now, soon) (omega arith)
+      other b now soon apart = rw (is_read-elsewhere position pitch d j apart, now, soon) (omega arith)
 
       by : (b : Bool) → nat_lt g d ≡ b → (c : Bool) → nat_lt d g ≡ c
           → bit_if (marked d j) v + bit_if (is_read_in position pitch d j && is_end memory (place_after memory loop_to first d)) v ≡ bit_if (marked (d + 1) j) v

@@ -54,7 +54,7 @@ fn groups_in(position: u16, pitch: u16, n: u8) -> u8
     (way / 0x4000) as u8
 }
 
-/// The sample that reads the group behind so many others.
+/// The sample that reads the group after so many others.
 fn reading_sample(position: u16, pitch: u16, group: u8, n: u8) -> u8
     requires position { position < 0x8000 }
     requires pitch { pitch < 0x4000 }
@@ -99,7 +99,7 @@ impl Course {
         !self.silent && is_silencing(self.reset, memory.get(place.block))
     }
 
-    /// Reads the groups of a stretch of n samples from sample `at` on behind the twelve samples of a voice, and marks where it loops. The
+    /// Reads the groups of a stretch of n samples from sample `at` on into a row, after the twelve samples of a voice, and marks where it loops. The
     /// stretch is shorter where the header of a block silences the voice.
     pub(crate) fn read_stretch(
         &self,

@@ -17,7 +17,7 @@ pub(crate) struct Place {
     pub offset: u8,
 }
 
-/// Puts four samples behind so many.
+/// Puts four samples after so many.
 fn put_four(row: &mut [i16; 268], len: usize, four: &[i16; 4])
     requires { len + 4 ≤ 268 }
     ensures { take (len + 4) row.new ≡ take len row.old ++ four.now }
@@ -25,7 +25,7 @@ fn put_four(row: &mut [i16; 268], len: usize, four: &[i16; 4])
     row[len..len + 4].copy_from_slice(four);
 }
 
-/// Puts the kept samples of a group behind so many.
+/// Puts the kept samples of a group after so many.
 pub(crate) fn read_group(
     row: &mut [i16; 268],
     len: usize,

@@ -5,8 +5,8 @@ use Rattle.voice_unit.specs.Rest.{is_silencing}
 use Rattle.voice_unit.specs.Row.{next_place, place_after, groups_before}
 use Rattle.voice_unit.specs.declared.row.Place.{Place}
 use Rattle.voice_unit.proofs.Counting.{groups_before-rise}
-use Rattle.voice_unit.proofs.Marks.{bit_if, marked-none, marked-later, marked-all}
-use Rattle.voice_unit.proofs.Growing.{grown_row, grown_marks}
+use Rattle.voice_unit.proofs.LoopBits.{bit_if, marked-none, marked-later, marked-all}
+use Rattle.voice_unit.proofs.OneMoreGroup.{grown_row, grown_marks}
 use Rattle.voice_unit.proofs.RowOfVoice.{kept_row-zero, place_after-zero, place_after-more}
 use Rattle.voice_unit.proofs.course.Course.read_stretch.Goals as goal
 

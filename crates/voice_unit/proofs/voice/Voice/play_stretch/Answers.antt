@@ -5,9 +5,9 @@ use Rattle.voice_unit.specs.Directory.{loop_word}
 use Rattle.voice_unit.specs.Rest.{is_silencing, IsSilent}
 use Rattle.voice_unit.specs.Row.{place_after, groups_before, loops_in, place_of}
 use Rattle.voice_unit.specs.Voice.{VoiceState}
-use Rattle.voice_unit.proofs.Marks.{bit-bound}
+use Rattle.voice_unit.proofs.LoopBits.{bit-bound}
 use Rattle.voice_unit.proofs.Played.{doubled}
-use Rattle.voice_unit.proofs.Rows.{last_twelve}
+use Rattle.voice_unit.proofs.PartsOfRow.{last_twelve}
 use Rattle.voice_unit.proofs.OverRow.{glided_over}
 use Rattle.voice_unit.proofs.voice.Voice.play_stretch.Goals as goal
 
