@@ -17,6 +17,10 @@ pub bit-bound : (b : Bool) (v x : ℕ) → x < 2 ^ v → x + bit_if b v < 2 ^ (v
 bit-bound true v x below = rw (doubled v) (omega (arith, below))
 bit-bound false v x below = rw (doubled v) (omega (arith, below))
 
+and_false : (b : Bool) → (b && false) ≡ false
+and_false true = refl
+and_false false = refl
+
 -- the bit of a voice in the sample that reads a group which ends a block with its end bit
 pub mark_one : (loops : List ℕ) (at q j v : ℕ) (memory : List ℕ) (place : Place) (position pitch group : ℕ) → Reads position pitch group q → is_end memory place ≡ true → at + q < length loops
     → slice_index (slice_set loops (at + q) (slice_index loops (at + q) + 2 ^ v)) (at + j) ≡ slice_index loops (at + j) + bit_if (ends_in memory place position pitch group j) v
@@ -32,6 +36,13 @@ mark_one loops at q j v memory place position pitch group reads ends within = by
         let apart : at + j ≢ at + q = λ same. other (omega (arith, same)) in
         let none : slice_index loops (at + j) ≡ slice_index loops (at + j) + 0 = omega arith in
         rw (is_read-other position pitch group q j reads other) (get_or-set_other loops (at + q) (at + j) (slice_index loops (at + q) + 2 ^ v) 0 apart ∙ none)
+
+-- a group that isn't the last of its block ends none
+pub no_end : (memory : List ℕ) (place : Place) (position pitch group j v x : ℕ) → place.offset ≢ 7 → x ≡ x + bit_if (ends_in memory place position pitch group j) v
+no_end memory place position pitch group j v x other =
+    let test : (place.offset == 7) ≡ false = grind (arith, nat_tests, other) in
+    let none : ends_in memory place position pitch group j ≡ false = rw test (and_false (is_read_in position pitch group j)) in
+    rw none (omega arith)
 
 module _ (memory : List ℕ) (loop_to : ℕ) (first : Place) (position pitch v : ℕ) where
   -- what is marked in sample j once so many groups are read

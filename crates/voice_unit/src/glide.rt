@@ -110,6 +110,7 @@ impl Voice {
         ensures pitch { result.pitch ≡ regs.now.pitch }
         ensures reset { result.reset ≡ lane.now.reset }
         ensures silent { result.silent ≡ true → IsSilent self.now.envelope }
+        ensures all_silent { IsSilent self.now.envelope → result.silent ≡ true }
     {
         Course {
             voice: lane.voice,

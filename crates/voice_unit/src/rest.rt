@@ -47,7 +47,8 @@ pub(crate) fn is_silencing(reset: bool, header: u8) -> bool
 
 /// Whether an envelope is released at level 0.
 pub(crate) fn is_silent(envelope: &Envelope) -> bool
-    ensures { result ≡ true → IsSilent envelope.now }
+    ensures silent { result ≡ true → IsSilent envelope.now }
+    ensures all { IsSilent envelope.now → result ≡ true }
 {
     envelope.mode == Mode::Release && envelope.level() == 0
 }
