@@ -140,7 +140,10 @@ impl Echo {
     fn length_in_force(&self, edl: u8) -> u16
         ensures value { result ≡ length_in_force edl self.now }
         ensures most { result ≤ 15 * 0x800 }
+        ensures whole { result % 0x800 ≡ 0 }
         ensures within { self.now.offset < 15 * 0x800 }
+        ensures inside { 0 < result → self.now.offset < result }
+        ensures cell { self.now.offset % 4 ≡ 0 }
     {
         if self.offset == 0 {
             u16::from(edl % 16) * 2048
@@ -156,14 +159,12 @@ impl Echo {
         ensures few { result ≤ most }
         ensures neighbours { AreNeighbours edl result self.now }
     {
-        let length = self.length_in_force(edl);
+        // a buffer ends where a page does, and one of no length has one cell
+        if self.length_in_force(edl) == 0 {
+            return 1;
+        }
         let in_page = (256 - self.offset % 256) / 4;
-        let in_buffer = if length <= self.offset + 4 {
-            1
-        } else {
-            (length - self.offset) / 4
-        };
-        u16::from(most).min(in_page).min(in_buffer) as u8
+        u16::from(most).min(in_page) as u8
     }
 
     /// Goes over so many cells that stand one after another.
