@@ -9,7 +9,7 @@ use Rattle.dsp_form.specs.declared.state.ChipState.{ChipState}
 use Rattle.dsp_form.proofs.Inputs.{SameInputs, registers-before_step}
 use Rattle.dsp_reach.proofs.Registers.{same_inputs-samples}
 use Rattle.batch_rows.specs.Lane.{lanes, voices_after}
-use Rattle.echo_unit.specs.Run.{EchoRun}
+use Rattle.echo_unit.specs.EchoOverBatch.{EchoRun}
 use Rattle.batch_rows.specs.Rows.{keys_after, inputs, answers, results_after, echo_after, with_parts, by_rows}
 use Rattle.batch_rows.specs.Apart.{polled, VoicesReadTheSame}
 use Rattle.batch_rows.proofs.Lanes.{voices_after-zero, voices_after-suc, results_from-lanes}

@@ -3,7 +3,7 @@ use Rattle.std.proofs.Common.{◌≡◌, ℕ, zero, suc, ◌+◌, ◌<◌, List,
 use Rattle.num_fix.specs.declared.Frame.{Frame}
 use Rattle.voice_unit.specs.declared.interface.VoiceOut.{VoiceOut}
 use Rattle.echo_unit.specs.Echo.{EchoState}
-use Rattle.echo_unit.specs.Run.{echo_run}
+use Rattle.echo_unit.specs.EchoOverBatch.{echo_run}
 use Rattle.echo_unit.specs.declared.regs.EchoRegs.{EchoRegs}
 use Rattle.dsp_form.specs.Results.{next_endx}
 use Rattle.batch_rows.specs.Once.{endx_after}

@@ -2,8 +2,6 @@
 use Rattle.std.proofs.Common.{◌≡◌, ◌≢◌, ℕ, zero, suc, ◌+◌, ◌%◌, ◌<◌, ◌==◌, List, Bool, true, false, length, slice_index, slice_set, refl, ap, ◌∙◌, add-one, arith}
 use Rattle.std.proofs.lemmas.Bool.Decides.{nat_tests}
 use Rattle.std.proofs.lemmas.List.{get_or-set_same, get_or-set_other}
-use Rattle.rate_clock.specs.Counter.{counter_at}
-use Rattle.voice_unit.specs.Play.{CountsFrom}
 use Rattle.voice_unit.specs.declared.batch.BatchRows.{BatchRows}
 use Rattle.dsp_form.specs.declared.state.ChipState.{ChipState}
 use Rattle.dsp_form.proofs.EightVoices.{voices-before_step}
@@ -38,9 +36,6 @@ one_more_row_of_keys k s now n rows is_poll before noise_long poll_long kon_long
   polls = with_entry (λ j. (k + j) % 2 == 0) rows.poll n is_poll false poll_long before.polls poll_is;
   taken = with_entry (λ j. (keys_after k s (suc j)).hidden.taken) rows.kon n now.hidden.taken 0 kon_long before.taken (ap (λ (t : ChipState). t.hidden.taken) is);
 }
-
-pub one_more_count : (k n clock : ℕ) (clocks : List ℕ) → n < length clocks → CountsFrom k n clocks → clock ≡ counter_at (k + n) → CountsFrom k (n + 1) (slice_set clocks n clock)
-one_more_count k n clock clocks long before is = with_entry (λ j. counter_at (k + j)) clocks n clock 0 long before is
 
 -- a row below a bound, with one entry more
 pub below_bound : (row : List ℕ) (n x bound : ℕ) → n < length row → ((j : ℕ) → j < n → slice_index row j < bound) → x < bound

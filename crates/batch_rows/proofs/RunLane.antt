@@ -4,7 +4,7 @@ use Rattle.std.proofs.lemmas.List.{drop_more, take_more_set, drop-set-lt, drop_a
 use Rattle.std.proofs.Math.ListN.{get_or-map}
 use Rattle.num_fix.specs.Words.{number_at}
 use Rattle.voice_unit.specs.Play.{lane_of}
-use Rattle.voice_unit.specs.Run.{silent_answer, outs_of, IsRun}
+use Rattle.voice_unit.specs.RunOfVoice.{silent_answer, outs_of, IsRun}
 use Rattle.voice_unit.specs.Voice.{VoiceState}
 use Rattle.voice_unit.specs.declared.batch.BatchRows.{BatchRows}
 use Rattle.voice_unit.specs.declared.interface.VoiceOut.{VoiceOut}

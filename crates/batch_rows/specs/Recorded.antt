@@ -1,6 +1,6 @@
 -- A batch whose voices give their answers of every sample.
 use Rattle.std.specs.Prelude.{◌≡◌, ℕ, ◌<◌, List, ℤ, pos, map, get_or}
-use Rattle.voice_unit.specs.Run.{silent_answer}
+use Rattle.voice_unit.specs.RunOfVoice.{silent_answer}
 use Rattle.voice_unit.specs.Voice.{VoiceState}
 use Rattle.voice_unit.specs.declared.interface.VoiceOut.{VoiceOut}
 use Rattle.voice_unit.specs.declared.run.OutRow.{OutRow}

@@ -4,7 +4,7 @@ use Rattle.rate_clock.specs.Counter.{counter_at}
 use Rattle.voice_unit.specs.Voice.{VoiceState}
 use Rattle.voice_unit.specs.declared.interface.VoiceOut.{VoiceOut}
 use Rattle.echo_unit.specs.Echo.{EchoState}
-use Rattle.echo_unit.specs.Run.{EchoRun, echo_run}
+use Rattle.echo_unit.specs.EchoOverBatch.{EchoRun, echo_run}
 use Rattle.trace_form.specs.declared.record.Record.{Record}
 use Rattle.dsp_form.specs.Registers.{echo_regs}
 use Rattle.dsp_form.specs.Mix.{main_frame, sent_frame}

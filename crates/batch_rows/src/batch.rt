@@ -9,7 +9,7 @@ ghost use Rattle.batch_rows.specs.Rows.{by_rows};
 
 use crate::echoes::play_echo;
 use crate::endx::endx_of_batch;
-use crate::keys::step_keys;
+use crate::keys::{next_clock, step_keys};
 use crate::playing::play_voices;
 use crate::sums::SumRows;
 use aram_core::Aram;
@@ -18,18 +18,7 @@ use dsp_form::registers::ENDX;
 use dsp_form::{ChipState, Settings, put_all_levels};
 use rate_clock::RateClock;
 use trace_form::Frames;
-use voice_unit::{BatchRows, VoiceOut};
-
-/// The answer of a voice that has not been heard.
-pub const UNHEARD: VoiceOut = VoiceOut {
-    out: 0,
-    level: 0,
-    envx: 0,
-    outx: 0,
-    block: 0,
-    looped: false,
-    keyed: false,
-};
+use voice_unit::UNHEARD;
 
 /// Makes n samples from a number on by rows: the keys and the noise, each voice over the whole batch, the echo over the rows of
 /// sums, and the registers' results.
@@ -55,21 +44,9 @@ pub fn make_batch(
     ensures memory { memory.new ≡ (by_rows n number state.old memory.old).memory }
     ensures frames { frames.new ≡ frames.old ++ (by_rows n number state.old memory.old).frames }
 {
-    let mut rows = BatchRows {
-        noise: [0; 64],
-        poll: [false; 64],
-        kon: [0; 64],
-    };
-    let mut clocks = [*clock; 64];
-    step_keys(
-        state,
-        number,
-        n,
-        settings.noise_rate,
-        clock,
-        &mut rows,
-        &mut clocks,
-    );
+    let first = next_clock(clock);
+    *clock = clock.ahead(n);
+    let rows = step_keys(state, number, n, settings.noise_rate, &first);
     let mut answers = [UNHEARD; 8];
     let mut loops = [0; 64];
     let mut sums = SumRows {
@@ -84,7 +61,7 @@ pub fn make_batch(
         &state.registers,
         &settings.volumes,
         &rows,
-        &clocks,
+        &first,
         memory,
         &state.table,
         groups,

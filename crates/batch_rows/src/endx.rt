@@ -1,27 +1,20 @@
 //! ENDX over a batch.
 
-ghost use Rattle.std.specs.Prelude.{◌≡◌, ◌≤◌, ◌<◌, ℕ, List, false, get_or, slice_index, bit_or, if◌then◌else◌};
+ghost use Rattle.std.specs.Prelude.{◌≡◌, ◌≤◌, ◌<◌, ℕ, List, false, get_or, slice_index, if◌then◌else◌};
 ghost use Rattle.voice_unit.specs.declared.interface.VoiceOut.{VoiceOut};
 ghost use Rattle.dsp_form.specs.Limits.{most_samples_of_batch};
-ghost use Rattle.dsp_form.specs.Results.{without_bits};
 ghost use Rattle.batch_rows.specs.Once.{endx_after, AreBits};
 
+use dsp_form::next_endx;
 use voice_unit::BatchRows;
 
 /// The voices that are keyed in sample `j`, as bits.
 pub(crate) fn keyed_in(rows: &BatchRows, j: u8) -> u8
-    requires { j < 64 }
+    requires { j < most_samples_of_batch }
     ensures { result ≡ (if get_or rows.now.poll j false then slice_index rows.now.kon j else 0) }
 {
     let place = usize::from(j);
     if rows.poll[place] { rows.kon[place] } else { 0 }
-}
-
-/// ENDX after one sample.
-fn next_endx(endx: u8, looped: u8, keyed: u8) -> u8
-    ensures { result ≡ without_bits (bit_or endx looped) keyed }
-{
-    (endx | looped) & (0xff - keyed)
 }
 
 /// ENDX after n samples of a batch: in each it gains the voices that looped and then loses those that were keyed.

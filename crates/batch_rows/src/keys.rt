@@ -2,7 +2,6 @@
 
 ghost use Rattle.std.specs.Prelude.{◌≡◌, ◌≤◌, ◌+◌, ◌%◌, ◌==◌, ◌<◌, ℕ, true, false, get_or, slice_index, replicate};
 ghost use Rattle.rate_clock.specs.Counter.{counter_at, counter_after, IsQuiet};
-ghost use Rattle.voice_unit.specs.Play.{CountsFrom};
 ghost use Rattle.dsp_form.specs.Limits.{most_samples_of_chip, most_samples_of_batch};
 ghost use Rattle.dsp_form.specs.Registers.{noise_rate};
 ghost use Rattle.dsp_form.specs.Sample.{after_poll, after_noise};
@@ -63,47 +62,38 @@ fn step_keys_once(state: &mut ChipState, number: u32, rate: u8, clock: &RateCloc
     step_noise(state, rate, clock);
 }
 
-/// The keys and the noise of n samples, one after another.
+/// The keys and the noise of n samples, one after another, from that of a clock on.
 fn step_keys_each(
     state: &mut ChipState,
     number: u32,
     n: u8,
     rate: u8,
-    rows: &mut BatchRows,
-    clocks: &[RateClock; 64],
-)
+    first: &RateClock,
+) -> BatchRows
     requires few { n ≤ most_samples_of_batch }
     requires number { number + n ≤ most_samples_of_chip }
     requires rate { rate ≡ noise_rate (slice_index state.old.registers FLG) }
-    requires clocks { CountsFrom number n clocks.now }
+    requires clock { first.now ≡ counter_at number }
     ensures state { state.new ≡ keys_after number state.old n }
-    ensures rows { AreKeyRows number n state.old rows.new }
-    ensures noise { (j : ℕ) → j < n → slice_index rows.new.noise j < 0x8000 }
-    ensures taken { (j : ℕ) → j < n → slice_index rows.new.kon j < 0x100 }
+    ensures rows { AreKeyRows number n state.old result }
+    ensures noise { (j : ℕ) → j < n → slice_index result.noise j < 0x8000 }
+    ensures taken { (j : ℕ) → j < n → slice_index result.kon j < 0x100 }
     ensures registers { state.new.registers ≡ state.old.registers }
 {
+    let mut rows = BatchRows {
+        noise: [0; 64],
+        poll: [false; 64],
+        kon: [0; 64],
+    };
     for j in 0..n {
         let place = usize::from(j);
         let at = number + u32::from(j);
-        step_keys_once(state, at, rate, &clocks[place]);
+        step_keys_once(state, at, rate, &first.ahead(j));
         rows.noise[place] = state.hidden.noise.value();
         rows.poll[place] = is_polled(at);
         rows.kon[place] = taken_keys(state);
     }
-}
-
-/// The clocks of n samples.
-fn step_clocks(n: u8, clock: &mut RateClock, clocks: &mut [RateClock; 64])
-    requires few { n ≤ most_samples_of_batch }
-    ensures clocks { (k : ℕ) → clock.old ≡ counter_after k → CountsFrom k n clocks.new }
-    ensures clock { (k : ℕ) → clock.old ≡ counter_after k → clock.new ≡ counter_after (k + n) }
-{
-    let mut now = *clock;
-    for j in 0..n {
-        now.step();
-        clocks[usize::from(j)] = now;
-    }
-    *clock = now;
+    rows
 }
 
 /// Whether the noise stays as it is in n samples.
@@ -128,7 +118,7 @@ fn are_keys_idle(state: &ChipState, n: u8, rate: u8, first: &RateClock) -> bool
 
 /// Puts which samples poll the keys, from a number on.
 fn put_polls(polls: &mut [bool; 64], number: u32)
-    ensures { (j : ℕ) → j < 64 → get_or polls.new j false ≡ ((number + j) % 2 == 0) }
+    ensures { (j : ℕ) → j < most_samples_of_batch → get_or polls.new j false ≡ ((number + j) % 2 == 0) }
 {
     let odd = (number % 2) as u8;
     for j in 0..64u8 {
@@ -137,47 +127,51 @@ fn put_polls(polls: &mut [bool; 64], number: u32)
 }
 
 /// The rows of samples that leave the keys and the noise as they are, from a number on.
-fn put_idle_rows(state: &ChipState, number: u32, rows: &mut BatchRows)
-    ensures noise { rows.new.noise ≡ replicate 64 state.now.hidden.noise }
-    ensures kon { rows.new.kon ≡ replicate 64 0 }
-    ensures polls { (j : ℕ) → j < 64 → get_or rows.new.poll j false ≡ ((number + j) % 2 == 0) }
+fn idle_rows(state: &ChipState, number: u32) -> BatchRows
+    ensures noise { result.noise ≡ replicate 64 state.now.hidden.noise }
+    ensures kon { result.kon ≡ replicate 64 0 }
+    ensures polls { (j : ℕ) → j < most_samples_of_batch → get_or result.poll j false ≡ ((number + j) % 2 == 0) }
     ensures bound { state.now.hidden.noise < 0x8000 }
 {
-    rows.noise = [state.hidden.noise.value(); 64];
-    rows.kon = [0; 64];
-    put_polls(&mut rows.poll, number);
+    let mut poll = [false; 64];
+    put_polls(&mut poll, number);
+    BatchRows {
+        noise: [state.hidden.noise.value(); 64],
+        poll,
+        kon: [0; 64],
+    }
 }
 
-/// The keys and the noise of a batch of n samples from a number on, as rows of what its voices read of them, and the clocks
-/// of its samples. Where neither keys nor noise change, the rows are put at once.
+/// The clock of the sample after those that were made.
+pub(crate) fn next_clock(clock: &RateClock) -> RateClock
+    ensures { (n : ℕ) → clock.now ≡ counter_after n → result ≡ counter_at n }
+{
+    clock.ahead(1)
+}
+
+/// The keys and the noise of a batch of n samples from a number on, at which the clock stands, as rows of what its voices read of them.
+/// Where neither keys nor noise change, the rows are made at once.
 pub fn step_keys(
     state: &mut ChipState,
     number: u32,
     n: u8,
     rate: u8,
-    clock: &mut RateClock,
-    rows: &mut BatchRows,
-    clocks: &mut [RateClock; 64],
-)
+    first: &RateClock,
+) -> BatchRows
     requires some { 0 < n }
     requires few { n ≤ most_samples_of_batch }
     requires number { number + n ≤ most_samples_of_chip }
     requires rate { rate ≡ noise_rate (slice_index state.old.registers FLG) }
-    requires clock { clock.old ≡ counter_after number }
+    requires clock { first.now ≡ counter_at number }
     ensures state { state.new ≡ keys_after number state.old n }
-    ensures rows { AreKeyRows number n state.old rows.new }
-    ensures clocks { CountsFrom number n clocks.new }
-    ensures clock { clock.new ≡ counter_after (number + n) }
-    ensures noise { (j : ℕ) → j < n → slice_index rows.new.noise j < 0x8000 }
-    ensures taken { (j : ℕ) → j < n → slice_index rows.new.kon j < 0x100 }
+    ensures rows { AreKeyRows number n state.old result }
+    ensures noise { (j : ℕ) → j < n → slice_index result.noise j < 0x8000 }
+    ensures taken { (j : ℕ) → j < n → slice_index result.kon j < 0x100 }
     ensures registers { state.new.registers ≡ state.old.registers }
 {
-    step_clocks(n, clock, clocks);
-    let first = clocks[0];
-    let idle = are_keys_idle(state, n, rate, &first);
+    let idle = are_keys_idle(state, n, rate, first);
     if idle {
-        put_idle_rows(state, number, rows);
-    } else {
-        step_keys_each(state, number, n, rate, rows, clocks);
+        return idle_rows(state, number);
     }
+    step_keys_each(state, number, n, rate, first)
 }

@@ -2,7 +2,7 @@
 
 ghost use Rattle.std.specs.Prelude.{◌≡◌, ◌<◌, ◌≤◌, ◌+◌, ◌-◌, ◌^◌, ℕ, pos, List, map, length, replicate, slice_index};
 ghost use Rattle.num_fix.specs.Words.{number_at};
-ghost use Rattle.voice_unit.specs.Play.{CountsFrom};
+ghost use Rattle.rate_clock.specs.Counter.{counter_at};
 ghost use Rattle.dsp_form.specs.Limits.{most_samples_of_batch};
 ghost use Rattle.dsp_form.specs.Registers.{is_soft_reset};
 ghost use Rattle.dsp_form.specs.declared.registers.TheConstants.{DIR, PMON, NON, KOFF, FLG};
@@ -20,7 +20,7 @@ use dsp_form::registers::{DIR, FLG, KOFF, NON, PMON, Registers, voice_regs};
 use gauss_table::GaussTable;
 use num_fix::has_bit;
 use rate_clock::RateClock;
-use voice_unit::{BatchLane, BatchRows, Voice, VoiceOut};
+use voice_unit::{BatchLane, BatchRows, Voice, VoiceOut, Workroom};
 
 /// What voice `v` reads of the registers that all voices share.
 pub(crate) fn lane_of(registers: &Registers, v: u8) -> BatchLane
@@ -44,18 +44,19 @@ pub(crate) fn lane_of(registers: &Registers, v: u8) -> BatchLane
     }
 }
 
-/// Voice `v` over a batch of n samples, over the row of outputs of the voice before it. The answer is that of its last sample.
+/// Voice `v` over a batch of n samples from that of a clock on, over the row of outputs of the voice before it. The answer is that of its last sample.
 pub fn play_voice(
     voice: &mut Voice,
     v: u8,
     n: u8,
     registers: &Registers,
     rows: &BatchRows,
-    clocks: &[RateClock; 64],
+    clock: &RateClock,
     previous: &[i16; 64],
     memory: &Aram,
     table: &GaussTable,
     groups: &mut GroupMemory,
+    room: &mut Workroom,
     row: &mut [i16; 64],
     loops: &mut [u8; 64],
 ) -> VoiceOut
@@ -63,15 +64,15 @@ pub fn play_voice(
     requires some { 0 < n }
     requires few { n ≤ most_samples_of_batch }
     requires noise { (j : ℕ) → j < n → slice_index rows.now.noise j < 0x8000 }
-    requires room { (j : ℕ) → j < 64 → slice_index loops.old j < 2 ^ v }
-    ensures played { (k : ℕ) (s : ChipState) → s.registers ≡ registers.now → s.table ≡ table.now → AreKeyRows k n s rows.now → CountsFrom k n clocks.now
+    requires room { (j : ℕ) → j < most_samples_of_batch → slice_index loops.old j < 2 ^ v }
+    ensures played { (k : ℕ) (s : ChipState) → s.registers ≡ registers.now → s.table ≡ table.now → AreKeyRows k n s rows.now → clock.now ≡ counter_at k
         → IsPlayedLane (inputs k s memory.now) v n (number_at previous.now) voice.old voice.new row.new loops.old loops.new result }
-    ensures room { (j : ℕ) → j < 64 → slice_index loops.new j < 2 ^ (v + 1) }
+    ensures room { (j : ℕ) → j < most_samples_of_batch → slice_index loops.new j < 2 ^ (v + 1) }
 {
     let regs = voice_regs(registers, v);
     let lane = lane_of(registers, v);
     voice.play(
-        n, &regs, &lane, rows, previous, memory, table, clocks, groups, row, loops,
+        n, &regs, &lane, rows, previous, memory, table, clock, groups, room, row, loops,
     )
 }
 
@@ -82,14 +83,14 @@ fn clear_loops(loops: &mut [u8; 64])
     *loops = [0; 64];
 }
 
-/// All voices over a batch of n samples: their answers of the last sample, the bits of those that loop in each, and its sums.
+/// All voices over a batch of n samples from that of a clock on: their answers of the last sample, the bits of those that loop in each, and its sums.
 pub fn play_voices(
     voices: &mut [Voice; 8],
     n: u8,
     registers: &Registers,
     volumes: &[Volumes; 8],
     rows: &BatchRows,
-    clocks: &[RateClock; 64],
+    clock: &RateClock,
     memory: &Aram,
     table: &GaussTable,
     groups: &mut GroupMemory,
@@ -100,20 +101,21 @@ pub fn play_voices(
     requires some { 0 < n }
     requires few { n ≤ most_samples_of_batch }
     requires noise { (j : ℕ) → j < n → slice_index rows.now.noise j < 0x8000 }
-    ensures played { (k : ℕ) (s : ChipState) → s.registers ≡ registers.now → s.table ≡ table.now → AreKeyRows k n s rows.now → CountsFrom k n clocks.now
+    ensures played { (k : ℕ) (s : ChipState) → s.registers ≡ registers.now → s.table ≡ table.now → AreKeyRows k n s rows.now → clock.now ≡ counter_at k
         → IsPlayedBatch (inputs k s memory.now) n volumes.now voices.old voices.new answers.new loops.new sums.new }
     ensures eight { length voices.old ≡ 8 }
 {
     clear_loops(loops);
     sums.clear();
+    let mut room = Workroom::new(table);
     let mut previous = [0; 64];
     let mut row = [0; 64];
     for v in 0..8u8 {
         let place = usize::from(v);
         let mut voice = voices[place];
         let answer = play_voice(
-            &mut voice, v, n, registers, rows, clocks, &previous, memory, table, groups, &mut row,
-            loops,
+            &mut voice, v, n, registers, rows, clock, &previous, memory, table, groups, &mut room,
+            &mut row, loops,
         );
         let own = volumes[place];
         sums.add(&row, &own);

@@ -5,7 +5,7 @@ ghost use Rattle.std.specs.List.{filter};
 ghost use Rattle.num_fix.specs.Words.{number_at};
 ghost use Rattle.rate_clock.specs.Counter.{counter_after};
 ghost use Rattle.trace_form.specs.Rooms.{frame_room, record_room};
-ghost use Rattle.voice_unit.specs.Run.{outs_of};
+ghost use Rattle.voice_unit.specs.RunOfVoice.{outs_of};
 ghost use Rattle.dsp_form.specs.Limits.{most_samples_of_chip, most_samples_of_batch};
 ghost use Rattle.dsp_form.specs.Samples.{in_mask};
 ghost use Rattle.dsp_form.specs.Settings.{settings_of};
@@ -14,10 +14,9 @@ ghost use Rattle.batch_rows.specs.KeyRows.{AreKeyRows};
 ghost use Rattle.batch_rows.specs.Recorded.{answers_in, IsRunLane, IsRunBatch};
 ghost use Rattle.batch_rows.specs.Rows.{inputs, by_rows};
 
-use crate::batch::UNHEARD;
 use crate::endx::keyed_in;
 use crate::finish::finish_sample;
-use crate::keys::step_keys;
+use crate::keys::{next_clock, step_keys};
 use crate::playing::lane_of;
 use crate::records::push_records;
 use aram_core::Aram;
@@ -26,9 +25,9 @@ use dsp_form::{ChipState, Settings};
 use gauss_table::GaussTable;
 use rate_clock::RateClock;
 use trace_form::{Frames, Records};
-use voice_unit::{BatchRows, OutRow, Voice, VoiceOut};
+use voice_unit::{BatchRows, OutRow, UNHEARD, Voice, VoiceOut};
 
-/// Voice `v` over a batch of n samples, over the row of what the voice before it gave.
+/// Voice `v` over a batch of n samples after a clock, over the row of what the voice before it gave.
 fn run_voice(
     voice: &mut Voice,
     v: u8,
@@ -52,7 +51,7 @@ fn run_voice(
     voice.run(n, &regs, &lane, rows, previous, memory, table, *clock, out);
 }
 
-/// All voices over a batch of n samples, and what they give in each.
+/// All voices over a batch of n samples after a clock, and what they give in each.
 fn run_voices(
     voices: &mut [Voice; 8],
     n: u8,
@@ -85,7 +84,7 @@ fn run_voices(
 
 /// What the voices give in sample `j`.
 fn answers_in(outs: &[OutRow; 8], j: u8) -> [VoiceOut; 8]
-    requires { j < 64 }
+    requires { j < most_samples_of_batch }
     ensures { result ≡ answers_in outs.now j }
 {
     let place = usize::from(j);
@@ -121,29 +120,17 @@ pub fn make_recorded_batch(
     ensures frames { frames.new ≡ frames.old ++ (by_rows n number state.old memory.old).frames }
     ensures records { records.new ≡ records.old ++ filter (in_mask mask) (by_rows n number state.old memory.old).records }
 {
-    let first = *clock;
-    let mut rows = BatchRows {
-        noise: [0; 64],
-        poll: [false; 64],
-        kon: [0; 64],
-    };
-    let mut clocks = [first; 64];
-    step_keys(
-        state,
-        number,
-        n,
-        settings.noise_rate,
-        clock,
-        &mut rows,
-        &mut clocks,
-    );
+    let before = *clock;
+    *clock = before.ahead(n);
+    let first = next_clock(&before);
+    let rows = step_keys(state, number, n, settings.noise_rate, &first);
     let mut outs = [OutRow::silent(); 8];
     run_voices(
         &mut state.hidden.voices,
         n,
         &state.registers,
         &rows,
-        &first,
+        &before,
         memory,
         &state.table,
         &mut outs,

@@ -3,6 +3,7 @@
 ghost use Rattle.std.specs.Prelude.{◌≡◌, ◌<◌, ℕ, ℤ, pos, ◌+ℤ◌, ◌*ℤ◌, neg_ℤ, ◌≤ℤ◌, ◌<ℤ◌, replicate, unsigned_abs};
 ghost use Rattle.num_fix.specs.Arithmetic.{clamp16, scaled};
 ghost use Rattle.num_fix.specs.Words.{number_at};
+ghost use Rattle.dsp_form.specs.Limits.{most_samples_of_batch};
 ghost use Rattle.batch_rows.specs.SumRows.{HasShares};
 
 use dsp_form::{Volumes, with_share};
@@ -35,7 +36,7 @@ fn with_soft_share(sum: i16, out: i16, factor: i16) -> i16
 fn factors_of(volume: i16) -> [i16; 64]
     requires least { neg_ℤ (pos 64) ≤ℤ volume }
     requires most { volume <ℤ pos 64 }
-    ensures { (j : ℕ) → j < 64 → number_at result j ≡ volume *ℤ pos 512 }
+    ensures { (j : ℕ) → j < most_samples_of_batch → number_at result j ≡ volume *ℤ pos 512 }
 {
     let factor = volume * 512;
     [factor; 64]

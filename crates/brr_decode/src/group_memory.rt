@@ -74,7 +74,7 @@ impl GroupMemory {
     }
 
     /// Decodes a group, the four digits of two bytes, unless it is remembered.
-    /// `p1` is the last kept sample and `p2` the kept sample before it.
+    /// `p1` is the last kept sample and `p2` the kept sample before it. Inlined, so that a group that is remembered costs no call.
     #[inline(always)]
     pub fn decode(&mut self, header: u8, b0: u8, b1: u8, p1: i16, p2: i16) -> [i16; 4]
         ensures { (samples : List ℤ) → EndsWith samples p2 p1 → with_group samples header b0 b1 ≡ samples ++ result }

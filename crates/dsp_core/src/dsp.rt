@@ -16,7 +16,7 @@ use crate::OutOfMemory;
 use crate::sample::make_sample;
 use crate::saved::DspState;
 use aram_core::Aram;
-use batch_rows::{UNHEARD, is_echo_apart, make_batch, make_recorded_batch, push_records};
+use batch_rows::{is_echo_apart, make_batch, make_recorded_batch, push_records};
 use brr_decode::GroupMemory;
 use dsp_form::registers::{ENDX, KON};
 use dsp_form::{ChipState, Hidden, Settings, settings_of};
@@ -27,7 +27,7 @@ use reach_map::ReachPages;
 use std::alloc::Global;
 use std::marker::Model;
 use trace_form::{Frames, Records};
-use voice_unit::{Voice, VoiceOut};
+use voice_unit::{UNHEARD, Voice, VoiceOut};
 
 /// The S-DSP. It runs once for each sample, 32,000 times a second of sound. Beside the chip's state it keeps the groups that it
 /// decoded, of which views and saved states see nothing.

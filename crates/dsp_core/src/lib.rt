@@ -1,4 +1,5 @@
-//! The S-DSP: eight voices, the echo and the registers, sample by sample.
+//! The S-DSP: eight voices, the echo and the registers. It makes its samples in batches: by rows where the echo can't write what the voices
+//! read, and else one after another.
 #![tactic(auto)]
 
 mod dsp;

@@ -1,7 +1,7 @@
 //! What a sample leaves in the registers.
 
-ghost use Rattle.std.specs.Prelude.{◌≡◌, ◌<◌, ◌+◌, ◌*◌, ◌^◌, slice_set, if◌then◌else◌};
-ghost use Rattle.dsp_form.specs.Results.{is_result, bits_from, with_levels_from, next_endx, registers_after};
+ghost use Rattle.std.specs.Prelude.{◌≡◌, ◌<◌, ◌+◌, ◌*◌, ◌^◌, bit_or, slice_set, if◌then◌else◌};
+ghost use Rattle.dsp_form.specs.Results.{is_result, bits_from, with_levels_from, next_endx, registers_after, without_bits};
 
 use crate::registers::{ENDX, ENVX, OUTX, Registers};
 use voice_unit::VoiceOut;
@@ -33,13 +33,20 @@ fn looped_bits(answers: &[VoiceOut; 8]) -> u8
     bits
 }
 
-/// ENDX after a sample in which these voices were keyed.
+/// ENDX after a sample: it gains the voices that looped, and then loses those that were keyed.
+pub fn next_endx(endx: u8, looped: u8, keyed: u8) -> u8
+    ensures { result ≡ without_bits (bit_or endx looped) keyed }
+{
+    (endx | looped) & (0xff - keyed)
+}
+
+/// ENDX after the answers of a sample in which these voices were keyed.
 #[tactic(auto, unfolding(crate::specs::Results::next_endx))]
-fn next_endx(endx: u8, keyed: u8, answers: &[VoiceOut; 8]) -> u8
+fn endx_after(endx: u8, keyed: u8, answers: &[VoiceOut; 8]) -> u8
     requires { keyed ≡ bits_from (λ answer. answer.keyed) 0 answers.now }
     ensures { result ≡ next_endx endx answers.now }
 {
-    (endx | looped_bits(answers)) & (0xff - keyed)
+    next_endx(endx, looped_bits(answers), keyed)
 }
 
 /// Puts ENVX and OUTX of voice `v`.
@@ -67,7 +74,7 @@ pub fn put_results(registers: &mut Registers, keyed: u8, answers: &[VoiceOut; 8]
     requires { keyed ≡ bits_from (λ answer. answer.keyed) 0 answers.now }
     ensures { registers.new ≡ registers_after answers.now registers.old }
 {
-    let endx = next_endx(registers[ENDX], keyed, answers);
+    let endx = endx_after(registers[ENDX], keyed, answers);
     put_all_levels(registers, answers);
     registers[ENDX] = endx;
 }

@@ -52,12 +52,15 @@ next_offset echo edl h = by (if echo.offset == 0 then echo_length edl else echo.
     by : (length : ℕ) → ((if nat_le length (echo.offset + 4) then 0 else echo.offset + 4) % 4 ≡ 0) × ((if nat_le length (echo.offset + 4) then 0 else echo.offset + 4) < max length 4)
     by length = wrapped length (nat_le length (echo.offset + 4)) refl
 
+-- from cell to cell
+pub is_at_cell-next_cell : (echo : EchoState) (edl : ℕ) → is_at_cell echo ≡ true → is_at_cell (at_next_cell echo edl) ≡ true
+is_at_cell-next_cell echo edl h =
+    let at : IsCell echo = cell_of echo h in
+    let offsets = next_offset echo edl at in
+    let lengths = next_length echo edl at in
+    is_cell (at_next_cell echo edl) record { cell = offsets.0; within = offsets.1; whole = lengths.0; most = lengths.1 }
+
 -- a step takes the echo from cell to cell
 pub is_at_cell-next_echo : (echo : EchoState) (regs : EchoRegs) (memory : List ℕ) → is_at_cell echo ≡ true → is_at_cell (next_echo echo regs memory) ≡ true
 unfolding next_echo after_reading
-is_at_cell-next_echo echo regs memory h =
-    let read : EchoState = after_reading echo regs memory in
-    let at : IsCell read = let c : IsCell echo = cell_of echo h in record { cell = c.cell; within = c.within; whole = c.whole; most = c.most } in
-    let offsets = next_offset read regs.edl at in
-    let lengths = next_length read regs.edl at in
-    is_cell (at_next_cell read regs.edl) record { cell = offsets.0; within = offsets.1; whole = lengths.0; most = lengths.1 }
+is_at_cell-next_echo echo regs memory h = is_at_cell-next_cell (after_reading echo regs memory) regs.edl h

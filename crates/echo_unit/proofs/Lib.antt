@@ -6,6 +6,8 @@ pub mod Cells
 -- OffCell: a step of the echo writes one cell. Walk: up to 64 cells of a buffer are all apart.
 pub mod OffCell
 pub mod Walk
+-- Neighbours: cells that stand one after another in one page.
 -- Entries: rows that a loop fills. RunByRows: a batch whose cells are all read before they are written.
 pub mod Entries
+pub mod Neighbours
 pub mod RunByRows

@@ -10,7 +10,7 @@ use Rattle.aram_core.specs.Memory.{byte_at, word_at}
 use Rattle.echo_unit.specs.Echo.{EchoState, is_at_cell, cell_address, halved_word, cell_pair, with_cell, after_reading, at_next_cell, next_echo, filtered_pair, feedback_pair, echo_heard, echo_memory, output_frame}
 use Rattle.echo_unit.specs.Fir.{filtered_sample, eight_from}
 use Rattle.echo_unit.specs.Flg.{has_echo_writes}
-use Rattle.echo_unit.specs.Run.{EchoRun, echo_run, pair_of}
+use Rattle.echo_unit.specs.EchoOverBatch.{EchoRun, echo_run, pair_of}
 use Rattle.echo_unit.specs.Cells.{after_cells, cell_after, pairs_read, with_cells}
 use Rattle.echo_unit.specs.declared.regs.EchoRegs.{EchoRegs}
 use Rattle.echo_unit.proofs.Entries.{take_all, drop_newest, row_more, window_of}

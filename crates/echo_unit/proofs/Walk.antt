@@ -3,14 +3,10 @@ use Rattle.std.proofs.Common.{◌≡◌, ◌≢◌, ℕ, zero, suc, ◌+◌, ◌
 use Rattle.std.proofs.lemmas.Bool.Decides.{nat_tests}
 use Rattle.reach_map.specs.Window.{echo_length}
 use Rattle.echo_unit.specs.Echo.{EchoState, at_next_cell}
-use Rattle.echo_unit.specs.Cells.{after_cells, cell_after}
+use Rattle.echo_unit.specs.Cells.{after_cells, cell_after, length_in_force}
 use Rattle.echo_unit.specs.declared.regs.EchoRegs.{EchoRegs}
 use Rattle.echo_unit.proofs.Cells.{IsCell}
 use Rattle.echo_unit.proofs.OffCell.{IsOffCell, off_other}
-
--- the length in force once the echo has made a step
-abbrev length_in_force : (edl : ℕ) → EchoState → ℕ
-length_in_force edl echo = if echo.offset == 0 then echo_length edl else echo.length
 
 -- a place in a buffer of a length
 record IsPlace (offset len : ℕ) : Type 0 where
@@ -38,7 +34,7 @@ is_place edl s cell some = by (s.offset == 0) refl
         }
 
 -- a step within the buffer, and one at its end
-goes_on : (edl len offset : ℕ) (at : EchoState) → at.offset ≡ offset → length_in_force edl at ≡ len → offset + 4 < len
+pub goes_on : (edl len offset : ℕ) (at : EchoState) → at.offset ≡ offset → length_in_force edl at ≡ len → offset + 4 < len
     → ((at_next_cell at edl).offset ≡ offset + 4) × (length_in_force edl (at_next_cell at edl) ≡ len)
 unfolding at_next_cell
 goes_on edl len offset at place force more =
@@ -55,7 +51,7 @@ turns edl len offset at place force end =
     let test : nat_le (length_in_force edl at) (at.offset + 4) ≡ true = rw (force, place) long in
     (rw test refl, rw test refl)
 
--- after so many cells: before the buffer's end, or behind its start
+-- after so many cells: before the buffer's end, or after its start
 record IsAhead (edl first len j : ℕ) (at : EchoState) : Type 0 where
   offset_is : at.offset ≡ first + 4 * j
   length_is : length_in_force edl at ≡ len

@@ -1,10 +1,12 @@
 -- Flg: the bits of the register FLG that the echo reads.
 -- Fir: the filter over the last eight echo samples of a side.
 -- Echo: what one step of the echo does to its state and to memory, and the frame that it gives.
--- Run: the echo over the samples of a batch.
+-- EchoOverBatch: the echo over the samples of a batch.
+-- Page: cells in the bytes of a page.
 -- Cells: the cells that the echo goes through one after another.
 pub mod Flg
 pub mod Fir
 pub mod Echo
-pub mod Run
+pub mod EchoOverBatch
+pub mod Page
 pub mod Cells

@@ -2,9 +2,9 @@
 ghost use Rattle.std.specs.Prelude.{◌≡◌, ◌<◌, ◌≤◌, ◌+◌, ◌*◌, ◌%◌, true, false, length, map, take};
 ghost use Rattle.reach_map.specs.Window.{echo_window};
 ghost use Rattle.echo_unit.specs.Echo.{first_echo, is_at_cell, cell_address, with_newest, after_reading, at_next_cell, echo_heard, next_echo, echo_memory, output_frame, feedback_pair};
-ghost use Rattle.echo_unit.specs.Cells.{after_cells, pairs_read, with_cells};
+ghost use Rattle.echo_unit.specs.Cells.{AreNeighbours, after_cells, length_in_force, with_cells};
 ghost use Rattle.echo_unit.specs.Flg.{has_echo_writes};
-ghost use Rattle.echo_unit.specs.Run.{echo_run, pair_of};
+ghost use Rattle.echo_unit.specs.EchoOverBatch.{echo_run, pair_of};
 
 use crate::cell::{cell_address, cell_pair, put_cell};
 use crate::filter::filtered_pair;
@@ -80,9 +80,7 @@ impl Echo {
     fn advance(&mut self, edl: u8)
         ensures { self.new ≡ at_next_cell self.old edl }
     {
-        if self.offset == 0 {
-            self.length = u16::from(edl % 16) * 2048;
-        }
+        self.length = self.length_in_force(edl);
         if self.length <= self.offset + 4 {
             self.offset = 0;
         } else {
@@ -122,14 +120,14 @@ impl Echo {
     }
 
     /// The address of its cell.
-    fn cell(&self, esa: u8) -> u16
+    pub(crate) fn cell(&self, esa: u8) -> u16
         ensures { result ≡ cell_address esa self.now.offset }
     {
         cell_address(esa, self.offset)
     }
 
     /// Puts the pairs of the history into two rows.
-    fn put_pairs(&self, left: &mut [i16; 72], right: &mut [i16; 72])
+    pub(crate) fn put_pairs(&self, left: &mut [i16; 72], right: &mut [i16; 72])
         ensures left { take 8 left.new ≡ map (λ pair. pair.left) self.now.history }
         ensures right { take 8 right.new ≡ map (λ pair. pair.right) self.now.history }
         ensures at_cell { is_at_cell self.now ≡ true }
@@ -138,53 +136,47 @@ impl Echo {
         put_history(&self.history, left, right);
     }
 
-    /// Reads n cells, behind the pairs of the history, into a row for each side. The answer is the echo after these cells, with the
-    /// history that it had.
-    fn read_cells(
-        &self,
-        n: u8,
-        regs: &EchoRegs,
-        memory: &Aram,
-        left: &mut [i16; 72],
-        right: &mut [i16; 72],
-    ) -> Echo
-        requires few { n ≤ 64 }
-        ensures echo { result ≡ after_cells self.now regs.now.edl n }
-        ensures left { take (8 + n) left.new ≡ map (λ pair. pair.left) (pairs_read self.now regs.now memory.now n) }
-        ensures right { take (8 + n) right.new ≡ map (λ pair. pair.right) (pairs_read self.now regs.now memory.now n) }
-        ensures at_cell { is_at_cell self.now ≡ true }
-        ensures eight { length self.now.history ≡ 8 }
+    /// The length of the buffer that a step from here goes by.
+    fn length_in_force(&self, edl: u8) -> u16
+        ensures value { result ≡ length_in_force edl self.now }
+        ensures most { result ≤ 15 * 0x800 }
+        ensures whole { result % 0x800 ≡ 0 }
+        ensures within { self.now.offset < 15 * 0x800 }
+        ensures inside { 0 < result → self.now.offset < result }
+        ensures cell { self.now.offset % 4 ≡ 0 }
     {
-        self.put_pairs(left, right);
-        let mut at = *self;
-        for j in 0..n {
-            let pair = cell_pair(memory, at.cell(regs.esa));
-            let cell = usize::from(j);
-            left[8 + cell] = pair.left;
-            right[8 + cell] = pair.right;
-            at.advance(regs.edl);
+        if self.offset == 0 {
+            u16::from(edl % 16) * 2048
+        } else {
+            self.length
         }
-        at
     }
 
-    /// Writes n cells of two rows of words.
-    fn write_cells(
-        &self,
-        n: u8,
-        regs: &EchoRegs,
-        left: &[i16; 64],
-        right: &[i16; 64],
-        memory: &mut Aram,
-    )
-        requires few { n ≤ 64 }
-        ensures { memory.new ≡ with_cells self.now regs.now (pair_of left.now right.now) memory.old n }
+    /// How many of the next cells, at least one and at most so many, stand one after another in one page.
+    pub(crate) fn neighbours(&self, edl: u8, most: u8) -> u8
+        requires { 0 < most }
+        ensures some { 0 < result }
+        ensures few { result ≤ most }
+        ensures neighbours { AreNeighbours edl result self.now }
     {
-        let mut at = *self;
-        for j in 0..n {
-            let place = usize::from(j);
-            put_cell(memory, at.cell(regs.esa), left[place], right[place]);
-            at.advance(regs.edl);
+        // a buffer ends where a page does, and one of no length has one cell
+        if self.length_in_force(edl) == 0 {
+            return 1;
         }
+        let in_page = (256 - self.offset % 256) / 4;
+        u16::from(most).min(in_page) as u8
+    }
+
+    /// Goes over so many cells that stand one after another.
+    pub(crate) fn skip(&mut self, edl: u8, cells: u8)
+        requires some { 0 < cells }
+        requires neighbours { AreNeighbours edl cells self.old }
+        ensures { self.new ≡ after_cells self.old edl cells }
+    {
+        let length = self.length_in_force(edl);
+        let end = self.offset + 4 * u16::from(cells);
+        self.length = length;
+        self.offset = if length <= end { 0 } else { end };
     }
 
     /// Writes what was sent and heard back into n cells.

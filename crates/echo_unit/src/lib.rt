@@ -1,9 +1,11 @@
 //! The echo of the S-DSP: its buffer in the shared memory, its FIR filter, and the output frame.
 #![tactic(auto)]
 
+mod buffer;
 mod cell;
 mod echo;
 mod filter;
+mod page;
 mod regs;
 mod rows;
 #[cfg(test)]

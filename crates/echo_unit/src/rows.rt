@@ -4,7 +4,7 @@ ghost use Rattle.std.specs.Prelude.{◌≡◌, ◌<◌, ◌≤◌, ◌+◌, ℕ,
 ghost use Rattle.num_fix.specs.Words.{number_at};
 ghost use Rattle.echo_unit.specs.Echo.{feedback_word, output_frame};
 ghost use Rattle.echo_unit.specs.Fir.{filtered_sample, eight_from};
-ghost use Rattle.echo_unit.specs.Run.{pair_of};
+ghost use Rattle.echo_unit.specs.EchoOverBatch.{pair_of};
 
 use crate::EchoRegs;
 use crate::filter::{filtered_sample, left_of, right_of};

@@ -3,7 +3,7 @@
 ghost use Rattle.std.specs.Prelude.{◌≡◌, ◌≤◌, ◌+ℤ◌, unsigned_abs};
 ghost use Rattle.num_fix.specs.Arithmetic.{wrap16};
 ghost use Rattle.gauss_table.specs.Interpolation.{mix_of, tap};
-ghost use Rattle.gauss_table.specs.Small.{AreSmall};
+ghost use Rattle.gauss_table.specs.TapBounds.{AreSmall, most_of_tap};
 
 use crate::quad::Quad;
 use num_fix::{clamp16, clear_bit0, scaled, wrap16};
@@ -21,7 +21,7 @@ pub struct Taps {
 /// What one sample gives under its weight.
 fn tap(weight: i16, sample: i16) -> i32
     ensures value { result ≡ tap weight sample }
-    ensures bound { unsigned_abs result ≤ 0x80000 }
+    ensures bound { unsigned_abs result ≤ most_of_tap }
 {
     scaled(weight, sample, 11)
 }

@@ -88,6 +88,24 @@ impl RateClock {
         self.fifths = number_before(u16::from(self.fifths), 5) as u8;
     }
 
+    /// The clock so many samples later.
+    pub fn ahead(&self, samples: u8) -> RateClock
+        ensures at { (k : ℕ) → self.now ≡ counter_at k → result ≡ counter_at (k + samples) }
+        ensures after { (n : ℕ) → self.now ≡ counter_after n → result ≡ counter_after (n + samples) }
+    {
+        let way = u16::from(samples);
+        let counter = if self.counter < way {
+            self.counter + 30720 - way
+        } else {
+            self.counter - way
+        };
+        RateClock {
+            counter,
+            thirds: ((counter + THIRDS) % 3) as u8,
+            fifths: ((counter + FIFTHS) % 5) as u8,
+        }
+    }
+
     /// The counter with its offset, modulo the odd part of the rate's period: 0 where the odd part divides it.
     fn rest(&self, offset: u16) -> u8
         ensures { result ≡ rest_at self.now offset }

@@ -89,15 +89,15 @@ pub reader : (position pitch group n : ℕ) → pitch < 0x4000 → position < 0x
 reader position pitch group n slow early read =
     reader_by position pitch group n _ slow early read (div-mul-le_self (0x4000 * (group + 1) - 1 - position) pitch) (lt-div-mul-add (moves position pitch group n early read))
 
--- where the position is behind so many samples
-pub record IsBehind (position pitch n : ℕ) : Type 0 where
+-- where the position is after so many samples
+pub record IsAfter (position pitch n : ℕ) : Type 0 where
   pub from : 0x4000 * groups_before position pitch n ≤ position + n * pitch
   pub to : position + n * pitch < 0x4000 * groups_before position pitch n + 0x8000
 
-pub behind : (position pitch n : ℕ) → 0 < n → pitch < 0x4000 → IsBehind position pitch n
+pub stands_after : (position pitch n : ℕ) → 0 < n → pitch < 0x4000 → IsAfter position pitch n
 unfolding groups_before
-behind position pitch zero some slow = absurd (omega (arith, some))
-behind position pitch (suc n) some slow =
+stands_after position pitch zero some slow = absurd (omega (arith, some))
+stands_after position pitch (suc n) some slow =
     let further : position + suc n * pitch ≡ position + n * pitch + pitch = omega arith in
     record { from = rw further (omega (arith, slow)); to = rw further (omega (arith, slow)) }
 
@@ -119,8 +119,8 @@ is_read-other position pitch group q j reads other = by (is_read_in position pit
         absurd (other (omega (arith, low, high)))
 
 -- a sample reads no group that was read before
-pub is_read-behind : (position pitch group j : ℕ) → groups_before position pitch j ≢ group → is_read_in position pitch group j ≡ false
-is_read-behind position pitch group j other = by (groups_before position pitch j == group) refl
+pub is_read-elsewhere : (position pitch group j : ℕ) → groups_before position pitch j ≢ group → is_read_in position pitch group j ≡ false
+is_read-elsewhere position pitch group j other = by (groups_before position pitch j == group) refl
   where
     by : (b : Bool) → (groups_before position pitch j == group) ≡ b → (b && (groups_before position pitch (j + 1) == group + 1)) ≡ false
     by false e = refl

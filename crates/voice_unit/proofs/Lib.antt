@@ -13,12 +13,12 @@ pub mod Glided
 pub mod OneMoreStep
 -- RowOfVoice: the row of kept samples.
 pub mod RowOfVoice
--- Counting: how many groups are read before each sample. Marks: the bits of a voice that loops, group by group.
+-- Counting: how many groups are read before each sample. LoopBits: the bits of a voice that loops, group by group.
 pub mod Counting
-pub mod Marks
+pub mod LoopBits
 -- OverRow: a stretch of samples of a voice that glides.
 pub mod OverRow
--- Rows: rows of numbers, one more entry at a time.
-pub mod Rows
--- Growing: one group more of a stretch of samples.
-pub mod Growing
+-- PartsOfRow: parts of a row of numbers, one entry more at a time.
+pub mod PartsOfRow
+-- OneMoreGroup: one group more of a stretch of samples.
+pub mod OneMoreGroup

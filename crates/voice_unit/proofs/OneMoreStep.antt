@@ -6,7 +6,7 @@ use Rattle.rate_clock.specs.Counter.{counter_at}
 use Rattle.voice_unit.specs.Batch.{steps, answer_of_step}
 use Rattle.voice_unit.specs.Voice.{VoiceState, voice_step, voice_answer}
 use Rattle.voice_unit.specs.Play.{Lane, answer_at}
-use Rattle.voice_unit.specs.Run.{silent_answer, IsRun}
+use Rattle.voice_unit.specs.RunOfVoice.{silent_answer, IsRun}
 use Rattle.voice_unit.specs.declared.interface.VoiceOut.{VoiceOut}
 use Rattle.voice_unit.specs.declared.run.OutRow.{OutRow}
 use Rattle.voice_unit.proofs.Played.{more_steps}

@@ -16,7 +16,7 @@ use Rattle.voice_unit.specs.Plain.{PlaysPlainly}
 use Rattle.voice_unit.specs.Play.{Lane, IsOnItsWay, voice_at, answer_at}
 use Rattle.voice_unit.specs.Rest.{is_silencing, IsSilent, IsAtRest}
 use Rattle.voice_unit.specs.Row.{place_after, groups_before, is_end, is_read_in, loops_in, PlaysOn, row_of, place_of, StandsAt}
-use Rattle.voice_unit.specs.Stretch.{out_over_row}
+use Rattle.voice_unit.specs.OutsOverRow.{out_over_row}
 use Rattle.voice_unit.specs.Voice.{VoiceState, interpolation, output, source_sample, needs_group, is_at_last_group, after_reading, after_pitch, voice_step}
 use Rattle.voice_unit.specs.declared.batch.BatchLane.{BatchLane}
 use Rattle.voice_unit.specs.declared.interface.VoiceIn.{VoiceIn}
@@ -35,7 +35,7 @@ interpolation-same table xs ys way same =
 
 -- what a voice puts out that plays its samples
 sampled_output : (v : VoiceState) (i : VoiceIn) (table : List ℤ) (samples : ℤ) (level : ℕ) → i.noisy ≡ false → interpolation table v.samples v.position ≡ samples → v.envelope.level ≡ level
-    → output v i table ≡ Rattle.voice_unit.specs.Stretch.sounding_at level samples
+    → output v i table ≡ Rattle.voice_unit.specs.OutsOverRow.sounding_at level samples
 unfolding output source_sample
 sampled_output v i table samples level sampled is at = rw (sampled, is, at) refl
 

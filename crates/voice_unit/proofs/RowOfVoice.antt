@@ -78,7 +78,7 @@ kept-with_group : (s : List ℤ) (header b0 b1 i : ℕ) → i < length s → num
 unfolding with_group
 kept-with_group s header b0 b1 i within = kept-with_all_kept s (digits_under header (b0 ∷ b1 ∷ [])) i within
 
--- the last samples of a list, with a group behind them
+-- the last samples of a list, with a group after them
 drop-with_group : (row : List ℤ) (n header b0 b1 : ℕ) → n + 2 ≤ length row → drop 4 (with_group (drop n row) header b0 b1) ≡ drop (n + 4) (with_group row header b0 b1)
 drop-with_group row n header b0 b1 some =
     let left : length (drop n row) ≡ length row - n = length-drop n row in

@@ -5,7 +5,7 @@
 -- Rest: voices whose envelopes rest.
 -- Plain: a sample in which nothing but its blocks and registers tells what a voice plays.
 -- Play: a voice over a batch, as rows of numbers alone.
--- Run: the same with what each step gives.
+-- RunOfVoice: the same with what each step gives.
 pub mod Directory
 pub mod Voice
 pub mod Inside
@@ -13,7 +13,7 @@ pub mod Batch
 pub mod Rest
 pub mod Plain
 pub mod Play
-pub mod Run
--- Row: the row of kept samples that a voice reads in a stretch of samples. Stretch: its outputs over that row.
+pub mod RunOfVoice
+-- Row: the row of kept samples that a voice reads in a stretch of samples. OutsOverRow: its outputs over that row.
 pub mod Row
-pub mod Stretch
+pub mod OutsOverRow

@@ -13,10 +13,6 @@ use Rattle.voice_unit.specs.declared.interface.VoiceRegs.{VoiceRegs}
 use Rattle.voice_unit.specs.declared.interface.VoiceIn.{VoiceIn}
 use Rattle.voice_unit.specs.declared.interface.VoiceOut.{VoiceOut}
 
--- the counters of so many samples, from number k on
-abbrev pub CountsFrom : (k n : ℕ) → (clocks : List ℕ) → Type 0
-CountsFrom k n clocks = (j : ℕ) → j < n → slice_index clocks j ≡ counter_at (k + j)
-
 -- what a voice and its row read in a batch from number k on
 pub record Lane : Type 0 where
   pub regs : VoiceRegs

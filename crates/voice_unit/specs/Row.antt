@@ -15,12 +15,12 @@ next_place memory loop_to at =
     if at.offset == 7 then record { block = next_block (byte_at memory at.block) at.block loop_to; offset = 1 }
     else record { block = at.block; offset = at.offset + 2 }
 
--- the group that stands so many behind one
+-- the group that stands so many after one
 unfoldable pub place_after : (memory : List ℕ) → (loop_to : ℕ) → Place → (groups : ℕ) → Place
 place_after memory loop_to first zero = first
 place_after memory loop_to first (suc d) = next_place memory loop_to (place_after memory loop_to first d)
 
--- samples, and behind them the kept samples of so many groups, from one on
+-- samples, and after them the kept samples of so many groups, from one on
 unfoldable pub kept_row : (memory : List ℕ) → (loop_to : ℕ) → Place → (samples : List ℤ) → (groups : ℕ) → List ℤ
 kept_row memory loop_to first samples zero = samples
 kept_row memory loop_to first samples (suc d) =
@@ -36,11 +36,11 @@ groups_before position pitch (suc j) = (position + j * pitch) / 0x4000
 abbrev pub is_end : (memory : List ℕ) → Place → Bool
 is_end memory at = at.offset == 7 && has_end (byte_at memory at.block)
 
--- sample j reads the group behind so many others
+-- sample j reads the group after so many others
 abbrev pub is_read_in : (position pitch group j : ℕ) → Bool
 is_read_in position pitch group j = groups_before position pitch j == group && groups_before position pitch (j + 1) == group + 1
 
--- sample j reads a group, behind so many others, that ends a block which has its end bit
+-- sample j reads a group, after so many others, that ends a block which has its end bit
 abbrev pub ends_in : (memory : List ℕ) → Place → (position pitch group j : ℕ) → Bool
 ends_in memory at position pitch group j = is_read_in position pitch group j && is_end memory at
 

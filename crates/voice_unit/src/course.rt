@@ -3,7 +3,7 @@
 ghost use Rattle.std.specs.Prelude.{◌≡◌, ◌<◌, ◌≤◌, ◌+◌, ◌*◌, ◌%◌, ◌^◌, ◌-◌, ℕ, true, false, slice_index, take, if◌then◌else◌};
 ghost use Rattle.aram_core.specs.Memory.{byte_at};
 ghost use Rattle.voice_unit.specs.Rest.{is_silencing};
-ghost use Rattle.voice_unit.specs.Row.{place_after, kept_row, groups_before, ends_in, loops_in};
+ghost use Rattle.voice_unit.specs.Row.{next_place, place_after, kept_row, groups_before, ends_in, loops_in};
 
 use crate::play::mark_loop;
 use crate::rest::is_silencing;
@@ -41,6 +41,15 @@ pub(crate) struct Stretch {
     pub woken: bool,
 }
 
+/// A group, with the header of its block.
+#[derive(Clone, Copy, Debug)]
+struct Headed {
+    place: Place,
+    header: u8,
+    /// Its block is another one than that of the group before, and silences the voice while it sounds.
+    woken: bool,
+}
+
 /// How many groups are read in n samples from a position on.
 fn groups_in(position: u16, pitch: u16, n: u8) -> u8
     requires position { position < 0x8000 }
@@ -54,7 +63,7 @@ fn groups_in(position: u16, pitch: u16, n: u8) -> u8
     (way / 0x4000) as u8
 }
 
-/// The sample that reads the group behind so many others.
+/// The sample that reads the group after so many others.
 fn reading_sample(position: u16, pitch: u16, group: u8, n: u8) -> u8
     requires position { position < 0x8000 }
     requires pitch { pitch < 0x4000 }
@@ -99,7 +108,60 @@ impl Course {
         !self.silent && is_silencing(self.reset, memory.get(place.block))
     }
 
-    /// Reads the groups of a stretch of n samples from sample `at` on behind the twelve samples of a voice, and marks where it loops. The
+    /// Goes on from a group to the next one. Where that one begins a block, the end of the block before is marked, and the new header is
+    /// looked at. Inlined, since three of four groups only go on in their block.
+    #[inline(always)]
+    fn go_on(
+        &self,
+        at: u8,
+        n: u8,
+        group: u8,
+        now: &Headed,
+        memory: &Aram,
+        loops: &mut [u8; 64],
+    ) -> Headed
+        requires voice { self.now.voice < 8 }
+        requires position { self.now.position < 0x8000 }
+        requires pitch { self.now.pitch < 0x4000 }
+        requires few { at + n ≤ 64 }
+        requires read { group < groups_before self.now.position self.now.pitch n }
+        requires room { (j : ℕ) → j < n → groups_before self.now.position self.now.pitch j ≡ group → slice_index loops.old (at + j) < 2 ^ self.now.voice }
+        requires group { now.now.place.offset < 8 }
+        requires odd { now.now.place.offset % 2 ≡ 1 }
+        requires header { now.now.header ≡ byte_at memory.now now.now.place.block }
+        ensures place { result.place ≡ next_place memory.now self.now.loop_to now.now.place }
+        ensures group { result.place.offset < 8 }
+        ensures odd { result.place.offset % 2 ≡ 1 }
+        ensures header { result.header ≡ byte_at memory.now result.place.block }
+        ensures quiet { result.woken ≡ false → (is_silencing self.now.reset (byte_at memory.now now.now.place.block) ≡ true → self.now.silent ≡ true)
+            → is_silencing self.now.reset (byte_at memory.now result.place.block) ≡ true → self.now.silent ≡ true }
+        ensures marks { (j : ℕ) → j < n → slice_index loops.new (at + j) ≡ slice_index loops.old (at + j)
+            + (if ends_in memory.now now.now.place self.now.position self.now.pitch group j then 2 ^ self.now.voice else 0) }
+        ensures before { (i : ℕ) → i < at → slice_index loops.new i ≡ slice_index loops.old i }
+        ensures later { (i : ℕ) → at + n ≤ i → slice_index loops.new i ≡ slice_index loops.old i }
+    {
+        let place = now.place;
+        if place.offset != 7 {
+            let next = Place {
+                block: place.block,
+                offset: place.offset + 2,
+            };
+            return Headed {
+                place: next,
+                header: now.header,
+                woken: false,
+            };
+        }
+        self.mark_end(at, n, group, &place, memory, loops);
+        let next = next_place(place, self.loop_to, memory);
+        Headed {
+            place: next,
+            header: memory.get(next.block),
+            woken: self.is_woken_at(&next, memory),
+        }
+    }
+
+    /// Reads the groups of a stretch of n samples from sample `at` on into a row, after the twelve samples of a voice, and marks where it loops. The
     /// stretch is shorter where the header of a block silences the voice.
     pub(crate) fn read_stretch(
         &self,
@@ -130,24 +192,34 @@ impl Course {
             + (if loops_in memory.now self.now.loop_to self.now.first self.now.position self.now.pitch j then 2 ^ self.now.voice else 0) }
         ensures before { (i : ℕ) → i < at → slice_index loops.new i ≡ slice_index loops.old i }
         ensures later { (i : ℕ) → at + result.samples ≤ i → slice_index loops.new i ≡ slice_index loops.old i }
-        ensures quiet { (j : ℕ) → j < result.samples → 0 < groups_before self.now.position self.now.pitch j
-            → let next = place_after memory.now self.now.loop_to self.now.first (groups_before self.now.position self.now.pitch j) in
+        ensures quiet { (is_silencing self.now.reset (byte_at memory.now self.now.first.block) ≡ true → self.now.silent ≡ true)
+            → (j : ℕ) → j < result.samples → let next = place_after memory.now self.now.loop_to self.now.first (groups_before self.now.position self.now.pitch j) in
             is_silencing self.now.reset (byte_at memory.now next.block) ≡ true → self.now.silent ≡ true }
-        ensures goes_on { result.woken ≡ false → 0 < result.groups
-            → is_silencing self.now.reset (byte_at memory.now result.next.block) ≡ true → self.now.silent ≡ true }
+        ensures goes_on { (is_silencing self.now.reset (byte_at memory.now self.now.first.block) ≡ true → self.now.silent ≡ true)
+            → result.woken ≡ false → is_silencing self.now.reset (byte_at memory.now result.next.block) ≡ true → self.now.silent ≡ true }
     {
         let count = groups_in(self.position, self.pitch, n);
-        let mut place = self.first;
+        let mut now = Headed {
+            place: self.first,
+            header: memory.get(self.first.block),
+            woken: false,
+        };
         for d in 0..count {
-            read_group(row, 12 + 4 * usize::from(d), &place, memory, groups);
-            self.mark_end(at, n, d, &place, memory, loops);
-            place = next_place(place, self.loop_to, memory);
-            if self.is_woken_at(&place, memory) {
+            read_group(
+                row,
+                12 + 4 * usize::from(d),
+                &now.place,
+                now.header,
+                memory,
+                groups,
+            );
+            now = self.go_on(at, n, d, &now, memory, loops);
+            if now.woken {
                 let last = reading_sample(self.position, self.pitch, d, n);
                 return Stretch {
                     samples: last + 1,
                     groups: d + 1,
-                    next: place,
+                    next: now.place,
                     woken: true,
                 };
             }
@@ -155,7 +227,7 @@ impl Course {
         Stretch {
             samples: n,
             groups: count,
-            next: place,
+            next: now.place,
             woken: false,
         }
     }

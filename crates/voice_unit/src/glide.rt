@@ -14,9 +14,10 @@ use crate::interface::VoiceRegs;
 use crate::rest::is_silent;
 use crate::sounding::sound;
 use crate::voice::Voice;
+use crate::workroom::Workroom;
 use aram_core::Aram;
 use brr_decode::GroupMemory;
-use gauss_table::{GaussTable, Taps};
+use gauss_table::GaussTable;
 use num_fix::has_bit;
 
 /// Whether a key on of a voice is taken in any sample of a batch.
@@ -45,7 +46,7 @@ fn glide_length(glides: bool, j: u8, last: u8, rest: u16) -> u8
     }
 }
 
-/// The position of a voice behind so many samples, in which so many groups were read.
+/// The position of a voice after so many samples, in which so many groups were read.
 fn position_after(position: u16, pitch: u16, stretch: &Stretch) -> u16
     requires position { position < 0x8000 }
     requires pitch { pitch < 0x4000 }
@@ -59,7 +60,7 @@ fn position_after(position: u16, pitch: u16, stretch: &Stretch) -> u16
     (way - 0x4000 * u32::from(stretch.groups)) as u16
 }
 
-/// For how many more samples a voice rests behind a stretch.
+/// For how many more samples a voice rests after a stretch.
 fn rest_after(rest: u16, stretch: &Stretch) -> u16
     requires { stretch.now.samples ≤ rest }
     ensures woken { stretch.now.woken ≡ true → result ≡ 0 }
@@ -109,6 +110,7 @@ impl Voice {
         ensures pitch { result.pitch ≡ regs.now.pitch }
         ensures reset { result.reset ≡ lane.now.reset }
         ensures silent { result.silent ≡ true → IsSilent self.now.envelope }
+        ensures all_silent { IsSilent self.now.envelope → result.silent ≡ true }
     {
         Course {
             voice: lane.voice,
@@ -132,8 +134,7 @@ impl Voice {
         memory: &Aram,
         table: &GaussTable,
         groups: &mut GroupMemory,
-        row: &mut [i16; 268],
-        taps: &mut [Taps; 64],
+        room: &mut Workroom,
         outs: &mut [i16; 64],
         loops: &mut [u8; 64],
     ) -> Glided
@@ -153,22 +154,22 @@ impl Voice {
         ensures room { (i : ℕ) → at ≤ i → i < 64 → slice_index loops.new i < 2 ^ (lane.now.voice + 1) }
     {
         let course = self.course(regs, lane, memory);
-        self.begin_row(row);
-        let stretch = course.read_stretch(row, at, n, memory, groups, loops);
+        self.begin_row(&mut room.row);
+        let stretch = course.read_stretch(&mut room.row, at, n, memory, groups, loops);
         let level = self.level();
         sound(
             outs,
-            taps,
+            &mut room.taps,
             at,
             stretch.samples,
-            row,
+            &room.row,
             table,
             course.position,
             course.pitch,
             level,
         );
         let position = position_after(course.position, course.pitch, &stretch);
-        self.go_to(row, stretch.groups, position, stretch.next);
+        self.go_to(&room.row, stretch.groups, position, stretch.next);
         Glided {
             at: at + stretch.samples,
             rest: rest_after(rest, &stretch),
@@ -187,8 +188,7 @@ impl Voice {
         memory: &Aram,
         table: &GaussTable,
         groups: &mut GroupMemory,
-        row: &mut [i16; 268],
-        taps: &mut [Taps; 64],
+        room: &mut Workroom,
         outs: &mut [i16; 64],
         loops: &mut [u8; 64],
     ) -> Glided
@@ -211,7 +211,7 @@ impl Voice {
             return Glided { at: j, rest };
         }
         self.play_stretch(
-            j, samples, rest, regs, lane, memory, table, groups, row, taps, outs, loops,
+            j, samples, rest, regs, lane, memory, table, groups, room, outs, loops,
         )
     }
 }

@@ -1,5 +1,8 @@
 //! What a step of a voice reads beside the memory and the table, and what it gives.
 
+ghost use Rattle.std.specs.Prelude.{◌≡◌};
+ghost use Rattle.voice_unit.specs.Voice.{is_keyed};
+
 /// The registers of one voice that its step reads (Anomie's S-DSP Doc, "DSP Voices").
 #[derive(Clone, Copy, Debug)]
 pub struct VoiceRegs {
@@ -49,4 +52,22 @@ pub struct VoiceOut {
     pub looped: bool,
     /// It was keyed.
     pub keyed: bool,
+}
+
+/// The answer of a voice that has not been heard.
+pub const UNHEARD: VoiceOut = VoiceOut {
+    out: 0,
+    level: 0,
+    envx: 0,
+    outx: 0,
+    block: 0,
+    looped: false,
+    keyed: false,
+};
+
+/// Whether a voice is keyed in a step.
+pub(crate) fn is_keyed(input: &VoiceIn) -> bool
+    ensures { result ≡ is_keyed input.now }
+{
+    input.poll && input.kon
 }

@@ -1,8 +1,10 @@
-//! Samples at a level, and pitches bent by samples.
+//! Samples at a level, and the pitch of a voice, bent by samples of the voice before.
 
 ghost use Rattle.std.specs.Prelude.{◌≡◌, ◌<◌, ◌≤◌, pos, unsigned_abs, ◌+ℤ◌};
 ghost use Rattle.num_fix.specs.Arithmetic.{scaled, floor_shift, high_byte};
+ghost use Rattle.voice_unit.specs.Voice.{pitch_of};
 
+use crate::interface::{VoiceIn, VoiceRegs};
 use num_fix::scaled;
 
 /// A sample at a level.
@@ -23,6 +25,20 @@ pub fn bent_pitch(pitch: u16, previous: i16) -> u16
 {
     let bend = scaled(previous >> 5, pitch as i16, 10);
     (i32::from(pitch) + bend) as u16
+}
+
+/// The pitch of a voice.
+#[tactic(auto, unfolding(crate::specs::Voice::pitch_of))]
+pub(crate) fn pitch_of(regs: &VoiceRegs, input: &VoiceIn) -> u16
+    requires { regs.now.pitch < 0x4000 }
+    ensures value { result ≡ pitch_of regs.now input.now }
+    ensures bound { result < 0x8000 }
+{
+    if input.modulated {
+        bent_pitch(regs.pitch, input.previous)
+    } else {
+        regs.pitch
+    }
 }
 
 /// The high byte of an output.

@@ -16,10 +16,12 @@ mod sounding;
 #[cfg(test)]
 mod tests;
 mod voice;
+mod workroom;
 
 pub use batch::{BatchLane, BatchRows};
 pub use directory::{entry_address, loop_word, start_word};
-pub use interface::{VoiceIn, VoiceOut, VoiceRegs};
+pub use interface::{UNHEARD, VoiceIn, VoiceOut, VoiceRegs};
 pub use laws::kept_rows;
 pub use run::OutRow;
 pub use voice::Voice;
+pub use workroom::Workroom;

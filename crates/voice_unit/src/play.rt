@@ -4,12 +4,13 @@ ghost use Rattle.std.specs.Prelude.{◌≡◌, ◌<◌, ◌≤◌, ◌+◌, ◌-
 ghost use Rattle.rate_clock.specs.Counter.{counter_at};
 ghost use Rattle.voice_unit.specs.Voice.{voice_step, voice_answer};
 ghost use Rattle.voice_unit.specs.Rest.{IsAtRest};
-ghost use Rattle.voice_unit.specs.Play.{CountsFrom, IsPlayed, IsOnItsWay, answer_at, lane_of};
+ghost use Rattle.voice_unit.specs.Play.{IsPlayed, IsOnItsWay, answer_at, lane_of};
 
 use crate::batch::{BatchLane, BatchRows};
-use crate::interface::{VoiceIn, VoiceOut, VoiceRegs};
+use crate::interface::{VoiceIn, VoiceOut, VoiceRegs, is_keyed};
 use crate::rest::Played;
-use crate::voice::{Voice, is_keyed};
+use crate::voice::Voice;
+use crate::workroom::Workroom;
 use aram_core::Aram;
 use brr_decode::GroupMemory;
 use gauss_table::GaussTable;
@@ -29,7 +30,7 @@ pub(crate) fn mark_loop(loops: &mut [u8; 64], j: u8, looped: bool, voice: u8)
 }
 
 impl Voice {
-    /// One sample, of a voice whose envelope rests for so many.
+    /// One sample, of a voice whose envelope rests for so many. Inlined, so that the input of a sample at rest stays in registers.
     #[inline(always)]
     fn play_sample(
         &mut self,
@@ -88,7 +89,7 @@ impl Voice {
         self.answer_at_rest(rest, regs, input, memory, table, groups)
     }
 
-    /// Makes n samples, and tells for how many more the envelope rests.
+    /// Makes n samples from that of a clock on, and tells for how many more the envelope rests.
     fn play_row(
         &mut self,
         n: u8,
@@ -98,8 +99,9 @@ impl Voice {
         previous: &[i16; 64],
         memory: &Aram,
         table: &GaussTable,
-        clocks: &[RateClock; 64],
+        clock: &RateClock,
         groups: &mut GroupMemory,
+        room: &mut Workroom,
         outs: &mut [i16; 64],
         loops: &mut [u8; 64],
     ) -> u16
@@ -108,7 +110,7 @@ impl Voice {
         requires pitch { regs.now.pitch < 0x4000 }
         requires noise { (j : ℕ) → j < n → slice_index rows.now.noise j < 0x8000 }
         requires room { (j : ℕ) → j < 64 → slice_index loops.old j < 2 ^ lane.now.voice }
-        ensures way { (k : ℕ) → CountsFrom k n clocks.now
+        ensures way { (k : ℕ) → clock.now ≡ counter_at k
             → let plays = lane_of regs.now lane.now rows.now previous.now memory.now table.now self.old k in
             IsOnItsWay lane.now plays n result loops.old loops.new outs.new self.new }
         ensures others { (j : ℕ) → n ≤ j → slice_index loops.new j ≡ slice_index loops.old j }
@@ -120,16 +122,12 @@ impl Voice {
         // a copy, so that what is the same in all samples is worked out once
         let own = *lane;
         let koff = has_bit(own.koff, own.voice);
-        let first = clocks[0];
-        let mut rest = self.rest_from(regs, own.reset, koff, memory, &first);
+        let mut rest = self.rest_from(regs, own.reset, koff, memory, clock);
         let glides = own.lets_glide(rows);
-        let mut row = [0; 268];
-        let mut taps = [table.taps(0, 0, 0, 0, 0); 64];
         let mut j = 0;
         'samples: while j < n {
             let glided = self.glide(
-                glides, j, n, rest, regs, &own, memory, table, groups, &mut row, &mut taps, outs,
-                loops,
+                glides, j, n, rest, regs, &own, memory, table, groups, room, outs, loops,
             );
             let to = glided.at;
             if to == n {
@@ -137,8 +135,8 @@ impl Voice {
             }
             let place = usize::from(to);
             let input = own.input(rows, previous[place], to);
-            let clock = clocks[place];
-            let played = self.play_sample(glided.rest, regs, &input, memory, table, &clock, groups);
+            let now = clock.ahead(to);
+            let played = self.play_sample(glided.rest, regs, &input, memory, table, &now, groups);
             outs[place] = played.out;
             mark_loop(loops, to, played.looped, own.voice);
             rest = played.rest;
@@ -147,7 +145,7 @@ impl Voice {
         rest
     }
 
-    /// Makes n samples: their outputs are put into a row, and its bit is added to the byte of each sample in which the voice
+    /// Makes n samples from that of a clock on: their outputs are put into a row, and its bit is added to the byte of each sample in which the voice
     /// loops. The answer is that of the last step.
     pub fn play(
         &mut self,
@@ -158,8 +156,9 @@ impl Voice {
         previous: &[i16; 64],
         memory: &Aram,
         table: &GaussTable,
-        clocks: &[RateClock; 64],
+        clock: &RateClock,
         groups: &mut GroupMemory,
+        room: &mut Workroom,
         outs: &mut [i16; 64],
         loops: &mut [u8; 64],
     ) -> VoiceOut
@@ -169,21 +168,21 @@ impl Voice {
         requires pitch { regs.now.pitch < 0x4000 }
         requires noise { (j : ℕ) → j < n → slice_index rows.now.noise j < 0x8000 }
         requires room { (j : ℕ) → j < 64 → slice_index loops.old j < 2 ^ lane.now.voice }
-        ensures played { (k : ℕ) → CountsFrom k n clocks.now
+        ensures played { (k : ℕ) → clock.now ≡ counter_at k
             → let plays = lane_of regs.now lane.now rows.now previous.now memory.now table.now self.old k in
             IsPlayed plays lane.now.voice n loops.old loops.new outs.new self.new }
         ensures room { (j : ℕ) → j < 64 → slice_index loops.new j < 2 ^ (lane.now.voice + 1) }
-        ensures last { (k : ℕ) → CountsFrom k n clocks.now
+        ensures last { (k : ℕ) → clock.now ≡ counter_at k
             → result ≡ answer_at (lane_of regs.now lane.now rows.now previous.now memory.now table.now self.old k) (n - 1) }
     {
         let last = n - 1;
         let rest = self.play_row(
-            last, regs, lane, rows, previous, memory, table, clocks, groups, outs, loops,
+            last, regs, lane, rows, previous, memory, table, clock, groups, room, outs, loops,
         );
         let place = usize::from(last);
         let input = lane.input(rows, previous[place], last);
-        let clock = clocks[place];
-        let answer = self.play_last(rest, regs, &input, memory, table, &clock, groups);
+        let now = clock.ahead(last);
+        let answer = self.play_last(rest, regs, &input, memory, table, &now, groups);
         outs[place] = answer.out;
         mark_loop(loops, last, answer.looped, lane.voice);
         answer

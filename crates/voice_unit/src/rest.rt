@@ -10,9 +10,9 @@ ghost use Rattle.voice_unit.specs.declared.interface.VoiceIn.{VoiceIn as Input};
 ghost use Rattle.envelope.specs.declared.Mode.TheVariants.{Release};
 ghost use Rattle.voice_unit.specs.Rest.{is_silencing, IsSilent, IsAtRest};
 
-use crate::interface::{VoiceIn, VoiceOut, VoiceRegs};
-use crate::level::high_byte;
-use crate::voice::{Voice, is_keyed, pitch_of};
+use crate::interface::{VoiceIn, VoiceOut, VoiceRegs, is_keyed};
+use crate::level::{high_byte, pitch_of};
+use crate::voice::Voice;
 use aram_core::Aram;
 use brr_decode::GroupMemory;
 use envelope::{Envelope, Mode};
@@ -47,7 +47,8 @@ pub(crate) fn is_silencing(reset: bool, header: u8) -> bool
 
 /// Whether an envelope is released at level 0.
 pub(crate) fn is_silent(envelope: &Envelope) -> bool
-    ensures { result ≡ true → IsSilent envelope.now }
+    ensures silent { result ≡ true → IsSilent envelope.now }
+    ensures all { IsSilent envelope.now → result ≡ true }
 {
     envelope.mode == Mode::Release && envelope.level() == 0
 }
@@ -100,7 +101,7 @@ impl Voice {
         self.rest_from(regs, input.reset, input.koff, memory, &next)
     }
 
-    /// A whole step over copies of its input and its clock, so that those of a sample at rest need not stand in memory.
+    /// A whole step over copies of its input and its clock. Inlined, so that those of a sample at rest need not stand in memory.
     #[inline(always)]
     pub(crate) fn play_awake(
         &mut self,
@@ -122,7 +123,7 @@ impl Voice {
         self.play_whole(regs, &own_input, memory, table, &own_clock)
     }
 
-    /// A whole step.
+    /// A whole step. It stands apart, so that the loop over samples at rest is short.
     #[inline(never)]
     fn play_whole(
         &mut self,
@@ -148,7 +149,7 @@ impl Voice {
         }
     }
 
-    /// Reads the next group and moves on by a pitch, of a voice at rest that has come to a group.
+    /// Reads the next group and moves on by a pitch, of a voice at rest that has come to a group. Inlined, as what calls it.
     #[inline(always)]
     fn go_over_group(
         &mut self,
@@ -178,7 +179,8 @@ impl Voice {
         }
     }
 
-    /// Moves on by a pitch, of a voice at rest, over a group where it has come to one.
+    /// Moves on by a pitch, of a voice at rest, over a group where it has come to one. Inlined, since most samples read
+    /// none.
     #[inline(always)]
     fn go_on(
         &mut self,
@@ -207,7 +209,7 @@ impl Voice {
         }
     }
 
-    /// A step of a voice at rest that isn't keyed.
+    /// A step of a voice at rest that isn't keyed. Inlined, so that the loop over such samples calls nothing.
     #[inline(always)]
     pub(crate) fn play_at_rest(
         &mut self,

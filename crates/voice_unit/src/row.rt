@@ -17,7 +17,7 @@ pub(crate) struct Place {
     pub offset: u8,
 }
 
-/// Puts four samples behind so many.
+/// Puts four samples after so many.
 fn put_four(row: &mut [i16; 268], len: usize, four: &[i16; 4])
     requires { len + 4 ≤ 268 }
     ensures { take (len + 4) row.new ≡ take len row.old ++ four.now }
@@ -25,22 +25,23 @@ fn put_four(row: &mut [i16; 268], len: usize, four: &[i16; 4])
     row[len..len + 4].copy_from_slice(four);
 }
 
-/// Puts the kept samples of a group behind so many.
+/// Puts the kept samples of a group, whose block has such a header, after so many.
 pub(crate) fn read_group(
     row: &mut [i16; 268],
     len: usize,
     at: &Place,
+    header: u8,
     memory: &Aram,
     groups: &mut GroupMemory,
 )
     requires some { 2 ≤ len }
     requires room { len + 4 ≤ 268 }
+    requires header { header ≡ byte_at memory.now at.now.block }
     ensures { take (len + 4) row.new
         ≡ with_group (take len row.old) (byte_at memory.now at.now.block)
         (byte_at memory.now (at.now.block + at.now.offset)) (byte_at memory.now (at.now.block + at.now.offset + 1)) }
 {
     let address = at.block.wrapping_add(u16::from(at.offset));
-    let header = memory.get(at.block);
     let high = memory.get(address);
     let low = memory.get(address.wrapping_add(1));
     let group = groups.decode(header, high, low, row[len - 1], row[len - 2]);

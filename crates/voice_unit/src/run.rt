@@ -4,10 +4,10 @@ ghost use Rattle.std.specs.Prelude.{◌≡◌, ◌<◌, ◌≤◌, ℕ, replicat
 ghost use Rattle.num_fix.specs.Words.{number_at};
 ghost use Rattle.rate_clock.specs.Counter.{counter_after};
 ghost use Rattle.voice_unit.specs.Play.{lane_of};
-ghost use Rattle.voice_unit.specs.Run.{silent_answer, outs_of, IsRun};
+ghost use Rattle.voice_unit.specs.RunOfVoice.{silent_answer, outs_of, IsRun};
 
 use crate::batch::{BatchLane, BatchRows};
-use crate::interface::{VoiceOut, VoiceRegs};
+use crate::interface::{UNHEARD, VoiceOut, VoiceRegs};
 use crate::voice::Voice;
 use aram_core::Aram;
 use gauss_table::GaussTable;
@@ -25,17 +25,8 @@ impl OutRow {
     pub fn silent() -> OutRow
         ensures { result ≡ record { items = replicate 64 silent_answer } }
     {
-        let silent = VoiceOut {
-            out: 0,
-            level: 0,
-            envx: 0,
-            outx: 0,
-            block: 0,
-            looped: false,
-            keyed: false,
-        };
         OutRow {
-            items: [silent; 64],
+            items: [UNHEARD; 64],
         }
     }
 

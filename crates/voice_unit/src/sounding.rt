@@ -4,7 +4,7 @@ ghost use Rattle.std.specs.Prelude.{◌≡◌, ◌<◌, ◌≤◌, ◌+◌, ◌*
 ghost use Rattle.num_fix.specs.Words.{number_at};
 ghost use Rattle.gauss_table.specs.Interpolation.{mix_of};
 ghost use Rattle.voice_unit.specs.Voice.{interpolation};
-ghost use Rattle.voice_unit.specs.Stretch.{mixed_at, sounding_at, out_over_row};
+ghost use Rattle.voice_unit.specs.OutsOverRow.{mixed_at, sounding_at, out_over_row};
 
 use crate::level::at_level;
 use gauss_table::{GaussTable, Taps};

@@ -1,12 +1,13 @@
-//! A worked example: one key on and eight steps.
+//! Worked examples: one key on and eight steps, one by one and over a batch, and pitches.
 
-ghost use Rattle.std.specs.Prelude.{◌<◌};
+ghost use Rattle.std.specs.Prelude.{◌<◌, ℕ, slice_index};
 
 use crate::level::bent_pitch;
-use crate::{Voice, VoiceIn, VoiceRegs};
+use crate::{BatchLane, BatchRows, OutRow, Voice, VoiceIn, VoiceOut, VoiceRegs};
 use aram_core::Aram;
 use gauss_table::GaussTable;
 use rate_clock::RateClock;
+use std::alloc::Global;
 use std::test::Fail;
 
 /// Puts bytes from an address on.
@@ -35,22 +36,35 @@ fn input_of(k: u32) -> VoiceIn
     }
 }
 
-#[test]
-fn a_key_on_is_silent_for_six_steps(rt: HostRuntime) -> Result<(), Fail> {
-    let zeros = vec![in rt.alloc(); 0u8; 0x10000]?;
-    let mut memory = Aram::from_image(rt.alloc(), &zeros)?;
+/// A memory with one source, whose entry stands at 0200h: a block at 0500h, and one at 0600h that it loops to.
+fn memory_of_a_source(alloc: Global) -> Result<Aram, Fail> {
+    let zeros = vec![in alloc; 0u8; 0x10000]?;
+    let mut memory = Aram::from_image(alloc, &zeros)?;
     let block = [0xc3, 0x11, 0x11, 0x11, 0x11, 0x11, 0x11, 0x11, 0x11];
     put_all(&mut memory, 0x0200, &[0x00, 0x05, 0x00, 0x06]);
     put_all(&mut memory, 0x0500, &block);
     put_all(&mut memory, 0x0600, &block);
-    let table = GaussTable::straight(rt.alloc())?;
-    let regs = VoiceRegs {
+    Ok(memory)
+}
+
+/// Registers of a voice that plays that source at its own pitch, at the highest direct level.
+fn registers() -> VoiceRegs
+    ensures { result.pitch < 0x4000 }
+{
+    VoiceRegs {
         pitch: 0x1000,
         srcn: 0,
         adsr1: 0,
         adsr2: 0,
         gain: 0x7f,
-    };
+    }
+}
+
+#[test]
+fn a_key_on_is_silent_for_six_steps(rt: HostRuntime) -> Result<(), Fail> {
+    let memory = memory_of_a_source(rt.alloc())?;
+    let table = GaussTable::straight(rt.alloc())?;
+    let regs = registers();
     let mut clock = RateClock::new();
     let mut voice = Voice::new();
     for (k, want) in (0..8u32).zip([0, 0, 0, 0, 0, 0, 4064, 4064]) {
@@ -62,6 +76,79 @@ fn a_key_on_is_silent_for_six_steps(rt: HostRuntime) -> Result<(), Fail> {
     assert_eq!(rt; voice.delay(), 0);
     assert_eq!(rt; voice.block(), 0x0500);
     Ok(())
+}
+
+/// What all voices read in a batch whose first sample takes the key on of voice 3.
+fn rows_with_a_key_on() -> BatchRows
+    ensures { (j : ℕ) → slice_index result.noise j < 0x8000 }
+{
+    let mut poll = [false; 64];
+    let mut kon = [0; 64];
+    poll[0] = true;
+    kon[0] = 0x08;
+    BatchRows {
+        noise: [0; 64],
+        poll,
+        kon,
+    }
+}
+
+/// What an answer tells but for the level and the registers.
+fn told(answer: &VoiceOut) -> (i16, u16, bool, bool) {
+    (answer.out, answer.block, answer.looped, answer.keyed)
+}
+
+#[test]
+fn a_run_gives_the_answers_of_its_steps(rt: HostRuntime) -> Result<(), Fail> {
+    let memory = memory_of_a_source(rt.alloc())?;
+    let table = GaussTable::straight(rt.alloc())?;
+    let lane = BatchLane {
+        voice: 3,
+        dir: 2,
+        pmon: 0,
+        non: 0,
+        koff: 0,
+        reset: false,
+    };
+    let rows = rows_with_a_key_on();
+    let mut out = OutRow::silent();
+    out.items[8].block = 0x1234;
+    let mut voice = Voice::new();
+    let clock = RateClock::new();
+    let previous = OutRow::silent();
+    voice.run(
+        8,
+        &registers(),
+        &lane,
+        &rows,
+        &previous,
+        &memory,
+        &table,
+        clock,
+        &mut out,
+    );
+    let silence = (0, 0x0500, false, false);
+    let sound = (4064, 0x0500, false, false);
+    let keyed = (0, 0, false, true);
+    let wanted = [
+        keyed, silence, silence, silence, silence, silence, sound, sound,
+    ];
+    for (answer, want) in out.items.iter().zip(wanted) {
+        assert_eq!(rt; told(answer), want);
+    }
+    // what stands after the run stays
+    assert_eq!(rt; told(&out.items[8]), (0, 0x1234, false, false));
+    assert_eq!(rt; voice.block(), 0x0500);
+    Ok(())
+}
+
+#[test]
+fn a_silent_row_has_no_sound(rt: HostRuntime) {
+    let row = OutRow::silent();
+    for answer in &row.items {
+        assert_eq!(rt; told(answer), (0, 0, false, false));
+        assert_eq!(rt; (answer.level, answer.envx, answer.outx), (0, 0, 0));
+    }
 }
 
 #[test]

@@ -6,11 +6,11 @@ ghost use Rattle.aram_core.specs.Memory.{byte_at};
 ghost use Rattle.brr_decode.specs.Kept.{with_group};
 ghost use Rattle.voice_unit.specs.Directory.{start_word, loop_word};
 ghost use Rattle.voice_unit.specs.Row.{place_of};
-ghost use Rattle.voice_unit.specs.Voice.{silent_voice, pitch_of, step_pitch, step_header, after_delay, interpolation, source_sample, output, is_keyed, needs_group, after_envelope, is_looped, after_decoding, at_next_group, after_reading, after_pitch, voice_step, voice_answer};
+ghost use Rattle.voice_unit.specs.Voice.{silent_voice, step_pitch, step_header, after_delay, interpolation, source_sample, output, needs_group, after_envelope, is_looped, after_decoding, at_next_group, after_reading, after_pitch, voice_step, voice_answer};
 
 use crate::directory::{loop_word, start_word};
-use crate::interface::{VoiceIn, VoiceOut, VoiceRegs};
-use crate::level::{at_level, bent_pitch, high_byte};
+use crate::interface::{VoiceIn, VoiceOut, VoiceRegs, is_keyed};
+use crate::level::{at_level, high_byte, pitch_of};
 use crate::row::Place;
 use aram_core::Aram;
 use brr_decode::{GroupMemory, decode_group};
@@ -58,27 +58,6 @@ fn samples_with_group(samples: &[i16; 12], group: [i16; 4]) -> [i16; 12]
     let [_, _, _, _, a, b, c, d, e, f, g, h] = *samples;
     let [w, x, y, z] = group;
     [a, b, c, d, e, f, g, h, w, x, y, z]
-}
-
-/// Whether a voice is keyed in a step.
-pub(crate) fn is_keyed(input: &VoiceIn) -> bool
-    ensures { result ≡ is_keyed input.now }
-{
-    input.poll && input.kon
-}
-
-/// The pitch of a voice.
-#[tactic(auto, unfolding(crate::specs::Voice::pitch_of))]
-pub(crate) fn pitch_of(regs: &VoiceRegs, input: &VoiceIn) -> u16
-    requires { regs.now.pitch < 0x4000 }
-    ensures value { result ≡ pitch_of regs.now input.now }
-    ensures bound { result < 0x8000 }
-{
-    if input.modulated {
-        bent_pitch(regs.pitch, input.previous)
-    } else {
-        regs.pitch
-    }
 }
 
 impl Voice {
@@ -346,6 +325,7 @@ impl Voice {
     }
 
     /// Reads a group that the position has come to, by what is remembered of groups, and tells whether that ends a block that has its end bit.
+    /// Inlined, as what remembers them.
     #[inline(always)]
     #[tactic(auto, unfolding(crate::specs::Voice::after_reading))]
     pub(crate) fn read_group(

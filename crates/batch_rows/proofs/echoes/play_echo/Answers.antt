@@ -2,7 +2,7 @@ use Rattle.std.proofs.Common.{rules, ◌≡◌, ◌+◌, ◌++◌, [], ◌∷◌
 use Rattle.std.proofs.lemmas.List.{append-nil}
 use Rattle.std.proofs.Math.Seq.{take-suc}
 use Rattle.num_fix.specs.declared.Frame.{Frame}
-use Rattle.echo_unit.specs.Run.{EchoRun}
+use Rattle.echo_unit.specs.EchoOverBatch.{EchoRun}
 use Rattle.batch_rows.proofs.echoes.play_echo.Goals as goal
 
 pub loop-j-init : goal.loop-j-init

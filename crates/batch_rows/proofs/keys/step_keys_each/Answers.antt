@@ -10,7 +10,7 @@ pub loop-j-init : goal.loop-j-init
 loop-j-init c = record {
   state = sym (keys_after-none c.args.number c.args.state.now);
   registers = refl;
-  rows = no_rows c.args.number c.args.state.now c.args.rows.now;
+  rows = no_rows c.args.number c.args.state.now _;
   noise = λ i below. absurd (omega (arith, below));
   taken = λ i below. absurd (omega (arith, below));
   noise_long = search rules;

@@ -1,5 +1,5 @@
 use Rattle.std.proofs.Common.{◌≡◌, map, length, take, get_or}
-use Rattle.voice_unit.specs.Run.{silent_answer}
+use Rattle.voice_unit.specs.RunOfVoice.{silent_answer}
 use Rattle.batch_rows.proofs.recorded.answers_in.Given as goal
 
 abbrev pub invariant-loop-v : goal.invariant-loop-v

@@ -12,9 +12,9 @@ use Rattle.batch_rows.proofs.MakeBatch.{keyed_are}
 use Rattle.batch_rows.proofs.OneMore.{registers-keys_after, table-keys_after}
 use Rattle.batch_rows.proofs.recorded.make_recorded_batch.Goals as goal
 
-pub step_keys-requires-clause-rate : goal.step_keys-requires-clause-rate
+pub step_keys-rows-requires-clause-rate : goal.step_keys-rows-requires-clause-rate
 unfolding settings_of
-step_keys-requires-clause-rate c = ap (λ (settings : Settings). settings.noise_rate) c.requires.settings
+step_keys-rows-requires-clause-rate c = ap (λ (settings : Settings). settings.noise_rate) c.requires.settings
 
 pub loop-j-init : goal.loop-j-init
 unfolding echo_after
@@ -22,11 +22,11 @@ loop-j-init c =
     let s : ChipState = c.args.state.now in
     let k : ℕ = c.args.number in
     let n : ℕ = c.args.n in
-    let voices : c.step_keys.new.state.hidden.voices ≡ s.hidden.voices = ap (λ (t : ChipState). t.hidden.voices) c.step_keys.ensures.state ∙ voices-keys_after k s n in
-    let table : s.table ≡ c.step_keys.new.state.table = sym (ap (λ (t : ChipState). t.table) c.step_keys.ensures.state ∙ table-keys_after k s n) in
-    let run = rw voices at (c.run_voices.ensures.run k s (sym c.step_keys.ensures.registers) table c.step_keys.ensures.rows c.requires.clock) in
+    let voices : c.step_keys-rows.new.state.hidden.voices ≡ s.hidden.voices = ap (λ (t : ChipState). t.hidden.voices) c.step_keys-rows.ensures.state ∙ voices-keys_after k s n in
+    let table : s.table ≡ c.step_keys-rows.new.state.table = sym (ap (λ (t : ChipState). t.table) c.step_keys-rows.ensures.state ∙ table-keys_after k s n) in
+    let run = rw voices at (c.run_voices.ensures.run k s (sym c.step_keys-rows.ensures.registers) table c.step_keys-rows.ensures.rows c.requires.clock) in
     record {
-      state = rw (run.voices_are, c.step_keys.ensures.state, registers-keys_after k s n, echo-keys_after k s n) refl;
+      state = rw (run.voices_are, c.step_keys-rows.ensures.state, registers-keys_after k s n, echo-keys_after k s n) refl;
       memory = refl;
       frames = sym (append-nil c.args.frames.now);
       records = sym (append-nil c.args.records.now);
@@ -40,12 +40,12 @@ finish_sample-frame-requires c =
     let s : ChipState = c.args.state.now in
     let k : ℕ = c.args.number in
     let n : ℕ = c.args.n in
-    let voices : c.step_keys.new.state.hidden.voices ≡ s.hidden.voices = ap (λ (t : ChipState). t.hidden.voices) c.step_keys.ensures.state ∙ voices-keys_after k s n in
-    let table : s.table ≡ c.step_keys.new.state.table = sym (ap (λ (t : ChipState). t.table) c.step_keys.ensures.state ∙ table-keys_after k s n) in
-    let run = rw voices at (c.run_voices.ensures.run k s (sym c.step_keys.ensures.registers) table c.step_keys.ensures.rows c.requires.clock) in
+    let voices : c.step_keys-rows.new.state.hidden.voices ≡ s.hidden.voices = ap (λ (t : ChipState). t.hidden.voices) c.step_keys-rows.ensures.state ∙ voices-keys_after k s n in
+    let table : s.table ≡ c.step_keys-rows.new.state.table = sym (ap (λ (t : ChipState). t.table) c.step_keys-rows.ensures.state ∙ table-keys_after k s n) in
+    let run = rw voices at (c.run_voices.ensures.run k s (sym c.step_keys-rows.ensures.registers) table c.step_keys-rows.ensures.rows c.requires.clock) in
     let given : c.answers_in-answers.result ≡ answers k s c.args.memory.now c.loop-j.j = c.answers_in-answers.ensures ∙ run.answers_are c.loop-j.j c.loop-j-test.true in
     let eight : length s.hidden.voices ≡ 8 = rw voices at c.run_voices.ensures.eight in
-    rw given (c.keyed_in.ensures ∙ keyed_are k n s c.args.memory.now c.step_keys.new.rows eight c.step_keys.ensures.rows c.step_keys.ensures.taken c.loop-j.j c.loop-j-test.true)
+    rw given (c.keyed_in.ensures ∙ keyed_are k n s c.args.memory.now c.step_keys-rows.result eight c.step_keys-rows.ensures.rows c.step_keys-rows.ensures.taken c.loop-j.j c.loop-j-test.true)
 
 pub push_records-requires : goal.push_records-requires
 push_records-requires c = omega (arith, c.loop-j.invariant.record_count, c.requires.record_room, c.loop-j-test.true)
@@ -59,9 +59,9 @@ loop-j-preserved c =
     let s : ChipState = c.args.state.now in
     let k : ℕ = c.args.number in
     let n : ℕ = c.args.n in
-    let voices : c.step_keys.new.state.hidden.voices ≡ s.hidden.voices = ap (λ (t : ChipState). t.hidden.voices) c.step_keys.ensures.state ∙ voices-keys_after k s n in
-    let table : s.table ≡ c.step_keys.new.state.table = sym (ap (λ (t : ChipState). t.table) c.step_keys.ensures.state ∙ table-keys_after k s n) in
-    let run = rw voices at (c.run_voices.ensures.run k s (sym c.step_keys.ensures.registers) table c.step_keys.ensures.rows c.requires.clock) in
+    let voices : c.step_keys-rows.new.state.hidden.voices ≡ s.hidden.voices = ap (λ (t : ChipState). t.hidden.voices) c.step_keys-rows.ensures.state ∙ voices-keys_after k s n in
+    let table : s.table ≡ c.step_keys-rows.new.state.table = sym (ap (λ (t : ChipState). t.table) c.step_keys-rows.ensures.state ∙ table-keys_after k s n) in
+    let run = rw voices at (c.run_voices.ensures.run k s (sym c.step_keys-rows.ensures.registers) table c.step_keys-rows.ensures.rows c.requires.clock) in
     let given : c.answers_in-answers.result ≡ answers k s c.args.memory.now c.loop-j.j = c.answers_in-answers.ensures ∙ run.answers_are c.loop-j.j c.loop-j-test.true in
     let volumes : c.args.settings.now.volumes ≡ all_volumes s.registers = ap (λ (settings : Settings). settings.volumes) c.requires.settings in
     let regs : c.args.settings.now.echo ≡ echo_regs s.registers = ap (λ (settings : Settings). settings.echo) c.requires.settings in

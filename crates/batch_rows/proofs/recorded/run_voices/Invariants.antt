@@ -1,6 +1,6 @@
 use Rattle.std.proofs.Common.{◌≡◌, ℕ, length}
 use Rattle.rate_clock.specs.Counter.{counter_after}
-use Rattle.voice_unit.specs.Run.{outs_of}
+use Rattle.voice_unit.specs.RunOfVoice.{outs_of}
 use Rattle.dsp_form.specs.declared.state.ChipState.{ChipState}
 use Rattle.batch_rows.specs.KeyRows.{AreKeyRows}
 use Rattle.batch_rows.specs.Rows.{inputs}

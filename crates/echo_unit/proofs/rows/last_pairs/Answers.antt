@@ -1,6 +1,6 @@
 use Rattle.std.proofs.Common.{rules, ◌<◌, ◌+◌, ℕ, pos, length, ◌∙◌, arith}
 use Rattle.std.proofs.lemmas.List.{length-set}
-use Rattle.echo_unit.specs.Run.{pair_of}
+use Rattle.echo_unit.specs.EchoOverBatch.{pair_of}
 use Rattle.echo_unit.proofs.Entries.{with_entry}
 use Rattle.echo_unit.proofs.rows.last_pairs.Goals as goal
 

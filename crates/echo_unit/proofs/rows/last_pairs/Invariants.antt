@@ -1,5 +1,5 @@
 use Rattle.std.proofs.Common.{◌≡◌, ◌<◌, ◌+◌, ℕ, pos, get_or, length}
-use Rattle.echo_unit.specs.Run.{pair_of}
+use Rattle.echo_unit.specs.EchoOverBatch.{pair_of}
 use Rattle.echo_unit.proofs.rows.last_pairs.Given as goal
 
 abbrev pub invariant-loop-i : goal.invariant-loop-i

@@ -1,6 +1,6 @@
 use Rattle.std.proofs.Common.{◌≡◌, ◌<◌, ℕ, pos, get_or, length}
 use Rattle.echo_unit.specs.Echo.{output_frame}
-use Rattle.echo_unit.specs.Run.{pair_of}
+use Rattle.echo_unit.specs.EchoOverBatch.{pair_of}
 use Rattle.echo_unit.proofs.rows.output_row.Given as goal
 
 abbrev pub invariant-loop-j : goal.invariant-loop-j

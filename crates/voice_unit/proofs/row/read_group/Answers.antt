@@ -15,4 +15,4 @@ returns c =
     let low : c.get-low.result ≡ byte_at c.args.memory.now (c.args.at.now.block + c.args.at.now.offset + 1) = search rules in
     let long : length row ≡ 268 = search rules in
     let longer = c.decode-group.ensures (take c.args.len row) (rw (last, before) (ends_with_take row c.args.len c.requires.some (omega arith))) in
-    rw (c.put_four.ensures, ← longer, c.get-header.ensures, high, low) refl
+    rw (c.put_four.ensures, ← longer, c.requires.header, high, low) refl

@@ -5,8 +5,8 @@ use Rattle.std.proofs.lemmas.Option.{slice_get_read}
 use Rattle.num_fix.specs.Arithmetic.{clear_bit0}
 use Rattle.gauss_table.specs.Interpolation.{mix_of}
 use Rattle.gauss_table.specs.declared.taps.Taps.{Taps}
-use Rattle.voice_unit.specs.Stretch.{mixed, mixed_at, sounding_at}
-use Rattle.voice_unit.proofs.Rows.{part_more, part_before}
+use Rattle.voice_unit.specs.OutsOverRow.{mixed, mixed_at, sounding_at}
+use Rattle.voice_unit.proofs.PartsOfRow.{part_more, part_before}
 use Rattle.voice_unit.proofs.sounding.put_at_level.Goals as goal
 
 pub loop-j-preserved : goal.loop-j-preserved

@@ -1,5 +1,5 @@
 use Rattle.std.proofs.Common.{◌≡◌, ◌<◌, ◌≤◌, ◌+◌, ◌*◌, ℕ, length}
-use Rattle.voice_unit.specs.Stretch.{mixed_at}
+use Rattle.voice_unit.specs.OutsOverRow.{mixed_at}
 use Rattle.voice_unit.specs.Voice.{interpolation}
 use Rattle.voice_unit.proofs.sounding.take_taps.Given as goal
 

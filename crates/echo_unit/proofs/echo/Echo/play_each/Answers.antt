@@ -1,7 +1,7 @@
 use Rattle.std.proofs.Common.{◌≡◌, ◌<◌, ℕ, length, take, refl, sym, ◌∙◌, arith}
 use Rattle.std.proofs.lemmas.List.{length-set}
 use Rattle.echo_unit.specs.Echo.{echo_heard, output_frame}
-use Rattle.echo_unit.specs.Run.{EchoRun, echo_run, pair_of}
+use Rattle.echo_unit.specs.EchoOverBatch.{EchoRun, echo_run, pair_of}
 use Rattle.echo_unit.proofs.RunByRows.{echo_run-more, same_run}
 use Rattle.echo_unit.proofs.Entries.{take_more}
 use Rattle.echo_unit.proofs.echo.Echo.play_each.Goals as goal

@@ -1,5 +1,5 @@
 use Rattle.std.proofs.Common.{◌≡◌, length, take}
-use Rattle.echo_unit.specs.Run.{echo_run, pair_of}
+use Rattle.echo_unit.specs.EchoOverBatch.{echo_run, pair_of}
 use Rattle.echo_unit.proofs.echo.Echo.play_each.Given as goal
 
 abbrev pub invariant-loop-j : goal.invariant-loop-j

@@ -1,6 +1,6 @@
 use Rattle.std.proofs.Common.{rules, ◌≡◌, length, take, true, ap, sym, ◌∙◌}
 use Rattle.echo_unit.specs.Echo.{EchoState, is_at_cell}
-use Rattle.echo_unit.specs.Run.{echo_run, pair_of}
+use Rattle.echo_unit.specs.EchoOverBatch.{echo_run, pair_of}
 use Rattle.echo_unit.specs.Cells.{after_cells}
 use Rattle.echo_unit.proofs.RunByRows.{IsPlayed, reads_first, run_by_rows}
 use Rattle.echo_unit.proofs.echo.Echo.play_rows.Goals as goal

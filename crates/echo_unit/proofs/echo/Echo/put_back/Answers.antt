@@ -1,7 +1,7 @@
 use Rattle.std.proofs.Common.{ℕ, ◌∙◌, arith}
 use Rattle.num_fix.specs.declared.Frame.{Frame}
 use Rattle.echo_unit.specs.Echo.{feedback_pair}
-use Rattle.echo_unit.specs.Run.{pair_of}
+use Rattle.echo_unit.specs.EchoOverBatch.{pair_of}
 use Rattle.echo_unit.proofs.RunByRows.{with_cells-rows}
 use Rattle.echo_unit.proofs.echo.Echo.put_back.Goals as goal
 

@@ -1,16 +1,15 @@
-use Rattle.std.proofs.Common.{rules, ◌≡◌, ℕ, to_z, of_z, refl}
-use Rattle.std.specs.Int.{w16}
-use Rattle.num_fix.specs.Words.{number_at}
-use Rattle.echo_unit.proofs.RunByRows.{after_cells-more, with_cells-more}
+use Rattle.std.proofs.Common.{◌≡◌, ◌+◌, ℕ, refl, sym, ◌∙◌, ap, arith}
+use Rattle.echo_unit.specs.Echo.{EchoState}
+use Rattle.echo_unit.specs.Cells.{after_cells}
+use Rattle.echo_unit.proofs.Neighbours.{after_cells-add}
 use Rattle.echo_unit.proofs.echo.Echo.write_cells.Goals as goal
 
-pub loop-j-preserved : goal.loop-j-preserved
-loop-j-preserved c =
-    let j : ℕ = c.loop-j.j in
-    let place : c.from-place.result ≡ j = c.from-place.ensures in
-    let left : to_z w16 (of_z w16 (number_at c.args.left.now j)) ≡ number_at c.args.left.now j = search rules in
-    let right : to_z w16 (of_z w16 (number_at c.args.right.now j)) ≡ number_at c.args.right.now j = search rules in
+pub cells-preserved : goal.cells-preserved
+cells-preserved c =
+    let j : ℕ = c.cells.j in
+    let cells : ℕ = c.neighbours-cells.result in
     record {
-      at = rw (after_cells-more, c.advance.ensures, c.loop-j.invariant.at) refl;
-      memory = rw (with_cells-more, c.put_cell.ensures, c.cell.ensures, place, left, right, c.loop-j.invariant.at, c.loop-j.invariant.memory) refl;
+      at = c.skip.ensures ∙ ap (λ (s : EchoState). after_cells s c.args.regs.now.edl cells) c.cells.invariant.at ∙ sym (after_cells-add c.args.self.now c.args.regs.now.edl j cells);
+      memory = c.write_neighbours.ensures c.args.self.now c.args.memory.now c.cells.invariant.at c.cells.invariant.memory;
+      within = omega (arith, c.neighbours-cells.ensures.few, c.cells-test.true);
     }

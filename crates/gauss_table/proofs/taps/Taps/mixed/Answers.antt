@@ -3,7 +3,7 @@ use Rattle.std.specs.Int.{w16}
 use Rattle.std.proofs.lemmas.Int.{ints}
 use Rattle.num_fix.specs.Arithmetic.{clamp16, clear_bit0}
 use Rattle.gauss_table.specs.Interpolation.{mix_of}
-use Rattle.gauss_table.specs.Small.{AreSmall}
+use Rattle.gauss_table.specs.TapBounds.{AreSmall}
 use Rattle.gauss_table.proofs.taps.Taps.mixed.Goals as goal
 
 pub returns : goal.returns

@@ -1,6 +1,6 @@
 use Rattle.std.proofs.Common.{arith}
 use Rattle.std.proofs.lemmas.Int.{ints}
-use Rattle.gauss_table.specs.Small.{AreSmall}
+use Rattle.gauss_table.specs.TapBounds.{AreSmall}
 use Rattle.gauss_table.proofs.taps.Taps.older_sum.Goals as goal
 
 pub returns : goal.returns

@@ -1,7 +1,7 @@
 use Rattle.std.proofs.Common.{rules, ◌≡◌, ◌+◌, ◌<◌, true, length}
 use Rattle.voice_unit.specs.Row.{is_end}
 use Rattle.voice_unit.proofs.Counting.{Reads}
-use Rattle.voice_unit.proofs.Marks.{mark_one}
+use Rattle.voice_unit.proofs.LoopBits.{mark_one}
 use Rattle.voice_unit.proofs.course.Course.mark_end.Goals as goal
 
 pub returns-then-is_end-clause-marks : goal.returns-then-is_end-clause-marks

@@ -1,5 +1,5 @@
 use Rattle.std.proofs.Common.{rules, ◌≡◌, List, ℤ, length, ◌∙◌}
-use Rattle.voice_unit.proofs.Growing.{seam}
+use Rattle.voice_unit.proofs.OneMoreGroup.{seam}
 use Rattle.voice_unit.proofs.voice.Voice.begin_row.Goals as goal
 
 pub returns-clause-row : goal.returns-clause-row

@@ -1,6 +1,5 @@
 use Rattle.std.proofs.Common.{rules, ◌≡◌, ◌<◌, ◌-◌, ◌+◌, ◌^◌, ℕ, slice_index, to_z, of_z, ap, sym, ◌∙◌, arith}
 use Rattle.std.specs.Int.{w16}
-use Rattle.std.proofs.lemmas.List.{get_or_default}
 use Rattle.num_fix.specs.Words.{number_at}
 use Rattle.rate_clock.specs.Counter.{counter_at}
 use Rattle.voice_unit.specs.Batch.{lane_input, lane_inputs, answer_of_step}
@@ -17,18 +16,17 @@ mark_loop-requires-clause-room c =
 
 pub returns-clause-played : goal.returns-clause-played
 unfolding lane_input
-returns-clause-played c k counts =
+returns-clause-played c k at =
     let j : ℕ = c.args.n - 1 in
     let all : j + 1 ≡ c.args.n = omega (arith, c.requires.some) in
     let place : c.from-place.result ≡ j = c.from-place.ensures in
     let whole : to_z w16 (of_z w16 (number_at c.args.previous.now j)) ≡ number_at c.args.previous.now j = search rules in
     let input : c.input-input.result ≡ lane_inputs c.args.lane.now c.args.rows.now c.args.previous.now j = rw whole at (rw place at c.input-input.ensures.value) in
-    let clock : c.index-clocks-place.result ≡ counter_at (k + j) =
-    rw place at c.index-clocks-place.is ∙ get_or_default c.args.clocks.now j c.index-clocks-place.result 0 (search rules) ∙ counts j (omega (arith, c.requires.some)) in
+    let clock : c.ahead-now.result ≡ counter_at (k + j) = c.ahead-now.ensures.at k at in
     let out : to_z w16 (of_z w16 c.play_last-answer.result.out) ≡ c.play_last-answer.result.out = search rules in
-    let way = c.play_row-rest.ensures.way k (λ i below. counts i (omega (arith, below))) in
-    let made = rw input at (c.play_last-answer.ensures.voice (k + j) (sym c.index-clocks-place.is ∙ clock) (rw input way.at_rest)) in
-    let gave = rw input at (c.play_last-answer.ensures.answer (k + j) (sym c.index-clocks-place.is ∙ clock) (rw input way.at_rest)) in
+    let way = c.play_row-rest.ensures.way k at in
+    let made = rw input at (c.play_last-answer.ensures.voice (k + j) clock (rw input way.at_rest)) in
+    let gave = rw input at (c.play_last-answer.ensures.answer (k + j) clock (rw input way.at_rest)) in
     rw (← all, place, out, c.mark_loop.ensures) (one_more_played
     (lane_of c.args.regs.now c.args.lane.now c.args.rows.now c.args.previous.now c.args.memory.now c.args.table.now c.args.self.now k) c.args.lane.now.voice j
     c.args.loops.now c.play_row-rest.new.loops c.play_row-rest.new.outs c.play_row-rest.new.self c.play_last-answer.new.self c.play_last-answer.result.out c.play_last-answer.result.looped
@@ -37,15 +35,14 @@ returns-clause-played c k counts =
 
 pub returns-clause-last : goal.returns-clause-last
 unfolding answer_of_step lane_input
-returns-clause-last c k counts =
+returns-clause-last c k at =
     let j : ℕ = c.args.n - 1 in
     let place : c.from-place.result ≡ j = c.from-place.ensures in
     let whole : to_z w16 (of_z w16 (number_at c.args.previous.now j)) ≡ number_at c.args.previous.now j = search rules in
     let input : c.input-input.result ≡ lane_inputs c.args.lane.now c.args.rows.now c.args.previous.now j = rw whole at (rw place at c.input-input.ensures.value) in
-    let clock : c.index-clocks-place.result ≡ counter_at (k + j) =
-    rw place at c.index-clocks-place.is ∙ get_or_default c.args.clocks.now j c.index-clocks-place.result 0 (search rules) ∙ counts j (omega (arith, c.requires.some)) in
-    let way = c.play_row-rest.ensures.way k (λ i below. counts i (omega (arith, below))) in
-    rw way.played.voice_is at (rw input at (c.play_last-answer.ensures.answer (k + j) (sym c.index-clocks-place.is ∙ clock) (rw input way.at_rest)))
+    let clock : c.ahead-now.result ≡ counter_at (k + j) = c.ahead-now.ensures.at k at in
+    let way = c.play_row-rest.ensures.way k at in
+    rw way.played.voice_is at (rw input at (c.play_last-answer.ensures.answer (k + j) clock (rw input way.at_rest)))
 
 pub returns-clause-room : goal.returns-clause-room
 returns-clause-room c j below =

@@ -6,7 +6,7 @@ use Rattle.num_fix.specs.Words.{number_at}
 use Rattle.rate_clock.specs.Counter.{counter_at}
 use Rattle.voice_unit.specs.Batch.{lane_input, lane_inputs}
 use Rattle.voice_unit.specs.Rest.{IsAtRest}
-use Rattle.voice_unit.specs.Play.{CountsFrom, IsOnItsWay, lane_of}
+use Rattle.voice_unit.specs.Play.{IsOnItsWay, lane_of}
 use Rattle.voice_unit.proofs.AtRest.{no_rest}
 use Rattle.voice_unit.proofs.Glided.{lane_glides}
 use Rattle.voice_unit.proofs.Played.{none_played, one_more_played, with_loop-other, with_loop-bound, doubled}
@@ -14,13 +14,11 @@ use Rattle.voice_unit.proofs.voice.Voice.play_row.Goals as goal
 
 pub samples-init : goal.samples-init
 samples-init c = record {
-  way = λ k counts. record {
+  way = λ k at. record {
     played = none_played (lane_of c.args.regs.now c.args.lane.now c.args.rows.now c.args.previous.now c.args.memory.now c.args.table.now c.args.self.now k) c.args.lane.now.voice c.args.loops.now c.args.outs.now;
     at_rest =
         let none : k + 0 ≡ k = omega arith in
-        let some : 0 < c.args.n = omega (arith, c.if-n-eq0.false) in
-        let first = get_or_default c.args.clocks.now 0 c.index-clocks-0.result 0 (search rules) ∙ counts 0 some in
-        rw none (rw c.has_bit-koff.ensures at (c.rest_from-rest.ensures k (rw none at first)));
+        rw none (rw c.has_bit-koff.ensures at (c.rest_from-rest.ensures k at));
   };
   within = omega arith;
   later = λ j above. refl;
@@ -37,37 +35,36 @@ samples-preserved c =
     let from : j ≤ to = c.glide-glided.ensures.from in
     let below : to < c.args.n = omega (arith, c.glide-glided.ensures.to, c.if-to-n.false) in
     let place : c.from-place.result ≡ to = c.from-place.ensures in
-    let way : (k : ℕ) → CountsFrom k c.args.n c.args.clocks.now
+    let way : (k : ℕ) → c.args.clock.now ≡ counter_at k
     → IsOnItsWay c.args.lane.now (lane_of c.args.regs.now c.args.lane.now c.args.rows.now c.args.previous.now c.args.memory.now c.args.table.now c.args.self.now k)
     to c.glide-glided.result.rest c.args.loops.now c.glide-glided.new.loops c.glide-glided.new.outs c.glide-glided.new.self =
-    λ k counts. c.glide-glided.ensures.way _ c.args.loops.now refl refl refl
+    λ k at. c.glide-glided.ensures.way _ c.args.loops.now refl refl refl
     (λ is. lane_glides c.args.regs.now c.args.lane.now c.args.rows.now c.args.previous.now c.args.memory.now c.args.table.now c.args.self.now k c.args.n
     (omega (arith, c.requires.few)) (c.lets_glide-glides.ensures.noisy is) (c.lets_glide-glides.ensures.modulated is) (c.lets_glide-glides.ensures.keyed is))
-    (c.samples.invariant.way k counts) in
+    (c.samples.invariant.way k at) in
     let whole : to_z w16 (of_z w16 (number_at c.args.previous.now to)) ≡ number_at c.args.previous.now to = search rules in
     let input : c.input-input.result ≡ lane_inputs c.args.lane.now c.args.rows.now c.args.previous.now to = rw whole at (rw place at c.input-input.ensures.value) in
-    let clock : (k : ℕ) → CountsFrom k c.args.n c.args.clocks.now → c.index-clocks-place.result ≡ counter_at (k + to) =
-    λ k counts. rw place at c.index-clocks-place.is ∙ get_or_default c.args.clocks.now to c.index-clocks-place.result 0 (search rules) ∙ counts to below in
-    let at_rest : (k : ℕ) → CountsFrom k c.args.n c.args.clocks.now
+    let clock : (k : ℕ) → c.args.clock.now ≡ counter_at k → c.ahead-now.result ≡ counter_at (k + to) = λ k at. c.ahead-now.ensures.at k at in
+    let at_rest : (k : ℕ) → c.args.clock.now ≡ counter_at k
     → IsAtRest c.input-input.result.reset c.input-input.result.koff c.args.regs.now c.args.memory.now (k + to) c.glide-glided.result.rest c.glide-glided.new.self =
-    λ k counts. rw input (way k counts).at_rest in
+    λ k at. rw input (way k at).at_rest in
     let out : to_z w16 (of_z w16 c.play_sample-played.result.out) ≡ c.play_sample-played.result.out = search rules in
     let outs_long : length c.glide-glided.new.outs ≡ 64 = search rules in
     let within_outs : to < length c.glide-glided.new.outs = rw outs_long (omega (arith, below, c.requires.few)) in
     let loops_long : length c.glide-glided.new.loops ≡ 64 = search rules in
     let within_loops : to < length c.glide-glided.new.loops = rw loops_long (omega (arith, below, c.requires.few)) in
     record {
-      way = λ k counts.
+      way = λ k at.
           let further : k + (to + 1) ≡ k + to + 1 = omega arith in
           record {
             played = rw (place, out, c.mark_loop.ensures) (one_more_played
                 (lane_of c.args.regs.now c.args.lane.now c.args.rows.now c.args.previous.now c.args.memory.now c.args.table.now c.args.self.now k) c.args.lane.now.voice to
                 c.args.loops.now c.glide-glided.new.loops c.glide-glided.new.outs c.glide-glided.new.self c.play_sample-played.new.self c.play_sample-played.result.out c.play_sample-played.result.looped
-                (way k counts).played within_outs within_loops
-                (rw input at (c.play_sample-played.ensures.voice (k + to) (sym c.index-clocks-place.is ∙ clock k counts) (at_rest k counts)))
-                (rw input at (c.play_sample-played.ensures.out (k + to) (sym c.index-clocks-place.is ∙ clock k counts) (at_rest k counts)))
-                (rw input at (c.play_sample-played.ensures.looped (k + to) (sym c.index-clocks-place.is ∙ clock k counts) (at_rest k counts))));
-            at_rest = rw further (rw input at (c.play_sample-played.ensures.rest (k + to) (sym c.index-clocks-place.is ∙ clock k counts) (at_rest k counts)));
+                (way k at).played within_outs within_loops
+                (rw input at (c.play_sample-played.ensures.voice (k + to) (clock k at) (at_rest k at)))
+                (rw input at (c.play_sample-played.ensures.out (k + to) (clock k at) (at_rest k at)))
+                (rw input at (c.play_sample-played.ensures.looped (k + to) (clock k at) (at_rest k at))));
+            at_rest = rw further (rw input at (c.play_sample-played.ensures.rest (k + to) (clock k at) (at_rest k at)));
           };
       within = omega (arith, below);
       later = λ i above.
@@ -85,12 +82,12 @@ pub samples-smaller : goal.samples-smaller
 samples-smaller c = omega (arith, c.samples-test.true, c.glide-glided.ensures.from, c.glide-glided.ensures.to)
 
 pub returns-clause-way : goal.returns-clause-way
-returns-clause-way c k counts =
+returns-clause-way c k at =
     let done : c.samples.j ≡ c.args.n = omega (arith, c.samples-test.false, c.samples.invariant.within) in
-    rw done at (c.samples.invariant.way k counts)
+    rw done at (c.samples.invariant.way k at)
 
 pub returns-then-n-eq0-clause-way : goal.returns-then-n-eq0-clause-way
-returns-then-n-eq0-clause-way c k counts =
+returns-then-n-eq0-clause-way c k at =
     let none : c.args.n ≡ 0 = omega arith in
     rw none record {
       played = none_played (lane_of c.args.regs.now c.args.lane.now c.args.rows.now c.args.previous.now c.args.memory.now c.args.table.now c.args.self.now k) c.args.lane.now.voice c.args.loops.now c.args.outs.now;
@@ -98,9 +95,9 @@ returns-then-n-eq0-clause-way c k counts =
     }
 
 pub returns-then-to-n-clause-way : goal.returns-then-to-n-clause-way
-returns-then-to-n-clause-way c k counts =
+returns-then-to-n-clause-way c k at =
     let done : c.glide-glided.result.at ≡ c.args.n = c.if-to-n.true in
     rw done at (c.glide-glided.ensures.way _ c.args.loops.now refl refl refl
     (λ is. lane_glides c.args.regs.now c.args.lane.now c.args.rows.now c.args.previous.now c.args.memory.now c.args.table.now c.args.self.now k c.args.n
     (omega (arith, c.requires.few)) (c.lets_glide-glides.ensures.noisy is) (c.lets_glide-glides.ensures.modulated is) (c.lets_glide-glides.ensures.keyed is))
-    (c.samples.invariant.way k counts))
+    (c.samples.invariant.way k at))

@@ -5,9 +5,9 @@ use Rattle.voice_unit.specs.Directory.{loop_word}
 use Rattle.voice_unit.specs.Rest.{is_silencing, IsSilent}
 use Rattle.voice_unit.specs.Row.{place_after, groups_before, loops_in, place_of}
 use Rattle.voice_unit.specs.Voice.{VoiceState}
-use Rattle.voice_unit.proofs.Marks.{bit-bound}
+use Rattle.voice_unit.proofs.LoopBits.{bit-bound}
 use Rattle.voice_unit.proofs.Played.{doubled}
-use Rattle.voice_unit.proofs.Rows.{last_twelve}
+use Rattle.voice_unit.proofs.PartsOfRow.{last_twelve}
 use Rattle.voice_unit.proofs.OverRow.{glided_over}
 use Rattle.voice_unit.proofs.voice.Voice.play_stretch.Goals as goal
 
@@ -20,7 +20,10 @@ returns-clause-way c plays before regs memory table glides way =
     let groups = rw (c.course-course.ensures.position, c.course-course.ensures.pitch, ← regs) at c.read_stretch-stretch.ensures.groups in
     let next = rw (c.course-course.ensures.loop_to, c.course-course.ensures.first, ← memory, ← regs) at c.read_stretch-stretch.ensures.next in
     let kept = rw (c.course-course.ensures.loop_to, c.course-course.ensures.first, c.begin_row.ensures.row, ← memory, ← regs) at c.read_stretch-stretch.ensures.row in
-    let quiet = rw (c.course-course.ensures.position, c.course-course.ensures.pitch, c.course-course.ensures.reset, c.course-course.ensures.loop_to, c.course-course.ensures.first, ← memory, ← regs) at c.read_stretch-stretch.ensures.quiet in
+    let awake : is_silencing c.course-course.result.reset (byte_at c.args.memory.now c.course-course.result.first.block) ≡ true → c.course-course.result.silent ≡ true =
+    λ loud. c.course-course.ensures.all_silent (way.at_rest.silencing (omega (arith, c.requires.some, c.requires.resting))
+    (rw (c.course-course.ensures.reset, c.course-course.ensures.first, ← memory) at loud)) in
+    let quiet = rw (c.course-course.ensures.position, c.course-course.ensures.pitch, c.course-course.ensures.reset, c.course-course.ensures.loop_to, c.course-course.ensures.first, ← memory, ← regs) at (c.read_stretch-stretch.ensures.quiet awake) in
     let marks = rw (c.course-course.ensures.voice, c.course-course.ensures.loop_to, c.course-course.ensures.first, c.course-course.ensures.position, c.course-course.ensures.pitch, ← memory, ← regs) at c.read_stretch-stretch.ensures.marks in
     let outs = rw (c.course-course.ensures.position, c.course-course.ensures.pitch, c.level-level.ensures.value, ← table, ← regs) at c.sound.ensures.outs in
     let is_position = ap (λ (w : VoiceState). w.position + 0x4000 * c.read_stretch-stretch.result.groups) c.go_to.ensures ∙ c.position_after-position.ensures.value in
@@ -38,13 +41,13 @@ returns-clause-way c plays before regs memory table glides way =
       | true ↦ λ e. inl (c.rest_after.ensures.woken e)
       | false ↦ λ e. inr (
         c.rest_after.ensures.goes_on e,
-        λ some loud. c.course-course.ensures.silent (rw (c.course-course.ensures.reset, next, groups, ← memory) at (c.read_stretch-stretch.ensures.goes_on e) some loud),
+        λ some loud. c.course-course.ensures.silent (rw (c.course-course.ensures.reset, next, groups, ← memory) at (c.read_stretch-stretch.ensures.goes_on awake e) loud),
       )
     ] in
     glided_over c.args.lane.now plays c.args.at m c.args.rest before c.args.loops.now c.args.outs.now v way c.begin_row.ensures.twelve
     (rw c.course-course.ensures.position at c.course-course.ensures.within) (rw (← regs) at c.requires.pitch)
     (λ j below. glides (c.args.at + j) (omega (arith, below, few))) c.read_stretch-stretch.ensures.some (omega (arith, few, c.requires.resting))
-    (λ j below some loud. c.course-course.ensures.silent (quiet j below some loud))
+    (λ j below some loud. c.course-course.ensures.silent (quiet j below loud))
     c.go_to.new.self c.rest_after.result c.read_stretch-stretch.new.loops c.sound.new.outs row
     (rw groups at kept) (rw groups at twelve) position
     (rw groups at (ap place_of c.go_to.ensures ∙ next)) (ap (λ (w : VoiceState). w.delay) c.go_to.ensures) (ap (λ (w : VoiceState). w.envelope) c.go_to.ensures)

@@ -1,7 +1,7 @@
 use Rattle.std.proofs.Common.{◌≡◌, ◌+◌, ℕ, length}
 use Rattle.rate_clock.specs.Counter.{counter_after}
 use Rattle.voice_unit.specs.Play.{lane_of}
-use Rattle.voice_unit.specs.Run.{outs_of, IsRun}
+use Rattle.voice_unit.specs.RunOfVoice.{outs_of, IsRun}
 use Rattle.voice_unit.proofs.voice.Voice.run.Given as goal
 
 abbrev pub invariant-loop-j : goal.invariant-loop-j

@@ -6,7 +6,7 @@ use Rattle.std.proofs.lemmas.Bool.Decides.{nat_tests}
 use Rattle.voice_unit.specs.Row.{place_after, groups_before, is_end, is_read_in, ends_in, loops_in}
 use Rattle.voice_unit.specs.declared.row.Place.{Place}
 use Rattle.voice_unit.proofs.Played.{doubled}
-use Rattle.voice_unit.proofs.Counting.{groups_before-rise, is_read-behind, is_read-same, is_read-other, Reads}
+use Rattle.voice_unit.proofs.Counting.{groups_before-rise, is_read-elsewhere, is_read-same, is_read-other, Reads}
 
 -- the bit, where a test holds
 abbrev pub bit_if : (b : Bool) → (v : ℕ) → ℕ
@@ -16,6 +16,10 @@ bit_if b v = if b then 2 ^ v else 0
 pub bit-bound : (b : Bool) (v x : ℕ) → x < 2 ^ v → x + bit_if b v < 2 ^ (v + 1)
 bit-bound true v x below = rw (doubled v) (omega (arith, below))
 bit-bound false v x below = rw (doubled v) (omega (arith, below))
+
+and_false : (b : Bool) → (b && false) ≡ false
+and_false true = refl
+and_false false = refl
 
 -- the bit of a voice in the sample that reads a group which ends a block with its end bit
 pub mark_one : (loops : List ℕ) (at q j v : ℕ) (memory : List ℕ) (place : Place) (position pitch group : ℕ) → Reads position pitch group q → is_end memory place ≡ true → at + q < length loops
@@ -32,6 +36,13 @@ mark_one loops at q j v memory place position pitch group reads ends within = by
         let apart : at + j ≢ at + q = λ same. other (omega (arith, same)) in
         let none : slice_index loops (at + j) ≡ slice_index loops (at + j) + 0 = omega arith in
         rw (is_read-other position pitch group q j reads other) (get_or-set_other loops (at + q) (at + j) (slice_index loops (at + q) + 2 ^ v) 0 apart ∙ none)
+
+-- a group that isn't the last of its block ends none
+pub no_end : (memory : List ℕ) (place : Place) (position pitch group j v x : ℕ) → place.offset ≢ 7 → x ≡ x + bit_if (ends_in memory place position pitch group j) v
+no_end memory place position pitch group j v x other =
+    let test : (place.offset == 7) ≡ false = grind (arith, nat_tests, other) in
+    let none : ends_in memory place position pitch group j ≡ false = rw test (and_false (is_read_in position pitch group j)) in
+    rw none (omega arith)
 
 module _ (memory : List ℕ) (loop_to : ℕ) (first : Place) (position pitch v : ℕ) where
   -- what is marked in sample j once so many groups are read
@@ -65,7 +76,7 @@ module _ (memory : List ℕ) (loop_to : ℕ) (first : Place) (position pitch v :
 
       other : (b : Bool) → nat_lt g d ≡ b → nat_lt g (d + 1) ≡ b → g ≢ d
           → bit_if (marked d j) v + bit_if (is_read_in position pitch d j && is_end memory (place_after memory loop_to first d)) v ≡ bit_if (marked (d + 1) j) v
-      other b now soon apart = rw (is_read-behind position pitch d j apart, now, soon) (omega arith)
+      other b now soon apart = rw (is_read-elsewhere position pitch d j apart, now, soon) (omega arith)
 
       by : (b : Bool) → nat_lt g d ≡ b → (c : Bool) → nat_lt d g ≡ c
           → bit_if (marked d j) v + bit_if (is_read_in position pitch d j && is_end memory (place_after memory loop_to first d)) v ≡ bit_if (marked (d + 1) j) v

@@ -13,7 +13,7 @@ silent_answer = record { out = pos 0; level = 0; envx = 0; outx = 0; block = 0; 
 abbrev pub outs_of : OutRow → List ℤ
 outs_of row = map (λ answer. answer.out) row.items
 
--- n steps of the voice of a row: the voice after them, and the row of what each of them gives; what stands behind it stays
+-- n steps of the voice of a row: the voice after them, and the row of what each of them gives; what stands after it stays
 pub record IsRun (lane : Lane) (n : ℕ) (before after : OutRow) (voice : VoiceState) : Type 0 where
   pub voice_is : voice ≡ voice_at lane n
   pub answers_are : (j : ℕ) → j < n → get_or after.items j silent_answer ≡ answer_at lane j

@@ -5,7 +5,7 @@ use Rattle.aram_core.specs.Memory.{byte_at}
 use Rattle.brr_decode.specs.Kept.{with_group}
 use Rattle.voice_unit.specs.Row.{place_after, kept_row, ends_in}
 use Rattle.voice_unit.specs.declared.row.Place.{Place}
-use Rattle.voice_unit.proofs.Marks.{bit_if, marked, marked-more}
+use Rattle.voice_unit.proofs.LoopBits.{bit_if, marked, marked-more}
 use Rattle.voice_unit.proofs.RowOfVoice.{kept_row-more}
 
 -- the first numbers of a list that begins with so many

@@ -1,0 +1,9 @@
+use Rattle.std.proofs.Common.{◌≡◌, ◌+◌, ◌==◌, false, slice_index, refl, arith}
+use Rattle.std.proofs.lemmas.Bool.Decides.{nat_tests}
+use Rattle.voice_unit.specs.Row.{is_read_in, next_place}
+use Rattle.voice_unit.proofs.LoopBits.{no_end}
+use Rattle.voice_unit.proofs.course.Course.go_on.Goals as goal
+
+pub returns-then-place-ne7-clause-marks : goal.returns-then-place-ne7-clause-marks
+returns-then-place-ne7-clause-marks c j below =
+    no_end c.args.memory.now c.args.now.now.place c.args.self.now.position c.args.self.now.pitch c.args.group j c.args.self.now.voice (slice_index c.args.loops.now (c.args.at + j)) (omega arith)
