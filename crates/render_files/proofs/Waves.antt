@@ -1,12 +1,20 @@
--- How the bytes of a piece, and those still to come, make up those that were to come.
-use Rattle.std.proofs.Common.{◌≡◌, ℕ, ◌+◌, List, ◌++◌, length, ap, sym, ◌∙◌}
+-- How the bytes of a piece, and those still to come, make up those that were to come; pieces before the fade.
+use Rattle.std.proofs.Common.{◌≡◌, ℕ, ◌+◌, ◌-◌, ◌≤◌, List, [], ◌∷◌, ◌++◌, length, nat_lt, true, refl, ap, sym, ◌∙◌, arith}
 use Rattle.std.specs.List.{flat_map}
 use Rattle.std.proofs.lemmas.List.{append_assoc}
 use Rattle.std.proofs.lemmas.Grind.{flat_map-append}
+use Rattle.std.proofs.lemmas.Bool.Decides.{nat_tests}
 use Rattle.num_fix.specs.declared.Frame.{Frame}
 use Rattle.wav_form.specs.Wave.{frame_bytes, header_of, stereo_wave}
 use Rattle.render_core.specs.Fade.{faded_from, faded_frames}
 use Rattle.render_core.proofs.FadedFrames.{faded_from-append, length-faded_from}
+
+-- frames that all come before the fade stay as they are
+pub before_the_fade : (list : List Frame) (at frames fade : ℕ) → at + length list ≤ frames - fade → faded_from at frames fade list ≡ list
+before_the_fade [] at frames fade h = refl
+before_the_fade (frame ∷ list) at frames fade h =
+    let first : nat_lt at (frames - fade) ≡ true = grind (arith, nat_tests) in
+    rw (first, before_the_fade list (at + 1) frames fade (omega arith)) refl
 
 -- of all frames to come these are given, and the rest is then to come
 pub given_first : (wave now : List ℕ) (all given rest : List Frame) (made next frames fade : ℕ) → all ≡ given ++ rest →

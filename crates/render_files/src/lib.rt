@@ -4,6 +4,8 @@
 
 mod batches;
 mod pieces;
+mod rows;
 
 pub use batches::{put_batches, put_sound_report};
 pub use pieces::RenderFiles;
+pub use rows::put_frames;

@@ -11,6 +11,7 @@ ghost use Rattle.render_files.specs.RenderFiles.{trace_of, to_come_of, held_of, 
 ghost use Rattle.report_text.specs.Room.{room_size};
 
 use crate::batches::put_sound_report;
+use crate::rows::put_frames;
 use command_frame::{OutOfMemory, Pieces};
 use lock_step::Chip;
 use num_fix::Frame;
@@ -66,12 +67,15 @@ impl<C: Chip> Model for RenderFiles<C> {
 }
 
 /// Adds the bytes of frames, the first of which is frame `at` of so many, of which the last `fade` fade.
-fn put_frames(wave: &mut ByteRoom, frames: &[Frame], at: u32, samples: u32, fade: u32)
+fn put_faded_frames(wave: &mut ByteRoom, frames: &[Frame], at: u32, samples: u32, fade: u32)
     requires room { length wave.old + 4 * length frames.now ≤ room_size }
     requires inside { at + length frames.now ≤ samples }
     requires within { fade ≤ samples }
     ensures { wave.new ≡ wave.old ++ flat_map frame_bytes (faded_from at samples fade frames.now) }
 {
+    if at + frames.len() as u32 <= samples - fade {
+        return put_frames(wave, frames);
+    }
     let mut place = at;
     for frame in frames {
         wave.append(&put_frame(faded(*frame, place, samples, fade)));
@@ -136,7 +140,7 @@ impl<C: Chip> RenderFiles<C> {
         ensures counted { result ≡ true → self.new.render.bus.book.counts ≡ counts_to_come C.meaning self.new.render }
     {
         let piece = self.render.next_piece();
-        put_frames(
+        put_faded_frames(
             &mut self.wave,
             piece.frames,
             self.made,

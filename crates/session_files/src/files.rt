@@ -20,13 +20,12 @@ use crate::replies::put_line;
 use command_frame::Pieces;
 use cut_server::CutServer;
 use lock_step::Chip;
-use num_fix::Frame;
+use render_files::put_frames;
 use report_text::ByteRoom;
 use script_text::ScriptLines;
 use std::alloc::Global;
 use std::marker::Model;
 use trace_form::Frames;
-use wav_form::put_frame;
 
 /// The bytes of the most frames that are played at once.
 const WAVE_PIECE: usize = 256;
@@ -59,16 +58,6 @@ impl<C: Chip> Model for SessionFiles<C> {
     } };
 
     ghost invariant = { λ f. (f.next ≤ length f.script) × IsOnScript f.player (drop f.next f.script) f.report.items (vec_capacity f.report) };
-}
-
-/// Adds the bytes of frames.
-fn put_frames(wave: &mut ByteRoom, frames: &[Frame])
-    requires { length wave.old + 4 * length frames.now ≤ room_size }
-    ensures { wave.new ≡ wave.old ++ flat_map frame_bytes frames.now }
-{
-    for frame in frames {
-        wave.append(&put_frame(*frame));
-    }
 }
 
 /// Adds the bytes of the frames that were played.

@@ -3,7 +3,13 @@
 
 mod plain;
 #[cfg(test)]
+mod program_tests;
+#[cfg(test)]
+mod test_support;
+#[cfg(test)]
 mod tests;
+#[cfg(test)]
+mod waiting_tests;
 
 pub use lag_bus::{BusState, LagBus, OutOfMemory};
 pub use lock_step::{Chip, Counts, DrainedBus};

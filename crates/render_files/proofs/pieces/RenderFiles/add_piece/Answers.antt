@@ -7,4 +7,4 @@ pub returns-clause-first : goal.returns-clause-first
 returns-clause-first g c =
     let given = c.next_piece-piece.result.frames.now in
     let split : frames_to_come g.C.Chip.meaning c.self.inside.render ≡ given ++ frames_to_come g.C.Chip.meaning c.next_piece-piece.follows.lender-at-none = search rules in
-    rw (← c.self.view_is) (given_first c.self.inside.wave _ _ given _ c.self.inside.made _ c.self.inside.samples c.self.inside.fade split c.put_frames.ensures refl)
+    rw (← c.self.view_is) (given_first c.self.inside.wave _ _ given _ c.self.inside.made _ c.self.inside.samples c.self.inside.fade split c.put_faded_frames.ensures refl)

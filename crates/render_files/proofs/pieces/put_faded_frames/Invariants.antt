@@ -2,7 +2,7 @@ use Rattle.std.proofs.Common.{◌≡◌, ◌+◌, ◌*◌, ◌++◌, length, dro
 use Rattle.std.specs.List.{flat_map}
 use Rattle.wav_form.specs.Wave.{frame_bytes}
 use Rattle.render_core.specs.Fade.{faded_from}
-use Rattle.render_files.proofs.pieces.put_frames.Given as goal
+use Rattle.render_files.proofs.pieces.put_faded_frames.Given as goal
 
 -- the bytes that were added, and those of the frames still to be looked at
 abbrev pub invariant-loop-frame : goal.invariant-loop-frame
