@@ -1,7 +1,9 @@
-// The host of real files. It is the trusted edge: it tells no contents.
-ghost use Rattle.std.specs.Prelude.{◌≡◌, ◌<◌, ◌≤◌, length, IfOk, drop, None, [], OnOk, OnErr, true, slice_set, option_map};
+// The host of real files. It is the trusted edge: it tells no contents, and passes on what a file knows of its bytes.
+ghost use Rattle.std.specs.Prelude.{◌≡◌, ◌≢◌, ◌<◌, ℕ, ◌≤◌, length, IfOk, drop, None, [], OnOk, OnErr, true, slice_set};
 ghost use Rattle.disk_host.specs.Untold.{untold_state};
 ghost use Rattle.disk_host.specs.Created.{flags_of};
+ghost use Rattle.disk_host.specs.Held.{told_at, held_by};
+ghost use Rattle.std.specs.Io.KnownBytes.{ReadConsumes, WriteAppends};
 
 use snd_host::{Failed, Host, InFile, OutFile};
 use std::alloc::Global;
@@ -33,7 +35,9 @@ pub struct DiskHost<'r, R: Files, O: Write + Drop, E: Write + Drop> {
 impl<'r, R: Files, O: Write + Drop, E: Write + Drop> DiskHost<'r, R, O, E> {
     /// A host without inputs, outputs or faults.
     pub fn new(alloc: Global, files: &'r R, report: O, complaint: E) -> Self
-        ensures { ⟦<DiskHost<'r, R, O, E> as Host>⟧.state result ≡ untold_state None [] 0 0 0 }
+        ensures state { ⟦<DiskHost<'r, R, O, E> as Host>⟧.state result ≡ untold_state None [] 0 0 0 }
+        ensures report { held_by R.File.contents O.contents E.contents result 0 ≡ O.contents report }
+        ensures complaint { held_by R.File.contents O.contents E.contents result 1 ≡ E.contents complaint }
     {
         DiskHost {
             files,
@@ -53,6 +57,7 @@ impl<'r, R: Files, O: Write + Drop, E: Write + Drop> DiskHost<'r, R, O, E> {
 fn write_some<W: Write>(writer: &mut W, piece: &[u8]) -> Result<usize, Failed>
     ensures within { IfOk result (λ count. count ≤ length piece.now) }
     ensures progress { IfOk result (λ count. 0 < length piece.now → 0 < count) }
+    ensures bytes { WriteAppends (W.contents writer.old) (W.contents writer.new) result piece.now }
 {
     match writer.write(piece) {
         Ok(count) => {
@@ -70,6 +75,7 @@ fn write_some<W: Write>(writer: &mut W, piece: &[u8]) -> Result<usize, Failed>
 fn read_some<F: Read>(file: &mut F, buf: &mut [u8]) -> Result<usize, Failed>
     ensures within { IfOk result (λ count. count ≤ length buf.old) }
     ensures after { IfOk result (λ count. drop count buf.new ≡ drop count buf.old) }
+    ensures bytes { ReadConsumes (F.remaining file.old) (F.remaining file.new) result buf.new }
 {
     let mut chunk = [0u8; 4096];
     let most = buf.len().min(4096);
@@ -89,6 +95,8 @@ fn write_created<F: Write>(
     ensures within { IfOk result (λ count. count ≤ length piece.now) }
     ensures progress { IfOk result (λ count. 0 < length piece.now → 0 < count) }
     ensures flags { flags_of created.new.items ≡ flags_of created.old.items }
+    ensures bytes { WriteAppends (told_at F.contents created.old.items place) (told_at F.contents created.new.items place) result piece.now }
+    ensures others { (other : ℕ) → other ≢ place → told_at F.contents created.new.items other ≡ told_at F.contents created.old.items other }
 {
     match created.get_mut(place) {
         Some(output) => write_some(&mut output.file, piece),
@@ -112,8 +120,11 @@ fn end_created<F: Write>(created: &mut Vec<Created<F>>, place: usize) -> Result<
 }
 
 impl<'r, R: Files, O: Write + Drop, E: Write + Drop> Host for DiskHost<'r, R, O, E> {
-    ghost state = { λ host. let current = option_map (λ _. host.newest) host.input in
-        untold_state current (flags_of host.created.items) host.in_faults host.note_faults host.out_faults };
+    ghost use Rattle.std.specs.Prelude.{Some, IsSome, IsOk, take, slice_index};
+    ghost use Rattle.snd_host.specs.Host.{IfTold, HasCause, CountsWrite, IsOpen, ChangesInputs, Writes};
+    ghost use Rattle.disk_host.specs.Held.{disk_state, ReadsOn, WritesOn};
+
+    ghost state = { disk_state };
 
     ghost tells_each = { λ host given told. absurd (Prim.cc) };
 
@@ -128,7 +139,24 @@ impl<'r, R: Files, O: Write + Drop, E: Write + Drop> Host for DiskHost<'r, R, O,
         Ok(InFile(self.newest))
     }
 
-    fn read(&mut self, _file: InFile, buf: &mut [u8]) -> Result<usize, Failed> {
+    fn read(&mut self, _file: InFile, buf: &mut [u8]) -> Result<usize, Failed>
+        requires { (disk_state self.old).current ≡ Some _file.0 }
+        ensures within { IfOk result (λ count. count ≤ length buf.old) }
+        ensures after { IfOk result (λ count. drop count buf.new ≡ drop count buf.old) }
+        ensures front { IfOk result (λ count.
+            IfTold (disk_state self.old).left (λ rest. take count buf.new ≡ take count rest)) }
+        ensures left { IfOk result (λ count.
+            IfTold (disk_state self.old).left (λ rest. (disk_state self.new).left ≡ Some (drop count rest))) }
+        ensures available { IfOk result (λ count. IfTold (disk_state self.old).left (λ rest. count ≤ length rest)) }
+        ensures end { result ≡ Ok 0 → 0 < length buf.old → IfTold (disk_state self.old).left (λ rest. rest ≡ []) }
+        ensures unread { OnErr result ((disk_state self.new).left ≡ (disk_state self.old).left) }
+        ensures current { (disk_state self.new).current ≡ (disk_state self.old).current }
+        ensures others { ChangesInputs (disk_state self.old) (disk_state self.new) }
+        ensures cause { HasCause (disk_state self.old).faults.inputs (disk_state self.new).faults.inputs result }
+        ensures steady { IsSome (disk_state self.old).steady → IsOk result }
+        // Where the file knows its bytes, these are the next ones, and none come only at its end.
+        ensures bytes { ReadsOn R.File.remaining buf.new self.old self.new result }
+    {
         if let Some(file) = &mut self.input {
             if let Ok(count) = read_some(file, buf) {
                 return Ok(count);
@@ -152,7 +180,17 @@ impl<'r, R: Files, O: Write + Drop, E: Write + Drop> Host for DiskHost<'r, R, O,
         Err(Failed)
     }
 
-    fn write(&mut self, file: OutFile, piece: &[u8]) -> Result<usize, Failed> {
+    fn write(&mut self, file: OutFile, piece: &[u8]) -> Result<usize, Failed>
+        requires { IsOpen (disk_state self.old).ended file.0 }
+        ensures within { IfOk result (λ count. count ≤ length piece.now) }
+        ensures progress { IfOk result (λ count. 0 < length piece.now → 0 < count) }
+        ensures wrote { IfOk result (λ count. Writes file.0 (take count piece.now) (disk_state self.old) (disk_state self.new)) }
+        ensures unwritten { OnErr result (Writes file.0 [] (disk_state self.old) (disk_state self.new)) }
+        ensures cause { CountsWrite file.0 (disk_state self.old).faults (disk_state self.new).faults result }
+        ensures steady { IfTold (disk_state self.old).steady (λ rooms. length piece.now ≤ slice_index rooms file.0 → IsOk result) }
+        // Where the output knows its bytes, those taken come after them, and no other output changes.
+        ensures bytes { WritesOn R.File.contents O.contents E.contents file.0 piece.now self.old self.new result }
+    {
         if file.0 == 1 {
             if let Ok(count) = write_some(&mut self.complaint, piece) {
                 return Ok(count);

@@ -31,3 +31,25 @@ pub released : (e : EnvelopeState) (adsr1 adsr2 gain counter : ℕ) → step_tar
     → envelope_step e adsr1 adsr2 gain counter ≡ e
 unfolding envelope_step after_target
 released e adsr1 adsr2 gain counter none zero = let still : e.level - 8 ≡ e.level = omega (arith, zero) in rw (none, still) refl
+
+-- what a step makes of the mode, of the hidden value, and of the level where the rate fires
+pub mode_after : (e : EnvelopeState) (adsr1 adsr2 gain counter : ℕ) (target : Target) → step_target e.mode e.level e.hidden adsr1 adsr2 gain ≡ Some target
+    → (envelope_step e adsr1 adsr2 gain counter).mode ≡ next_mode e.mode target.value (sustain_level adsr1 adsr2 gain)
+unfolding envelope_step after_target
+mode_after e adsr1 adsr2 gain counter target aim = rw aim refl
+
+pub hidden_after : (e : EnvelopeState) (adsr1 adsr2 gain counter : ℕ) (target : Target) → step_target e.mode e.level e.hidden adsr1 adsr2 gain ≡ Some target
+    → (envelope_step e adsr1 adsr2 gain counter).hidden ≡ target.value
+unfolding envelope_step after_target
+hidden_after e adsr1 adsr2 gain counter target aim = rw aim refl
+
+pub level_after : (e : EnvelopeState) (adsr1 adsr2 gain counter : ℕ) (target : Target) → step_target e.mode e.level e.hidden adsr1 adsr2 gain ≡ Some target
+    → fires target.rate counter ≡ true → (envelope_step e adsr1 adsr2 gain counter).level ≡ nearest_level target.value
+unfolding envelope_step after_target next_level
+level_after e adsr1 adsr2 gain counter target aim now = rw (aim, now) refl
+
+-- and in release it takes 8 from the level
+pub level_released : (e : EnvelopeState) (adsr1 adsr2 gain counter : ℕ) → step_target e.mode e.level e.hidden adsr1 adsr2 gain ≡ None
+    → (envelope_step e adsr1 adsr2 gain counter).level ≡ e.level - 8
+unfolding envelope_step after_target
+level_released e adsr1 adsr2 gain counter none = rw none refl

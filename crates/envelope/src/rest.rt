@@ -1,9 +1,9 @@
 //! For how long an envelope rests: its steps leave it as it is.
 
-ghost use Rattle.std.specs.Prelude.{◌≡◌, ◌<◌, ℕ, Some};
+ghost use Rattle.std.specs.Prelude.{◌≡◌, ◌<◌, ◌+◌, ℕ, Some};
 ghost use Rattle.rate_clock.specs.Counter.{counter_at};
 ghost use Rattle.envelope.specs.Envelope.{step_target};
-ghost use Rattle.envelope.specs.Rest.{RestsFor};
+ghost use Rattle.envelope.specs.Rest.{RestsFor, StirsAt, for_ever};
 
 use crate::target::{Target, step_target, sustain_level};
 use crate::{Envelope, nearest_level, next_mode};
@@ -18,7 +18,8 @@ impl Envelope {
     fn rest_on(&self, target: &Target, adsr1: u8, adsr2: u8, gain: u8, clock: &RateClock) -> u16
         requires target { step_target self.now.mode self.now.level self.now.hidden adsr1 adsr2 gain ≡ Some target.now }
         requires rate { target.now.rate < 32 }
-        ensures { (k : ℕ) → clock.now ≡ counter_at k → RestsFor self.now adsr1 adsr2 gain k result }
+        ensures rests { (k : ℕ) → clock.now ≡ counter_at k → RestsFor self.now adsr1 adsr2 gain k result }
+        ensures then_stirs { (k : ℕ) → clock.now ≡ counter_at k → result < for_ever → StirsAt self.now adsr1 adsr2 gain (k + result) }
     {
         let mode = next_mode(self.mode, target.value, sustain_level(adsr1, adsr2, gain));
         if mode != self.mode {
@@ -36,9 +37,10 @@ impl Envelope {
         clock.until_fires(target.rate)
     }
 
-    /// For how many samples the envelope rests, from the clock's on.
+    /// For how many samples the envelope rests, from the clock's on: for ever, or the step after them changes it.
     pub fn rest(&self, adsr1: u8, adsr2: u8, gain: u8, clock: &RateClock) -> u16
-        ensures { (k : ℕ) → clock.now ≡ counter_at k → RestsFor self.now adsr1 adsr2 gain k result }
+        ensures rests { (k : ℕ) → clock.now ≡ counter_at k → RestsFor self.now adsr1 adsr2 gain k result }
+        ensures then_stirs { (k : ℕ) → clock.now ≡ counter_at k → result < for_ever → StirsAt self.now adsr1 adsr2 gain (k + result) }
     {
         match step_target(self.mode, self.level, self.hidden, adsr1, adsr2, gain) {
             None if self.level == 0 => FOR_EVER,

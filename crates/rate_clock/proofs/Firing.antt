@@ -52,3 +52,13 @@ quiet_until rate k positive within j few =
     let some : nat_lt 0 rate ≡ true = grind (arith, nat_tests) in
     let more : (until_fires rate (counter_at k) - j == 0) ≡ false = grind (arith, nat_tests) in
     rw (some, rest, more) refl
+
+-- and then it fires
+pub fires_then : (rate k : ℕ) → 0 < rate → rate < 32 → fires rate (counter_at (k + until_fires rate (counter_at k))) ≡ true
+unfolding fires
+fires_then rate k positive within =
+    let count : ℕ = until_fires rate (counter_at k) in
+    let rest : until_fires rate (counter_at (k + count)) ≡ count - count = rest_at rate k count positive within (omega arith) in
+    let some : nat_lt 0 rate ≡ true = grind (arith, nat_tests) in
+    let none : count - count ≡ 0 = omega arith in
+    rw (some, rest, none) refl

@@ -1,6 +1,6 @@
 //! The counter that all rates look at.
 
-ghost use Rattle.std.specs.Prelude.{◌≡◌, ℕ, ◌+◌, ◌-◌, ◌%◌, ◌==◌, ◌<◌, if◌then◌else◌};
+ghost use Rattle.std.specs.Prelude.{◌≡◌, ℕ, ◌+◌, ◌-◌, ◌%◌, ◌==◌, ◌<◌, true, if◌then◌else◌};
 ghost use Rattle.rate_clock.specs.Counter.{counter_at, counter_after, fires, until_fires, IsQuiet};
 ghost use Rattle.rate_clock.specs.Inside.{rest_at};
 
@@ -141,6 +141,7 @@ impl RateClock {
         requires within { rate < 32 }
         ensures count { result ≡ until_fires rate self.now }
         ensures quiet { (k : ℕ) → self.now ≡ counter_at k → IsQuiet rate k result }
+        ensures then_fires { (k : ℕ) → self.now ≡ counter_at k → fires rate (counter_at (k + result)) ≡ true }
     {
         let place = usize::from(rate);
         (self.counter + OFFSETS[place]) % PERIODS[place]

@@ -1,7 +1,7 @@
-use Rattle.std.proofs.Common.{◌≡◌, ◌<◌, arith, rules, sym, ◌∙◌}
-use Rattle.rate_clock.specs.Counter.{counter_at, IsQuiet, until_fires}
+use Rattle.std.proofs.Common.{◌≡◌, ◌<◌, arith, rules, ◌∙◌}
+use Rattle.rate_clock.specs.Counter.{counter_at}
 use Rattle.rate_clock.proofs.Tables.{offset_bound, period_positive}
-use Rattle.rate_clock.proofs.Firing.{quiet_until}
+use Rattle.rate_clock.proofs.Firing.{quiet_until, fires_then}
 use Rattle.rate_clock.proofs.clock.RateClock.until_fires.Goals as goal
 
 pub overflow_add-result : goal.overflow_add-result
@@ -18,3 +18,9 @@ returns-clause-quiet c k at =
     let place : c.from-place.result ≡ c.args.rate = search rules in
     let same : c.self.inside.counter ≡ counter_at k = c.self.view_is ∙ at in
     rw (place, same) (quiet_until c.args.rate k c.requires.positive c.requires.within)
+
+pub returns-clause-then_fires : goal.returns-clause-then_fires
+returns-clause-then_fires c k at =
+    let place : c.from-place.result ≡ c.args.rate = search rules in
+    let same : c.self.inside.counter ≡ counter_at k = c.self.view_is ∙ at in
+    rw (place, same) (fires_then c.args.rate k c.requires.positive c.requires.within)
