@@ -17,7 +17,7 @@ use Rattle.command_line.specs.Command.{Command, usage, names_input}
 use Rattle.spcwave.specs.Answers.{answer_of}
 use Rattle.status_lines.specs.Statuses.{status_of, answer_status, plain_end}
 use Rattle.status_lines.specs.Lines.{end_line, refusal_line}
-use Rattle.spcwave.specs.Run as clause
+use Rattle.spcwave.specs.RunClauses as clause
 
 -- a status without numbers tells its end
 plain_is : (r p : Option (Refusal Cause)) → plain_end (status_of r) ≡ Some p → r ≡ p

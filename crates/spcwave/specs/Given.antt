@@ -8,7 +8,7 @@ use Rattle.status_lines.specs.declared.status.Status.TheVariants as statuses
 use Rattle.status_lines.specs.Lines.{end_line}
 use Rattle.status_lines.specs.Statuses.{code_of}
 use Rattle.command_line.specs.Command.{Command, usage, command_of}
-use Rattle.spcwave.specs.Run.{Content, ReadFault, WriteFault, Memory, IsTruthful, CompletesCalmly, CompletesInputs, CompletesOutputs, CompletesComplaint, Untold}
+use Rattle.spcwave.specs.RunClauses.{Content, ReadFault, WriteFault, Memory, IsTruthful, CompletesCalmly, CompletesInputs, CompletesOutputs, CompletesComplaint, Untold}
 use Rattle.spcwave.specs.declared.given.Given.{Given}
 use Rattle.spcwave.specs.declared.given.Given.TheVariants.{Words, NoText, NoMemory}
 

@@ -2,5 +2,5 @@
 pub mod Answers
 -- what comes of what the command line gives
 pub mod Given
--- what a run does: the clauses of the top call
-pub mod Run
+-- the clauses of the top call: what a run does
+pub mod RunClauses

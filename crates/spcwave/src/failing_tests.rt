@@ -5,18 +5,34 @@ use status_lines::Status;
 use std::alloc::Global;
 use std::test::Fail;
 
-/// A command over the inputs of `run_on_all`, and how many of its calls are on inputs.
-const COMMANDS: &[(&[&str], u32)] = &[
-    (&["help"], 0),
-    (&["version"], 0),
-    (&["brr", "BRR", "OUT"], 3),
-    (&["info", "SPC"], 19),
-    (&["encode", "WAV", "OUT"], 3),
-    (&["asm", "SOURCE", "0400", "OUT"], 3),
-    (&["dis", "BRR", "0400", "OUT"], 3),
-    (&["rip", "SPC", "OUT"], 19),
-    (&["demo", "7", "OUT"], 0),
-    (&["check", "7"], 0),
+/// A command over the inputs of `run_on_all`, how many of its calls are on inputs, and its whole report.
+const COMMANDS: &[(&[&str], u32, &str)] = &[
+    (&["brr", "BRR", "OUT"], 3, "blocks 1 samples 16\n"),
+    (
+        &["info", "SPC"],
+        19,
+        "length 66048\nminor 30\ntags no\npc 0400 a 00 x 00 y 00 psw 00 sp ef\n",
+    ),
+    (
+        &["encode", "WAV", "OUT"],
+        3,
+        "block 0 header 01 worst 0 squares 0\nblocks 1\n",
+    ),
+    (&["asm", "SOURCE", "0400", "OUT"], 3, "bytes 1\n"),
+    (&["dis", "BRR", "0400", "OUT"], 3, "lines 9\n"),
+    (
+        &["rip", "SPC", "OUT"],
+        19,
+        "entry 00 start 0500 blocks 1 loop outside worst 0 squares 0\nentries 1\n",
+    ),
+    (&["demo", "7", "OUT"], 0, "bytes 66048\n"),
+    // what an independent implementation told
+    (
+        &["check", "3456189438"],
+        0,
+        "samples 320000\nleft 49171252\nright -899585932\nmix 1010732692\n\
+        batches 9983 register 4982 memory 4983 echo 0 full 17 events 0 end 1\n",
+    ),
     (
         &[
             "render",
@@ -29,11 +45,17 @@ const COMMANDS: &[(&[&str], u32)] = &[
             "TRACE",
         ],
         22,
+        "samples 8\nbatches 1 register 0 memory 0 echo 0 full 0 events 0 end 1\n",
     ),
-    (&["cuts", "SPC", "TABLE", "LIST", "OUT"], 25),
+    (
+        &["cuts", "SPC", "TABLE", "LIST", "OUT"],
+        25,
+        "cuts 2 samples 4 checkpoints 2 pages 256 made 6\n",
+    ),
     (
         &["serve", "SPC", "TABLE", "SCRIPT", "OUT", "--pages", "257"],
         25,
+        "played 3 at 3\nmark 3 gave 0\nfree 1 marks 2 made 3\n",
     ),
 ];
 
@@ -57,10 +79,11 @@ fn run_on_all(alloc: Global, words: &[&str], failing: &[u32]) -> Result<Outcome,
     run_failing(alloc, words.as_slice(), &inputs, failing)
 }
 
-/// Whether each call of a command may fail: those on inputs, which come first, leave nothing, the others prefixes.
-fn each_call_may_fail(alloc: Global, words: &[&str], reads: u32) -> Result<bool, Fail> {
+/// Whether each call of a command may fail: those on inputs, which come first, leave nothing, the others prefixes. Where none of
+/// its calls fails, it ends with this report.
+fn each_call_may_fail(alloc: Global, words: &[&str], reads: u32, report: &str) -> Result<bool, Fail> {
     let whole = run_on_all(alloc, words, &[])?;
-    let mut holds = whole.status() == Status::Ok && whole.calls() > reads;
+    let mut holds = is_whole(&whole, report) && whole.calls() > reads;
     for call in 0..whole.calls() {
         let outcome = run_on_all(alloc, words, &[call])?;
         holds = holds
@@ -71,13 +94,22 @@ fn each_call_may_fail(alloc: Global, words: &[&str], reads: u32) -> Result<bool,
             };
     }
     let after = run_on_all(alloc, words, &[whole.calls()])?;
-    Ok(holds && after.status() == Status::Ok && after.report() == whole.report())
+    Ok(holds && is_whole(&after, report))
 }
 
+/// Whether all was done, with this report.
+fn is_whole(outcome: &Outcome, report: &str) -> bool {
+    outcome.status() == Status::Ok
+        && outcome.report() == report.as_bytes()
+        && outcome.complaint().is_empty()
+}
+
+/// Those of `help` and `version`, which make one call, fail in tests of their own.
 #[test]
 fn each_call_of_each_command_may_fail(rt: HostRuntime) -> Result<(), Fail> {
-    for (words, reads) in COMMANDS {
-        assert!(rt; each_call_may_fail(rt.alloc(), words, *reads)?, "{words:?}");
+    for (words, reads, report) in COMMANDS {
+        let holds = each_call_may_fail(rt.alloc(), words, *reads, report)?;
+        assert!(rt; holds, "{words:?}");
     }
     Ok(())
 }

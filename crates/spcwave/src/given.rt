@@ -1,6 +1,8 @@
 // The edge of the program: what the command line gives, and what the process exits with.
+ghost use Rattle.std.specs.Prelude.{◌≡◌, ◌≢◌, IfOk, IfErr};
+ghost use Rattle.std.specs.IoError.{error_kind};
 ghost use Rattle.snd_host.specs.Host.{HostState};
-ghost use Rattle.spcwave.specs.Run.{HasFewOutputs};
+ghost use Rattle.spcwave.specs.RunClauses.{HasFewOutputs};
 ghost use Rattle.spcwave.specs.Given.{EndsWith, ExitsWith};
 
 use crate::run::run;
@@ -8,6 +10,7 @@ use command_frame::{Refusal, complain};
 use snd_host::Host;
 use status_lines::{Cause, Status, status_for};
 use std::alloc::Global;
+use std::io::{self, ErrorKind};
 
 /// What the command line gives after the program's name.
 #[derive(Drop)]
@@ -17,6 +20,21 @@ pub enum Given {
     NoText,
     /// There was no memory for the words.
     NoMemory,
+}
+
+/// What the command line gives, as its words were read or not.
+pub fn given_of(read: io::Result<Vec<String>>) -> Given
+    ensures words { IfOk read (λ words. result ≡ Given.Words words) }
+    ensures no_memory { IfErr read (λ error. error_kind error ≡ ErrorKind.OutOfMemory → result ≡ Given.NoMemory) }
+    ensures no_text { IfErr read (λ error. error_kind error ≢ ErrorKind.OutOfMemory → result ≡ Given.NoText) }
+{
+    match read {
+        Ok(words) => Given::Words(words),
+        Err(error) => match error.kind() {
+            ErrorKind::OutOfMemory => Given::NoMemory,
+            _ => Given::NoText,
+        },
+    }
 }
 
 /// Does what was given, and answers how it ended.

@@ -16,7 +16,7 @@ mod test_support;
 #[cfg(test)]
 mod tests;
 
-use crate::given::{Given, run_given};
+use crate::given::{given_of, run_given};
 use disk_host::DiskHost;
 use std::alloc::Global;
 use std::process::ExitCode;
@@ -34,17 +34,6 @@ fn words_of(alloc: Global, rt: &(impl std::rt::Env + AllocGlobal)) -> io::Result
     Ok(words)
 }
 
-/// What the command line gives.
-fn given_words(alloc: Global, rt: &(impl std::rt::Env + AllocGlobal)) -> Given {
-    match words_of(alloc, rt) {
-        Ok(words) => Given::Words(words),
-        Err(error) => match error.kind() {
-            io::ErrorKind::OutOfMemory => Given::NoMemory,
-            _ => Given::NoText,
-        },
-    }
-}
-
 fn main(rt: HostRuntime) -> ExitCode {
     // A standard stream that is closed gets an empty file in its place, so that no input or output gets it.
     let _places = (
@@ -53,5 +42,6 @@ fn main(rt: HostRuntime) -> ExitCode {
         fs::open(&rt, NOTHING),
     );
     let mut host = DiskHost::new(rt.alloc(), &rt, rt.stdout(), rt.stderr());
-    ExitCode::from(run_given(rt.alloc(), &given_words(rt.alloc(), &rt), &mut host))
+    let given = given_of(words_of(rt.alloc(), &rt));
+    ExitCode::from(run_given(rt.alloc(), &given, &mut host))
 }

@@ -4,7 +4,7 @@ ghost use Rattle.snd_host.specs.Host.{HostState};
 ghost use Rattle.command_frame.specs.Conduct.{Attempts};
 ghost use Rattle.command_line.specs.Command.{command_of, usage, names_input};
 ghost use Rattle.spcwave.specs.Answers.{answer_of};
-ghost use Rattle.spcwave.specs.Run.{HasFewOutputs, Content, ReadFault, WriteFault, Memory, IsTruthful, CompletesCalmly, CompletesInputs, CompletesOutputs, CompletesComplaint, Untold};
+ghost use Rattle.spcwave.specs.RunClauses.{HasFewOutputs, Content, ReadFault, WriteFault, Memory, IsTruthful, CompletesCalmly, CompletesInputs, CompletesOutputs, CompletesComplaint, Untold};
 
 use command_asm::asm;
 use command_brr::brr;

@@ -1,5 +1,5 @@
 -- What a run of the program does. The answer meant is that of the command, by what the names hold at the call.
-use Rattle.std.specs.Prelude.{◌≡◌, ◌≢◌, ◌↔◌, ◌+◌, ◌<◌, ◌≤◌, ◌⊎◌, length, IsTrue, IsSome, slice_index}
+use Rattle.std.specs.Prelude.{ℕ, ◌≡◌, ◌≢◌, ◌↔◌, ◌+◌, ◌<◌, ◌≤◌, ◌⊎◌, length, IsTrue, IsSome, slice_index}
 use Rattle.snd_host.specs.Host.{HostState, IfTold, Rose}
 use Rattle.command_frame.specs.Answer.{outputs_of, report_of}
 use Rattle.command_frame.specs.Conduct.{NoneRose}
@@ -12,9 +12,12 @@ use Rattle.spcwave.specs.Answers.{answer_of}
 use Rattle.status_lines.specs.Statuses.{answer_status, plain_end}
 use Rattle.status_lines.specs.Lines.{end_line, status_line}
 
--- Fewer than 4,000,000,000 outputs were created on the host.
+-- a run is begun on a host on which fewer outputs were created than this: what it creates is far below what is left
+abbrev pub most_outputs_before : ℕ
+most_outputs_before = 4000000000
+
 abbrev pub HasFewOutputs : HostState → Type 0
-HasFewOutputs state = length state.ended < 4000000000
+HasFewOutputs state = length state.ended < most_outputs_before
 
 -- What stands on the host where the status is the answer's, and the complaint of every status.
 pub record Content (command : Command) (old new : HostState) (status : Status) : Type 0 where

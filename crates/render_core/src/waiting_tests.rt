@@ -1,0 +1,104 @@
+//! Renders of programs that wait.
+ghost use Rattle.std.specs.Prelude.{◌≡◌, ◌≤◌};
+
+use crate::Render;
+use crate::test_support::{SILENT, chip_of, file};
+use lock_step::{Chip, Counts};
+use spc_form::SpcFile;
+use std::alloc::Global;
+use std::test::Fail;
+use trace_form::Record;
+
+/// What comes of a render.
+#[derive(Drop)]
+struct Told {
+    frames: u64,
+    /// How many of them are not silent.
+    loud: u64,
+    records: Vec<Record>,
+    counts: Counts,
+}
+
+/// Adds all that is to come of a render.
+fn add_all<C: Chip>(render: &mut Render<C>, told: &mut Told) -> Result<(), Fail> {
+    'pieces: loop {
+        let piece = render.next_piece();
+        let loud = piece.frames.iter().filter(|frame| **frame != SILENT);
+        told.loud = told.loud.wrapping_add(loud.count() as u64);
+        told.frames = told.frames.wrapping_add(piece.frames.len() as u64);
+        told.records.extend_from_slice(piece.records)?;
+        if piece.done {
+            return Ok(());
+        }
+    }
+}
+
+/// Renders so many samples of a file over a chip, without records of voices.
+fn tell<C: Chip>(alloc: Global, file: &SpcFile, chip: C, samples: u32) -> Result<Told, Fail>
+    requires few { samples ≤ 115200000 }
+    requires sample { C.sample chip ≡ 0 }
+    requires batches { C.batches chip ≡ 0 }
+{
+    let mut render = Render::open(alloc, file, chip, samples, 0)?;
+    let mut told = Told {
+        frames: 0,
+        loud: 0,
+        records: Vec::new(alloc),
+        counts: render.counts(),
+    };
+    add_all(&mut render, &mut told)?;
+    told.counts = render.counts();
+    Ok(told)
+}
+
+/// Counts of so many batches: for writes of memory, for 64 pending samples and at the end.
+fn counts_of(batches: u64, memory: u64, full: u64, end: u64) -> Counts {
+    Counts {
+        batches,
+        register: 0,
+        memory,
+        echo: 0,
+        full,
+        events: 0,
+        end,
+    }
+}
+
+/// Timer 2 has the target 10, so that its counter leaves 0 at each 160 cycles. A round of 7 cycles polls it, first at clock 13; what
+/// it reads is written to port 0 after 29 cycles, and 37 after it the next poll comes. Each write has the samples before it made.
+#[test]
+fn a_driver_waits_for_its_timer(rt: HostRuntime) -> Result<(), Fail> {
+    let program = [
+        0x8F, 10, 0xFC, 0x8F, 0x04, 0xF1, 0xE4, 0xFF, 0xF0, 0xFC, 0, 0, 0, 0, 0, 0, 0, 0, 0, 0, 0,
+        0, 0xC4, 0xF4, 0x2F, 0xEC,
+    ];
+    let driven = file(rt.alloc(), &[], &program)?;
+    let told = tell(rt.alloc(), &driven, chip_of(rt.alloc(), &driven)?, 100)?;
+    let samples = [
+        5, 11, 16, 20, 26, 30, 36, 40, 46, 51, 55, 61, 65, 71, 75, 81, 86, 90, 96,
+    ];
+    let mut wanted = Vec::new(rt.alloc());
+    for sample in samples {
+        wanted.push(Record::Port {
+            sample,
+            port: 0,
+            value: 1,
+        })?;
+    }
+    assert_eq!(rt; told.records.as_slice(), wanted.as_slice());
+    assert_eq!(rt; (told.frames, told.loud), (100, 0));
+    assert_eq!(rt; told.counts, counts_of(20, 19, 0, 1));
+    Ok(())
+}
+
+/// The longest render: an hour is 115,200,000 samples, in 1,800,000 batches of 64.
+#[test]
+fn a_stopped_processor_is_rendered_for_an_hour(rt: HostRuntime) -> Result<(), Fail> {
+    let stopped = file(rt.alloc(), &[], &[0xFF])?;
+    let chip = chip_of(rt.alloc(), &stopped)?;
+    let told = tell(rt.alloc(), &stopped, chip, 115200000)?;
+    assert_eq!(rt; (told.frames, told.loud), (115200000, 0));
+    assert!(rt; told.records.is_empty());
+    assert_eq!(rt; told.counts, counts_of(1800000, 0, 1800000, 0));
+    Ok(())
+}
