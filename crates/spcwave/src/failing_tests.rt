@@ -81,7 +81,12 @@ fn run_on_all(alloc: Global, words: &[&str], failing: &[u32]) -> Result<Outcome,
 
 /// Whether each call of a command may fail: those on inputs, which come first, leave nothing, the others prefixes. Where none of
 /// its calls fails, it ends with this report.
-fn each_call_may_fail(alloc: Global, words: &[&str], reads: u32, report: &str) -> Result<bool, Fail> {
+fn each_call_may_fail(
+    alloc: Global,
+    words: &[&str],
+    reads: u32,
+    report: &str,
+) -> Result<bool, Fail> {
     let whole = run_on_all(alloc, words, &[])?;
     let mut holds = is_whole(&whole, report) && whole.calls() > reads;
     for call in 0..whole.calls() {
