@@ -2,6 +2,8 @@
 //! read, and else one after another.
 #![tactic(auto)]
 
+#[cfg(test)]
+mod batch_tests;
 mod dsp;
 mod sample;
 mod saved;

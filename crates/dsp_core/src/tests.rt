@@ -11,7 +11,7 @@ use std::test::Fail;
 use trace_form::{Frames, Record, Records};
 
 /// Puts bytes from an address on.
-fn put_all(memory: &mut Aram, from: u16, bytes: &[u8]) {
+pub(crate) fn put_all(memory: &mut Aram, from: u16, bytes: &[u8]) {
     let mut at = from;
     for byte in bytes {
         memory.put(at, *byte);
@@ -47,15 +47,29 @@ fn one_voice(alloc: Global) -> Result<(Dsp, Aram), Fail> {
     keyed_voice(alloc, 0)
 }
 
-/// Makes n samples anew, with the records of voice 0.
-fn play(dsp: &mut Dsp, memory: &mut Aram, n: u8, frames: &mut Frames, records: &mut Records)
+/// Makes n samples anew, with the records of the voices in a mask.
+pub(crate) fn play_masked(
+    dsp: &mut Dsp,
+    memory: &mut Aram,
+    n: u8,
+    mask: u8,
+    frames: &mut Frames,
+    records: &mut Records,
+)
     requires { n ≤ 64 }
 {
     frames.clear();
     records.clear();
     if dsp.sample() < 1_000_000 {
-        dsp.advance(n, memory, 0x01, frames, records);
+        dsp.advance(n, memory, mask, frames, records);
     }
+}
+
+/// The same with the records of voice 0.
+fn play(dsp: &mut Dsp, memory: &mut Aram, n: u8, frames: &mut Frames, records: &mut Records)
+    requires { n ≤ 64 }
+{
+    play_masked(dsp, memory, n, 0x01, frames, records);
 }
 
 /// Whether a record is one of voice 0 that was not keyed.
@@ -197,15 +211,11 @@ fn what_was_saved_plays_again(rt: HostRuntime) -> Result<(), Fail> {
     Ok(())
 }
 
-/// Makes n samples anew, and no records.
+/// The same with no records.
 fn play_unseen(dsp: &mut Dsp, memory: &mut Aram, n: u8, frames: &mut Frames, records: &mut Records)
     requires { n ≤ 64 }
 {
-    frames.clear();
-    records.clear();
-    if dsp.sample() < 1_000_000 {
-        dsp.advance(n, memory, 0, frames, records);
-    }
+    play_masked(dsp, memory, n, 0, frames, records);
 }
 
 /// Sets voice 1 to loop at a pitch bent by voice 0, under ADSR, and both to be heard in an echo with feedback.
