@@ -211,7 +211,7 @@ fn what_was_saved_plays_again(rt: HostRuntime) -> Result<(), Fail> {
     Ok(())
 }
 
-/// The same with no records.
+/// Makes n samples anew, and no records.
 fn play_unseen(dsp: &mut Dsp, memory: &mut Aram, n: u8, frames: &mut Frames, records: &mut Records)
     requires { n ≤ 64 }
 {

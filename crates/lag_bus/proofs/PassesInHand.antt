@@ -1,8 +1,8 @@
 -- A bus that is behind, and passes of the one that runs on it.
-use Rattle.std.proofs.Common.{◌≡◌, ℕ, ◌+◌, ◌-◌, ◌*◌, ◌/◌, ◌%◌, ◌<◌, ◌≤◌, Bool, true, false, nat_lt, refl, sym, ◌∙◌, ap, arith}
+use Rattle.std.proofs.Common.{◌≡◌, ℕ, ◌+◌, ◌-◌, ◌/◌, ◌%◌, ◌≤◌, false, ◌∙◌, ap, arith}
 use Rattle.std.proofs.lemmas.Bool.Decides.{nat_tests}
 use Rattle.lock_step.specs.ChipMeaning.{ChipMeaning}
-use Rattle.lock_step.specs.LockStep.{crosses_sample, samples_made}
+use Rattle.lock_step.specs.LockStep.{crosses_sample}
 use Rattle.lag_bus.specs.Lagging.{Lagging, lagging, MatchesBook}
 use Rattle.lag_bus.specs.Running.{caught_up, IsBehind}
 use Rattle.lag_bus.proofs.LateTicks.{no_ticks, ticks_to_come}

@@ -1,9 +1,9 @@
 -- Steps on a bus in hand are those on the bus, which stays the same one.
-use Rattle.std.proofs.Common.{◌≡◌, ℕ, ◌+◌, ◌-◌, Bool, true, false, nat_lt, refl, sym, ◌∙◌, ap}
+use Rattle.std.proofs.Common.{◌≡◌, ℕ, ◌+◌, ◌-◌, Bool, true, false, nat_lt, refl, ◌∙◌, ap}
 use Rattle.std.specs.Prelude.{if◌then◌else◌, ◌<◌}
 use Rattle.spc700_exec.specs.declared.cpu.Cpu.{Cpu}
 use Rattle.spc700_exec.specs.Bus.{BusMeaning, IsLawful, byte_read, after_read, after_write}
-use Rattle.spc700_exec.specs.Script.{Script, Read, Write, End, cycles_at, after_rest, outcome}
+use Rattle.spc700_exec.specs.Script.{Script, Read, Write, End, cycles_at, outcome}
 use Rattle.spc700_exec.specs.Instruction.{script, step_outcome}
 use Rattle.lock_step.specs.ChipMeaning.{ChipMeaning}
 use Rattle.lock_step.specs.StepsOfRun.{AreStepsOf}

@@ -2,7 +2,7 @@
 use Rattle.std.specs.Prelude.{◌≡◌, ◌≤◌, ℕ, ◌-◌, ◌/◌}
 use Rattle.spc700_exec.specs.Bus.{BusMeaning}
 use Rattle.ports_timers.specs.Io.{after_ticks_of}
-use Rattle.lag_bus.specs.Lagging.{Lagging, MatchesBook}
+use Rattle.lag_bus.specs.Lagging.{Lagging}
 
 -- the bus at a later moment of the clock with so many calls, where nothing fell due in between: the timers ticked
 abbrev pub caught_up : {S : Type 0} → (clock calls : ℕ) → Lagging S → Lagging S
@@ -14,7 +14,7 @@ caught_up clock calls bus = record bus {
   };
 }
 
--- no sample falls due up to that moment, and there were no fewer calls then
+-- no sample falls due up to that moment, and there were no fewer calls then, 64 at most
 pub record IsBehind {S : Type 0} (clock calls : ℕ) (bus : Lagging S) : Type 0 where
   pub earlier : bus.machine.clock ≤ clock
   pub same_sample : clock / 32 ≡ bus.machine.clock / 32

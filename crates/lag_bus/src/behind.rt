@@ -10,8 +10,8 @@ ghost use Rattle.lag_bus.specs.Running.{caught_up, IsBehind};
 
 use lock_step::Chip;
 
-/// A bus that may be behind what runs on it, by cycles in which no sample falls due. What needs its clock and its calls is given
-/// them, and lets it catch up.
+/// A bus that may be behind what runs on it, by cycles in which no sample falls due. A call that needs its clock and its calls is handed
+/// both, and has it catch up first.
 pub trait BehindBus {
     /// Its chip.
     type C: Chip;
@@ -60,20 +60,20 @@ pub trait BehindBus {
         requires { IsBehind clock calls (shows self.old) }
         ensures { shows self.new ≡ caught_up clock calls (shows self.old) };
 
-    /// A read at a later moment, of an address that no mark shows to be of memory alone.
+    /// A read at a later moment. It is asked for where no mark tells that memory alone is at the address.
     fn read_later(&mut self, clock: u64, calls: u8, addr: u16) -> u8
         requires behind { IsBehind clock calls (shows self.old) }
         requires room { calls < 64 }
         ensures answer { result ≡ ((lagging Self.C.meaning).read (caught_up clock calls (shows self.old)) addr).0 }
         ensures next { shows self.new ≡ ((lagging Self.C.meaning).read (caught_up clock calls (shows self.old)) addr).1 };
 
-    /// A write at a later moment, to an address that no mark shows to be of memory alone which no sample reads.
+    /// A write at a later moment. It is asked for where no mark tells that memory alone is at the address and that no sample reads it.
     fn write_later(&mut self, clock: u64, calls: u8, addr: u16, value: u8)
         requires behind { IsBehind clock calls (shows self.old) }
         requires room { calls < 64 }
         ensures { shows self.new ≡ (lagging Self.C.meaning).write (caught_up clock calls (shows self.old)) addr value };
 
-    /// A pass at a later moment, to a multiple of 32 of the clock.
+    /// A pass at a later moment that comes to a multiple of 32 of the clock or passes one.
     fn pass_later(&mut self, clock: u64, calls: u8, cycles: u8)
         requires behind { IsBehind clock calls (shows self.old) }
         requires room { calls < 64 }

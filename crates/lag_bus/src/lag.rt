@@ -6,7 +6,7 @@ ghost use Rattle.dsp_form.specs.Results.{is_result};
 ghost use Rattle.dsp_form.specs.Samples.{next_count, count_after};
 ghost use Rattle.trace_form.specs.Rooms.{record_room, event_room};
 ghost use Rattle.num_fix.specs.Limits.{most_frames};
-ghost use Rattle.dsp_form.specs.Limits.{most_samples_of_chip, most_samples_of_batch};
+ghost use Rattle.dsp_form.specs.Limits.{most_samples_of_batch};
 ghost use Rattle.lock_step.specs.Machine.{opened_machine};
 ghost use Rattle.lock_step.specs.LockStep.{writes_register, writes_port, write_records};
 ghost use Rattle.lag_bus.specs.Ready.{ready_frames, ready_records};
@@ -409,6 +409,7 @@ impl<C: Chip> BehindBus for LagBus<C> {
     }
 
     fn clock(&self) -> u64 {
+        // The bus matches its book, which this call tells.
         let _total = self.total();
         self.time.clock()
     }

@@ -1,4 +1,4 @@
-// A bus while the processor runs on it. Its calls are in line with the steps, so that its clock and its calls are kept in registers.
+// A bus while the processor runs on it. Its calls are in line with the steps, so that its clock and its calls can be kept in registers.
 ghost use Rattle.std.specs.Prelude.{◌≡◌, ◌/◌, ◌<◌, ◌≤◌, nat_le, true, false};
 ghost use Rattle.std.proofs.Common.{refl};
 ghost use Rattle.num_fix.specs.Limits.{most_frames};
@@ -77,9 +77,9 @@ impl<'a, B: BehindBus> RunningBus<'a, B> {
     }
 }
 
-/// Takes steps of the processor on a bus in hand, one at least, until so many samples are made or pending, or something is to be
-/// drained, or the room for calls was filled so many times again. The answer is how many of these times are left.
-// In line with what takes the bus in hand, as the steps are with it.
+/// Takes steps of the processor on a bus in hand, one at least, until so many samples are made or pending, or the room for calls is filled
+/// and something is to be drained or it was filled so many times before. The answer is how many of these times are left.
+// In line with what takes the bus in hand, so that its clock and its calls may stay in registers from step to step.
 #[inline(always)]
 fn step_on<'a, B: BehindBus>(
     cpu: &mut Cpu,
@@ -113,8 +113,8 @@ fn step_on<'a, B: BehindBus>(
     left
 }
 
-/// Takes steps of the processor on a bus, one at least, until so many samples are made or pending, or something is to be drained,
-/// or the room for calls was filled so many times again. The answer is how many of these times are left.
+/// Takes steps of the processor on a bus, one at least, until so many samples are made or pending, or the room for calls is filled and
+/// something is to be drained or it was filled so many times before. The answer is how many of these times are left.
 pub(crate) fn take_steps<B: BehindBus>(bus: &mut B, cpu: &mut Cpu, samples: u32, rooms: u8) -> u8
     requires calls { (B.shows bus.old).machine.calls ≤ most_calls_before_step }
     requires more { (B.shows bus.old).machine.clock / 32 < samples }

@@ -108,7 +108,7 @@ impl TakenReach {
         at < self.unread[usize::from(at / 0x100)]
     }
 
-    /// Whether a write at an address may make the reach another one. The page of an address where it can't is marked.
+    /// Whether a write at an address may make the reach that was taken another one. Where it can't, the page of the address is marked.
     pub fn may_change(&mut self, at: u16) -> bool
         ensures rest { self.new ≡ self.old }
         ensures unread { result ≡ false → IfSome self.old (λ reach. may_be_read reach at ≡ false) }

@@ -1,7 +1,5 @@
 -- Steps one after another, over a bus that emits, and calls that begin anew.
-use Rattle.std.proofs.Common.{◌≡◌, ◌⊎◌, inl, inr, ℕ, zero, suc, ◌+◌, ◌/◌, ◌<◌, ◌≤◌, List, [], refl, sym, ap, subst, ◌∙◌, arith}
-use Rattle.num_fix.specs.declared.Frame.{Frame}
-use Rattle.trace_form.specs.declared.record.Record.{Record}
+use Rattle.std.proofs.Common.{◌≡◌, ◌⊎◌, inl, inr, ℕ, zero, suc, ◌/◌, ◌<◌, [], refl, sym, ap, subst, ◌∙◌, arith}
 use Rattle.spc700_exec.specs.declared.cpu.Cpu.{Cpu}
 use Rattle.spc700_exec.specs.Bus.{BusMeaning, IsLawful}
 use Rattle.spc700_exec.specs.Emitting.{IsEmitting, IsAhead}

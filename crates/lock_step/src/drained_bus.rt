@@ -20,13 +20,12 @@ pub trait DrainedBus: Bus {
     fn made(&self) -> u32
         ensures { result ≡ Self.means.made self.now };
 
-    /// Whether there is room for one more step before the next drain.
+    /// Whether there is room for one more step before the next drain, for who makes the steps one by one.
     fn has_room(&self) -> bool
         ensures { result ≡ nat_le (Self.means.calls self.now) 32 };
 
-    /// Takes steps of the processor, one at least, of which none begins at the end of a run to so many samples. They end there,
-    /// or where something is to be drained, or once the room for calls was filled so many times again: the answer is how many of
-    /// these times are left.
+    /// Takes steps of the processor, one at least, of which none begins at the end of a run to so many samples. The bus may begin its
+    /// calls anew, where nothing is to be drained, so many times; the answer is how many of these times are left.
     fn take_steps(&mut self, cpu: &mut Cpu, samples: u32, rooms: u8) -> u8
         requires calls { Self.means.calls self.old ≤ most_calls_before_step }
         requires more { Self.means.made self.old < samples }

@@ -64,7 +64,8 @@ fn make_rounds<B: DrainedBus>(cpu: &Cpu, bus: &mut B, samples: u32)
     bus.wait(cpu, samples);
 }
 
-/// How long no rounds are tried, in fillings of the bus's room for calls: after a trial that found none twice as long as before it.
+/// How long no rounds are tried, in fillings of the bus's room for calls. After a trial that found none it is twice as long as before and
+/// one more, 63 at most.
 #[derive(Drop)]
 pub(crate) struct TrialPause {
     left: u8,
@@ -111,8 +112,8 @@ fn make_rounds_if_due<B: DrainedBus>(cpu: &Cpu, bus: &mut B, samples: u32, pause
     }
 }
 
-/// Steps of the run, one at least: rounds that only wait, where it is time for a trial, and steps one by one until something is to
-/// be drained, or it is time for a trial again, or the run ends.
+/// Steps of the run, one at least: rounds that only wait, where it is time for a trial, and steps one by one until the run ends, or the
+/// room for calls is filled and something is to be drained or it is time for a trial again.
 fn go_on<B: DrainedBus>(cpu: &mut Cpu, bus: &mut B, samples: u32, pause: &mut TrialPause)
     requires calls { B.means.calls bus.old ≡ 0 }
     requires more { B.means.made bus.old < samples }
@@ -146,7 +147,7 @@ fn step_and_drain<B: DrainedBus>(cpu: &mut Cpu, bus: &mut B, samples: u32, lists
 }
 
 /// Makes the next piece of a run to so many samples, and tells whether it is the last one: steps until a frame or a record
-/// was emitted, or all samples are made. It looks only after as many steps as a drained bus has room for.
+/// was emitted, or all samples are made. It looks only where the bus ends its steps.
 pub(crate) fn make_piece<B: DrainedBus>(
     cpu: &mut Cpu,
     bus: &mut B,

@@ -5,6 +5,8 @@ mod plain;
 #[cfg(test)]
 mod program_tests;
 #[cfg(test)]
+mod taking_tests;
+#[cfg(test)]
 mod test_support;
 #[cfg(test)]
 mod tests;

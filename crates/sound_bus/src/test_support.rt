@@ -105,7 +105,7 @@ pub fn nothing(alloc: Global) -> Emitted {
 }
 
 /// A processor at 0400h whose registers are zeros.
-const START: Cpu = Cpu {
+pub const START: Cpu = Cpu {
     a: 0,
     x: 0,
     y: 0,

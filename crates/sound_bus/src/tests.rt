@@ -7,7 +7,6 @@ use crate::{Chip, Counts, DrainedBus, LagBus, PlainBus};
 use aram_core::Aram;
 use dsp_core::Dsp;
 use gauss_table::GaussTable;
-use num_fix::Frame;
 use spc_form::OpenState;
 use spc700_exec::Bus;
 use std::alloc::Global;

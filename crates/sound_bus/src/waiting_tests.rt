@@ -8,7 +8,7 @@ use std::test::Fail;
 use trace_form::Record;
 
 /// Echo writes are off, and no voice is keyed: each reads at block address 0 and is silent.
-const QUIET: [(usize, u8); 2] = [(0x6C, 0x60), (0x6D, 0xE0)];
+pub const QUIET: [(usize, u8); 2] = [(0x6C, 0x60), (0x6D, 0xE0)];
 
 /// All voices are keyed, so that from the first batch on no sample reads page 0.
 const ALL_KEYED: [(usize, u8); 4] = [(0x4C, 0xFF), (0x5D, 0x02), (0x6C, 0x20), (0x6D, 0xE0)];
@@ -49,7 +49,7 @@ fn are_alike(plain: &Run, late: &Run, samples: u32) -> bool {
 }
 
 /// Counts of so many batches: for writes of memory, for 64 pending samples and at the end.
-fn counts_of(batches: u64, memory: u64, full: u64, end: u64) -> Counts {
+pub fn counts_of(batches: u64, memory: u64, full: u64, end: u64) -> Counts {
     Counts {
         batches,
         register: 0,
@@ -62,7 +62,7 @@ fn counts_of(batches: u64, memory: u64, full: u64, end: u64) -> Counts {
 }
 
 /// The records of writes of a byte, to port 0 in these samples.
-fn writes_of(alloc: Global, value: u8, places: &[u32]) -> Result<Vec<Record>, Fail> {
+pub fn writes_of(alloc: Global, value: u8, places: &[u32]) -> Result<Vec<Record>, Fail> {
     let mut records = Vec::new(alloc);
     for sample in places {
         records.push(Record::Port {
@@ -76,7 +76,7 @@ fn writes_of(alloc: Global, value: u8, places: &[u32]) -> Result<Vec<Record>, Fa
 
 /// A driver at 0400h: it gives a timer a target, enables it, polls its counter in a round of 7 cycles, and writes what it has
 /// read to port 0, after twelve NOPs.
-fn driver(counter: u8, target: u8, control: u8) -> [u8; 26] {
+pub fn driver(counter: u8, target: u8, control: u8) -> [u8; 26] {
     let target_cell = counter.wrapping_sub(3);
     [
         0x8F,

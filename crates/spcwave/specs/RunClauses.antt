@@ -16,6 +16,7 @@ use Rattle.status_lines.specs.Lines.{end_line, status_line}
 abbrev pub most_outputs_before : ℕ
 most_outputs_before = 4000000000
 
+-- fewer than that were created on the host
 abbrev pub HasFewOutputs : HostState → Type 0
 HasFewOutputs state = length state.ended < most_outputs_before
 

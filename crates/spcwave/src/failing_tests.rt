@@ -109,7 +109,7 @@ fn is_whole(outcome: &Outcome, report: &str) -> bool {
         && outcome.complaint().is_empty()
 }
 
-/// Those of `help` and `version`, which make one call, fail in tests of their own.
+/// The one call of `help`, and that of `version`, fails in a test of its crate.
 #[test]
 fn each_call_of_each_command_may_fail(rt: HostRuntime) -> Result<(), Fail> {
     for (words, reads, report) in COMMANDS {

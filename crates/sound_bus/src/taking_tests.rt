@@ -1,0 +1,80 @@
+//! Steps that a bus takes by itself, as a render has it do.
+
+use crate::test_support::{Emitted, START, chip_of, drain, nothing, opening_of};
+use crate::waiting_tests::{QUIET, counts_of, driver, writes_of};
+use crate::{Counts, DrainedBus, LagBus, PlainBus};
+use std::alloc::Global;
+use std::test::Fail;
+
+/// What a bus emits that takes steps until 100 samples are made or pending, with three rooms more for its calls each time.
+fn take_all<B: DrainedBus>(alloc: Global, bus: &mut B) -> Result<Emitted, Fail> {
+    let mut cpu = START;
+    let mut all = nothing(alloc);
+    for _ in 0u32..2000 {
+        if bus.has_room() && bus.made() < 100 {
+            bus.take_steps(&mut cpu, 100, 3);
+            drain(alloc, bus, &mut all)?;
+        }
+    }
+    bus.settle();
+    drain(alloc, bus, &mut all)?;
+    Ok(all)
+}
+
+/// What came of steps that a bus took.
+#[derive(Drop)]
+struct Taken {
+    emitted: Emitted,
+    counts: Counts,
+    made: u32,
+}
+
+/// The driver of timer 2 over the bus that makes each sample at once.
+fn take_plain(alloc: Global, code: &[u8]) -> Result<Taken, Fail> {
+    let opening = opening_of(alloc, &[(0x0400, code)], &QUIET)?;
+    let chip = chip_of(alloc, &opening)?;
+    let mut bus = PlainBus::open(alloc, opening, chip, 0)?;
+    let emitted = take_all(alloc, &mut bus)?;
+    Ok(Taken {
+        emitted,
+        counts: bus.counts(),
+        made: bus.made(),
+    })
+}
+
+/// The same over the bus that makes samples late.
+fn take_late(alloc: Global, code: &[u8]) -> Result<Taken, Fail> {
+    let opening = opening_of(alloc, &[(0x0400, code)], &QUIET)?;
+    let chip = chip_of(alloc, &opening)?;
+    let mut bus = LagBus::open(alloc, opening, chip, 0)?;
+    let emitted = take_all(alloc, &mut bus)?;
+    Ok(Taken {
+        emitted,
+        counts: bus.counts(),
+        made: bus.made(),
+    })
+}
+
+/// The driver writes in the samples in which it does so step by step: see `a_driver_polls_each_counter`.
+#[test]
+fn a_bus_takes_the_steps_of_a_driver(rt: HostRuntime) -> Result<(), Fail> {
+    let alloc = rt.alloc();
+    let code = driver(0xFF, 10, 0x04);
+    let samples = [
+        5, 11, 16, 20, 26, 30, 36, 40, 46, 51, 55, 61, 65, 71, 75, 81, 86, 90, 96,
+    ];
+    let wanted = writes_of(alloc, 1, &samples)?;
+    let plain = take_plain(alloc, &code)?;
+    assert_eq!(rt; plain.emitted.records.as_slice(), wanted.as_slice());
+    assert_eq!(rt; plain.counts, counts_of(100, 0, 0, 0));
+    let late = take_late(alloc, &code)?;
+    assert_eq!(rt; late.emitted.records.as_slice(), wanted.as_slice());
+    assert_eq!(rt; late.counts, counts_of(20, 19, 0, 1));
+    assert_eq!(rt; (plain.made, late.made), (100, 100));
+    assert_eq!(rt; plain.emitted.frames.len(), 100);
+    assert_eq!(rt;
+        late.emitted.frames.as_slice(),
+        plain.emitted.frames.as_slice()
+    );
+    Ok(())
+}
