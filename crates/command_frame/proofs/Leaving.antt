@@ -1,12 +1,12 @@
 -- What was gained is left.
 use Rattle.std.proofs.Common.{◌≡◌, ◌≢◌, ℕ, Bool, List, [], ◌++◌, Option, Some, refl, sym, ◌∙◌, ap, subst}
 use Rattle.std.proofs.lemmas.List.{append-nil}
-use Rattle.command_frame.specs.Answer.{Answer, outputs_of}
+use Rattle.command_frame.specs.Answer.{Answer, done, outputs_of}
 use Rattle.std.specs.Prelude.{IsSomeAnd}
 use Rattle.snd_host.specs.Host.{HostState, Given, Output}
 use Rattle.command_frame.specs.Delivery.{Gains, all_ended}
 use Rattle.command_frame.specs.Conduct.{HasComplaint}
-use Rattle.command_frame.specs.Leaves.{Leaves, ReportsLast, Complains}
+use Rattle.command_frame.specs.Leaves.{Leaves, ReportsLast, ReportsBehindEnded, Complains}
 
 pub leaves : (report complaint : List ℕ) (outputs : List Output) (flags : List Bool) (x z : HostState) → Gains report complaint outputs flags x z → Leaves report outputs flags x z
 leaves report complaint outputs flags x z gains = record {
@@ -35,3 +35,11 @@ reports_last {C = C} a report complaint outputs flags x z gains last before told
   where
     inside : (g h : Given) → Some g ≡ Some h → g ≡ h
     inside g h is = cc
+
+-- and behind outputs that were ended, whatever the answer was
+pub reports_behind_ended : (report complaint : List ℕ) (outputs : List Output) (flags : List Bool) (x z : HostState) → Gains report complaint outputs flags x z →
+    (report ≢ [] → flags ≡ all_ended outputs) → ReportsBehindEnded x z
+reports_behind_ended report complaint outputs flags x z gains last before told now told_now grew =
+    let done_so : Answer (Unit {0}) = done outputs report in
+    let told_last = reports_last done_so report complaint outputs flags x z gains (λ some. (refl, last some)) before told now told_now grew in
+    (outputs, told_last.0, told_last.1)

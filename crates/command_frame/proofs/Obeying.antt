@@ -118,6 +118,7 @@ module _ {P C : Type 0} (makes : P → Delivery) (answer : Files → Answer C) (
     read = λ wrong. absurd (cc);
     write = λ wrong. absurd (cc);
     refused = λ some not_write. absurd (some refl);
+    report_last = λ some. let last = d.report_last some in last.1 ∙ ap all_ended (sym last.0);
     note_room = note_room_kept (makes plan).outputs (makes plan).report x y z (Ok t) p.others d;
     answered = λ files told. subst (λ (a : Answer C). EndsAs a None d.reported d.begun d.ended x z) (sym (p.ok files told)) (all_done (makes plan).outputs (makes plan).report x y z t p.others calm d);
   })
@@ -135,6 +136,7 @@ module _ {P C : Type 0} (makes : P → Delivery) (answer : Files → Answer C) (
     read = λ wrong. absurd (cc);
     write = λ _. subst (λ (n : ℕ). Rose n z.faults.outputs) p.others.outputs d.cause.failed;
     refused = λ some not_write. absurd (not_write refl);
+    report_last = λ some. let last = d.report_last some in last.1 ∙ ap all_ended (sym last.0);
     note_room = note_room_kept (makes plan).outputs (makes plan).report x y z (Err e) p.others d;
     answered = λ files told. subst (λ (a : Answer C). EndsAs a (Some WriteFault) d.reported d.begun d.ended x z) (sym (p.ok files told)) (part_done (makes plan).outputs (makes plan).report x y z e p.others calm d);
   })
@@ -168,6 +170,7 @@ module _ {P C : Type 0} (makes : P → Delivery) (answer : Files → Answer C) (
     read = λ is. (p.read (ap (λ (r : Refusal C). Err r) cc), search rules);
     write = λ is. absurd (p.no_write (ap (λ (r : Refusal C). Err r) cc));
     refused = λ some not_write. (refl, refl, refl);
+    report_last = λ some. absurd (some refl);
     note_room = λ rooms told. (rooms, p.others.rooms rooms told, refl);
     answered = refused_answer why p;
   }
@@ -195,6 +198,7 @@ obeys {C = C} line answer names refusal x y z t c silent = record {
   read = λ is. let r = t.read is in (subst (λ (n : ℕ). Rose x.faults.inputs n) (sym inputs) r.0, r.1);
   write = λ is. subst (λ (n : ℕ). Rose x.faults.outputs n) (sym c.outputs) (t.write is);
   refused = t.refused;
+  report_last = t.report_last;
   complains = record {
     part = c.complains.part;
     all = λ calm. c.complains.all (subst (λ (n : ℕ). Rose n z.faults.notes → ⊥) (sym t.notes) calm);
@@ -261,6 +265,7 @@ attempts_usage x = record {
   read = λ wrong. absurd (cc);
   write = λ wrong. absurd (cc);
   refused = λ some not_write. (refl, refl, refl);
+  report_last = λ some. absurd (some refl);
   note_room = λ rooms told. (rooms, told, refl);
   answered = λ files told. record {
     settled = λ same. (refl, refl, refl);

@@ -59,6 +59,7 @@ module _ {P C : Type 0} (makes : P → Delivery) (answer : Answer C) where
         read = λ is. absurd (no_read x z prepared refusal p c is);
         write = t.write;
         refused = t.refused;
+        report_last = t.report_last;
         note_room = t.note_room;
         answered = t.answered;
       }

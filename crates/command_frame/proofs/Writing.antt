@@ -4,13 +4,11 @@ use Rattle.std.proofs.lemmas.List.{append-nil}
 use Rattle.snd_host.specs.Host.{HostState, Faults, HasCause, CountsWrite, WritesAll, IsPrefix, rooms_less}
 use Rattle.snd_host.proofs.Writes.{wrote_then, wrote_nothing, counts_ok, index-rooms_less}
 use Rattle.command_frame.specs.Conduct.{WritesComplaint}
+use Rattle.command_frame.proofs.Places.{prefix_after}
 
 -- a prefix of a front is a prefix of the whole
 pub front_prefix : (part front back : List ℕ) → IsPrefix part front → IsPrefix part (front ++ back)
 front_prefix part front back p = record { rest = p.rest ++ back; split = sym (append_assoc part p.rest back) ∙ ap (λ (l : List ℕ). l ++ back) p.split }
-
-pub after_prefix : (front part back : List ℕ) → IsPrefix part back → IsPrefix (front ++ part) (front ++ back)
-after_prefix front part back p = record { rest = p.rest; split = append_assoc front part p.rest ∙ ap (λ (l : List ℕ). front ++ l) p.split }
 
 -- the first piece failed
 pub failed_first : {T E : Type 0} (file : ℕ) (xs ys : List ℕ) (a b : HostState) (e : E) → WritesAll {T = T} {E = E} file xs a b (Err e) → WritesAll {T = T} {E = E} file (xs ++ ys) a b (Err e)
@@ -41,7 +39,7 @@ then_second {T = T} {T' = T'} {E = E} file xs ys a b c x (Ok y) first second = r
 }
 then_second {T = T} {T' = T'} {E = E} file xs ys a b c x (Err e) first second = record {
   wrote = tt;
-  part = record { part = xs ++ second.part.part; prefix = after_prefix xs second.part.part ys second.part.prefix; wrote = wrote_then file xs second.part.part a b c first.wrote second.part.wrote };
+  part = record { part = xs ++ second.part.part; prefix = prefix_after xs second.part.part ys second.part.prefix; wrote = wrote_then file xs second.part.part a b c first.wrote second.part.wrote };
   cause = counts_then {T = T} {T' = T'} {E = E} file a.faults b.faults c.faults x (Err e) first.cause second.cause;
   steady = λ rooms told fits. second.steady (rooms_less rooms file (length xs)) (first.wrote.rooms rooms told) (omega (arith, index-rooms_less rooms file (length xs), length-append xs ys));
 }

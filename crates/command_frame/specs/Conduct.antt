@@ -45,6 +45,8 @@ pub record Attempts {C : Type 0} (answer : Files → Answer C) (names_input : Bo
   pub read : refusal ≡ Some ReadFault → Rose old.faults.inputs new.faults.inputs × IsTrue names_input
   pub write : refusal ≡ Some WriteFault → Rose old.faults.outputs new.faults.outputs
   pub refused : refusal ≢ None → refusal ≢ Some WriteFault → (report ≡ []) × (outputs ≡ []) × (ended ≡ [])
+  -- The report comes last: where some of it was written, all outputs that were created are ended.
+  pub report_last : report ≢ [] → ended ≡ all_ended outputs
   pub note_room : IfTold old.steady (λ rooms. (after : List ℕ) × (new.steady ≡ Some after) × (slice_index after 1 ≡ slice_index rooms 1))
   -- where it is told what names hold
   pub answered : IfTold old.holds (λ files. EndsAs (answer files) refusal report outputs ended old new)
@@ -77,6 +79,8 @@ pub record Obeys {C : Type 0} (line : Refusal C → List ℕ) (answer : Files �
   pub read : refusal ≡ Some ReadFault → Rose old.faults.inputs new.faults.inputs × IsTrue names_input
   pub write : refusal ≡ Some WriteFault → Rose old.faults.outputs new.faults.outputs
   pub refused : refusal ≢ None → refusal ≢ Some WriteFault → (report ≡ []) × (outputs ≡ []) × (ended ≡ [])
+  -- The report comes last: where some of it was written, all outputs that were created are ended.
+  pub report_last : report ≢ [] → ended ≡ all_ended outputs
   pub complains : HasComplaint (line_of line refusal) complaint old new
   -- where it is told what names hold
   pub answered : IfTold old.holds (λ files. EndsAs (answer files) refusal report outputs ended old new)

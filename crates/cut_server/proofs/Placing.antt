@@ -251,10 +251,6 @@ is_placed_taken old new newest pages page slot is within free taken = record {
   taken = λ other. (within, free, taken);
 }
 
-pub some_given : {A : Type 0} (o : Option A) → (IsNone o → ⊥) → IsSome o
-some_given None given = absurd (given refl)
-some_given (Some x) given = refl
-
 owned_weaken : (pool : List Slot) (a b : ℕ) (slots : List ℕ) → a ≤ b → AreOwned pool a slots → AreOwned pool b slots
 owned_weaken pool a b [] le owned = tt
 owned_weaken pool a b (x ∷ xs) le owned = (owned.0, omega (arith, owned.1), owned_weaken pool a b xs le owned.2)

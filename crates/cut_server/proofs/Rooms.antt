@@ -28,23 +28,9 @@ room_less slots pages (x ∷ (y ∷ rest)) gave more none =
     let next : length (without_entry live 1) - 1 ≡ length rest = omega (arith, length-without_entry live 1 (omega arith)) in
     ap (λ n. room_made n slots pages (record { live = live; gave = gave })) most ∙ rw none refl ∙ ap (λ n. room_made n slots pages (record { live = without_entry live 1; gave = gave + 1 })) (sym next)
 
--- none more is given up
-pub room_ended : (slots : ℕ) (pages : List (List ℕ)) (live : List Checkpoint) (gave : ℕ) → (1 < length live → has_room slots pages live ≡ true) → room_made (length live - 1) slots pages (record { live = live; gave = gave }) ≡ record { live = live; gave = gave }
-room_ended slots pages [] gave ended = refl
-room_ended slots pages (x ∷ []) gave ended = refl
-room_ended slots pages (x ∷ (y ∷ rest)) gave ended =
-    let live = x ∷ (y ∷ rest) in
-    let most : length live - 1 ≡ suc (length rest) = omega arith in
-    ap (λ n. room_made n slots pages (record { live = live; gave = gave })) most ∙ rw (ended (omega arith)) refl
-
 drop_none : {A : Type 0} (n : ℕ) → drop {A = A} n [] ≡ []
 drop_none zero = refl
 drop_none (suc n) = refl
-
--- what was saved of those that stay
-pub saved_kept : {A : Type 0} (xs : List A) → xs ≡ remove_range xs 1 1
-saved_kept [] = refl
-saved_kept (x ∷ xs) = refl
 
 pub saved_less : {A : Type 0} (xs : List A) (n : ℕ) → remove (remove_range xs 1 (n + 1)) 1 ≡ remove_range xs 1 (n + 1 + 1)
 saved_less {A = A} [] n = let none = drop_none {A = A} (n + 1) in let gone = drop_none {A = A} (n + 1 + 1) in rw (none, gone) refl
@@ -76,10 +62,6 @@ makes_more {pages = pages} {before} {old} {mid} makes new more none saved live s
       room = ap (λ n. room_of (live_checkpoints new) n) next ∙ ap (λ l. room_of l (gave + 1)) live ∙ sym (room_less (length old.pool) pages (live_checkpoints mid) gave more (rw (← makes.size) none)) ∙ makes.room;
       size = size ∙ makes.size;
     }
-
-first_of_both : (a b : Bool) → (a && b) ≡ true → a ≡ true
-first_of_both true b both = refl
-first_of_both false b both = cc
 
 -- where none stood at a sample, none does once others are given up
 stands_in_next : (dropped : Checkpoint) (live : List Checkpoint) (sample : ℕ) → stands_at (next_to_dropped dropped live) sample ≡ stands_at live sample

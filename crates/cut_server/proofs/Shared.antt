@@ -74,13 +74,6 @@ own_more shared p here within is =
     let read : get_or shared p false ≡ here = get_or_from_slice_get shared p here false (sym is) in
     sum_by_more (λ b. one_if (not b)) shared p false within ∙ ap (λ b. count_by not (take p shared) + one_if (not b)) read
 
--- a page of a memory against a slot, and where there is none
-pub slot_shared : (pool : List Slot) (newest : List ℕ) (memory : List ℕ) (p d : ℕ) → p < length newest → p < 256 → slice_get (shared_slots pool newest (pages_of memory)) p ≡ Some (bytes_eq (page_bytes memory p) (slot_at pool (get_or newest p d)).bytes)
-slot_shared pool newest memory p d inside within =
-    let there : p < length (pages_in pool newest) = omega (arith, length-map newest (λ slot. (slot_at pool slot).bytes)) in
-    let bytes : get_or (pages_in pool newest) p [] ≡ (slot_at pool (get_or newest p d)).bytes = get_or-map (λ slot. (slot_at pool slot).bytes) newest p d [] inside in
-    slice_get-by_places bytes_eq (pages_of memory) (pages_in pool newest) p [] [] (omega (arith, length-pages_of memory)) there ∙ rw (get_or-pages_of memory p within, bytes) refl
-
 slice_get-by_places_past : {A : Type 0} (test : A → A → Bool) (xs ys : List A) (p : ℕ) → p < length xs → length ys ≤ p → slice_get (by_places test xs ys) p ≡ Some false
 slice_get-by_places_past test [] ys p within past = absurd (omega arith)
 slice_get-by_places_past test (x ∷ xs) [] zero within past = refl

@@ -8,7 +8,7 @@ use Rattle.command_frame.specs.Delivery.{all_ended}
 use Rattle.command_frame.specs.Leaves.{Leaves, LeavesNothing, LeavesAll, Complains}
 use Rattle.command_frame.specs.declared.refusals.Refusal.{Refusal}
 use Rattle.command_frame.specs.declared.refusals.Refusal.TheVariants.{Usage, ReadFault, WriteFault, OutOfMemory, Input}
-use Rattle.command_frame.proofs.Leaving.{leaves, complains, reports_last}
+use Rattle.command_frame.proofs.Leaving.{leaves, complains, reports_last, reports_behind_ended}
 use Rattle.status_lines.specs.declared.cause.Cause.{Cause}
 use Rattle.status_lines.specs.declared.cause.Cause.TheVariants.{SpcLength, SpcSignature, TableLength, BrrLength, WavForm, EncodeSize, InputTooLong, AsmLine, CodeLength, CutList, Script}
 use Rattle.status_lines.specs.declared.status.Status.{Status}
@@ -202,5 +202,6 @@ module _ (command : Command) (r : Option (Refusal Cause)) (x z : HostState) (sta
     unread = λ other. o.calm_inputs (λ same. other (status_is _ same));
     unwritten = λ other. o.calm_outputs (λ same. other (status_is _ same));
     refused = λ not_ok not_write. nothing (λ none. not_ok (status_is _ none)) (λ write. not_write (status_is _ write));
+    report_last = reports_behind_ended o.report o.complaint o.outputs o.ended x z o.made o.report_last;
     complaint = λ end plain. complains_of end (plain_is r end (ap plain_end (sym is) ∙ plain));
   }

@@ -13,7 +13,7 @@ use Rattle.spcwave.specs.declared.given.Given.{Given}
 use Rattle.spcwave.specs.declared.given.Given.TheVariants.{Words, NoText, NoMemory}
 
 -- A command was run: all clauses of the top call.
-pub record IsRun (command : Command) (old new : HostState) (status : Status) : Type 0 where
+pub record IsRunOfCommand (command : Command) (old new : HostState) (status : Status) : Type 0 where
   pub content : Content command old new status
   pub read_fault : ReadFault command old new status
   pub write_fault : WriteFault command old new status
@@ -27,11 +27,11 @@ pub record IsRun (command : Command) (old new : HostState) (status : Status) : T
 
 -- Words are run as the command that they say, and what is no text as no command. With no memory for the words nothing but its
 -- line of complaint is written.
-abbrev pub EndsWith : Given → HostState → HostState → Status → Type 0
-EndsWith (Words words) old new status = IsRun (command_of (map string_bytes words.items)) old new status
-EndsWith NoText old new status = IsRun usage old new status
-EndsWith NoMemory old new status = (status ≡ statuses.OutOfMemory) × WritesComplaint (end_line (Some OutOfMemory)) old new
+abbrev pub EndsAsGiven : Given → HostState → HostState → Status → Type 0
+EndsAsGiven (Words words) old new status = IsRunOfCommand (command_of (map string_bytes words.items)) old new status
+EndsAsGiven NoText old new status = IsRunOfCommand usage old new status
+EndsAsGiven NoMemory old new status = (status ≡ statuses.OutOfMemory) × WritesComplaint (end_line (Some OutOfMemory)) old new
 
 -- The process exits with the number of the status that it ends with.
 abbrev pub ExitsWith : Given → HostState → HostState → (code : ℕ) → Type 0
-ExitsWith given old new code = (status : Status) × (code ≡ code_of status) × EndsWith given old new status
+ExitsWith given old new code = (status : Status) × (code ≡ code_of status) × EndsAsGiven given old new status

@@ -3,7 +3,7 @@ ghost use Rattle.std.specs.Prelude.{◌≡◌, ◌≢◌, IfOk, IfErr};
 ghost use Rattle.std.specs.IoError.{error_kind};
 ghost use Rattle.snd_host.specs.Host.{HostState};
 ghost use Rattle.spcwave.specs.RunClauses.{HasFewOutputs};
-ghost use Rattle.spcwave.specs.Given.{EndsWith, ExitsWith};
+ghost use Rattle.spcwave.specs.Given.{EndsAsGiven, ExitsWith};
 
 use crate::run::run;
 use command_frame::{Refusal, complain};
@@ -40,7 +40,7 @@ pub fn given_of(read: io::Result<Vec<String>>) -> Given
 /// Does what was given, and answers how it ended.
 fn end_of<H: Host>(alloc: Global, given: &Given, host: &mut H) -> Status
     requires { HasFewOutputs (H.state host.old) }
-    ensures { EndsWith given.now (H.state host.old) (H.state host.new) result }
+    ensures { EndsAsGiven given.now (H.state host.old) (H.state host.new) result }
 {
     match given {
         Given::Words(words) => run(alloc, words.as_slice(), host),
