@@ -1,5 +1,5 @@
 -- What a chip some samples late comes to, after each change of what is held.
-use Rattle.std.proofs.Common.{◌≡◌, ◌≢◌, if◌then◌else◌, ℕ, zero, suc, ◌+◌, ◌-◌, ◌*◌, ◌<◌, ◌≤◌, List, [], ◌∷◌, ◌++◌, length, Bool, true, false, not, ◌||◌, ◌==◌, refl, ap, sym, arith, rules, append_assoc, length-append}
+use Rattle.std.proofs.Common.{◌≡◌, ◌≢◌, if◌then◌else◌, ℕ, zero, suc, ◌+◌, ◌-◌, ◌*◌, ◌<◌, ◌≤◌, List, [], ◌∷◌, ◌++◌, length, Bool, true, false, not, ◌||◌, ◌==◌, refl, ap, sym, ◌∙◌, arith, rules, append_assoc, length-append}
 use Rattle.std.proofs.lemmas.Bool.{or_parts}
 use Rattle.std.proofs.lemmas.List.{append-nil}
 use Rattle.std.proofs.Math.Seq.{take-append_seam, drop-append_seam}
@@ -17,7 +17,7 @@ use Rattle.lock_step.specs.ChipLaws.{IsLawfulChip}
 use Rattle.lag_bus.specs.Each.{Each, IsVoiceWithin}
 use Rattle.lag_bus.specs.Merge.{merge}
 use Rattle.lock_step.specs.SampleNumbers.{sample_number}
-use Rattle.lag_bus.specs.Ready.{is_before_sample, ready_frames, waiting_frames, ready_records, waiting_records}
+use Rattle.lag_bus.specs.Ready.{is_before_sample, ready_frames, waiting_frames, ready_records, waiting_records, NoneIsReady}
 use Rattle.lag_bus.specs.Book.{may_be_read, may_be_written}
 use Rattle.lag_bus.specs.Late.{late_with_sample}
 use Rattle.lag_bus.specs.Held.{Held, IsHeld, pending_samples, late_of}
@@ -255,6 +255,15 @@ module _ {S : Type 0} {chip : ChipMeaning S} (laws : IsLawfulChip chip) where
     late_ready_records =
         let first : h.number + h.pending - h.pending ≡ h.number = omega arith in
         rw first (sym drained_records)
+
+    pub none_ready : h.frames ≡ [] → h.records ≡ [] → NoneIsReady h.pending (h.number + h.pending - h.pending) (late_of chip h).frames (late_of chip h).records
+    none_ready frames records = record { no_frame = sym late_ready_frames ∙ frames; no_record = sym late_ready_records ∙ records }
+
+    pub ready_frames_none : NoneIsReady h.pending (h.number + h.pending - h.pending) (late_of chip h).frames (late_of chip h).records → h.frames ≡ []
+    ready_frames_none none = late_ready_frames ∙ none.no_frame
+
+    pub ready_records_none : NoneIsReady h.pending (h.number + h.pending - h.pending) (late_of chip h).frames (late_of chip h).records → h.records ≡ []
+    ready_records_none none = late_ready_records ∙ none.no_record
 
     pub late_drained : late_of chip (record h { frames = []; records = [] }) ≡
         record (late_of chip h) {

@@ -6,7 +6,7 @@ pub mod MergedRecords
 pub mod LawfulSamples
 -- ChangesOfHeld: what a chip some samples late comes to, after each change of what is held
 pub mod ChangesOfHeld
--- WritesToCome: samples to come write where the reach says
+-- WritesToCome: samples to come read and write where the reach says
 pub mod WritesToCome
 -- PendingSamples: some samples more that are pending
 pub mod PendingSamples
@@ -16,6 +16,10 @@ pub mod CountsAddUp
 pub mod BookWithoutPending
 -- PageMarks: marks of pages that samples don't write
 pub mod PageMarks
+-- SamplesDue: a bus at which some samples more are pending, and a pass from there
+pub mod SamplesDue
+-- RoomOfDue: the room that samples take which fall due
+pub mod RoomOfDue
 -- PassesOfAWait: the machine with its lag book passes cycles in which it is only looked at
 pub mod PassesOfAWait
 -- RoundsOfAWait: and it makes rounds of steps that only look
@@ -24,7 +28,7 @@ pub mod RoundsOfAWait
 pub mod TotalOfCalls
 -- LateTicks: ticks that are done late are those of the cycles since
 pub mod LateTicks
--- PassesInHand: a bus that is behind, and passes of the one that runs on it
+-- PassesInHand: a bus that is behind, and what is done to the one that runs on it
 pub mod PassesInHand
 -- StepsInHand: steps on a bus in hand are those on the bus
 pub mod StepsInHand

@@ -1,37 +1,105 @@
--- A bus that is behind, and passes of the one that runs on it.
-use Rattle.std.proofs.Common.{◌≡◌, ℕ, ◌+◌, ◌-◌, ◌/◌, ◌%◌, ◌≤◌, false, ◌∙◌, ap, arith}
+-- A bus that is behind, and what is done to the one that runs on it.
+use Rattle.std.proofs.Common.{◌≡◌, ℕ, ◌+◌, ◌-◌, ◌/◌, ◌<◌, ◌≤◌, ◌++◌, ◌==◌, false, Option, None, refl, sym, ◌∙◌, arith}
+use Rattle.std.specs.List.{filter}
 use Rattle.std.proofs.lemmas.Bool.Decides.{nat_tests}
+use Rattle.std.proofs.lemmas.List.{append-nil}
+use Rattle.aram_core.specs.Memory.{byte_at, with_byte}
+use Rattle.ports_timers.specs.declared.io.Io.{Io}
+use Rattle.ports_timers.specs.Io.{is_within, read_answer, after_read, after_write, after_ticks_of}
+use Rattle.dsp_form.specs.Samples.{in_mask}
 use Rattle.lock_step.specs.ChipMeaning.{ChipMeaning}
-use Rattle.lock_step.specs.LockStep.{crosses_sample}
-use Rattle.lag_bus.specs.Lagging.{Lagging, lagging, MatchesBook}
-use Rattle.lag_bus.specs.Running.{caught_up, IsBehind}
+use Rattle.lock_step.specs.LockStep.{samples_made}
+use Rattle.lag_bus.specs.Book.{may_be_read, may_be_written}
+use Rattle.lag_bus.specs.Held.{IsPlain}
+use Rattle.lag_bus.specs.Lagging.{Lagging, lagging, with_book, MatchesBook}
+use Rattle.lag_bus.specs.Waiting.{with_due}
+use Rattle.lag_bus.specs.Running.{due_at, caught_up, IsBehind, WritesWithin, ReadsWithin}
 use Rattle.lag_bus.proofs.LateTicks.{no_ticks, ticks_to_come}
+use Rattle.lag_bus.proofs.SamplesDue.{with_due-none, pass-with_due}
 
--- a bus that isn't behind
-pub caught_up-none : {S : Type 0} (bus : Lagging S) → caught_up bus.machine.clock bus.machine.calls bus ≡ bus
-caught_up-none bus = λ i. record bus { machine = record bus.machine { io = no_ticks bus.machine.io bus.machine.clock i } }
+-- of plain memory neither a port nor a timer nor the ROM is asked or told
+record IsApart (io : Io) (at : ℕ) : Type 0 where
+  register : (at == 0xF3) ≡ false
+  port : is_within 0xF4 0xF7 at ≡ false
+  answer : read_answer io at ≡ None
+  read : after_read io at ≡ io
+  write : (value : ℕ) → after_write io at value ≡ io
 
--- no sample falls due where the rest of the clock is no less than the cycles
-crosses_none : (clock cycles : ℕ) → cycles ≤ (clock + cycles) % 32 → crosses_sample clock cycles ≡ false
-crosses_none clock cycles rest = grind (arith, nat_tests)
+plain_apart : (io : Io) (at : ℕ) → IsPlain at → IsApart io at
+plain_apart io at plain =
+    let outside = plain.0 in
+    let below = plain.1 in
+    let f1 : (at == 0xF1) ≡ false = grind (arith, nat_tests) in
+    let f2 : (at == 0xF2) ≡ false = grind (arith, nat_tests) in
+    let f3 : (at == 0xF3) ≡ false = grind (arith, nat_tests) in
+    let fa : (at == 0xFA) ≡ false = grind (arith, nat_tests) in
+    let fb : (at == 0xFB) ≡ false = grind (arith, nat_tests) in
+    let fc : (at == 0xFC) ≡ false = grind (arith, nat_tests) in
+    let fd : (at == 0xFD) ≡ false = grind (arith, nat_tests) in
+    let fe : (at == 0xFE) ≡ false = grind (arith, nat_tests) in
+    let ff : (at == 0xFF) ≡ false = grind (arith, nat_tests) in
+    let control : is_within 0xF0 0xF2 at ≡ false = grind (arith, nat_tests) in
+    let ports : is_within 0xF4 0xF7 at ≡ false = grind (arith, nat_tests) in
+    let timers : is_within 0xFA 0xFF at ≡ false = grind (arith, nat_tests) in
+    let rom : is_within 0xFFC0 0xFFFF at ≡ false = grind (arith, nat_tests) in
+    record {
+      register = f3;
+      port = ports;
+      answer = rw (f2, ports, fd, fe, ff, rom, control, timers) refl;
+      read = rw (fd, fe, ff) refl;
+      write = λ value. rw (f1, f2, ports, fa, fb, fc) refl;
+    }
 
--- cycles in which no sample falls due only move the clock on
-pub pass_alone : {S : Type 0} (chip : ChipMeaning S) (bus : Lagging S) (clock calls cycles : ℕ) → IsBehind clock calls bus → MatchesBook bus
-    → cycles ≤ (clock + cycles) % 32
-    → caught_up (clock + cycles) (calls + 1) bus ≡ (lagging chip).pass (caught_up clock calls bus) cycles
-pass_alone chip bus clock calls cycles behind matches rest =
-    let none = crosses_none clock cycles rest in
-    let same : bus.machine.clock / 32 ≡ (clock + cycles) / 32 = let at = behind.same_sample in grind (arith, nat_tests) in
-    let sample : bus.chip_sample ≡ (clock + cycles) / 32 - bus.book.pending = matches.sample ∙ ap (λ (n : ℕ). n - bus.book.pending) same in
-    rw none
-    (λ i. record {
-      machine = record bus.machine {
-        io = ticks_to_come bus.machine.io bus.machine.clock clock cycles behind.earlier i;
-        clock = clock + cycles;
-        calls = calls + 1;
-      };
-      book = bus.book;
-      chip_batches = matches.batches i;
-      chip_sample = sample i;
-      chip_total = matches.total i;
-    })
+module _ {S : Type 0} (chip : ChipMeaning S) (bus : Lagging S) where
+  -- a bus that isn't behind
+  pub caught_up-book : caught_up chip bus.machine.clock bus.machine.calls bus ≡ with_book bus.machine bus.book
+  caught_up-book =
+      let m = bus.machine in
+      let none : due_at m.clock bus ≡ 0 = omega arith in
+      (λ i. with_due chip bus (none i) m.clock (no_ticks m.io m.clock i) m.calls) ∙ with_due-none chip bus
+
+  pub caught_up-none : MatchesBook bus → caught_up chip bus.machine.clock bus.machine.calls bus ≡ bus
+  caught_up-none matches =
+      caught_up-book
+      ∙ (λ i. record bus { chip_batches = sym matches.batches i; chip_sample = sym matches.sample i; chip_total = sym matches.total i })
+
+  module _ (clock calls : ℕ) (behind : IsBehind clock calls bus) where
+    -- cycles up to a moment at which fewer samples are pending than one batch has
+    pub pass-caught_up : (cycles : ℕ) → cycles ≤ 32 → bus.book.pending + due_at (clock + cycles) bus < 64
+        → (lagging chip).pass (caught_up chip clock calls bus) cycles ≡ caught_up chip (clock + cycles) (calls + 1) bus
+    pass-caught_up cycles few free =
+        let m = bus.machine in
+        pass-with_due chip bus (due_at clock bus) clock (after_ticks_of m.io m.clock (clock - m.clock)) calls cycles few behind.earlier refl free
+        ∙ (λ i. with_due chip bus (due_at (clock + cycles) bus) (clock + cycles) (sym (ticks_to_come m.io m.clock clock cycles behind.earlier) i) (calls + 1))
+
+    few : bus.book.pending + due_at clock bus ≤ 64
+    few = let free = behind.free in omega arith
+
+    -- a read of memory alone that samples to come don't write
+    pub read-caught_up : (at : ℕ) → WritesWithin chip bus → IsPlain at → may_be_written bus.book.reach at ≡ false
+        → (lagging chip).read (caught_up chip clock calls bus) at ≡ (byte_at bus.machine.memory at, caught_up chip clock (calls + 1) bus)
+    read-caught_up at writes plain free =
+        let there = caught_up chip clock calls bus in
+        let apart = plain_apart there.machine.io at plain in
+        let byte = writes (due_at clock bus) at few free in
+        rw (apart.answer, apart.read, apart.register, free) (λ i. (byte i, caught_up chip clock (calls + 1) bus))
+
+    -- a write of memory alone that samples to come don't read
+    pub write-caught_up : (at value : ℕ) → ReadsWithin chip bus → IsPlain at → may_be_read bus.book.reach at ≡ false
+        → (lagging chip).write (caught_up chip clock calls bus) at value
+        ≡ caught_up chip clock (calls + 1) (record bus { machine = record bus.machine { memory = with_byte bus.machine.memory at value } })
+    write-caught_up at value reads plain free =
+        let m = bus.machine in
+        let there = caught_up chip clock calls bus in
+        let apart = plain_apart there.machine.io at plain in
+        let made = sym (reads (due_at clock bus) at value few free) in
+        rw (apart.write value, apart.register, free, apart.port, apart.port, append-nil)
+        (λ i. with_book
+        (record there.machine {
+          memory = (made i).memory;
+          chip = (made i).state;
+          frames = m.frames ++ (made i).frames;
+          records = m.records ++ filter (in_mask m.mask) (made i).records;
+          calls = calls + 1;
+        })
+        there.book)

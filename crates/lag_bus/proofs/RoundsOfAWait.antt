@@ -22,7 +22,7 @@ use Rattle.lag_bus.specs.Book.{Book, may_be_written, cause_of_read, after_cause}
 use Rattle.lag_bus.specs.Lagging.{Lagging, lagging, with_book}
 use Rattle.idle_rounds.specs.Looking.{look_of_steps, after_n_steps, IsWaiting}
 use Rattle.ports_timers.specs.Zeros.{zeros_stay, counter_is_0, AreTimers}
-use Rattle.lag_bus.specs.Waiting.{only_looks, byte_seen, samples_in, after_wait, without_calls, IsKept}
+use Rattle.lag_bus.specs.Waiting.{only_looks, byte_seen, samples_in, with_due, after_wait, without_calls, IsKept}
 use Rattle.ports_timers.proofs.Stays.{and_first, and_second, read_answer-stays, after_read-stays}
 use Rattle.ports_timers.proofs.Fewer.{zeros_stay-less}
 use Rattle.lag_bus.proofs.PassesOfAWait.{pass-wait, wait-none}
@@ -132,24 +132,31 @@ module _ {S : Type 0} (chip : ChipMeaning S) where
         below = omega arith;
       }
 
+  -- what a bus shows with some samples more that are pending, at a later moment of the clock
+  pub lagging_of-due : (late : Late S) (io there : Io) (counts : Counts) (calls now clock later due : ℕ) → late.batches ≡ counts.batches → late.made ≡ clock / 32 → late.made + due ≡ later / 32
+      → lagging_of (late_with_samples chip late due) there later counts now ≡ with_due chip (lagging_of late io clock counts calls) due later there now
+  lagging_of-due late io there counts calls now clock later due batches made number =
+      λ i. record {
+        machine = record {
+          memory = (samples chip.sample due (made i) late.chip late.memory).memory;
+          io = there;
+          chip = (samples chip.sample due (made i) late.chip late.memory).state;
+          mask = late.mask;
+          clock = later;
+          frames = late.frames ++ (samples chip.sample due (made i) late.chip late.memory).frames;
+          records = late.records ++ filter (in_mask late.mask) (samples chip.sample due (made i) late.chip late.memory).records;
+          calls = now;
+        };
+        book = record { pending = late.pending + due; events = late.events; reach = late.reach; counts = counts; total = late.total };
+        chip_batches = batches i;
+        chip_sample = number i - (late.pending + due);
+        chip_total = late.total;
+      }
+
   -- what a bus shows after a wait
   pub lagging_of-wait : (late : Late S) (io : Io) (clock : ℕ) (counts : Counts) (calls cycles due : ℕ) → late.batches ≡ counts.batches → late.made ≡ clock / 32 → due ≡ samples_in clock cycles
       → lagging_of (late_with_samples chip late due) (after_ticks_of io clock cycles) (clock + cycles) counts calls ≡ after_wait chip (lagging_of late io clock counts calls) cycles
   lagging_of-wait late io clock counts calls cycles due batches made is =
-      let number : late.made + due ≡ (clock + cycles) / 32 = omega arith in
-      λ i. record {
-        machine = record {
-          memory = (samples chip.sample (is i) (made i) late.chip late.memory).memory;
-          io = after_ticks_of io clock cycles;
-          chip = (samples chip.sample (is i) (made i) late.chip late.memory).state;
-          mask = late.mask;
-          clock = clock + cycles;
-          frames = late.frames ++ (samples chip.sample (is i) (made i) late.chip late.memory).frames;
-          records = late.records ++ filter (in_mask late.mask) (samples chip.sample (is i) (made i) late.chip late.memory).records;
-          calls = calls;
-        };
-        book = record { pending = late.pending + is i; events = late.events; reach = late.reach; counts = counts; total = late.total };
-        chip_batches = batches i;
-        chip_sample = number i - (late.pending + is i);
-        chip_total = late.total;
-      }
+      let ticked = after_ticks_of io clock cycles in
+      lagging_of-due late io ticked counts calls calls clock (clock + cycles) due batches made (omega arith)
+      ∙ (λ i. with_due chip (lagging_of late io clock counts calls) (is i) (clock + cycles) ticked calls)

@@ -15,22 +15,22 @@ use Rattle.lag_bus.specs.Running.{Running, running}
 
 module _ {B : Type 0} (bus : BusMeaning B) where
   -- a bus in hand after what was done to the bus
-  abbrev pub in_hand : (name : ℕ) → Cpu × B → Cpu × Running B
-  in_hand name w = (w.0, record { name = name; bus = w.1 })
+  abbrev pub in_hand : Running B → Cpu × B → Cpu × Running B
+  in_hand r w = (w.0, record { name = r.name; samples = r.samples; bus = w.1 })
 
   rest_in_hand : (b : Bool) (cycles : ℕ) (cpu : Cpu) (r : Running B)
-      → (cpu, if b then (running bus).pass r cycles else r) ≡ in_hand r.name (cpu, if b then bus.pass r.bus cycles else r.bus)
+      → (cpu, if b then (running bus).pass r cycles else r) ≡ in_hand r (cpu, if b then bus.pass r.bus cycles else r.bus)
   rest_in_hand true cycles cpu r = refl
   rest_in_hand false cycles cpu r = refl
 
-  outcome_in_hand : (it : Script) (start made : ℕ) (r : Running B) → outcome (running bus) start made it r ≡ in_hand r.name (outcome bus start made it r.bus)
+  outcome_in_hand : (it : Script) (start made : ℕ) (r : Running B) → outcome (running bus) start made it r ≡ in_hand r (outcome bus start made it r.bus)
   outcome_in_hand (Read at next) start made r =
-      outcome_in_hand (next (byte_read bus at r.bus)) start (made + 1) (record { name = r.name; bus = after_read bus at r.bus })
+      outcome_in_hand (next (byte_read bus at r.bus)) start (made + 1) (record { name = r.name; samples = r.samples; bus = after_read bus at r.bus })
   outcome_in_hand (Write at value next) start made r =
-      outcome_in_hand next start (made + 1) (record { name = r.name; bus = after_write bus at value r.bus })
+      outcome_in_hand next start (made + 1) (record { name = r.name; samples = r.samples; bus = after_write bus at value r.bus })
   outcome_in_hand (End cpu time) start made r = rest_in_hand (nat_lt made (cycles_at start time)) (cycles_at start time - made) cpu r
 
-  step_in_hand : (cpu : Cpu) (r : Running B) → step_outcome (running bus) cpu r ≡ in_hand r.name (step_outcome bus cpu r.bus)
+  step_in_hand : (cpu : Cpu) (r : Running B) → step_outcome (running bus) cpu r ≡ in_hand r (step_outcome bus cpu r.bus)
   step_in_hand cpu r = outcome_in_hand (script cpu) (bus.clock r.bus) 0 r
 
   -- a step on a bus in hand
@@ -40,6 +40,9 @@ module _ {B : Type 0} (bus : BusMeaning B) where
 
     pub same_in_hand : new.name ≡ r.name
     same_in_hand = ap (λ (w : Cpu × Running B). w.1.name) (does ∙ step_in_hand cpu r)
+
+    pub same_run : new.samples ≡ r.samples
+    same_run = ap (λ (w : Cpu × Running B). w.1.samples) (does ∙ step_in_hand cpu r)
 
 lawful : {S : Type 0} (chip : ChipMeaning S) → IsLawful (lagging chip)
 lawful chip = record {
@@ -52,11 +55,17 @@ lawful chip = record {
   samples = λ _. refl;
 }
 
--- one step more, taken on the bus in hand
-pub one_step_in_hand : {S : Type 0} (chip : ChipMeaning S) (samples : ℕ) (cpu : Cpu) (old : Lagging S) (here next : Cpu) (there new : Running (Lagging S))
-    → AreStepsOf (lagging chip) (lag_emits chip) samples cpu old here there.bus → (lagging chip).made there.bus < samples
-    → (next, new) ≡ step_outcome (running (lagging chip)) here there
-    → AreStepsOf (lagging chip) (lag_emits chip) samples cpu old next new.bus
-one_step_in_hand chip samples cpu old here next there new taken more does =
-    one_step_more (lagging chip) (lag_emits chip) samples cpu old (lawful chip) (emits_frames chip) (emits_records chip) here there.bus next new.bus
-    taken more (stepped_in_hand (lagging chip) here next there new does)
+module _ {S : Type 0} (chip : ChipMeaning S) (samples : ℕ) (cpu : Cpu) (old : Lagging S) (here next : Cpu) where
+  -- one step more on the bus
+  pub one_step_on : (there new : Lagging S)
+      → AreStepsOf (lagging chip) (lag_emits chip) samples cpu old here there → (lagging chip).made there < samples
+      → (next, new) ≡ step_outcome (lagging chip) here there
+      → AreStepsOf (lagging chip) (lag_emits chip) samples cpu old next new
+  one_step_on there new = one_step_more (lagging chip) (lag_emits chip) samples cpu old (lawful chip) (emits_frames chip) (emits_records chip) here there next new
+
+  -- and one that was taken on the bus in hand
+  pub one_step_in_hand : (there new : Running (Lagging S))
+      → AreStepsOf (lagging chip) (lag_emits chip) samples cpu old here there.bus → (lagging chip).made there.bus < samples
+      → (next, new) ≡ step_outcome (running (lagging chip)) here there
+      → AreStepsOf (lagging chip) (lag_emits chip) samples cpu old next new.bus
+  one_step_in_hand there new taken more does = one_step_on there.bus new.bus taken more (stepped_in_hand (lagging chip) here next there new does)

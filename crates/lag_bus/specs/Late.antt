@@ -1,14 +1,14 @@
 -- A chip with its memory and its output, some samples late, as it is once these are made.
 use Rattle.std.specs.Prelude.{◌≡◌, ◌≤◌, ℕ, ◌+◌, ◌*◌, List, [], ◌∷◌, ◌++◌, false}
 use Rattle.std.specs.List.{filter}
-use Rattle.aram_core.specs.Memory.{byte_at}
+use Rattle.aram_core.specs.Memory.{byte_at, with_byte}
 use Rattle.num_fix.specs.declared.Frame.{Frame}
 use Rattle.trace_form.specs.declared.record.Record.{Record}
 use Rattle.reach_map.specs.declared.ReachPages.{ReachPages}
 use Rattle.dsp_form.specs.Samples.{samples, in_mask}
 use Rattle.lock_step.specs.ChipMeaning.{ChipMeaning}
 use Rattle.dsp_form.specs.Limits.{most_samples_of_batch}
-use Rattle.lag_bus.specs.Book.{may_be_written}
+use Rattle.lag_bus.specs.Book.{may_be_read, may_be_written}
 
 pub record Late (S : Type 0) : Type 0 where
   -- what there is once the pending samples are made: the chip's state, memory, and what was emitted and not handed over
@@ -65,3 +65,10 @@ abbrev pub AreWritesWithin : {S : Type 0} → ChipMeaning S → ReachPages → (
 AreWritesWithin chip reach pending made state memory =
     (due at : ℕ) → pending + due ≤ most_samples_of_batch → may_be_written reach at ≡ false
     → byte_at (samples chip.sample due made state memory).memory at ≡ byte_at memory at
+
+-- Samples to come read where the reach before the pending ones says: a byte put elsewhere is put into what they leave, and else changes nothing.
+abbrev pub AreReadsWithin : {S : Type 0} → ChipMeaning S → ReachPages → (pending made : ℕ) → S → (memory : List ℕ) → Type 0
+AreReadsWithin chip reach pending made state memory =
+    (due at value : ℕ) → pending + due ≤ most_samples_of_batch → may_be_read reach at ≡ false
+    → samples chip.sample due made state (with_byte memory at value)
+    ≡ record (samples chip.sample due made state memory) { memory = with_byte (samples chip.sample due made state memory).memory at value }

@@ -1,5 +1,5 @@
 -- What is emitted before the first pending sample, and what is not.
-use Rattle.std.specs.Prelude.{ℕ, ◌-◌, List, length, take, drop, Bool, not, nat_le, nat_lt}
+use Rattle.std.specs.Prelude.{◌≡◌, ℕ, ◌-◌, List, [], length, take, drop, Bool, not, nat_le, nat_lt}
 use Rattle.std.specs.List.{filter}
 use Rattle.num_fix.specs.declared.Frame.{Frame}
 use Rattle.trace_form.specs.declared.record.Record.{Record}
@@ -25,3 +25,8 @@ ready_records first records = filter (is_before_sample first) records
 
 abbrev pub waiting_records : (first : ℕ) → List Record → List Record
 waiting_records first records = filter (λ item. not (is_before_sample first item)) records
+
+-- all that stands before the first pending sample was handed over
+pub record NoneIsReady (pending first : ℕ) (frames : List Frame) (records : List Record) : Type 0 where
+  pub no_frame : ready_frames pending frames ≡ []
+  pub no_record : ready_records first records ≡ []

@@ -1,37 +1,61 @@
 -- A bus while the processor runs on it: its clock and the number of its calls are kept beside it.
-use Rattle.std.specs.Prelude.{◌≡◌, ◌≤◌, ℕ, ◌-◌, ◌/◌}
+use Rattle.std.specs.Prelude.{◌≡◌, ◌≤◌, ◌<◌, ◌⊎◌, ℕ, ◌+◌, ◌-◌, ◌*◌, ◌/◌}
 use Rattle.spc700_exec.specs.Bus.{BusMeaning}
 use Rattle.ports_timers.specs.Io.{after_ticks_of}
+use Rattle.dsp_form.specs.Limits.{most_samples_of_batch, most_samples_of_chip}
+use Rattle.lock_step.specs.ChipMeaning.{ChipMeaning}
+use Rattle.lock_step.specs.LockStep.{samples_made}
 use Rattle.lag_bus.specs.Lagging.{Lagging}
+use Rattle.lag_bus.specs.Late.{AreWritesWithin, AreReadsWithin}
+use Rattle.lag_bus.specs.Ready.{NoneIsReady}
+use Rattle.lag_bus.specs.Waiting.{with_due}
 
--- the bus at a later moment of the clock with so many calls, where nothing fell due in between: the timers ticked
-abbrev pub caught_up : {S : Type 0} → (clock calls : ℕ) → Lagging S → Lagging S
-caught_up clock calls bus = record bus {
-  machine = record bus.machine {
-    io = after_ticks_of bus.machine.io bus.machine.clock (clock - bus.machine.clock);
-    clock = clock;
-    calls = calls;
-  };
-}
+-- the samples that fall due up to a later moment of the clock
+abbrev pub due_at : {S : Type 0} → (clock : ℕ) → Lagging S → ℕ
+due_at clock bus = clock / 32 - bus.machine.clock / 32
 
--- no sample falls due up to that moment, and there were no fewer calls then, 64 at most
+-- the bus at a later moment of the clock with so many calls: the timers ticked, and the samples that fell due are pending
+abbrev pub caught_up : {S : Type 0} → ChipMeaning S → (clock calls : ℕ) → Lagging S → Lagging S
+caught_up chip clock calls bus =
+    with_due chip bus (due_at clock bus) clock (after_ticks_of bus.machine.io bus.machine.clock (clock - bus.machine.clock)) calls
+
+-- samples to come write and read where the book's reach says
+abbrev pub WritesWithin : {S : Type 0} → ChipMeaning S → Lagging S → Type 0
+WritesWithin chip bus = AreWritesWithin chip bus.book.reach bus.book.pending (samples_made bus.machine) bus.machine.chip bus.machine.memory
+
+abbrev pub ReadsWithin : {S : Type 0} → ChipMeaning S → Lagging S → Type 0
+ReadsWithin chip bus = AreReadsWithin chip bus.book.reach bus.book.pending (samples_made bus.machine) bus.machine.chip bus.machine.memory
+
+-- nothing is to be handed over but what waits for pending samples
+abbrev pub IsDrained : {S : Type 0} → Lagging S → Type 0
+IsDrained bus = NoneIsReady bus.book.pending bus.chip_sample bus.machine.frames bus.machine.records
+
+-- The bus is behind such a moment: fewer samples are pending there than one batch has at most, and 64 calls at most were made, each of
+-- which let one sample fall due at most, unless all was handed over before.
 pub record IsBehind {S : Type 0} (clock calls : ℕ) (bus : Lagging S) : Type 0 where
   pub earlier : bus.machine.clock ≤ clock
-  pub same_sample : clock / 32 ≡ bus.machine.clock / 32
-  pub fewer : bus.machine.calls ≤ calls
+  pub free : bus.book.pending + due_at clock bus < most_samples_of_batch
+  pub counted : (bus.machine.calls + due_at clock bus ≤ calls) ⊎ IsDrained bus
   pub few : calls ≤ 64
+  pub fits : clock / 32 ≤ most_samples_of_chip
 
--- a bus in hand, and which one it is
+-- It may be left behind up to such a moment: before it, fewer samples are pending than one batch has at most, and the run isn't at its end.
+pub record MayFallBehind {S : Type 0} (until samples : ℕ) (bus : Lagging S) : Type 0 where
+  pub free : bus.book.pending + due_at (until - 1) bus < most_samples_of_batch
+  pub before_end : until ≤ 32 * samples
+
+-- a bus in hand, which one it is, and the samples of the run that it is in hand for
 pub record Running (B : Type 0) : Type 0 where
   pub name : ℕ
+  pub samples : ℕ
   pub bus : B
 
--- the calls are those of the bus, and it stays the same one
+-- the calls are those of the bus, and it stays the same one, for the same run
 abbrev pub running : {B : Type 0} → BusMeaning B → BusMeaning (Running B)
 running bus = record {
-  read = λ r at. ((bus.read r.bus at).0, record { name = r.name; bus = (bus.read r.bus at).1 });
-  write = λ r at value. record { name = r.name; bus = bus.write r.bus at value };
-  pass = λ r cycles. record { name = r.name; bus = bus.pass r.bus cycles };
+  read = λ r at. ((bus.read r.bus at).0, record r { bus = (bus.read r.bus at).1 });
+  write = λ r at value. record r { bus = bus.write r.bus at value };
+  pass = λ r cycles. record r { bus = bus.pass r.bus cycles };
   calls = λ r. bus.calls r.bus;
   clock = λ r. bus.clock r.bus;
   made = λ r. bus.made r.bus;

@@ -28,23 +28,29 @@ byte_seen chip bus at = if only_looks bus.book.reach bus.machine.io at then Some
 abbrev pub samples_in : (clock cycles : ℕ) → ℕ
 samples_in clock cycles = (clock + cycles) / 32 - clock / 32
 
--- The bus after so many cycles alone, while fewer samples are pending than one batch has at most: the timers ticked, and the samples that fell due
--- are pending. The machine has what they leave and emit, as it always has.
-abbrev pub after_wait : {S : Type 0} → ChipMeaning S → Lagging S → (cycles : ℕ) → Lagging S
-after_wait chip bus cycles =
+-- The bus at a later moment of the clock, at which so many samples more are pending: the machine has what they leave and emit, as it always has.
+abbrev pub with_due : {S : Type 0} → ChipMeaning S → Lagging S → (due clock : ℕ) → Io → (calls : ℕ) → Lagging S
+with_due chip bus due clock io calls =
     let m = bus.machine in
-    let due = samples_in m.clock cycles in
     let made = samples chip.sample due (samples_made m) m.chip m.memory in
     with_book
     (record m {
       memory = made.memory;
-      io = after_ticks_of m.io m.clock cycles;
+      io = io;
       chip = made.state;
-      clock = m.clock + cycles;
+      clock = clock;
       frames = m.frames ++ made.frames;
       records = m.records ++ filter (in_mask m.mask) made.records;
+      calls = calls;
     })
     (record bus.book { pending = bus.book.pending + due })
+
+-- The bus after so many cycles alone, while fewer samples are pending than one batch has at most: the timers ticked, and the samples that fell due
+-- are pending.
+abbrev pub after_wait : {S : Type 0} → ChipMeaning S → Lagging S → (cycles : ℕ) → Lagging S
+after_wait chip bus cycles =
+    let m = bus.machine in
+    with_due chip bus (samples_in m.clock cycles) (m.clock + cycles) (after_ticks_of m.io m.clock cycles) m.calls
 
 -- a bus but for the number of its calls, which nothing depends on but the next drain
 abbrev pub without_calls : {S : Type 0} → Lagging S → Lagging S

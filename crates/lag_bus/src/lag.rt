@@ -32,7 +32,7 @@ use idle_rounds::{Looks, try_round};
 use lock_step::{Chip, Counts, DrainedBus};
 use ports_timers::{Io, cycles_of_zeros};
 use spc_form::OpenState;
-use spc700_exec::{Bus, Cpu};
+use spc700_exec::{Bus, Cpu, step};
 use std::alloc::Global;
 use std::marker::Model;
 use trace_form::{EventRing, Frames, Record, Records};
@@ -418,6 +418,11 @@ impl<C: Chip> BehindBus for LagBus<C> {
         self.time.calls()
     }
 
+    fn full_clock(&self) -> u64 {
+        let to_come = u64::from(MOST_PENDING - self.late.pending());
+        32 * (self.time.clock() / 32 + to_come)
+    }
+
     #[inline]
     fn begin_calls_anew(&mut self) -> bool {
         if !self.late.is_drained() {
@@ -428,9 +433,14 @@ impl<C: Chip> BehindBus for LagBus<C> {
     }
 
     fn catch_up(&mut self, clock: u64, calls: u8) {
+        // What a drain left, which this call tells.
+        let _drained = self.late.is_drained();
+        let due = (clock / 32 - self.time.clock() / 32) as u8;
         self.time.catch_up(clock, calls);
+        pend_all(&mut self.late, due);
     }
 
+    // Out of line, as what is rarer than an access of memory alone: a step keeps the clock and the calls in registers.
     #[inline(never)]
     fn read_later(&mut self, clock: u64, calls: u8, addr: u16) -> u8 {
         self.catch_up(clock, calls);
@@ -447,6 +457,14 @@ impl<C: Chip> BehindBus for LagBus<C> {
     fn pass_later(&mut self, clock: u64, calls: u8, cycles: u8) {
         self.catch_up(clock, calls);
         self.pass(cycles);
+    }
+
+    #[inline(never)]
+    fn step_later(&mut self, clock: u64, calls: u8, cpu: Cpu) -> Cpu {
+        self.catch_up(clock, calls);
+        let mut after = cpu;
+        step(&mut after, self);
+        after
     }
 }
 

@@ -6,11 +6,11 @@ ghost use Rattle.dsp_form.specs.Results.{is_result};
 ghost use Rattle.dsp_form.specs.Samples.{samples, in_mask, next_count, count_after};
 ghost use Rattle.lag_bus.specs.Book.{may_be_read, may_be_written, cause_of_read, cause_of_write};
 ghost use Rattle.lag_bus.specs.Held.{IsPlain};
-ghost use Rattle.lag_bus.specs.Late.{late_with_sample, AreWritesWithin};
+ghost use Rattle.lag_bus.specs.Late.{late_with_sample, AreWritesWithin, AreReadsWithin};
 ghost use Rattle.trace_form.specs.Rooms.{frame_room, record_room, event_room};
 ghost use Rattle.dsp_form.specs.Limits.{most_samples_of_batch, most_samples_of_chip};
 ghost use Rattle.lock_step.specs.SampleNumbers.{sample_number};
-ghost use Rattle.lag_bus.specs.Ready.{is_before_sample, ready_frames, waiting_frames, ready_records, waiting_records};
+ghost use Rattle.lag_bus.specs.Ready.{is_before_sample, ready_frames, waiting_frames, ready_records, waiting_records, NoneIsReady};
 
 use crate::cause::{self, Cause};
 use crate::merging::merge_into;
@@ -262,7 +262,8 @@ impl<C: Chip> LateChip<C> {
     #[inline]
     pub fn get(&self, at: u16) -> u8
         requires { (self.now.pending == 0 || not (may_be_written self.now.reach at)) ≡ true }
-        ensures { result ≡ byte_at self.now.memory at }
+        ensures byte { result ≡ byte_at self.now.memory at }
+        ensures writes { AreWritesWithin C.meaning self.now.reach self.now.pending self.now.made self.now.chip self.now.memory }
     {
         self.memory.get(at)
     }
@@ -287,7 +288,8 @@ impl<C: Chip> LateChip<C> {
     #[inline(always)]
     pub fn put_unread(&mut self, at: u16, value: u8)
         requires { may_be_read self.old.reach at ≡ false }
-        ensures { self.new ≡ record self.old { memory = with_byte self.old.memory at value } }
+        ensures memory { self.new ≡ record self.old { memory = with_byte self.old.memory at value } }
+        ensures reads { AreReadsWithin C.meaning self.old.reach self.old.pending self.old.made self.old.chip self.old.memory }
     {
         self.memory.put(at, value);
     }
@@ -345,6 +347,8 @@ impl<C: Chip> LateChip<C> {
     pub fn is_drained(&self) -> bool
         ensures frames { result ≡ true → self.now.frames_used ≡ self.now.pending }
         ensures records { result ≡ true → self.now.records_used ≡ self.now.events + 8 * self.now.pending }
+        ensures drained { result ≡ true → NoneIsReady self.now.pending (self.now.made - self.now.pending) self.now.frames self.now.records }
+        ensures none { NoneIsReady self.now.pending (self.now.made - self.now.pending) self.now.frames self.now.records → result ≡ true }
     {
         self.frames.as_slice().is_empty() && self.records.as_slice().is_empty()
     }

@@ -1,58 +1,104 @@
 // A bus while the processor runs on it. Its calls are in line with the steps, so that its clock and its calls can be kept in registers.
-ghost use Rattle.std.specs.Prelude.{◌≡◌, ◌/◌, ◌<◌, ◌≤◌, nat_le, true, false};
+ghost use Rattle.std.specs.Prelude.{◌≡◌, ◌+◌, ◌*◌, ◌/◌, ◌<◌, ◌≤◌, nat_le, true, false};
 ghost use Rattle.std.proofs.Common.{refl};
 ghost use Rattle.num_fix.specs.Limits.{most_frames};
-ghost use Rattle.spc700_exec.specs.Bus.{most_calls_before_step};
+ghost use Rattle.dsp_form.specs.Limits.{most_samples_of_batch, most_samples_of_chip};
+ghost use Rattle.spc700_exec.specs.Bus.{most_calls, most_calls_before_step};
+ghost use Rattle.spc700_exec.specs.Instruction.{step_outcome};
 ghost use Rattle.lock_step.specs.StepsOfRun.{AreStepsOf};
 ghost use Rattle.lag_bus.specs.Lagging.{lagging};
 ghost use Rattle.lag_bus.specs.LagEmits.{lag_emits};
 ghost use Rattle.lag_bus.specs.Waiting.{without_calls};
-ghost use Rattle.lag_bus.specs.Running.{running};
+ghost use Rattle.lag_bus.specs.Running.{MayFallBehind, running};
 
 use crate::behind::BehindBus;
 use spc700_exec::{Bus, Cpu, step};
 use std::marker::Model;
 
-/// A bus while the processor runs on it. The bus is behind by cycles in which no sample falls due.
+/// The most cycles of an instruction that doesn't halt the processor.
+const MOST_CYCLES: u64 = 12;
+
+/// A bus while the processor runs on it. The bus may be left behind up to a moment of the clock that comes after some cycles.
 #[derive(Drop)]
 pub(crate) struct RunningBus<'a, B: BehindBus> {
     pub(crate) bus: &'a mut B,
-    pub(crate) clock: u64,
+    pub(crate) samples: u32,
+    /// The moment up to which the bus may be left behind, or the clock.
+    pub(crate) until: u64,
+    /// The cycles up to that moment.
+    pub(crate) left: u64,
     pub(crate) calls: u8,
 }
 
 impl<'a, B: BehindBus> Model for RunningBus<'a, B> {
+    ghost use Rattle.std.specs.Prelude.{◌-◌, ◌<◌, ◌≤◌};
     ghost use Rattle.std.specs.Coded.{codes};
     ghost use Rattle.aram_core.specs.contracts.page_set.PageSet as page_set;
-    ghost use Rattle.lag_bus.specs.Lagging.{Lagging, MatchesBook};
-    ghost use Rattle.lag_bus.specs.Running.{Running, IsBehind, caught_up};
+    ghost use Rattle.lag_bus.specs.Lagging.{Lagging};
+    ghost use Rattle.lag_bus.specs.Running.{Running, IsBehind, MayFallBehind, caught_up};
 
     ghost Value = { Running (Lagging B.C.State) };
 
     ghost coded = { Prim.hlevel (codes, page_set.the_row.coded) };
 
-    ghost view = { λ r. record { name = r.bus.ghost_name; bus = caught_up r.clock r.calls (B.shows r.bus.now) } };
+    ghost view = { λ r. record {
+      name = r.bus.ghost_name;
+      samples = r.samples;
+      bus = caught_up B.C.meaning (r.until - r.left) r.calls (B.shows r.bus.now);
+    } };
 
-    ghost invariant = { λ r. IsBehind r.clock r.calls (B.shows r.bus.now) × MatchesBook (B.shows r.bus.now) };
+    ghost invariant = { λ r. (r.left ≤ r.until)
+        × IsBehind (r.until - r.left) r.calls (B.shows r.bus.now)
+        × (0 < r.left → MayFallBehind r.until r.samples (B.shows r.bus.now)) };
+}
+
+/// The moment up to which a bus may be left behind in a run to so many samples, or its clock where the run is at its end.
+#[inline(always)]
+fn moment_of<B: BehindBus>(bus: &B, samples: u32) -> u64
+    requires few { samples ≤ most_frames }
+    ensures clock { (B.shows bus.now).machine.clock ≤ result }
+    ensures pending { (B.shows bus.now).book.pending < most_samples_of_batch }
+    ensures free { (B.shows bus.now).machine.clock < result → MayFallBehind result samples (B.shows bus.now) }
+{
+    bus.full_clock()
+        .min(32 * u64::from(samples))
+        .max(bus.clock())
 }
 
 impl<'a, B: BehindBus> RunningBus<'a, B> {
-    /// A bus in hand.
+    /// A bus in hand for a run to so many samples.
     #[inline(always)]
-    fn new(bus: &'a mut B) -> RunningBus<'a, B>
+    fn new(bus: &'a mut B, samples: u32) -> RunningBus<'a, B>
+        requires few { samples ≤ most_frames }
         ensures name { result.name ≡ bus.entry.ghost_name }
+        ensures samples { result.samples ≡ samples }
         ensures bus { result.bus ≡ B.shows bus.old }
     {
+        let until = moment_of(&*bus, samples);
         let (clock, calls) = (bus.clock(), bus.calls());
-        RunningBus { bus, clock, calls }
+        RunningBus {
+            bus,
+            samples,
+            until,
+            left: until - clock,
+            calls,
+        }
     }
 
-    /// Whether so many samples are made or pending.
+    /// Whether the bus may be left behind for an instruction, and then the run isn't at its end.
     #[inline(always)]
-    fn is_at(&self, samples: u32) -> bool
-        ensures { result ≡ nat_le samples (self.now.bus.machine.clock / 32) }
+    fn may_fall_behind(&self) -> bool
+        ensures { result ≡ true → self.now.bus.machine.clock < 32 * self.now.samples }
     {
-        self.clock / 32 >= u64::from(samples)
+        MOST_CYCLES < self.left
+    }
+
+    /// Whether the run is at its end.
+    #[inline(always)]
+    fn is_at_end(&self) -> bool
+        ensures { result ≡ nat_le self.now.samples (self.now.bus.machine.clock / 32) }
+    {
+        !self.may_fall_behind() && (self.until - self.left) / 32 >= u64::from(self.samples)
     }
 
     /// Whether there is room for the calls of one more step.
@@ -75,29 +121,77 @@ impl<'a, B: BehindBus> RunningBus<'a, B> {
         self.calls = 0;
         true
     }
+
+    /// A pass on the bus itself, which catches up first.
+    #[inline(always)]
+    fn pass_on_bus(&mut self, cycles: u8)
+        requires room { self.old.bus.machine.calls < most_calls }
+        requires some { 1 ≤ cycles }
+        requires few { cycles ≤ 32 }
+        requires time { self.old.bus.machine.clock / 32 < most_samples_of_chip }
+        ensures { self.new ≡ record self.old { bus = (lagging B.C.meaning).pass self.old.bus cycles } }
+    {
+        let clock = self.until - self.left;
+        self.bus.pass_later(clock, self.calls, cycles);
+        self.until = clock + u64::from(cycles);
+        self.left = 0;
+        self.calls += 1;
+    }
+
+    /// A step on the bus itself, which catches up first.
+    #[inline(always)]
+    fn step_on_bus(&mut self, cpu: &mut Cpu)
+        requires few { self.old.samples ≤ most_frames }
+        requires calls { self.old.bus.machine.calls ≤ most_calls_before_step }
+        requires more { self.old.bus.machine.clock / 32 < self.old.samples }
+        ensures does { (cpu.new, self.new.bus) ≡ step_outcome (lagging B.C.meaning) cpu.old self.old.bus }
+        ensures name { self.new.name ≡ self.old.name }
+        ensures samples { self.new.samples ≡ self.old.samples }
+        ensures some { self.old.bus.machine.clock < self.new.bus.machine.clock }
+    {
+        let clock = self.until - self.left;
+        *cpu = self.bus.step_later(clock, self.calls, *cpu);
+        self.until = moment_of(&*self.bus, self.samples);
+        self.left = self.until - self.bus.clock();
+        self.calls = self.bus.calls();
+    }
 }
 
-/// Takes steps of the processor on a bus in hand, one at least, until so many samples are made or pending, or the room for calls is filled
+/// One step, on the bus in hand or, close to the moment up to which the bus may be left behind, on the bus itself.
+// In line with the loop: where more cycles are left than an instruction has, the optimizer finds that none of its passes needs a test.
+#[inline(always)]
+fn step_once<'a, B: BehindBus>(cpu: &mut Cpu, running: &mut RunningBus<'a, B>)
+    requires few { running.old.samples ≤ most_frames }
+    requires calls { running.old.bus.machine.calls ≤ most_calls_before_step }
+    requires more { running.old.bus.machine.clock / 32 < running.old.samples }
+    ensures does { (cpu.new, running.new.bus) ≡ step_outcome (lagging B.C.meaning) cpu.old running.old.bus }
+    ensures name { running.new.name ≡ running.old.name }
+    ensures samples { running.new.samples ≡ running.old.samples }
+    ensures some { running.old.bus.machine.clock < running.new.bus.machine.clock }
+{
+    if running.may_fall_behind() {
+        step(cpu, running);
+    } else {
+        running.step_on_bus(cpu);
+    }
+}
+
+/// Takes steps of the processor on a bus in hand, one at least, until the run is at its end, or the room for calls is filled
 /// and something is to be drained or it was filled so many times before. The answer is how many of these times are left.
 // In line with what takes the bus in hand, so that its clock and its calls may stay in registers from step to step.
 #[inline(always)]
-fn step_on<'a, B: BehindBus>(
-    cpu: &mut Cpu,
-    running: &mut RunningBus<'a, B>,
-    samples: u32,
-    rooms: u8,
-) -> u8
+fn step_on<'a, B: BehindBus>(cpu: &mut Cpu, running: &mut RunningBus<'a, B>, rooms: u8) -> u8
     requires calls { running.old.bus.machine.calls ≤ most_calls_before_step }
-    requires more { running.old.bus.machine.clock / 32 < samples }
-    requires few { samples ≤ most_frames }
+    requires more { running.old.bus.machine.clock / 32 < running.old.samples }
+    requires few { running.old.samples ≤ most_frames }
     ensures name { running.new.name ≡ running.old.name }
-    ensures steps { AreStepsOf (lagging B.C.meaning) (lag_emits B.C.meaning) samples cpu.old running.old.bus cpu.new running.new.bus }
+    ensures steps { AreStepsOf (lagging B.C.meaning) (lag_emits B.C.meaning) running.old.samples cpu.old running.old.bus cpu.new running.new.bus }
     ensures some { running.old.bus.machine.clock < running.new.bus.machine.clock }
 {
     let mut left = rooms;
     'steps: loop {
-        step(cpu, running);
-        if running.is_at(samples) {
+        step_once(cpu, running);
+        if running.is_at_end() {
             break;
         }
         if !running.has_room() {
@@ -124,56 +218,57 @@ pub(crate) fn take_steps<B: BehindBus>(bus: &mut B, cpu: &mut Cpu, samples: u32,
 {
     // The registers, too, are at hand: a copy, which no call of the bus can change.
     let mut at_hand = *cpu;
-    let mut running = RunningBus::new(bus);
-    let left = step_on(&mut at_hand, &mut running, samples, rooms);
+    let mut running = RunningBus::new(bus, samples);
+    let rooms_left = step_on(&mut at_hand, &mut running, rooms);
     *cpu = at_hand;
     let RunningBus {
         bus: behind,
-        clock,
+        samples: _,
+        until,
+        left,
         calls,
     } = running;
-    behind.catch_up(clock, calls);
-    left
+    behind.catch_up(until - left, calls);
+    rooms_left
 }
 
 impl<'a, B: BehindBus> Bus for RunningBus<'a, B> {
     ghost means = { running (lagging B.C.meaning) };
 
     #[inline(always)]
-    #[tactic(auto, using(crate::proofs::LateTicks::no_ticks))]
     fn read(&mut self, addr: u16) -> u8 {
         let calls = self.calls;
         self.calls += 1;
         if self.bus.is_plain(addr) {
             return self.bus.byte(addr);
         }
-        self.bus.read_later(self.clock, calls, addr)
+        self.bus.read_later(self.until - self.left, calls, addr)
     }
 
     #[inline(always)]
-    #[tactic(auto, using(crate::proofs::LateTicks::no_ticks))]
     fn write(&mut self, addr: u16, value: u8) {
         let calls = self.calls;
         self.calls += 1;
         if self.bus.is_unread(addr) {
             return self.bus.put_unread(addr, value);
         }
-        self.bus.write_later(self.clock, calls, addr, value)
+        self.bus
+            .write_later(self.until - self.left, calls, addr, value)
     }
 
     #[inline(always)]
     fn pass(&mut self, cycles: u8) {
-        let (clock, calls) = (self.clock, self.calls);
-        self.clock += u64::from(cycles);
-        self.calls += 1;
-        if self.clock % 32 < u64::from(cycles) {
-            self.bus.pass_later(clock, calls, cycles);
+        if u64::from(cycles) < self.left {
+            self.left -= u64::from(cycles);
+            self.calls += 1;
+        } else {
+            self.pass_on_bus(cycles);
         }
     }
 
     #[inline(always)]
     fn to_sample(&self) -> u8 {
-        (32 - self.clock % 32) as u8
+        (32 - (self.until - self.left) % 32) as u8
     }
 
     ghost lawful = { record {

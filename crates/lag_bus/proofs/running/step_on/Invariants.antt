@@ -4,15 +4,16 @@ use Rattle.lag_bus.specs.Lagging.{lagging}
 use Rattle.lag_bus.specs.LagEmits.{lag_emits}
 use Rattle.lag_bus.proofs.running.step_on.Given as goal
 
--- the steps so far, on the same bus, with room for one more that isn't at the end of the run
+-- the steps so far, on the same bus and for the same run, with room for one more that isn't at its end
 abbrev pub invariant-steps : goal.invariant-steps
 invariant-steps g l = record {
   name : l.running.name ≡ l.initial.running.name;
-  taken : AreStepsOf (lagging g.B.C.Chip.meaning) (lag_emits g.B.C.Chip.meaning) l.samples l.initial.cpu l.initial.running.bus l.cpu l.running.bus;
+  samples : l.running.samples ≡ l.initial.running.samples;
+  taken : AreStepsOf (lagging g.B.C.Chip.meaning) (lag_emits g.B.C.Chip.meaning) l.initial.running.samples l.initial.cpu l.initial.running.bus l.cpu l.running.bus;
   calls : l.running.bus.machine.calls ≤ 32;
-  more : l.running.bus.machine.clock / 32 < l.samples;
+  more : l.running.bus.machine.clock / 32 < l.running.samples;
   on : l.initial.running.bus.machine.clock ≤ l.running.bus.machine.clock;
 }
 
 abbrev pub decreases-steps : goal.decreases-steps
-decreases-steps g l = 32 * l.samples - l.running.bus.machine.clock
+decreases-steps g l = 32 * l.running.samples - l.running.bus.machine.clock

@@ -1,24 +1,25 @@
-use Rattle.std.proofs.Common.{◌≡◌, ◌+◌}
-use Rattle.lag_bus.specs.Lagging.{lagging}
-use Rattle.lag_bus.specs.Running.{caught_up}
-use Rattle.lag_bus.proofs.PassesInHand.{caught_up-none, pass_alone}
+use Rattle.std.proofs.Common.{◌≡◌, ◌+◌, ◌-◌, ◌<◌, sym, ◌∙◌, arith}
+use Rattle.lag_bus.specs.Running.{due_at, caught_up}
+use Rattle.lag_bus.proofs.PassesInHand.{pass-caught_up}
 use Rattle.lag_bus.proofs.running.RunningBusBus.pass.Goals as goal
 
-pub returns-then-self-from : goal.returns-then-self-from
-returns-then-self-from g c =
+pub returns-then-from-self : goal.returns-then-from-self
+returns-then-from-self g c =
     let bus = g.B.BehindBus.shows c.self.inside.bus.now in
-    rw (← c.self.view_is, c.from.ensures, c.pass_later.ensures)
+    let until = c.self.inside.until in
+    let left = c.self.inside.left in
+    let clock = until - left in
+    let behind = c.self.invariant.1 in
+    let cycles = c.from-then-from-self.ensures in
+    let less = c.if-from-self.true in
+    let before = c.self.invariant.0 in
+    let free : bus.book.pending + due_at (clock + c.args.cycles) bus < 64 =
+    let may = c.self.invariant.2 (omega arith) in let there = may.free in omega arith in
+    let moment : until - (left - c.from-then-from-self.result) ≡ clock + c.args.cycles = omega arith in
+    rw (← c.self.view_is)
     (λ i. record {
       name = c.self.inside.bus.ghost_name;
-      bus = caught_up-none ((lagging g.B.C.Chip.meaning).pass (caught_up c.self.inside.clock c.self.inside.calls bus) c.args.cycles) i;
-    })
-
-pub returns-else-self-from : goal.returns-else-self-from
-returns-else-self-from g c =
-    let bus = g.B.BehindBus.shows c.self.inside.bus.now in
-    let rest = rw (c.from.ensures, c.from-2.ensures) at c.if-self-from.false in
-    rw (← c.self.view_is, c.from.ensures)
-    (λ i. record {
-      name = c.self.inside.bus.ghost_name;
-      bus = pass_alone g.B.C.Chip.meaning bus c.self.inside.clock c.self.inside.calls c.args.cycles c.self.invariant.0 c.self.invariant.1 rest i;
+      samples = c.self.inside.samples;
+      bus = ((λ i. caught_up g.B.C.Chip.meaning (moment i) (c.self.inside.calls + 1) bus)
+          ∙ sym (pass-caught_up g.B.C.Chip.meaning bus clock c.self.inside.calls behind c.args.cycles c.requires.few free)) i;
     })
