@@ -1,5 +1,5 @@
 -- A bus that is behind, and what is done to the one that runs on it.
-use Rattle.std.proofs.Common.{◌≡◌, ℕ, ◌+◌, ◌-◌, ◌/◌, ◌<◌, ◌≤◌, ◌++◌, ◌==◌, false, Option, None, refl, sym, ◌∙◌, arith}
+use Rattle.std.proofs.Common.{◌≡◌, ℕ, ◌+◌, ◌-◌, ◌<◌, ◌≤◌, ◌++◌, ◌==◌, false, None, refl, sym, ◌∙◌, arith}
 use Rattle.std.specs.List.{filter}
 use Rattle.std.proofs.lemmas.Bool.Decides.{nat_tests}
 use Rattle.std.proofs.lemmas.List.{append-nil}
@@ -8,7 +8,6 @@ use Rattle.ports_timers.specs.declared.io.Io.{Io}
 use Rattle.ports_timers.specs.Io.{is_within, read_answer, after_read, after_write, after_ticks_of}
 use Rattle.dsp_form.specs.Samples.{in_mask}
 use Rattle.lock_step.specs.ChipMeaning.{ChipMeaning}
-use Rattle.lock_step.specs.LockStep.{samples_made}
 use Rattle.lag_bus.specs.Book.{may_be_read, may_be_written}
 use Rattle.lag_bus.specs.Held.{IsPlain}
 use Rattle.lag_bus.specs.Lagging.{Lagging, lagging, with_book, MatchesBook}

@@ -2,8 +2,6 @@
 use Rattle.std.proofs.Common.{◌≡◌, ℕ, zero, suc, ◌+◌, ◌≤◌, ◌++◌, List, refl, sym, ap, ◌∙◌, arith, append_assoc}
 use Rattle.std.proofs.lemmas.Bool.{or_parts}
 use Rattle.std.proofs.lemmas.List.{append-nil, append_cancel_left}
-use Rattle.num_fix.specs.declared.Frame.{Frame}
-use Rattle.trace_form.specs.declared.record.Record.{Record}
 use Rattle.aram_core.specs.Memory.{byte_at, with_byte}
 use Rattle.dsp_form.specs.Samples.{SampleResult, SamplesResult, samples, one_more}
 use Rattle.dsp_form.proofs.OneMoreSample.{samples_none, samples_more}

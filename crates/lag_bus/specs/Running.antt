@@ -1,5 +1,5 @@
 -- A bus while the processor runs on it: its clock and the number of its calls are kept beside it.
-use Rattle.std.specs.Prelude.{◌≡◌, ◌≤◌, ◌<◌, ◌⊎◌, ℕ, ◌+◌, ◌-◌, ◌*◌, ◌/◌}
+use Rattle.std.specs.Prelude.{◌≤◌, ◌<◌, ◌⊎◌, ℕ, ◌+◌, ◌-◌, ◌*◌, ◌/◌}
 use Rattle.spc700_exec.specs.Bus.{BusMeaning}
 use Rattle.ports_timers.specs.Io.{after_ticks_of}
 use Rattle.dsp_form.specs.Limits.{most_samples_of_batch, most_samples_of_chip}

@@ -1,4 +1,4 @@
-use Rattle.std.proofs.Common.{◌≡◌, ◌⊎◌, inl, inr, ◌+◌, ◌-◌, ◌*◌, ◌/◌, ◌≤◌, ℕ, arith}
+use Rattle.std.proofs.Common.{◌≡◌, ◌⊎◌, inl, inr, ◌+◌, ◌-◌, ◌*◌, ◌/◌, ◌≤◌, arith}
 use Rattle.lag_bus.specs.Late.{Late}
 use Rattle.lag_bus.proofs.RoomOfDue.{frames_of_due, records_of_due}
 use Rattle.lag_bus.proofs.lag.LagBusBehindBus.catch_up.Goals as goal

@@ -1,4 +1,4 @@
-use Rattle.std.proofs.Common.{rules, ◌≡◌, [], length}
+use Rattle.std.proofs.Common.{rules, ◌≡◌, length}
 use Rattle.std.proofs.lemmas.List.{nil_from_length}
 use Rattle.lag_bus.proofs.ChangesOfHeld.{none_ready, ready_frames_none, ready_records_none}
 use Rattle.lag_bus.proofs.late.LateChip.is_drained.Goals as goal
