@@ -11,7 +11,7 @@ use Rattle.spc700_exec.specs.Length.{IsShort}
 use Rattle.spc700_exec.proofs.Steady.{IsListed}
 use Rattle.spc700_exec.proofs.Beyond.{beyond, row_of-beyond, row_operation, IsListed-row_of}
 use Rattle.spc700_exec.proofs.Makes.{Makes-line_of}
-use Rattle.spc700_exec.proofs.Table.{row_accesses-few, row_cycles-few}
+use Rattle.spc700_exec.proofs.EveryRow.{row_accesses-few, row_cycles-few}
 
 -- what a row that isn't long keeps
 record IsBrief (row : OpRow) : Type 0 where

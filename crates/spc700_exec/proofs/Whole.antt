@@ -13,7 +13,7 @@ use Rattle.spc700_exec.proofs.Beyond.{row_operation, IsListed-row_of}
 use Rattle.spc700_exec.proofs.ByClock.{outcome_by_clock-is}
 use Rattle.spc700_exec.proofs.Makes.{Makes-line_of}
 use Rattle.spc700_exec.proofs.Passed.{clock-instruction}
-use Rattle.spc700_exec.proofs.Table.{IsRow-row_of}
+use Rattle.spc700_exec.proofs.EveryRow.{IsRow-row_of}
 
 module _ {S : Type 0} (bus : BusMeaning S) (law : IsLawful bus) where
   -- the rest of its cycles makes an instruction whole: its accesses passed one cycle each, and that of the opcode one before

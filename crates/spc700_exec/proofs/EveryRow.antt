@@ -13,7 +13,7 @@ use Rattle.spc700_exec.specs.Forms.{row_suits}
 use Rattle.spc700_exec.proofs.Steady.{is_steady}
 use Rattle.spc700_exec.specs.Pieces.{FormFits, IsRow, halts}
 use Rattle.spc700_alu.proofs.Apart.{and_left, and_right}
-use Rattle.spc700_exec.proofs.Lists.{or_right, le_from_test}
+use Rattle.spc700_exec.proofs.TrueTests.{or_right, le_from_test}
 
 abbrev form_fits : Form → Bool
 form_fits (F.Table n) = nat_lt n 16
