@@ -46,8 +46,10 @@ pub fn overflow_is_out_of_range()
 pub fn carry_is_out_of_range()
     ensures adc { (a b psw : ℕ) → psw < 256 → flag C (adc_of a b psw).psw ≡ nat_le 0x100 (a + b + carry_in psw) }
     ensures sbc { (a b psw : ℕ) → b < 0x100 → psw < 256 → flag C (sbc_of a b psw).psw ≡ nat_le (b + borrow_in psw) a }
+    ensures cmp { (a b psw : ℕ) → psw < 256 → flag C (cmp_of a b psw) ≡ nat_le b a }
     ensures addw { (a b psw : ℕ) → psw < 256 → flag C (addw_of a b psw).psw ≡ nat_le 0x10000 (a + b) }
     ensures subw { (a b psw : ℕ) → b < 0x10000 → psw < 256 → flag C (subw_of a b psw).psw ≡ nat_le b a }
+    ensures cmpw { (ya w psw : ℕ) → psw < 256 → flag C (cmpw_of ya w psw) ≡ nat_le w ya }
 {}
 
 /// DAA after ADC of two numbers of two decimal digits gives their decimal sum, with C where it is 100 or more.

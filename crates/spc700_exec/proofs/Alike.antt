@@ -10,7 +10,7 @@ use Rattle.spc700_exec.specs.Emitting.{IsEmitting, IsAhead}
 
 module _ {S I : Type 0} (bus : BusMeaning S) (cleared : S → S) (items : S → List I) (law : IsEmitting bus cleared items) where
   -- a bus is ahead of itself without what it emitted
-  pub IsAhead-cleared : (s : S) → IsAhead cleared items (items s) s (cleared s)
+  IsAhead-cleared : (s : S) → IsAhead cleared items (items s) s (cleared s)
   IsAhead-cleared s = record { same = sym (law.again s); front = sym (ap (λ (l : List I). items s ++ l) (law.none s) ∙ append-nil (items s)) }
 
   pub clock-cleared : (s t : S) → cleared s ≡ cleared t → bus.clock s ≡ bus.clock t
@@ -41,7 +41,7 @@ module _ {S I : Type 0} (bus : BusMeaning S) (cleared : S → S) (items : S → 
   IsAhead-either before s t true c a = IsAhead-pass before s t c a
   IsAhead-either before s t false c a = a
 
-  pub IsAhead-outcome : (it : Script) (start made : ℕ) (before : List I) (s t : S) → IsAhead cleared items before s t → ((outcome bus start made it s).0 ≡ (outcome bus start made it t).0) × IsAhead cleared items before (outcome bus start made it s).1 (outcome bus start made it t).1
+  IsAhead-outcome : (it : Script) (start made : ℕ) (before : List I) (s t : S) → IsAhead cleared items before s t → ((outcome bus start made it s).0 ≡ (outcome bus start made it t).0) × IsAhead cleared items before (outcome bus start made it s).1 (outcome bus start made it t).1
   IsAhead-outcome (Read at next) start made before s t a =
       let passed = IsAhead-pass before s t 1 a in
       let after = IsAhead-read before (bus.pass s 1) (bus.pass t 1) at passed in

@@ -10,9 +10,9 @@ use Rattle.spc700_table.specs.Cycles.{cycle_map, printed_cycles}
 use Rattle.spc700_table.specs.Opcodes.{row_of, columns}
 use Rattle.spc700_table.proofs.Below.{list_all_below}
 use Rattle.spc700_exec.specs.Operations.{Operation, operation_of}
-use Rattle.spc700_exec.proofs.Lists.{le_from_test}
+use Rattle.spc700_exec.proofs.TrueTests.{le_from_test}
 use Rattle.spc700_exec.proofs.Steady.{IsListed}
-use Rattle.spc700_exec.proofs.Table.{rows_suit, rows_are_steady}
+use Rattle.spc700_exec.proofs.EveryRow.{rows_suit, rows_are_steady}
 
 -- after the 256 opcodes the list has NOP without cycles
 abbrev pub beyond : OpRow

@@ -1,8 +1,8 @@
 pub mod Driven
 pub mod ByClock
-pub mod Lists
+pub mod TrueTests
 pub mod Steady
-pub mod Table
+pub mod EveryRow
 pub mod Beyond
 pub mod OperandReads
 pub mod Makes
@@ -11,3 +11,4 @@ pub mod Bounds
 pub mod Alike
 pub mod Counts
 pub mod Passed
+pub mod Whole

@@ -7,7 +7,7 @@ use Rattle.spc700_exec.specs.declared.cpu.Cpu.{Cpu}
 use Rattle.spc700_exec.specs.Bus.{BusMeaning, IsLawful, byte_read, after_read, after_write}
 use Rattle.spc700_exec.specs.Script.{Script, Read, Write, End, Time, Cycles, ToSample, cycles_at, after_rest}
 use Rattle.spc700_exec.specs.Accesses.{Access, Progress, after_access, Makes}
-use Rattle.spc700_exec.specs.Pieces.{outcome_by_clock, IsRow, Does}
+use Rattle.spc700_exec.specs.Pieces.{IsRow, Does}
 use Rattle.spc700_exec.proofs.ByClock.{clock-after_read, clock-after_write}
 
 module _ {S : Type 0} (bus : BusMeaning S) (law : IsLawful bus) where

@@ -1,19 +1,17 @@
 -- A step is short: it makes at most 6 accesses, and its cycles are at most 32.
-use Rattle.std.proofs.Common.{◌≡◌, ◌⊎◌, ℕ, zero, suc, ◌+◌, ◌/◌, ◌%◌, ◌<◌, ◌≤◌, List, [], ◌∷◌, length, Bool, true, false, nat_le, slice_index_or, refl, sym, subst, ap, ◌∙◌, inl, inr, arith}
+use Rattle.std.proofs.Common.{◌≡◌, ◌⊎◌, ℕ, zero, suc, ◌+◌, ◌≤◌, List, [], ◌∷◌, length, Bool, true, false, sym, subst, inl, inr, arith}
 use Rattle.std.proofs.lemmas.Bool.{cases_lt}
 use Rattle.spc700_table.specs.declared.OpRow.{OpRow}
 use Rattle.spc700_table.specs.Opcodes.{row_of}
 use Rattle.spc700_exec.specs.declared.cpu.Cpu.{Cpu}
 use Rattle.spc700_exec.specs.Script.{Script, Read, Write, End, Cycles, ToSample}
-use Rattle.spc700_exec.specs.Operations.{operation_of}
 use Rattle.spc700_exec.specs.Instruction.{instruction, step_unless, script}
 use Rattle.spc700_exec.specs.Accesses.{Access, Progress, begun, after_access, Makes, row_accesses}
 use Rattle.spc700_exec.specs.Length.{IsShort}
-use Rattle.spc700_exec.proofs.Lists.{le_from_test}
 use Rattle.spc700_exec.proofs.Steady.{IsListed}
 use Rattle.spc700_exec.proofs.Beyond.{beyond, row_of-beyond, row_operation, IsListed-row_of}
 use Rattle.spc700_exec.proofs.Makes.{Makes-line_of}
-use Rattle.spc700_exec.proofs.Table.{row_accesses-few, row_cycles-few}
+use Rattle.spc700_exec.proofs.EveryRow.{row_accesses-few, row_cycles-few}
 
 -- what a row that isn't long keeps
 record IsBrief (row : OpRow) : Type 0 where

@@ -12,7 +12,7 @@ use Rattle.spc700_exec.specs.Bus.{BusMeaning, most_calls, most_samples_of_bus, b
 use Rattle.spc700_exec.specs.Accesses.{row_accesses}
 use Rattle.spc700_exec.specs.Operands.{sp_after_push}
 use Rattle.spc700_exec.specs.Instruction.{instruction}
-use Rattle.spc700_exec.specs.Script.{Script, Read, Write, End, cycles_at, after_rest}
+use Rattle.spc700_exec.specs.Script.{Script, Read, Write, End, cycles_at, after_rest, outcome}
 
 -- the outcome of a script, where the accesses made so far are told by the clock: for a lawful bus the same as `outcome`
 abbrev pub outcome_by_clock : {S : Type 0} → BusMeaning S → (start : ℕ) → Script → S → Cpu × S
@@ -38,12 +38,6 @@ GivesCpu bus part old cpu new =
 abbrev pub Does : {S : Type 0} → BusMeaning S → Script → S → Cpu → (cycles : ℕ) → S → Type 0
 Does bus script old cpu cycles new =
     (start : ℕ) → outcome_by_clock bus start script old ≡ (cpu, after_rest bus cycles (bus.clock new - start) new)
-
--- the same of a script that begins here
-abbrev pub DoesFromHere : {S : Type 0} → BusMeaning S → Script → S → Cpu → (cycles : ℕ) → S → Type 0
-DoesFromHere bus script old cpu cycles new =
-    let start = bus.clock old in
-    outcome_by_clock bus start script old ≡ (cpu, after_rest bus cycles (bus.clock new - start) new)
 
 -- the word that two reads give, low then high, and the bus after them
 abbrev pub word_read : {S : Type 0} → BusMeaning S → (low high : ℕ) → S → ℕ
@@ -106,9 +100,13 @@ pub record IsTime (row : OpRow) (cycles : ℕ) : Type 0 where
   pub least : row.cycles ≤ cycles
   pub most : cycles ≤ row.taken
 
--- an instruction did what its row says, and these are its cycles, 1 to 12, of which its accesses passed 11 at most
-pub record IsInstruction {S : Type 0} (bus : BusMeaning S) (row : OpRow) (old_cpu : Cpu) (old : S) (cpu : Cpu) (cycles : ℕ) (new : S) : Type 0 where
-  pub does : Does bus (instruction row old_cpu) old cpu cycles new
+-- the accesses of an instruction, whose script this is, were made, and these are its cycles, 1 to 12, of which its accesses passed 11 at most
+pub record IsInstruction {S : Type 0} (bus : BusMeaning S) (script : Script) (old : S) (cpu : Cpu) (cycles : ℕ) (new : S) : Type 0 where
+  pub does : Does bus script old cpu cycles new
   pub some : 1 ≤ cycles
   pub few : cycles ≤ 12
   pub within : IsWithin 11 bus old new
+
+-- an instruction whose opcode was read led to these registers and, with the rest of its cycles passed, to this bus
+pub record IsWholeInstruction {S : Type 0} (bus : BusMeaning S) (row : OpRow) (old_cpu : Cpu) (old : S) (cpu : Cpu) (new : S) : Type 0 where
+  pub leads : (start : ℕ) → bus.clock old ≡ start + 1 → outcome bus start 1 (instruction row old_cpu) old ≡ (cpu, new)

@@ -1,6 +1,7 @@
 //! The accesses of an instruction: each passes one cycle and then acts.
 //!
-//! Both are inlined, as a bus is told apart by its type alone.
+//! Both are in line wherever an instruction makes an access: there the bus's own code for a cycle and for an access comes together, so
+//! that its clock and its calls can stay in registers.
 
 ghost use Rattle.std.specs.Prelude.{◌≡◌};
 ghost use Rattle.spc700_exec.specs.Bus.{byte_read, after_read, after_write};

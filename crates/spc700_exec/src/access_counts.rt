@@ -1,8 +1,13 @@
-//! How many accesses each instruction makes, as data: what is left of its cycles follows from it, and no clock is asked.
+//! How many accesses each instruction makes, as data: the rest of its cycles follows from it, and no clock is asked.
 
-ghost use Rattle.std.specs.Prelude.{◌≡◌};
+ghost use Rattle.std.specs.Prelude.{◌≡◌, ◌≤◌, false};
 ghost use Rattle.spc700_table.specs.Opcodes.{row_of};
-ghost use Rattle.spc700_exec.specs.Pieces.{access_count};
+ghost use Rattle.spc700_exec.specs.declared.cpu.Cpu.{Cpu};
+ghost use Rattle.spc700_exec.specs.Script.{after_rest};
+ghost use Rattle.spc700_exec.specs.Instruction.{instruction};
+ghost use Rattle.spc700_exec.specs.Pieces.{HasRoom, IsInstruction, IsWholeInstruction, access_count, halts};
+
+use crate::bus::Bus;
 
 /// The accesses of the instruction of each opcode, the read of the opcode among them.
 pub static ACCESS_COUNTS: [u8; 256] = [
@@ -17,9 +22,37 @@ pub static ACCESS_COUNTS: [u8; 256] = [
 ];
 
 /// The accesses of the instruction of an opcode, the read of the opcode among them.
+// In line in the arm of its opcode, where it is a constant.
 #[inline(always)]
-pub fn access_count(op: u8) -> u8
+fn access_count(op: u8) -> u8
     ensures { result ≡ access_count (row_of op) }
 {
     ACCESS_COUNTS[op as usize]
+}
+
+/// Passes the rest of some cycles, if there is any.
+// In line as its caller is.
+#[inline(always)]
+fn pass_rest<B: Bus>(bus: &mut B, cycles: u8, passed: u8)
+    requires room { HasRoom 1 B.means bus.old }
+    requires few { cycles ≤ 32 }
+    ensures { bus.new ≡ after_rest B.means cycles passed bus.old }
+{
+    if passed < cycles {
+        bus.pass(cycles - passed);
+    }
+}
+
+/// Passes the rest of the cycles of an opcode's instruction, and so makes it whole, from wherever it began.
+// In line in the arm of the opcode, where the rest is a constant.
+#[inline(always)]
+pub fn end_instruction<B: Bus>(bus: &mut B, op: u8, cycles: u8)
+    requires room { HasRoom 1 B.means bus.old }
+    requires few { cycles ≤ 32 }
+    ensures rest { bus.new ≡ after_rest B.means cycles (access_count (row_of op)) bus.old }
+    ensures whole { (before after : Cpu) (old : B) → halts (row_of op).kind ≡ false
+        → IsInstruction B.means (instruction (row_of op) before) old after cycles bus.old
+        → IsWholeInstruction B.means (row_of op) before old after bus.new }
+{
+    pass_rest(bus, cycles, access_count(op));
 }

@@ -4,7 +4,7 @@
 
 ghost use Rattle.std.specs.Prelude.{◌≡◌, ℕ, ◌-◌, bit_and, bit_or};
 ghost use Rattle.spc700_exec.specs.Lines.{bit_to_carry_line, bit_in_place_line, bit_test_line};
-ghost use Rattle.spc700_exec.specs.Pieces.{HasRoom, IsWithin, Does, IsRow, IsTime};
+ghost use Rattle.spc700_exec.specs.Pieces.{HasRoom, IsRow, IsInstruction};
 
 use crate::bus::Bus;
 use crate::cpu::Cpu;
@@ -18,9 +18,7 @@ use spc700_table::OpRow;
 pub fn bit_to_carry<B: Bus>(cpu: &mut Cpu, bus: &mut B, row: OpRow, kind: BitKind) -> u8
     requires room { HasRoom 12 B.means bus.old }
     requires row { IsRow row }
-    ensures does { Does B.means (bit_to_carry_line kind row cpu.old) bus.old cpu.new result bus.new }
-    ensures time { IsTime row result }
-    ensures within { IsWithin 11 B.means bus.old bus.new }
+    ensures { IsInstruction B.means (bit_to_carry_line kind row cpu.old) bus.old cpu.new result bus.new }
 {
     let operand = address(cpu, bus, row.second);
     let byte = load(cpu, bus, operand);
@@ -33,9 +31,7 @@ pub fn bit_to_carry<B: Bus>(cpu: &mut Cpu, bus: &mut B, row: OpRow, kind: BitKin
 pub fn bit_in_place<B: Bus>(cpu: &mut Cpu, bus: &mut B, row: OpRow, kind: BitKind) -> u8
     requires room { HasRoom 12 B.means bus.old }
     requires row { IsRow row }
-    ensures does { Does B.means (bit_in_place_line kind row cpu.old) bus.old cpu.new result bus.new }
-    ensures time { IsTime row result }
-    ensures within { IsWithin 11 B.means bus.old bus.new }
+    ensures { IsInstruction B.means (bit_in_place_line kind row cpu.old) bus.old cpu.new result bus.new }
 {
     let operand = address(cpu, bus, row.first);
     let byte = load(cpu, bus, operand);
@@ -49,9 +45,7 @@ pub fn bit_in_place<B: Bus>(cpu: &mut Cpu, bus: &mut B, row: OpRow, kind: BitKin
 pub fn test_and_set<B: Bus>(cpu: &mut Cpu, bus: &mut B, row: OpRow) -> u8
     requires room { HasRoom 12 B.means bus.old }
     requires row { IsRow row }
-    ensures does { Does B.means (bit_test_line (λ byte a. bit_or byte a) row cpu.old) bus.old cpu.new result bus.new }
-    ensures time { IsTime row result }
-    ensures within { IsWithin 11 B.means bus.old bus.new }
+    ensures { IsInstruction B.means (bit_test_line (λ byte a. bit_or byte a) row cpu.old) bus.old cpu.new result bus.new }
 {
     let operand = address(cpu, bus, row.first);
     let byte = load(cpu, bus, operand);
@@ -65,9 +59,7 @@ pub fn test_and_set<B: Bus>(cpu: &mut Cpu, bus: &mut B, row: OpRow) -> u8
 pub fn test_and_clear<B: Bus>(cpu: &mut Cpu, bus: &mut B, row: OpRow) -> u8
     requires room { HasRoom 12 B.means bus.old }
     requires row { IsRow row }
-    ensures does { Does B.means (bit_test_line (λ byte a. bit_and byte (0xff - a)) row cpu.old) bus.old cpu.new result bus.new }
-    ensures time { IsTime row result }
-    ensures within { IsWithin 11 B.means bus.old bus.new }
+    ensures { IsInstruction B.means (bit_test_line (λ byte a. bit_and byte (0xff - a)) row cpu.old) bus.old cpu.new result bus.new }
 {
     let operand = address(cpu, bus, row.first);
     let byte = load(cpu, bus, operand);

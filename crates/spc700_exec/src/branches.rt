@@ -6,7 +6,7 @@ ghost use Rattle.std.specs.Prelude.{◌≡◌, ℕ, true};
 ghost use Rattle.spc700_exec.specs.Script.{End, Cycles};
 ghost use Rattle.spc700_exec.specs.Operations.{flag_is};
 ghost use Rattle.spc700_exec.specs.Lines.{branched, branch_target, branch_line, bit_branch_line, compare_branch_line, count_branch_line};
-ghost use Rattle.spc700_exec.specs.Pieces.{HasRoom, IsWithin, Does, IsRow, IsTime};
+ghost use Rattle.spc700_exec.specs.Pieces.{HasRoom, IsRow, IsTime, IsInstruction};
 
 use crate::bus::Bus;
 use crate::cpu::Cpu;
@@ -47,9 +47,7 @@ fn branch_if(cpu: &mut Cpu, row: OpRow, taken: bool, r: u8) -> u8
 pub fn branch_on_flag<B: Bus>(cpu: &mut Cpu, bus: &mut B, row: OpRow, mask: u8, on: bool) -> u8
     requires room { HasRoom 12 B.means bus.old }
     requires row { IsRow row }
-    ensures does { Does B.means (branch_line (flag_is mask on) row cpu.old) bus.old cpu.new result bus.new }
-    ensures time { IsTime row result }
-    ensures within { IsWithin 11 B.means bus.old bus.new }
+    ensures { IsInstruction B.means (branch_line (flag_is mask on) row cpu.old) bus.old cpu.new result bus.new }
 {
     let r = fetch(cpu, bus);
     let taken = is_set(cpu.psw, mask) == on;
@@ -61,9 +59,7 @@ pub fn branch_on_flag<B: Bus>(cpu: &mut Cpu, bus: &mut B, row: OpRow, mask: u8, 
 pub fn branch_always<B: Bus>(cpu: &mut Cpu, bus: &mut B, row: OpRow) -> u8
     requires room { HasRoom 12 B.means bus.old }
     requires row { IsRow row }
-    ensures does { Does B.means (branch_line (λ _. true) row cpu.old) bus.old cpu.new result bus.new }
-    ensures time { IsTime row result }
-    ensures within { IsWithin 11 B.means bus.old bus.new }
+    ensures { IsInstruction B.means (branch_line (λ _. true) row cpu.old) bus.old cpu.new result bus.new }
 {
     let r = fetch(cpu, bus);
     branch_if(cpu, row, true, r)
@@ -74,9 +70,7 @@ pub fn branch_always<B: Bus>(cpu: &mut Cpu, bus: &mut B, row: OpRow) -> u8
 pub fn branch_on_bit<B: Bus>(cpu: &mut Cpu, bus: &mut B, row: OpRow, on: bool) -> u8
     requires room { HasRoom 12 B.means bus.old }
     requires row { IsRow row }
-    ensures does { Does B.means (bit_branch_line on row cpu.old) bus.old cpu.new result bus.new }
-    ensures time { IsTime row result }
-    ensures within { IsWithin 11 B.means bus.old bus.new }
+    ensures { IsInstruction B.means (bit_branch_line on row cpu.old) bus.old cpu.new result bus.new }
 {
     let both = address_both(cpu, bus, row);
     let byte = load(cpu, bus, both.first);
@@ -90,9 +84,7 @@ pub fn branch_on_bit<B: Bus>(cpu: &mut Cpu, bus: &mut B, row: OpRow, on: bool) -
 pub fn branch_if_different<B: Bus>(cpu: &mut Cpu, bus: &mut B, row: OpRow) -> u8
     requires room { HasRoom 12 B.means bus.old }
     requires row { IsRow row }
-    ensures does { Does B.means (compare_branch_line row cpu.old) bus.old cpu.new result bus.new }
-    ensures time { IsTime row result }
-    ensures within { IsWithin 11 B.means bus.old bus.new }
+    ensures { IsInstruction B.means (compare_branch_line row cpu.old) bus.old cpu.new result bus.new }
 {
     let both = address_both(cpu, bus, row);
     let byte = load(cpu, bus, both.first);
@@ -105,9 +97,7 @@ pub fn branch_if_different<B: Bus>(cpu: &mut Cpu, bus: &mut B, row: OpRow) -> u8
 pub fn count_down<B: Bus>(cpu: &mut Cpu, bus: &mut B, row: OpRow) -> u8
     requires room { HasRoom 12 B.means bus.old }
     requires row { IsRow row }
-    ensures does { Does B.means (count_branch_line row cpu.old) bus.old cpu.new result bus.new }
-    ensures time { IsTime row result }
-    ensures within { IsWithin 11 B.means bus.old bus.new }
+    ensures { IsInstruction B.means (count_branch_line row cpu.old) bus.old cpu.new result bus.new }
 {
     let both = address_both(cpu, bus, row);
     let byte = load(cpu, bus, both.first);

@@ -6,7 +6,7 @@ ghost use Rattle.std.specs.Prelude.{◌≡◌, ℕ};
 ghost use Rattle.spc700_exec.specs.Operations.{xcn_of};
 ghost use Rattle.spc700_exec.specs.Lines.{a_line, with_nz_of_move, move_line, calculate_line, compare_line, modify_line};
 ghost use Rattle.spc700_exec.specs.Calculations.{calculation, modification};
-ghost use Rattle.spc700_exec.specs.Pieces.{HasRoom, IsWithin, Does, IsRow, IsTime};
+ghost use Rattle.spc700_exec.specs.Pieces.{HasRoom, IsRow, IsInstruction};
 
 use crate::bus::Bus;
 use crate::cpu::Cpu;
@@ -89,9 +89,7 @@ pub fn exchange(a: u8, psw: u8) -> Out8
 pub fn mov<B: Bus>(cpu: &mut Cpu, bus: &mut B, row: OpRow) -> u8
     requires room { HasRoom 12 B.means bus.old }
     requires row { IsRow row }
-    ensures does { Does B.means (move_line row cpu.old) bus.old cpu.new result bus.new }
-    ensures time { IsTime row result }
-    ensures within { IsWithin 11 B.means bus.old bus.new }
+    ensures { IsInstruction B.means (move_line row cpu.old) bus.old cpu.new result bus.new }
 {
     let both = address_both(cpu, bus, row);
     let value = load(cpu, bus, both.second);
@@ -105,9 +103,7 @@ pub fn mov<B: Bus>(cpu: &mut Cpu, bus: &mut B, row: OpRow) -> u8
 pub fn calculate<B: Bus>(cpu: &mut Cpu, bus: &mut B, row: OpRow, kind: Calculation) -> u8
     requires room { HasRoom 12 B.means bus.old }
     requires row { IsRow row }
-    ensures does { Does B.means (calculate_line (calculation kind) row cpu.old) bus.old cpu.new result bus.new }
-    ensures time { IsTime row result }
-    ensures within { IsWithin 11 B.means bus.old bus.new }
+    ensures { IsInstruction B.means (calculate_line (calculation kind) row cpu.old) bus.old cpu.new result bus.new }
 {
     let both = address_both(cpu, bus, row);
     let b = load(cpu, bus, both.second);
@@ -123,9 +119,7 @@ pub fn calculate<B: Bus>(cpu: &mut Cpu, bus: &mut B, row: OpRow, kind: Calculati
 pub fn compare<B: Bus>(cpu: &mut Cpu, bus: &mut B, row: OpRow) -> u8
     requires room { HasRoom 12 B.means bus.old }
     requires row { IsRow row }
-    ensures does { Does B.means (compare_line row cpu.old) bus.old cpu.new result bus.new }
-    ensures time { IsTime row result }
-    ensures within { IsWithin 11 B.means bus.old bus.new }
+    ensures { IsInstruction B.means (compare_line row cpu.old) bus.old cpu.new result bus.new }
 {
     let both = address_both(cpu, bus, row);
     let b = load(cpu, bus, both.second);
@@ -139,9 +133,7 @@ pub fn compare<B: Bus>(cpu: &mut Cpu, bus: &mut B, row: OpRow) -> u8
 pub fn modify<B: Bus>(cpu: &mut Cpu, bus: &mut B, row: OpRow, kind: Modification) -> u8
     requires room { HasRoom 12 B.means bus.old }
     requires row { IsRow row }
-    ensures does { Does B.means (modify_line (modification kind) row cpu.old) bus.old cpu.new result bus.new }
-    ensures time { IsTime row result }
-    ensures within { IsWithin 11 B.means bus.old bus.new }
+    ensures { IsInstruction B.means (modify_line (modification kind) row cpu.old) bus.old cpu.new result bus.new }
 {
     let operand = address(cpu, bus, row.first);
     let byte = load(cpu, bus, operand);

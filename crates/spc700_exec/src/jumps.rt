@@ -1,10 +1,10 @@
-//! The stack's instructions, jumps, calls and returns. Each gives its cycles.
+//! The stack's instructions, jumps, calls, returns and halts. Each gives its cycles.
 //!
 //! Everything here is inlined into the arm of its opcode, where the row is a constant: no form is told apart there at run time.
 
-ghost use Rattle.std.specs.Prelude.{◌≡◌, ℕ};
+ghost use Rattle.std.specs.Prelude.{◌≡◌, ◌+◌, ◌-◌, ◌%◌, ℕ, true};
 ghost use Rattle.spc700_exec.specs.Lines.{push_line, pop_line, jump_line, call_line, table_call_line, break_line, return_line, interrupt_return_line};
-ghost use Rattle.spc700_exec.specs.Pieces.{HasRoom, IsWithin, Does, IsRow, IsTime};
+ghost use Rattle.spc700_exec.specs.Pieces.{HasRoom, IsRow, IsInstruction};
 
 use crate::bus::Bus;
 use crate::cpu::Cpu;
@@ -18,9 +18,7 @@ use spc700_table::OpRow;
 pub fn push_register<B: Bus>(cpu: &mut Cpu, bus: &mut B, row: OpRow) -> u8
     requires room { HasRoom 12 B.means bus.old }
     requires row { IsRow row }
-    ensures does { Does B.means (push_line row cpu.old) bus.old cpu.new result bus.new }
-    ensures time { IsTime row result }
-    ensures within { IsWithin 11 B.means bus.old bus.new }
+    ensures { IsInstruction B.means (push_line row cpu.old) bus.old cpu.new result bus.new }
 {
     let operand = address(cpu, bus, row.first);
     let byte = load(cpu, bus, operand);
@@ -33,9 +31,7 @@ pub fn push_register<B: Bus>(cpu: &mut Cpu, bus: &mut B, row: OpRow) -> u8
 pub fn pop_register<B: Bus>(cpu: &mut Cpu, bus: &mut B, row: OpRow) -> u8
     requires room { HasRoom 12 B.means bus.old }
     requires row { IsRow row }
-    ensures does { Does B.means (pop_line row cpu.old) bus.old cpu.new result bus.new }
-    ensures time { IsTime row result }
-    ensures within { IsWithin 11 B.means bus.old bus.new }
+    ensures { IsInstruction B.means (pop_line row cpu.old) bus.old cpu.new result bus.new }
 {
     let operand = address(cpu, bus, row.first);
     let byte = pop(cpu, bus);
@@ -48,9 +44,7 @@ pub fn pop_register<B: Bus>(cpu: &mut Cpu, bus: &mut B, row: OpRow) -> u8
 pub fn jump<B: Bus>(cpu: &mut Cpu, bus: &mut B, row: OpRow) -> u8
     requires room { HasRoom 12 B.means bus.old }
     requires row { IsRow row }
-    ensures does { Does B.means (jump_line row cpu.old) bus.old cpu.new result bus.new }
-    ensures time { IsTime row result }
-    ensures within { IsWithin 11 B.means bus.old bus.new }
+    ensures { IsInstruction B.means (jump_line row cpu.old) bus.old cpu.new result bus.new }
 {
     let operand = address(cpu, bus, row.first);
     cpu.pc = address_in_memory(operand);
@@ -62,9 +56,7 @@ pub fn jump<B: Bus>(cpu: &mut Cpu, bus: &mut B, row: OpRow) -> u8
 pub fn call<B: Bus>(cpu: &mut Cpu, bus: &mut B, row: OpRow) -> u8
     requires room { HasRoom 12 B.means bus.old }
     requires row { IsRow row }
-    ensures does { Does B.means (call_line row cpu.old) bus.old cpu.new result bus.new }
-    ensures time { IsTime row result }
-    ensures within { IsWithin 11 B.means bus.old bus.new }
+    ensures { IsInstruction B.means (call_line row cpu.old) bus.old cpu.new result bus.new }
 {
     let operand = address(cpu, bus, row.first);
     let after = cpu.pc;
@@ -78,9 +70,7 @@ pub fn call<B: Bus>(cpu: &mut Cpu, bus: &mut B, row: OpRow) -> u8
 pub fn table_call<B: Bus>(cpu: &mut Cpu, bus: &mut B, row: OpRow) -> u8
     requires room { HasRoom 12 B.means bus.old }
     requires row { IsRow row }
-    ensures does { Does B.means (table_call_line row cpu.old) bus.old cpu.new result bus.new }
-    ensures time { IsTime row result }
-    ensures within { IsWithin 11 B.means bus.old bus.new }
+    ensures { IsInstruction B.means (table_call_line row cpu.old) bus.old cpu.new result bus.new }
 {
     let entry = address(cpu, bus, row.first);
     push_word(cpu, bus, cpu.pc);
@@ -93,9 +83,7 @@ pub fn table_call<B: Bus>(cpu: &mut Cpu, bus: &mut B, row: OpRow) -> u8
 pub fn brk<B: Bus>(cpu: &mut Cpu, bus: &mut B, row: OpRow) -> u8
     requires room { HasRoom 12 B.means bus.old }
     requires row { IsRow row }
-    ensures does { Does B.means (break_line row cpu.old) bus.old cpu.new result bus.new }
-    ensures time { IsTime row result }
-    ensures within { IsWithin 11 B.means bus.old bus.new }
+    ensures { IsInstruction B.means (break_line row cpu.old) bus.old cpu.new result bus.new }
 {
     push_word(cpu, bus, cpu.pc);
     push(cpu, bus, cpu.psw);
@@ -109,9 +97,7 @@ pub fn brk<B: Bus>(cpu: &mut Cpu, bus: &mut B, row: OpRow) -> u8
 pub fn ret<B: Bus>(cpu: &mut Cpu, bus: &mut B, row: OpRow) -> u8
     requires room { HasRoom 12 B.means bus.old }
     requires row { IsRow row }
-    ensures does { Does B.means (return_line row cpu.old) bus.old cpu.new result bus.new }
-    ensures time { IsTime row result }
-    ensures within { IsWithin 11 B.means bus.old bus.new }
+    ensures { IsInstruction B.means (return_line row cpu.old) bus.old cpu.new result bus.new }
 {
     cpu.pc = pop_word(cpu, bus);
     row.cycles
@@ -122,12 +108,20 @@ pub fn ret<B: Bus>(cpu: &mut Cpu, bus: &mut B, row: OpRow) -> u8
 pub fn reti<B: Bus>(cpu: &mut Cpu, bus: &mut B, row: OpRow) -> u8
     requires room { HasRoom 12 B.means bus.old }
     requires row { IsRow row }
-    ensures does { Does B.means (interrupt_return_line row cpu.old) bus.old cpu.new result bus.new }
-    ensures time { IsTime row result }
-    ensures within { IsWithin 11 B.means bus.old bus.new }
+    ensures { IsInstruction B.means (interrupt_return_line row cpu.old) bus.old cpu.new result bus.new }
 {
     let psw = pop(cpu, bus);
     cpu.pc = pop_word(cpu, bus);
     cpu.psw = psw;
     row.cycles
+}
+
+/// SLEEP and STOP: the cycles go on from the opcode, which was read, to the next multiple of 32 of the clock.
+#[inline(always)]
+pub fn halt<B: Bus>(cpu: &mut Cpu, bus: &B) -> u8
+    ensures cpu { cpu.new ≡ record cpu.old { halted = true } }
+    ensures cycles { result ≡ (32 - B.means.clock bus.now % 32) % 32 + 1 }
+{
+    cpu.halted = true;
+    bus.to_sample() % 32 + 1
 }

@@ -6,7 +6,7 @@ ghost use Rattle.std.specs.Prelude.{◌≡◌, ℕ, ◌+◌, ◌-◌, ◌%◌};
 ghost use Rattle.spc700_exec.specs.Operations.{ya};
 ghost use Rattle.spc700_exec.specs.Lines.{word_on_ya_line, word_store_line, word_modify_line};
 ghost use Rattle.spc700_exec.specs.Calculations.{word_calculation};
-ghost use Rattle.spc700_exec.specs.Pieces.{HasRoom, IsWithin, Does, IsRow, IsTime};
+ghost use Rattle.spc700_exec.specs.Pieces.{HasRoom, IsRow, IsInstruction};
 
 use crate::bus::Bus;
 use crate::cpu::Cpu;
@@ -61,9 +61,7 @@ pub fn word(cpu: &Cpu) -> u16
 pub fn word_on_ya<B: Bus>(cpu: &mut Cpu, bus: &mut B, row: OpRow, kind: WordCalculation) -> u8
     requires room { HasRoom 12 B.means bus.old }
     requires row { IsRow row }
-    ensures does { Does B.means (word_on_ya_line (word_calculation kind) row cpu.old) bus.old cpu.new result bus.new }
-    ensures time { IsTime row result }
-    ensures within { IsWithin 11 B.means bus.old bus.new }
+    ensures { IsInstruction B.means (word_on_ya_line (word_calculation kind) row cpu.old) bus.old cpu.new result bus.new }
 {
     let operand = address(cpu, bus, row.second);
     let w = load_word(bus, operand);
@@ -77,9 +75,7 @@ pub fn word_on_ya<B: Bus>(cpu: &mut Cpu, bus: &mut B, row: OpRow, kind: WordCalc
 pub fn move_word<B: Bus>(cpu: &mut Cpu, bus: &mut B, row: OpRow) -> u8
     requires room { HasRoom 12 B.means bus.old }
     requires row { IsRow row }
-    ensures does { Does B.means (word_store_line row cpu.old) bus.old cpu.new result bus.new }
-    ensures time { IsTime row result }
-    ensures within { IsWithin 11 B.means bus.old bus.new }
+    ensures { IsInstruction B.means (word_store_line row cpu.old) bus.old cpu.new result bus.new }
 {
     let operand = address(cpu, bus, row.first);
     store_word(bus, operand, word(cpu));
@@ -91,9 +87,7 @@ pub fn move_word<B: Bus>(cpu: &mut Cpu, bus: &mut B, row: OpRow) -> u8
 pub fn word_up<B: Bus>(cpu: &mut Cpu, bus: &mut B, row: OpRow) -> u8
     requires room { HasRoom 12 B.means bus.old }
     requires row { IsRow row }
-    ensures does { Does B.means (word_modify_line (λ w. (w + 1) % 0x10000) row cpu.old) bus.old cpu.new result bus.new }
-    ensures time { IsTime row result }
-    ensures within { IsWithin 11 B.means bus.old bus.new }
+    ensures { IsInstruction B.means (word_modify_line (λ w. (w + 1) % 0x10000) row cpu.old) bus.old cpu.new result bus.new }
 {
     let operand = address(cpu, bus, row.first);
     let w = load_word(bus, operand).wrapping_add(1);
@@ -107,9 +101,7 @@ pub fn word_up<B: Bus>(cpu: &mut Cpu, bus: &mut B, row: OpRow) -> u8
 pub fn word_down<B: Bus>(cpu: &mut Cpu, bus: &mut B, row: OpRow) -> u8
     requires room { HasRoom 12 B.means bus.old }
     requires row { IsRow row }
-    ensures does { Does B.means (word_modify_line (λ w. (w + 0x10000 - 1) % 0x10000) row cpu.old) bus.old cpu.new result bus.new }
-    ensures time { IsTime row result }
-    ensures within { IsWithin 11 B.means bus.old bus.new }
+    ensures { IsInstruction B.means (word_modify_line (λ w. (w + 0x10000 - 1) % 0x10000) row cpu.old) bus.old cpu.new result bus.new }
 {
     let operand = address(cpu, bus, row.first);
     let w = load_word(bus, operand).wrapping_sub(1);

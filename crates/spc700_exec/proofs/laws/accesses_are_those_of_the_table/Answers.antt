@@ -1,7 +1,7 @@
 use Rattle.spc700_table.specs.Opcodes.{row_of}
 use Rattle.spc700_exec.proofs.Beyond.{row_operation, IsListed-row_of}
 use Rattle.spc700_exec.proofs.Makes.{Makes-line_of}
-use Rattle.spc700_exec.proofs.Table.{row_accesses-few, row_accesses-below}
+use Rattle.spc700_exec.proofs.EveryRow.{row_accesses-few, row_accesses-below}
 use Rattle.spc700_exec.proofs.laws.accesses_are_those_of_the_table.Goals as goal
 
 pub returns-clause-order : goal.returns-clause-order

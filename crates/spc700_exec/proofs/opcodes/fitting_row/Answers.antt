@@ -1,5 +1,5 @@
 use Rattle.std.proofs.Common.{arith}
-use Rattle.spc700_exec.proofs.Table.{IsRow-row_of}
+use Rattle.spc700_exec.proofs.EveryRow.{IsRow-row_of}
 use Rattle.spc700_exec.proofs.opcodes.fitting_row.Goals as goal
 
 pub returns-clause-fits : goal.returns-clause-fits

@@ -1,5 +1,5 @@
 -- What every row of the instruction list keeps, by one test of the whole list.
-use Rattle.std.proofs.Common.{◌≡◌, ℕ, ◌+◌, ◌<◌, ◌≤◌, length, Bool, true, false, ◌&&◌, ◌||◌, nat_lt, nat_le, nat_eq, not, if◌then◌else◌, refl, arith, subst, sym, ◌∙◌, ◌⊎◌, inl, inr}
+use Rattle.std.proofs.Common.{◌≡◌, ℕ, ◌+◌, ◌<◌, ◌≤◌, length, Bool, true, false, ◌&&◌, ◌||◌, nat_lt, nat_le, refl, arith, subst, sym}
 use Rattle.std.specs.List.{range_with_len, list_all}
 use Rattle.std.proofs.lemmas.Bool.Decides.{nat_tests}
 use Rattle.spc700_table.specs.declared.Form.{Form}
@@ -11,9 +11,9 @@ use Rattle.spc700_table.proofs.Below.{list_all_below}
 use Rattle.spc700_exec.specs.Accesses.{row_accesses}
 use Rattle.spc700_exec.specs.Forms.{row_suits}
 use Rattle.spc700_exec.proofs.Steady.{is_steady}
-use Rattle.spc700_exec.specs.Pieces.{FormFits, IsRow, IsTime, halts}
+use Rattle.spc700_exec.specs.Pieces.{FormFits, IsRow, halts}
 use Rattle.spc700_alu.proofs.Apart.{and_left, and_right}
-use Rattle.spc700_exec.proofs.Lists.{or_right, le_from_test}
+use Rattle.spc700_exec.proofs.TrueTests.{or_right, le_from_test}
 
 abbrev form_fits : Form → Bool
 form_fits (F.Table n) = nat_lt n 16
@@ -107,34 +107,3 @@ pub IsRow-row_of : (row : OpRow) (op : ℕ) → row ≡ row_of op → op < 256 �
 IsRow-row_of row op e below runs =
     let P : OpRow → Type 0 = λ r. halts r.kind ≡ false → IsRow r in
     subst P (sym e) (row_from_test (row_of op) (passes op below).fits) runs
-
--- SLEEP and STOP are the only two that halt
-all_halts : list_all (λ op. if halts (row_of op).kind then nat_eq op 0xef || nat_eq op 0xff else not (nat_eq op 0xef || nat_eq op 0xff)) (range_with_len 0 256) ≡ true
-unfolding row_of columns printed_cycles cycle_map
-all_halts = refl
-
-same_test : (a b : Bool) → (if a then b else not b) ≡ true → b ≡ a
-same_test true true h = refl
-same_test false false h = refl
-same_test true false h = absurd (cc)
-same_test false true h = absurd (cc)
-
-halts-row_of : (op : ℕ) → op < 256 → (nat_eq op 0xef || nat_eq op 0xff) ≡ halts (row_of op).kind
-halts-row_of op below = same_test _ _ (list_all_below (λ op. if halts (row_of op).kind then nat_eq op 0xef || nat_eq op 0xff else not (nat_eq op 0xef || nat_eq op 0xff)) 256 op all_halts below)
-
-either_test : (op : ℕ) → (op ≡ 0xef) ⊎ (op ≡ 0xff) → (nat_eq op 0xef || nat_eq op 0xff) ≡ true
-either_test op (inl h) = grind (arith, nat_tests)
-either_test op (inr h) = grind (arith, nat_tests)
-
-neither_test : (op : ℕ) → (op ≡ 0xef → ⊥) → (op ≡ 0xff → ⊥) → (nat_eq op 0xef || nat_eq op 0xff) ≡ false
-neither_test op h k = grind (arith, nat_tests)
-
-pub halting_halts : (op : ℕ) → op < 256 → (op ≡ 0xef) ⊎ (op ≡ 0xff) → true ≡ halts (row_of op).kind
-halting_halts op below h = sym (either_test op h) ∙ halts-row_of op below
-
-pub other_runs : (op : ℕ) → op < 256 → (op ≡ 0xef → ⊥) → (op ≡ 0xff → ⊥) → false ≡ halts (row_of op).kind
-other_runs op below h k = sym (neither_test op h k) ∙ halts-row_of op below
-
--- the time of a row's instruction is 1 to 12 cycles
-pub IsTime-bounds : (row : OpRow) (cycles : ℕ) → IsRow row → IsTime row cycles → (1 ≤ cycles) × (cycles ≤ 12)
-IsTime-bounds row cycles fits time = (omega (arith, fits.some, time.least), omega (arith, fits.few, time.most))

@@ -1,4 +1,4 @@
--- Tests of all rows of the instruction list.
+-- What a test says that came out true.
 use Rattle.std.proofs.Common.{◌≡◌, ℕ, ◌≤◌, Bool, true, false, ◌||◌, nat_le, arith}
 use Rattle.std.proofs.lemmas.Bool.Decides.{nat_tests}
 
