@@ -67,7 +67,7 @@ near memory loop_to (suc count) block p h =
     by false (inl at) = inl (further block count p at)
     by false (inr at) = inr (longer loop_to (9 * count) (9 * suc count) p (omega arith) at)
 
-pub chain_is_near : (memory : List ℕ) (start : ChainStart) (p : ℕ) → has_page (chain_pages memory start) p ≡ true → has_page (far_pages start) p ≡ true
+chain_is_near : (memory : List ℕ) (start : ChainStart) (p : ℕ) → has_page (chain_pages memory start) p ≡ true → has_page (far_pages start) p ≡ true
 chain_is_near memory start p h = elim (near memory start.loop_word 18 start.block p h) [
   | inl at ↦ in_left (pages_of_bytes start.block 162) (pages_of_bytes start.loop_word 162) p at
   | inr at ↦ in_right (pages_of_bytes start.block 162) (pages_of_bytes start.loop_word 162) p at
@@ -82,7 +82,7 @@ chains_are_near memory (start ∷ starts) p h = elim (in_either (chain_pages mem
 ]
 
 -- and of what voices read
-pub voices_are_near : (memory : List ℕ) (starts : List ChainStart) (entries : List ℕ) (p : ℕ) → has_page (voice_pages memory starts entries) p ≡ true
+voices_are_near : (memory : List ℕ) (starts : List ChainStart) (entries : List ℕ) (p : ℕ) → has_page (voice_pages memory starts entries) p ≡ true
     → has_page (far_voice_pages starts entries) p ≡ true
 voices_are_near memory starts entries p h = elim (in_either (flat_map entry_pages entries) (flat_map (chain_pages memory) starts) p h) [
   | inl entry ↦ in_left (flat_map entry_pages entries) (flat_map far_pages starts) p entry

@@ -35,7 +35,7 @@ one_more true taken v n =
     rw (bit, ← halved, doubled, split) (products (q % 2) (q / 2 % 2 ^ n) (2 ^ v))
 
 -- the voices from v on that are keyed
-pub keyed_from : (shared : SharedInput) (v : ℕ) (previous : ℤ) (voices : List VoiceState)
+keyed_from : (shared : SharedInput) (v : ℕ) (previous : ℤ) (voices : List VoiceState)
     → bits_from (λ answer. answer.keyed) v (map (λ one. one.answer) (results_from shared v previous voices)) ≡ key_ons shared.common.is_poll shared.common.taken v (length voices)
 unfolding voice_result voice_in voice_answer
 keyed_from shared v previous [] = by shared.common.is_poll

@@ -30,7 +30,7 @@ results_from-lanes shared v previous (voice ∷ voices) j =
     (results_from-lanes shared (v + 1) (outs shared v previous voice) voices j)
 
 -- rows that agree in the samples before give the same voice
-pub voice_after-rows : (shared : ℕ → SharedInput) (others : ℕ → SharedInput) (v : ℕ) (previous other : ℕ → ℤ) (voice : VoiceState) (n : ℕ)
+voice_after-rows : (shared : ℕ → SharedInput) (others : ℕ → SharedInput) (v : ℕ) (previous other : ℕ → ℤ) (voice : VoiceState) (n : ℕ)
     → ((j : ℕ) → j < n → shared j ≡ others j) → ((j : ℕ) → j < n → previous j ≡ other j)
     → voice_after shared v previous voice n ≡ voice_after others v other voice n
 unfolding voice_after voice_result

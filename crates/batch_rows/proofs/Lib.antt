@@ -3,7 +3,7 @@
 -- OneMore: one sample, from where a batch by rows has come.
 -- ByRows: a batch whose voices read nothing that its echo writes is one by rows.
 -- InReach: where the voices of a batch read nothing that its echo writes.
--- Once: the results of a batch, and its keys.
+-- ResultsOfBatch: the results of a batch are those of its last sample, but for ENDX, and its keys are taken at its first poll.
 -- KeyRows: one sample more of the rows of keys and noise.
 -- IdleKeys: samples that leave the keys and the noise as they are.
 -- PlayedLane: a voice over the rows of a batch makes the steps of its lane.
@@ -18,7 +18,7 @@ pub mod SameInputs
 pub mod OneMore
 pub mod ByRows
 pub mod InReach
-pub mod Once
+pub mod ResultsOfBatch
 pub mod Afar
 pub mod KeyRows
 pub mod IdleKeys

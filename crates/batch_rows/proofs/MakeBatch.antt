@@ -21,7 +21,7 @@ use Rattle.batch_rows.specs.declared.sums.SumRows.{SumRows}
 use Rattle.batch_rows.proofs.EchoRun.{echo_run-rows}
 use Rattle.batch_rows.proofs.Keyed.{keyed_bits}
 use Rattle.batch_rows.proofs.Lanes.{results_from-lanes}
-use Rattle.batch_rows.proofs.Once.{results_once}
+use Rattle.batch_rows.proofs.ResultsOfBatch.{results_once}
 
 length-voices_after : (shared : ℕ → SharedInput) (v : ℕ) (previous : ℕ → ℤ) (voices : List VoiceState) (n : ℕ) → length (voices_after shared v previous voices n) ≡ length voices
 length-voices_after shared v previous [] n = refl

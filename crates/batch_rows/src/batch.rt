@@ -45,7 +45,7 @@ pub fn make_batch(
     ensures frames { frames.new ≡ frames.old ++ (by_rows n number state.old memory.old).frames }
 {
     let first = next_clock(clock);
-    *clock = clock.ahead(n);
+    *clock = clock.after_samples(n);
     let rows = step_keys(state, number, n, settings.noise_rate, &first);
     let mut answers = [UNHEARD; 8];
     let mut loops = [0; 64];

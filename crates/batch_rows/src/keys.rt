@@ -62,7 +62,7 @@ fn step_keys_once(state: &mut ChipState, number: u32, rate: u8, clock: &RateCloc
     step_noise(state, rate, clock);
 }
 
-/// The keys and the noise of n samples, one after another, from that of a clock on.
+/// Steps the keys and the noise through n samples one after another, the first of them at a clock.
 fn step_keys_each(
     state: &mut ChipState,
     number: u32,
@@ -88,7 +88,7 @@ fn step_keys_each(
     for j in 0..n {
         let place = usize::from(j);
         let at = number + u32::from(j);
-        step_keys_once(state, at, rate, &first.ahead(j));
+        step_keys_once(state, at, rate, &first.after_samples(j));
         rows.noise[place] = state.hidden.noise.value();
         rows.poll[place] = is_polled(at);
         rows.kon[place] = taken_keys(state);
@@ -146,10 +146,10 @@ fn idle_rows(state: &ChipState, number: u32) -> BatchRows
 pub(crate) fn next_clock(clock: &RateClock) -> RateClock
     ensures { (n : ℕ) → clock.now ≡ counter_after n → result ≡ counter_at n }
 {
-    clock.ahead(1)
+    clock.after_samples(1)
 }
 
-/// The keys and the noise of a batch of n samples from a number on, at which the clock stands, as rows of what its voices read of them.
+/// Steps the keys and the noise through a batch of n samples from a number on, the first of them at a clock, and gives what its voices read as rows.
 /// Where neither keys nor noise change, the rows are made at once.
 pub fn step_keys(
     state: &mut ChipState,

@@ -44,7 +44,8 @@ pub(crate) fn lane_of(registers: &Registers, v: u8) -> BatchLane
     }
 }
 
-/// Voice `v` over a batch of n samples from that of a clock on, over the row of outputs of the voice before it. The answer is that of its last sample.
+/// Plays voice `v` over a batch of n samples, the first of them at a clock, over the row of outputs of the voice before it. The answer is that of the
+/// last sample.
 pub fn play_voice(
     voice: &mut Voice,
     v: u8,
@@ -83,7 +84,8 @@ fn clear_loops(loops: &mut [u8; 64])
     *loops = [0; 64];
 }
 
-/// All voices over a batch of n samples from that of a clock on: their answers of the last sample, the bits of those that loop in each, and its sums.
+/// Plays all voices over a batch of n samples, the first of them at a clock. It puts what each gives in the last sample, the bits of the voices that
+/// loop in each sample, and the sums of each sample.
 pub fn play_voices(
     voices: &mut [Voice; 8],
     n: u8,

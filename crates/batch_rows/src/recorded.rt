@@ -121,7 +121,7 @@ pub fn make_recorded_batch(
     ensures records { records.new ≡ records.old ++ filter (in_mask mask) (by_rows n number state.old memory.old).records }
 {
     let before = *clock;
-    *clock = before.ahead(n);
+    *clock = before.after_samples(n);
     let first = next_clock(&before);
     let rows = step_keys(state, number, n, settings.noise_rate, &first);
     let mut outs = [OutRow::silent(); 8];

@@ -65,7 +65,8 @@ impl Model for GroupMemory {
 }
 
 impl GroupMemory {
-    /// A memory of a group of zeros. Its type's invariant says all that is promised.
+    /// A memory that remembers one group, of zeros. No clause is wanted: contracts see nothing of a memory, and by its type each group in it is
+    /// that of its key.
     pub fn new(alloc: Global) -> Result<GroupMemory, OutOfMemory> {
         let zeros = RememberedGroup::decoded(0, 0, 0, 0, 0, 0);
         let groups = [zeros; GROUPS];

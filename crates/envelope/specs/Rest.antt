@@ -11,6 +11,6 @@ RestsFor e adsr1 adsr2 gain k samples = (j : ℕ) → j < samples → envelope_s
 abbrev pub StirsAt : EnvelopeState → (adsr1 adsr2 gain k : ℕ) → Type 0
 StirsAt e adsr1 adsr2 gain k = envelope_step e adsr1 adsr2 gain (counter_at k) ≢ e
 
--- as many samples of rest as are told at most, whether it ends or not
+-- the most samples of rest that are told: a rest that never ends is told as so many
 abbrev pub for_ever : ℕ
 for_ever = 65535

@@ -8,6 +8,7 @@ mod taps;
 #[cfg(test)]
 mod tests;
 
+pub use quad::Quad;
 pub use refusal::TableRefusal;
 pub use std::alloc::AllocError as OutOfMemory;
 pub use table::GaussTable;

@@ -5,7 +5,7 @@ ghost use Rattle.gauss_table.specs.Quads.{quad_at};
 
 /// The weights of four samples, oldest first, at one place between the middle two.
 #[derive(Clone, Copy, Debug)]
-pub(crate) struct Quad {
+pub struct Quad {
     pub oldest: i16,
     pub older: i16,
     pub newer: i16,

@@ -1,7 +1,8 @@
 //! The table and the interpolation.
 
 ghost use Rattle.std.specs.Prelude.{◌≡◌, ◌<◌, ◌⊎◌, IfOk, IfErr};
-ghost use Rattle.gauss_table.specs.Interpolation.{mix, mix_of};
+ghost use Rattle.gauss_table.specs.Interpolation.{mix};
+ghost use Rattle.gauss_table.specs.Quads.{AreQuads};
 ghost use Rattle.gauss_table.specs.StraightTable.{straight_table, straight_weight};
 ghost use Rattle.gauss_table.specs.Weights.{weights_in};
 
@@ -80,18 +81,17 @@ impl GaussTable {
         GaussTable::from_weights(alloc, weights)
     }
 
-    /// What four samples, oldest first, give under their weights at place `i` of 256 between the middle two.
-    #[tactic(auto, unfolding(crate::specs::Interpolation::mix))]
-    pub fn taps(&self, i: u8, x0: i16, x1: i16, x2: i16, x3: i16) -> Taps
-        ensures { mix_of result.oldest result.older result.newer result.newest ≡ mix self.now i x0 x1 x2 x3 }
+    /// The weights of all places between two samples.
+    pub fn quads(&self) -> &[Quad; 256]
+        ensures { AreQuads self.now result.now }
     {
-        Taps::new(&self.quads[usize::from(i)], x0, x1, x2, x3)
+        &self.quads
     }
 
     /// The interpolation of four samples, oldest first, at place `i` of 256 between the middle two.
     pub fn mix(&self, i: u8, x0: i16, x1: i16, x2: i16, x3: i16) -> i16
         ensures { result ≡ mix self.now i x0 x1 x2 x3 }
     {
-        self.taps(i, x0, x1, x2, x3).mixed()
+        Taps::at(self.quads(), i, x0, x1, x2, x3).mixed()
     }
 }

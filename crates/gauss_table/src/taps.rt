@@ -1,8 +1,9 @@
 //! What four samples give under their weights, and the interpolation that comes of it.
 
-ghost use Rattle.std.specs.Prelude.{◌≡◌, ◌≤◌, ◌+ℤ◌, unsigned_abs};
+ghost use Rattle.std.specs.Prelude.{◌≡◌, ◌≤◌, List, ℤ, ◌+ℤ◌, unsigned_abs};
 ghost use Rattle.num_fix.specs.Arithmetic.{wrap16};
-ghost use Rattle.gauss_table.specs.Interpolation.{mix_of, tap};
+ghost use Rattle.gauss_table.specs.Interpolation.{mix, mix_of, tap};
+ghost use Rattle.gauss_table.specs.Quads.{AreQuads};
 ghost use Rattle.gauss_table.specs.TapBounds.{AreSmall, most_of_tap};
 
 use crate::quad::Quad;
@@ -27,8 +28,16 @@ fn tap(weight: i16, sample: i16) -> i32
 }
 
 impl Taps {
+    /// What four samples, oldest first, give under the weights of place `i` of 256 between the middle two.
+    #[tactic(auto, unfolding(crate::specs::Interpolation::mix))]
+    pub fn at(quads: &[Quad; 256], i: u8, x0: i16, x1: i16, x2: i16, x3: i16) -> Taps
+        ensures { (table : List ℤ) → AreQuads table quads.now → mix_of result.oldest result.older result.newer result.newest ≡ mix table i x0 x1 x2 x3 }
+    {
+        Taps::new(&quads[usize::from(i)], x0, x1, x2, x3)
+    }
+
     /// What four samples give, oldest first, each under its weight.
-    pub(crate) fn new(weights: &Quad, x0: i16, x1: i16, x2: i16, x3: i16) -> Taps
+    fn new(weights: &Quad, x0: i16, x1: i16, x2: i16, x3: i16) -> Taps
         ensures oldest { result.oldest ≡ tap weights.now.oldest x0 }
         ensures older { result.older ≡ tap weights.now.older x1 }
         ensures newer { result.newer ≡ tap weights.now.newer x2 }

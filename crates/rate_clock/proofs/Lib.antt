@@ -1,6 +1,6 @@
 -- Tables: facts about each entry of the tables of periods and offsets.
--- Parts: a rate fires where two parts of the counter are 0.
+-- FiringByParts: a rate fires where two parts of the counter are 0.
 -- Firing: when a rate fires next.
 pub mod Tables
-pub mod Parts
+pub mod FiringByParts
 pub mod Firing

@@ -89,7 +89,7 @@ impl RateClock {
     }
 
     /// The clock so many samples later.
-    pub fn ahead(&self, samples: u8) -> RateClock
+    pub fn after_samples(&self, samples: u8) -> RateClock
         ensures at { (k : ℕ) → self.now ≡ counter_at k → result ≡ counter_at (k + samples) }
         ensures after { (n : ℕ) → self.now ≡ counter_after n → result ≡ counter_after (n + samples) }
     {

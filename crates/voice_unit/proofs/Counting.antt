@@ -23,7 +23,7 @@ groups_before-rise position pitch (suc j) (suc i) below =
     omega arith
 
 -- one group is read in a sample at most
-pub groups_before-next : (position pitch j : ℕ) → position < 0x8000 → pitch < 0x4000 → groups_before position pitch (j + 1) ≤ groups_before position pitch j + 1
+groups_before-next : (position pitch j : ℕ) → position < 0x8000 → pitch < 0x4000 → groups_before position pitch (j + 1) ≤ groups_before position pitch j + 1
 groups_before-next position pitch zero low slow = rw (groups_before-more position pitch 0, groups_before-zero position pitch) (omega arith)
 groups_before-next position pitch (suc j) low slow =
     let next : groups_before position pitch (suc j) ≡ (position + j * pitch) / 0x4000 = rw add-one at (groups_before-more position pitch j) in
@@ -31,7 +31,7 @@ groups_before-next position pitch (suc j) low slow =
     rw (groups_before-more position pitch (suc j), next, further) (omega arith)
 
 -- at most 64 groups are read in 64 samples
-pub groups_before-few : (position pitch n : ℕ) → position < 0x8000 → pitch < 0x4000 → n ≤ 64 → groups_before position pitch n ≤ 64
+groups_before-few : (position pitch n : ℕ) → position < 0x8000 → pitch < 0x4000 → n ≤ 64 → groups_before position pitch n ≤ 64
 unfolding groups_before
 groups_before-few position pitch zero low slow few = omega arith
 groups_before-few position pitch (suc n) low slow few =

@@ -27,7 +27,7 @@ use Rattle.voice_unit.proofs.Counting.{groups_before-more, groups_before-rise}
 use Rattle.voice_unit.proofs.RowOfVoice.{plays_row, reads_row}
 
 -- an interpolation looks at four samples of a row
-pub interpolation-same : (table xs ys : List ℤ) (way : ℕ) → ((k : ℕ) → k < way / 0x1000 + 4 → number_at xs k ≡ number_at ys k) → interpolation table xs way ≡ interpolation table ys way
+interpolation-same : (table xs ys : List ℤ) (way : ℕ) → ((k : ℕ) → k < way / 0x1000 + 4 → number_at xs k ≡ number_at ys k) → interpolation table xs way ≡ interpolation table ys way
 unfolding interpolation
 interpolation-same table xs ys way same =
     let m : ℕ = way / 0x1000 in

@@ -156,7 +156,7 @@ next-place memory loop_to voice = by (voice.offset == 7)
     by true = refl
     by false = refl
 
-pub next-same : {X : Type 0} (part : VoiceState → X) (voice : VoiceState) (header loop_to : ℕ)
+next-same : {X : Type 0} (part : VoiceState → X) (voice : VoiceState) (header loop_to : ℕ)
     → ((block offset : ℕ) → part (record voice { offset = offset; block = block }) ≡ part voice) → part (at_next_group voice header loop_to) ≡ part voice
 unfolding at_next_group
 next-same part voice header loop_to same = by (voice.offset == 7)

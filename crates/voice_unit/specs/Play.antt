@@ -41,9 +41,9 @@ pub record IsPlayed (lane : Lane) (v n : ℕ) (before after : List ℕ) (outs : 
   pub loops_are : (j : ℕ) → j < n → slice_index after j ≡ slice_index before j + (if (answer_at lane j).looped then 2 ^ v else 0)
   pub others : (j : ℕ) → n ≤ j → slice_index after j ≡ slice_index before j
 
--- in each of the first n samples a voice plays plainly
-abbrev pub Glides : (own : BatchLane) → (lane : Lane) → (n : ℕ) → Type 0
-Glides own lane n = (j : ℕ) → j < n → PlaysPlainly own (lane.inputs j)
+-- in each sample from one up to another a voice plays plainly
+abbrev pub Glides : (own : BatchLane) → (lane : Lane) → (from end : ℕ) → Type 0
+Glides own lane from end = (j : ℕ) → from ≤ j → j < end → PlaysPlainly own (lane.inputs j)
 
 -- what n samples of the voice of a row leave, which then rests for so many
 pub record IsOnItsWay (own : BatchLane) (lane : Lane) (n rest : ℕ) (before loops : List ℕ) (outs : List ℤ) (voice : VoiceState) : Type 0 where

@@ -46,7 +46,7 @@ pub(crate) struct Stretch {
 struct Headed {
     place: Place,
     header: u8,
-    /// Its block is another one than that of the group before, and silences the voice while it sounds.
+    /// It begins a block whose header silences the voice while it sounds.
     woken: bool,
 }
 
@@ -193,7 +193,8 @@ impl Course {
         ensures before { (i : ℕ) → i < at → slice_index loops.new i ≡ slice_index loops.old i }
         ensures later { (i : ℕ) → at + result.samples ≤ i → slice_index loops.new i ≡ slice_index loops.old i }
         ensures quiet { (is_silencing self.now.reset (byte_at memory.now self.now.first.block) ≡ true → self.now.silent ≡ true)
-            → (j : ℕ) → j < result.samples → let next = place_after memory.now self.now.loop_to self.now.first (groups_before self.now.position self.now.pitch j) in
+            → (j : ℕ) → j < result.samples
+            → let next = place_after memory.now self.now.loop_to self.now.first (groups_before self.now.position self.now.pitch j) in
             is_silencing self.now.reset (byte_at memory.now next.block) ≡ true → self.now.silent ≡ true }
         ensures goes_on { (is_silencing self.now.reset (byte_at memory.now self.now.first.block) ≡ true → self.now.silent ≡ true)
             → result.woken ≡ false → is_silencing self.now.reset (byte_at memory.now result.next.block) ≡ true → self.now.silent ≡ true }

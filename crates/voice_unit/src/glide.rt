@@ -1,13 +1,12 @@
 //! Samples in which a voice at rest plays on over the row of its kept samples: nothing changes its envelope or its pitch.
 
 ghost use Rattle.std.specs.Prelude.{◌≡◌, ◌<◌, ◌≤◌, ◌+◌, ◌-◌, ◌*◌, ◌%◌, ◌^◌, ℕ, List, true, false, slice_index};
-ghost use Rattle.num_fix.specs.Arithmetic.{has_bit};
 ghost use Rattle.voice_unit.specs.Directory.{loop_word};
 ghost use Rattle.voice_unit.specs.Rest.{IsSilent};
 ghost use Rattle.voice_unit.specs.Row.{groups_before, place_of};
 ghost use Rattle.voice_unit.specs.Play.{Lane, Glides, IsOnItsWay};
 
-use crate::batch::{BatchLane, BatchRows};
+use crate::batch::BatchLane;
 use crate::course::{Course, Stretch};
 use crate::directory::loop_word;
 use crate::interface::VoiceRegs;
@@ -18,32 +17,14 @@ use crate::workroom::Workroom;
 use aram_core::Aram;
 use brr_decode::GroupMemory;
 use gauss_table::GaussTable;
-use num_fix::has_bit;
 
-/// Whether a key on of a voice is taken in any sample of a batch.
-fn is_ever_taken(kon: &[u8; 64], voice: u8) -> bool
-    requires { voice < 8 }
-    ensures { result ≡ false → (j : ℕ) → j < 64 → has_bit (slice_index kon.now j) voice ≡ false }
-{
-    let mut taken = false;
-    for j in 0..64 {
-        taken = taken | has_bit(kon[j], voice);
-    }
-    taken
-}
-
-/// How many samples a voice glides at most, from sample `j` on, before the last one and while its envelope rests.
-fn glide_length(glides: bool, j: u8, last: u8, rest: u16) -> u8
-    requires { j ≤ last }
-    ensures to { j + result ≤ last }
+/// How many samples a voice glides at most, from sample `j` up to another one and while its envelope rests.
+fn glide_length(j: u8, end: u8, rest: u16) -> u8
+    requires { j ≤ end }
+    ensures to { j + result ≤ end }
     ensures rest { result ≤ rest }
-    ensures glides { 0 < result → glides ≡ true }
 {
-    if glides {
-        rest.min(u16::from(last - j)) as u8
-    } else {
-        0
-    }
+    rest.min(u16::from(end - j)) as u8
 }
 
 /// The position of a voice after so many samples, in which so many groups were read.
@@ -80,21 +61,6 @@ pub(crate) struct Glided {
     pub at: u8,
     /// How many more samples its envelope rests.
     pub rest: u16,
-}
-
-impl BatchLane {
-    /// Whether in all samples of a batch the voice plays its samples at its own pitch and isn't keyed.
-    pub(crate) fn lets_glide(&self, rows: &BatchRows) -> bool
-        requires { self.now.voice < 8 }
-        ensures noisy { result ≡ true → has_bit self.now.non self.now.voice ≡ false }
-        ensures modulated { result ≡ true → has_bit self.now.pmon self.now.voice ≡ false }
-        ensures keyed { result ≡ true → (j : ℕ) → j < 64 → has_bit (slice_index rows.now.kon j) self.now.voice ≡ false }
-    {
-        if has_bit(self.non, self.voice) || has_bit(self.pmon, self.voice) {
-            return false;
-        }
-        !is_ever_taken(&rows.kon, self.voice)
-    }
 }
 
 impl Voice {
@@ -147,7 +113,7 @@ impl Voice {
         ensures from { at ≤ result.at }
         ensures to { result.at ≤ at + n }
         ensures way { (plays : Lane) (before : List ℕ) → plays.regs ≡ regs.now → plays.memory ≡ memory.now → plays.table ≡ table.now
-            → Glides lane.now plays (at + n) → IsOnItsWay lane.now plays at rest before loops.old outs.old self.old
+            → Glides lane.now plays at (at + n) → IsOnItsWay lane.now plays at rest before loops.old outs.old self.old
             → IsOnItsWay lane.now plays result.at result.rest before loops.new outs.new self.new }
         ensures later { (i : ℕ) → result.at ≤ i → slice_index loops.new i ≡ slice_index loops.old i }
         ensures before { (i : ℕ) → i < at → slice_index loops.new i ≡ slice_index loops.old i }
@@ -176,12 +142,11 @@ impl Voice {
         }
     }
 
-    /// Makes samples from sample `j` on up to the last one, where the voice glides and while its envelope rests.
+    /// Makes samples from sample `j` up to another one, between which the voice glides, while its envelope rests.
     pub(crate) fn glide(
         &mut self,
-        glides: bool,
         j: u8,
-        last: u8,
+        end: u8,
         rest: u16,
         regs: &VoiceRegs,
         lane: &BatchLane,
@@ -192,21 +157,21 @@ impl Voice {
         outs: &mut [i16; 64],
         loops: &mut [u8; 64],
     ) -> Glided
-        requires few { last < 64 }
-        requires from { j ≤ last }
+        requires few { end < 64 }
+        requires from { j ≤ end }
         requires voice { lane.now.voice < 8 }
         requires pitch { regs.now.pitch < 0x4000 }
         requires room { (i : ℕ) → j ≤ i → i < 64 → slice_index loops.old i < 2 ^ lane.now.voice }
         requires before { (i : ℕ) → i < 64 → slice_index loops.old i < 2 ^ (lane.now.voice + 1) }
         ensures from { j ≤ result.at }
-        ensures to { result.at ≤ last }
+        ensures to { result.at ≤ end }
         ensures way { (plays : Lane) (before : List ℕ) → plays.regs ≡ regs.now → plays.memory ≡ memory.now → plays.table ≡ table.now
-            → (glides ≡ true → Glides lane.now plays last) → IsOnItsWay lane.now plays j rest before loops.old outs.old self.old
+            → Glides lane.now plays j end → IsOnItsWay lane.now plays j rest before loops.old outs.old self.old
             → IsOnItsWay lane.now plays result.at result.rest before loops.new outs.new self.new }
         ensures later { (i : ℕ) → result.at ≤ i → slice_index loops.new i ≡ slice_index loops.old i }
         ensures room { (i : ℕ) → i < 64 → slice_index loops.new i < 2 ^ (lane.now.voice + 1) }
     {
-        let samples = glide_length(glides, j, last, rest);
+        let samples = glide_length(j, end, rest);
         if samples == 0 {
             return Glided { at: j, rest };
         }

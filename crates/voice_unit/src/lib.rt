@@ -8,6 +8,7 @@ mod glide;
 mod interface;
 mod laws;
 mod level;
+mod plain;
 mod play;
 mod rest;
 mod row;

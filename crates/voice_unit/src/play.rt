@@ -30,34 +30,36 @@ pub(crate) fn mark_loop(loops: &mut [u8; 64], j: u8, looped: bool, voice: u8)
 }
 
 impl Voice {
-    /// One sample, of a voice whose envelope rests for so many. Inlined, so that the input of a sample at rest stays in registers.
+    /// Sample `j` of a batch whose first sample has such a clock, of a voice whose envelope rests for so many. Inlined, so that the input of a
+    /// sample at rest stays in registers; only a whole step wants the clock.
     #[inline(always)]
     fn play_sample(
         &mut self,
         rest: u16,
+        j: u8,
         regs: &VoiceRegs,
         input: &VoiceIn,
         memory: &Aram,
         table: &GaussTable,
-        clock: &RateClock,
+        first: &RateClock,
         groups: &mut GroupMemory,
     ) -> Played
         requires pitch { regs.now.pitch < 0x4000 }
         requires noise { input.now.noise < 0x8000 }
-        ensures voice { (k : ℕ) → clock.now ≡ counter_at k → IsAtRest input.now.reset input.now.koff regs.now memory.now k rest self.old
-            → self.new ≡ voice_step self.old regs.now input.now memory.now (counter_at k) }
-        ensures out { (k : ℕ) → clock.now ≡ counter_at k → IsAtRest input.now.reset input.now.koff regs.now memory.now k rest self.old
-            → result.out ≡ (voice_answer self.old regs.now input.now memory.now table.now (counter_at k)).out }
-        ensures looped { (k : ℕ) → clock.now ≡ counter_at k → IsAtRest input.now.reset input.now.koff regs.now memory.now k rest self.old
-            → result.looped ≡ (voice_answer self.old regs.now input.now memory.now table.now (counter_at k)).looped }
-        ensures rest { (k : ℕ) → clock.now ≡ counter_at k → IsAtRest input.now.reset input.now.koff regs.now memory.now k rest self.old
-            → IsAtRest input.now.reset input.now.koff regs.now memory.now (k + 1) result.rest self.new }
+        ensures voice { (k : ℕ) → first.now ≡ counter_at k → IsAtRest input.now.reset input.now.koff regs.now memory.now (k + j) rest self.old
+            → self.new ≡ voice_step self.old regs.now input.now memory.now (counter_at (k + j)) }
+        ensures out { (k : ℕ) → first.now ≡ counter_at k → IsAtRest input.now.reset input.now.koff regs.now memory.now (k + j) rest self.old
+            → result.out ≡ (voice_answer self.old regs.now input.now memory.now table.now (counter_at (k + j))).out }
+        ensures looped { (k : ℕ) → first.now ≡ counter_at k → IsAtRest input.now.reset input.now.koff regs.now memory.now (k + j) rest self.old
+            → result.looped ≡ (voice_answer self.old regs.now input.now memory.now table.now (counter_at (k + j))).looped }
+        ensures rest { (k : ℕ) → first.now ≡ counter_at k → IsAtRest input.now.reset input.now.koff regs.now memory.now (k + j) rest self.old
+            → IsAtRest input.now.reset input.now.koff regs.now memory.now (k + j + 1) result.rest self.new }
     {
-        if rest == 0 {
-            return self.play_awake(regs, input, memory, table, clock);
-        }
-        if is_keyed(input) {
-            return self.play_awake(regs, input, memory, table, clock);
+        if rest == 0 || is_keyed(input) {
+            // a copy, so that the input of a sample at rest need not stand in memory
+            let own_input = *input;
+            let clock = first.after_samples(j);
+            return self.play_whole(regs, &own_input, memory, table, &clock);
         }
         self.play_at_rest(rest, regs, input, memory, table, groups)
     }
@@ -89,7 +91,7 @@ impl Voice {
         self.answer_at_rest(rest, regs, input, memory, table, groups)
     }
 
-    /// Makes n samples from that of a clock on, and tells for how many more the envelope rests.
+    /// Makes n samples, the first of them at a clock, and tells for how many more the envelope rests.
     fn play_row(
         &mut self,
         n: u8,
@@ -123,11 +125,12 @@ impl Voice {
         let own = *lane;
         let koff = has_bit(own.koff, own.voice);
         let mut rest = self.rest_from(regs, own.reset, koff, memory, clock);
-        let glides = own.lets_glide(rows);
+        let plain = own.plain_samples(rows);
         let mut j = 0;
         'samples: while j < n {
+            let end = plain.end_from(j, n);
             let glided = self.glide(
-                glides, j, n, rest, regs, &own, memory, table, groups, room, outs, loops,
+                j, end, rest, regs, &own, memory, table, groups, room, outs, loops,
             );
             let to = glided.at;
             if to == n {
@@ -135,8 +138,16 @@ impl Voice {
             }
             let place = usize::from(to);
             let input = own.input(rows, previous[place], to);
-            let now = clock.ahead(to);
-            let played = self.play_sample(glided.rest, regs, &input, memory, table, &now, groups);
+            let played = self.play_sample(
+                glided.rest,
+                to,
+                regs,
+                &input,
+                memory,
+                table,
+                clock,
+                groups,
+            );
             outs[place] = played.out;
             mark_loop(loops, to, played.looped, own.voice);
             rest = played.rest;
@@ -145,8 +156,8 @@ impl Voice {
         rest
     }
 
-    /// Makes n samples from that of a clock on: their outputs are put into a row, and its bit is added to the byte of each sample in which the voice
-    /// loops. The answer is that of the last step.
+    /// Makes n samples, the first of them at a clock. Their outputs are put into a row, and the bit of the voice is added to the byte of each sample in
+    /// which it loops. The answer is that of the last sample.
     pub fn play(
         &mut self,
         n: u8,
@@ -181,7 +192,7 @@ impl Voice {
         );
         let place = usize::from(last);
         let input = lane.input(rows, previous[place], last);
-        let now = clock.ahead(last);
+        let now = clock.after_samples(last);
         let answer = self.play_last(rest, regs, &input, memory, table, &now, groups);
         outs[place] = answer.out;
         mark_loop(loops, last, answer.looped, lane.voice);

@@ -101,31 +101,9 @@ impl Voice {
         self.rest_from(regs, input.reset, input.koff, memory, &next)
     }
 
-    /// A whole step over copies of its input and its clock. Inlined, so that those of a sample at rest need not stand in memory.
-    #[inline(always)]
-    pub(crate) fn play_awake(
-        &mut self,
-        regs: &VoiceRegs,
-        input: &VoiceIn,
-        memory: &Aram,
-        table: &GaussTable,
-        clock: &RateClock,
-    ) -> Played
-        requires pitch { regs.now.pitch < 0x4000 }
-        requires noise { input.now.noise < 0x8000 }
-        ensures voice { self.new ≡ voice_step self.old regs.now input.now memory.now clock.now }
-        ensures out { result.out ≡ (voice_answer self.old regs.now input.now memory.now table.now clock.now).out }
-        ensures looped { result.looped ≡ (voice_answer self.old regs.now input.now memory.now table.now clock.now).looped }
-        ensures rest { (k : ℕ) → clock.now ≡ counter_at k → IsAtRest input.now.reset input.now.koff regs.now memory.now (k + 1) result.rest self.new }
-    {
-        let own_input = *input;
-        let own_clock = *clock;
-        self.play_whole(regs, &own_input, memory, table, &own_clock)
-    }
-
     /// A whole step. It stands apart, so that the loop over samples at rest is short.
     #[inline(never)]
-    fn play_whole(
+    pub(crate) fn play_whole(
         &mut self,
         regs: &VoiceRegs,
         input: &VoiceIn,

@@ -1,24 +1,26 @@
 //! The outputs of a stretch of samples over a row of kept samples.
 
-ghost use Rattle.std.specs.Prelude.{◌≡◌, ◌<◌, ◌≤◌, ◌+◌, ◌*◌, ℕ, pos};
+ghost use Rattle.std.specs.Prelude.{◌≡◌, ◌<◌, ◌≤◌, ◌+◌, ◌*◌, ℕ, List, ℤ, pos};
 ghost use Rattle.num_fix.specs.Words.{number_at};
 ghost use Rattle.gauss_table.specs.Interpolation.{mix_of};
+ghost use Rattle.gauss_table.specs.Quads.{AreQuads};
 ghost use Rattle.voice_unit.specs.Voice.{interpolation};
 ghost use Rattle.voice_unit.specs.OutsOverRow.{mixed_at, sounding_at, out_over_row};
 
 use crate::level::at_level;
-use gauss_table::{GaussTable, Taps};
+use gauss_table::{GaussTable, Quad, Taps};
 use num_fix::clear_bit0;
 
-/// The taps at a place of a row of kept samples, in 4096ths of a sample.
+/// The taps at a place of a row of kept samples, on a way in 65,536ths of a sample, so that the place of the weights is a byte of it.
 #[tactic(auto, unfolding(crate::specs::Voice::interpolation))]
-fn taps_at(row: &[i16; 268], way: u32, table: &GaussTable) -> Taps
-    requires { way < 0x108000 }
-    ensures { mix_of result.oldest result.older result.newer result.newest ≡ interpolation table.now row.now way }
+fn taps_at(row: &[i16; 268], way: u32, quads: &[Quad; 256]) -> Taps
+    requires { way < 0x1080000 }
+    ensures { (table : List ℤ) (place : ℕ) → AreQuads table quads.now → way ≡ 0x10 * place
+        → mix_of result.oldest result.older result.newer result.newest ≡ interpolation table row.now place }
 {
-    let m = (way / 0x1000) as usize;
-    let i = (way / 0x10 % 0x100) as u8;
-    table.taps(i, row[m], row[m + 1], row[m + 2], row[m + 3])
+    let m = (way / 0x10000) as usize;
+    let i = (way / 0x100 % 0x100) as u8;
+    Taps::at(quads, i, row[m], row[m + 1], row[m + 2], row[m + 3])
 }
 
 /// The taps of n samples, from a position in a row on.
@@ -35,10 +37,12 @@ fn take_taps(
     requires pitch { pitch < 0x4000 }
     ensures { (j : ℕ) → j < n → mixed_at taps.new j ≡ interpolation table.now row.now (position + j * pitch) }
 {
-    let mut way = u32::from(position);
+    let quads = table.quads();
+    let step = 0x10 * u32::from(pitch);
+    let mut way = 0x10 * u32::from(position);
     for j in 0..usize::from(n) {
-        taps[j] = taps_at(row, way, table);
-        way += u32::from(pitch);
+        taps[j] = taps_at(row, way, quads);
+        way += step;
     }
 }
 

@@ -12,11 +12,12 @@ pub struct Workroom {
 }
 
 impl Workroom {
-    /// Room for voices that play by a table. What it holds at first is of no account.
+    /// Room for voices that play by a table. No clause is wanted: by its type it has room for what a voice needs, and what it holds at first is
+    /// of no account, since each voice writes what it reads there.
     pub fn new(table: &GaussTable) -> Self {
         Workroom {
             row: [0; 268],
-            taps: [table.taps(0, 0, 0, 0, 0); 64],
+            taps: [Taps::at(table.quads(), 0, 0, 0, 0, 0); 64],
         }
     }
 }

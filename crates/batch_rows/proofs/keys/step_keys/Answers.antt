@@ -1,4 +1,4 @@
-use Rattle.std.proofs.Common.{◌≡◌, ℕ, sym, arith}
+use Rattle.std.proofs.Common.{ℕ, sym, arith}
 use Rattle.std.proofs.lemmas.List.{get_or-replicate}
 use Rattle.batch_rows.proofs.IdleKeys.{idle_rows}
 use Rattle.batch_rows.proofs.keys.step_keys.Goals as goal

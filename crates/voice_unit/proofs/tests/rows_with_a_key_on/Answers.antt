@@ -1,4 +1,4 @@
-use Rattle.std.proofs.Common.{◌≡◌, ◌<◌, ℕ, zero, suc, get_or, refl, arith}
+use Rattle.std.proofs.Common.{◌≡◌, ℕ, zero, suc, get_or, refl, arith}
 use Rattle.std.specs.Prelude.{replicate}
 use Rattle.voice_unit.proofs.tests.rows_with_a_key_on.Goals as goal
 

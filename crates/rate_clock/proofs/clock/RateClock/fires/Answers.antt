@@ -2,7 +2,7 @@ use Rattle.std.proofs.Common.{◌≡◌, ◌+◌, ◌<◌, ◌==◌, true, false
 use Rattle.std.proofs.lemmas.Bool.Decides.{nat_tests}
 use Rattle.rate_clock.specs.Counter.{fires, offsets}
 use Rattle.rate_clock.proofs.Tables.{offset_bound}
-use Rattle.rate_clock.proofs.Parts.{fires_by_parts, low_bits}
+use Rattle.rate_clock.proofs.FiringByParts.{fires_by_parts, low_bits}
 use Rattle.rate_clock.proofs.clock.RateClock.fires.Goals as goal
 
 pub overflow_add-low : goal.overflow_add-low

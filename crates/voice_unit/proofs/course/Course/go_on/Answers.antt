@@ -1,6 +1,4 @@
-use Rattle.std.proofs.Common.{◌≡◌, ◌+◌, ◌==◌, false, slice_index, refl, arith}
-use Rattle.std.proofs.lemmas.Bool.Decides.{nat_tests}
-use Rattle.voice_unit.specs.Row.{is_read_in, next_place}
+use Rattle.std.proofs.Common.{◌+◌, slice_index, arith}
 use Rattle.voice_unit.proofs.LoopBits.{no_end}
 use Rattle.voice_unit.proofs.course.Course.go_on.Goals as goal
 

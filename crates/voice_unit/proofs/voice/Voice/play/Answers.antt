@@ -1,4 +1,4 @@
-use Rattle.std.proofs.Common.{rules, ◌≡◌, ◌<◌, ◌-◌, ◌+◌, ◌^◌, ℕ, slice_index, to_z, of_z, ap, sym, ◌∙◌, arith}
+use Rattle.std.proofs.Common.{rules, ◌≡◌, ◌<◌, ◌-◌, ◌+◌, ◌^◌, ℕ, slice_index, to_z, of_z, ap, arith}
 use Rattle.std.specs.Int.{w16}
 use Rattle.num_fix.specs.Words.{number_at}
 use Rattle.rate_clock.specs.Counter.{counter_at}
@@ -22,7 +22,7 @@ returns-clause-played c k at =
     let place : c.from-place.result ≡ j = c.from-place.ensures in
     let whole : to_z w16 (of_z w16 (number_at c.args.previous.now j)) ≡ number_at c.args.previous.now j = search rules in
     let input : c.input-input.result ≡ lane_inputs c.args.lane.now c.args.rows.now c.args.previous.now j = rw whole at (rw place at c.input-input.ensures.value) in
-    let clock : c.ahead-now.result ≡ counter_at (k + j) = c.ahead-now.ensures.at k at in
+    let clock : c.after_samples-now.result ≡ counter_at (k + j) = c.after_samples-now.ensures.at k at in
     let out : to_z w16 (of_z w16 c.play_last-answer.result.out) ≡ c.play_last-answer.result.out = search rules in
     let way = c.play_row-rest.ensures.way k at in
     let made = rw input at (c.play_last-answer.ensures.voice (k + j) clock (rw input way.at_rest)) in
@@ -40,7 +40,7 @@ returns-clause-last c k at =
     let place : c.from-place.result ≡ j = c.from-place.ensures in
     let whole : to_z w16 (of_z w16 (number_at c.args.previous.now j)) ≡ number_at c.args.previous.now j = search rules in
     let input : c.input-input.result ≡ lane_inputs c.args.lane.now c.args.rows.now c.args.previous.now j = rw whole at (rw place at c.input-input.ensures.value) in
-    let clock : c.ahead-now.result ≡ counter_at (k + j) = c.ahead-now.ensures.at k at in
+    let clock : c.after_samples-now.result ≡ counter_at (k + j) = c.after_samples-now.ensures.at k at in
     let way = c.play_row-rest.ensures.way k at in
     rw way.played.voice_is at (rw input at (c.play_last-answer.ensures.answer (k + j) clock (rw input way.at_rest)))
 

@@ -1,6 +1,6 @@
-use Rattle.std.proofs.Common.{rules, ◌≡◌, ◌≢◌, ◌<◌, ◌≤◌, ◌+◌, ◌^◌, ℕ, to_z, of_z, length, slice_index, refl, sym, ◌∙◌, arith}
+use Rattle.std.proofs.Common.{rules, ◌≡◌, ◌≢◌, ◌<◌, ◌≤◌, ◌+◌, ◌^◌, ℕ, to_z, of_z, length, slice_index, refl, ◌∙◌, arith}
 use Rattle.std.specs.Int.{w16}
-use Rattle.std.proofs.lemmas.List.{get_or_default, length-set}
+use Rattle.std.proofs.lemmas.List.{length-set}
 use Rattle.num_fix.specs.Arithmetic.{has_bit}
 use Rattle.num_fix.specs.Words.{number_at}
 use Rattle.rate_clock.specs.Counter.{counter_at}
@@ -33,18 +33,17 @@ samples-preserved c =
     let j : ℕ = c.samples.j in
     let to : ℕ = c.glide-glided.result.at in
     let from : j ≤ to = c.glide-glided.ensures.from in
-    let below : to < c.args.n = omega (arith, c.glide-glided.ensures.to, c.if-to-n.false) in
+    let below : to < c.args.n = omega (arith, c.glide-glided.ensures.to, c.end_from-end.ensures.to, c.if-to-n.false) in
     let place : c.from-place.result ≡ to = c.from-place.ensures in
     let way : (k : ℕ) → c.args.clock.now ≡ counter_at k
     → IsOnItsWay c.args.lane.now (lane_of c.args.regs.now c.args.lane.now c.args.rows.now c.args.previous.now c.args.memory.now c.args.table.now c.args.self.now k)
     to c.glide-glided.result.rest c.args.loops.now c.glide-glided.new.loops c.glide-glided.new.outs c.glide-glided.new.self =
     λ k at. c.glide-glided.ensures.way _ c.args.loops.now refl refl refl
-    (λ is. lane_glides c.args.regs.now c.args.lane.now c.args.rows.now c.args.previous.now c.args.memory.now c.args.table.now c.args.self.now k c.args.n
-    (omega (arith, c.requires.few)) (c.lets_glide-glides.ensures.noisy is) (c.lets_glide-glides.ensures.modulated is) (c.lets_glide-glides.ensures.keyed is))
+    (lane_glides c.args.regs.now c.args.lane.now c.args.rows.now c.args.previous.now c.args.memory.now c.args.table.now c.args.self.now k c.samples.j c.end_from-end.result
+    (λ i since below. c.plain_samples-plain.ensures i (omega (arith, below, c.end_from-end.ensures.to, c.requires.few)) (c.end_from-end.ensures.plain i since below)))
     (c.samples.invariant.way k at) in
     let whole : to_z w16 (of_z w16 (number_at c.args.previous.now to)) ≡ number_at c.args.previous.now to = search rules in
     let input : c.input-input.result ≡ lane_inputs c.args.lane.now c.args.rows.now c.args.previous.now to = rw whole at (rw place at c.input-input.ensures.value) in
-    let clock : (k : ℕ) → c.args.clock.now ≡ counter_at k → c.ahead-now.result ≡ counter_at (k + to) = λ k at. c.ahead-now.ensures.at k at in
     let at_rest : (k : ℕ) → c.args.clock.now ≡ counter_at k
     → IsAtRest c.input-input.result.reset c.input-input.result.koff c.args.regs.now c.args.memory.now (k + to) c.glide-glided.result.rest c.glide-glided.new.self =
     λ k at. rw input (way k at).at_rest in
@@ -61,10 +60,10 @@ samples-preserved c =
                 (lane_of c.args.regs.now c.args.lane.now c.args.rows.now c.args.previous.now c.args.memory.now c.args.table.now c.args.self.now k) c.args.lane.now.voice to
                 c.args.loops.now c.glide-glided.new.loops c.glide-glided.new.outs c.glide-glided.new.self c.play_sample-played.new.self c.play_sample-played.result.out c.play_sample-played.result.looped
                 (way k at).played within_outs within_loops
-                (rw input at (c.play_sample-played.ensures.voice (k + to) (clock k at) (at_rest k at)))
-                (rw input at (c.play_sample-played.ensures.out (k + to) (clock k at) (at_rest k at)))
-                (rw input at (c.play_sample-played.ensures.looped (k + to) (clock k at) (at_rest k at))));
-            at_rest = rw further (rw input at (c.play_sample-played.ensures.rest (k + to) (clock k at) (at_rest k at)));
+                (rw input at (c.play_sample-played.ensures.voice k at (at_rest k at)))
+                (rw input at (c.play_sample-played.ensures.out k at (at_rest k at)))
+                (rw input at (c.play_sample-played.ensures.looped k at (at_rest k at))));
+            at_rest = rw further (rw input at (c.play_sample-played.ensures.rest k at (at_rest k at)));
           };
       within = omega (arith, below);
       later = λ i above.
@@ -79,7 +78,7 @@ samples-preserved c =
     }
 
 pub samples-smaller : goal.samples-smaller
-samples-smaller c = omega (arith, c.samples-test.true, c.glide-glided.ensures.from, c.glide-glided.ensures.to)
+samples-smaller c = omega (arith, c.samples-test.true, c.glide-glided.ensures.from, c.glide-glided.ensures.to, c.end_from-end.ensures.to)
 
 pub returns-clause-way : goal.returns-clause-way
 returns-clause-way c k at =
@@ -98,6 +97,6 @@ pub returns-then-to-n-clause-way : goal.returns-then-to-n-clause-way
 returns-then-to-n-clause-way c k at =
     let done : c.glide-glided.result.at ≡ c.args.n = c.if-to-n.true in
     rw done at (c.glide-glided.ensures.way _ c.args.loops.now refl refl refl
-    (λ is. lane_glides c.args.regs.now c.args.lane.now c.args.rows.now c.args.previous.now c.args.memory.now c.args.table.now c.args.self.now k c.args.n
-    (omega (arith, c.requires.few)) (c.lets_glide-glides.ensures.noisy is) (c.lets_glide-glides.ensures.modulated is) (c.lets_glide-glides.ensures.keyed is))
+    (lane_glides c.args.regs.now c.args.lane.now c.args.rows.now c.args.previous.now c.args.memory.now c.args.table.now c.args.self.now k c.samples.j c.end_from-end.result
+    (λ i since below. c.plain_samples-plain.ensures i (omega (arith, below, c.end_from-end.ensures.to, c.requires.few)) (c.end_from-end.ensures.plain i since below)))
     (c.samples.invariant.way k at))

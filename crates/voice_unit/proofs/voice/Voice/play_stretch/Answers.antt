@@ -46,7 +46,7 @@ returns-clause-way c plays before regs memory table glides way =
     ] in
     glided_over c.args.lane.now plays c.args.at m c.args.rest before c.args.loops.now c.args.outs.now v way c.begin_row.ensures.twelve
     (rw c.course-course.ensures.position at c.course-course.ensures.within) (rw (← regs) at c.requires.pitch)
-    (λ j below. glides (c.args.at + j) (omega (arith, below, few))) c.read_stretch-stretch.ensures.some (omega (arith, few, c.requires.resting))
+    (λ j below. glides (c.args.at + j) (omega arith) (omega (arith, below, few))) c.read_stretch-stretch.ensures.some (omega (arith, few, c.requires.resting))
     (λ j below some loud. c.course-course.ensures.silent (quiet j below loud))
     c.go_to.new.self c.rest_after.result c.read_stretch-stretch.new.loops c.sound.new.outs row
     (rw groups at kept) (rw groups at twelve) position

@@ -20,8 +20,8 @@ record IsApart (v i : ℕ) : Type 0 where
   envx : (u : ℕ) → v ≤ u → 16 * u + ENVX ≢ i
   outx : (u : ℕ) → v ≤ u → 16 * u + OUTX ≢ i
 
-later : {v i : ℕ} → IsApart v i → IsApart (v + 1) i
-later a = record { envx = λ u above. a.envx u (omega (arith, above)); outx = λ u above. a.outx u (omega (arith, above)) }
+IsApart-next : {v i : ℕ} → IsApart v i → IsApart (v + 1) i
+IsApart-next a = record { envx = λ u above. a.envx u (omega (arith, above)); outx = λ u above. a.outx u (omega (arith, above)) }
 
 -- such a register may be set before or after them
 levels_set : (v : ℕ) (answers : List VoiceOut) (registers : List ℕ) (i x : ℕ) → IsApart v i
@@ -32,7 +32,7 @@ levels_set v (answer ∷ answers) registers i x apart =
     let outx : i ≢ 16 * v + OUTX = λ e. apart.outx v (omega arith) (sym e) in
     ap (λ (rs : List ℕ). with_levels_from (v + 1) answers (slice_set rs (16 * v + OUTX) answer.outx)) (set_comm registers i (16 * v + ENVX) x answer.envx envx)
     ∙ ap (λ (rs : List ℕ). with_levels_from (v + 1) answers rs) (set_comm (slice_set registers (16 * v + ENVX) answer.envx) i (16 * v + OUTX) x answer.outx outx)
-    ∙ levels_set (v + 1) answers (slice_set (slice_set registers (16 * v + ENVX) answer.envx) (16 * v + OUTX) answer.outx) i x (later apart)
+    ∙ levels_set (v + 1) answers (slice_set (slice_set registers (16 * v + ENVX) answer.envx) (16 * v + OUTX) answer.outx) i x (IsApart-next apart)
 
 own_apart : (v offset : ℕ) → offset < 16 → IsApart (v + 1) (16 * v + offset)
 own_apart v offset low = record { envx = λ u above e. absurd (omega (arith, above, e, low)); outx = λ u above e. absurd (omega (arith, above, e, low)) }

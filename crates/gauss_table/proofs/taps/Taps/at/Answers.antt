@@ -4,14 +4,14 @@ use Rattle.std.proofs.lemmas.Option.{get_or_from_slice_get}
 use Rattle.gauss_table.specs.Interpolation.{mix}
 use Rattle.gauss_table.specs.Quads.{quad_at}
 use Rattle.gauss_table.specs.declared.quad.Quad.{Quad}
-use Rattle.gauss_table.proofs.table.GaussTable.taps.Goals as goal
+use Rattle.gauss_table.proofs.taps.Taps.at.Goals as goal
 
 pub returns : goal.returns
 unfolding mix
-returns c =
+returns c table are_quads =
     let none : Quad = record { oldest = pos 0; older = pos 0; newer = pos 0; newest = pos 0 } in
-    let quad : get_or c.deref.result.now c.from.result none ≡ quad_at c.args.self.now c.args.i =
-    rw (c.deref.ensures, c.from.ensures, ← c.self.view_is) (get_or_from_slice_get _ c.args.i _ none (c.self.invariant.each c.args.i (omega arith))) in
+    let quad : get_or c.args.quads.now c.from.result none ≡ quad_at table c.args.i =
+    rw c.from.ensures (get_or_from_slice_get _ c.args.i _ none (are_quads.each c.args.i (omega arith))) in
     let x0 : to_z w16 (of_z w16 c.args.x0) ≡ c.args.x0 = search rules in
     let x1 : to_z w16 (of_z w16 c.args.x1) ≡ c.args.x1 = search rules in
     let x2 : to_z w16 (of_z w16 c.args.x2) ≡ c.args.x2 = search rules in
