@@ -1,4 +1,5 @@
--- The pages of a chain are those of the stretch at its start and of the stretch at its loop word.
+-- A chain in two parts: its pages are those of the blocks from its start up to the first end, and those of the blocks from its loop word up to
+-- the first end there.
 use Rattle.std.proofs.Common.{◌≡◌, ℕ, zero, suc, ◌+◌, ◌-◌, ◌*◌, ◌%◌, ◌<◌, ◌≤◌, List, ◌∷◌, ◌++◌, map, flat_map, Bool, true, false, ◌||◌, refl, sym, ap, ◌∙◌, arith, append_assoc}
 use Rattle.std.specs.Prelude.{if◌then◌else◌}
 use Rattle.std.specs.List.{range_with_len}
@@ -11,7 +12,7 @@ use Rattle.aram_core.specs.Pages.{Pages, page_of}
 use Rattle.brr_decode.specs.Header.{has_end}
 use Rattle.reach_map.specs.Added.{with_pages}
 use Rattle.reach_map.specs.Reach.{block_pages, chain, pages_of_bytes}
-use Rattle.reach_map.specs.Stretch.{stretch_length}
+use Rattle.reach_map.specs.BlocksToEnd.{blocks_to_end}
 use Rattle.reach_map.proofs.Added.{has_page, with_pages-same, with_pages-append}
 use Rattle.reach_map.proofs.EveryPage.{fail_together, has_none, none_of}
 
@@ -47,104 +48,104 @@ one_more block n =
 -- a chain goes on after its first block
 after_first : (memory : List ℕ) (to n block : ℕ) (ended : Bool)
     → flat_map block_pages (chain memory to n ((block + 9) % 0x10000))
-    ≡ pages_of_bytes ((block + 9) % 0x10000) (9 * stretch_length memory ((block + 9) % 0x10000) n) ++ flat_map block_pages (chain memory to (n - stretch_length memory ((block + 9) % 0x10000) n) to)
+    ≡ pages_of_bytes ((block + 9) % 0x10000) (9 * blocks_to_end memory ((block + 9) % 0x10000) n) ++ flat_map block_pages (chain memory to (n - blocks_to_end memory ((block + 9) % 0x10000) n) to)
     → flat_map block_pages (block ∷ chain memory to n (if ended then to else ((block + 9) % 0x10000)))
-    ≡ pages_of_bytes block (9 * (if ended then 1 else suc (stretch_length memory ((block + 9) % 0x10000) n)))
-    ++ flat_map block_pages (chain memory to (suc n - (if ended then 1 else suc (stretch_length memory ((block + 9) % 0x10000) n))) to)
+    ≡ pages_of_bytes block (9 * (if ended then 1 else suc (blocks_to_end memory ((block + 9) % 0x10000) n)))
+    ++ flat_map block_pages (chain memory to (suc n - (if ended then 1 else suc (blocks_to_end memory ((block + 9) % 0x10000) n))) to)
 after_first memory to n block true rest =
     let left : n ≡ suc n - 1 = omega arith in
     ap (λ k. block_pages block ++ flat_map block_pages (chain memory to k to)) left
 after_first memory to n block false rest =
     let next : ℕ = (block + 9) % 0x10000 in
-    let stretch : ℕ = stretch_length memory next n in
-    let left : n - stretch ≡ suc n - suc stretch = omega arith in
+    let blocks : ℕ = blocks_to_end memory next n in
+    let left : n - blocks ≡ suc n - suc blocks = omega arith in
     ap (λ pages. block_pages block ++ pages) rest
-    ∙ sym (append_assoc (block_pages block) (pages_of_bytes next (9 * stretch)) (flat_map block_pages (chain memory to (n - stretch) to)))
-    ∙ ap (λ pages. pages ++ flat_map block_pages (chain memory to (n - stretch) to)) (sym (one_more block stretch))
-    ∙ ap (λ k. pages_of_bytes block (9 * suc stretch) ++ flat_map block_pages (chain memory to k to)) left
+    ∙ sym (append_assoc (block_pages block) (pages_of_bytes next (9 * blocks)) (flat_map block_pages (chain memory to (n - blocks) to)))
+    ∙ ap (λ pages. pages ++ flat_map block_pages (chain memory to (n - blocks) to)) (sym (one_more block blocks))
+    ∙ ap (λ k. pages_of_bytes block (9 * suc blocks) ++ flat_map block_pages (chain memory to k to)) left
 
--- the pages of a chain are those of its first stretch, and those of what is left of it from the loop word on
-first_stretch : (memory : List ℕ) (to n block : ℕ) → flat_map block_pages (chain memory to n block)
-    ≡ pages_of_bytes block (9 * stretch_length memory block n) ++ flat_map block_pages (chain memory to (n - stretch_length memory block n) to)
-first_stretch memory to zero block = refl
-first_stretch memory to (suc n) block =
-    after_first memory to n block (has_end (byte_at memory block)) (first_stretch memory to n ((block + 9) % 0x10000))
+-- the pages of a chain are those of its blocks up to the first end, and those of what is left of it from the loop word on
+up_to_first_end : (memory : List ℕ) (to n block : ℕ) → flat_map block_pages (chain memory to n block)
+    ≡ pages_of_bytes block (9 * blocks_to_end memory block n) ++ flat_map block_pages (chain memory to (n - blocks_to_end memory block n) to)
+up_to_first_end memory to zero block = refl
+up_to_first_end memory to (suc n) block =
+    after_first memory to n block (has_end (byte_at memory block)) (up_to_first_end memory to n ((block + 9) % 0x10000))
 
--- a stretch goes on after a block that has no end bit
-pub stretch_goes_on : (memory : List ℕ) (block n left : ℕ) → n ≡ suc left → has_end (byte_at memory block) ≡ false
-    → stretch_length memory block n ≡ suc (stretch_length memory ((block + 9) % 0x10000) left)
-stretch_goes_on memory block n left more goes_on =
-    ap (λ k. stretch_length memory block k) more ∙ ap (λ ended. if ended then 1 else suc (stretch_length memory ((block + 9) % 0x10000) left)) goes_on
+-- after a block that has no end bit there are more
+pub blocks_go_on : (memory : List ℕ) (block n left : ℕ) → n ≡ suc left → has_end (byte_at memory block) ≡ false
+    → blocks_to_end memory block n ≡ suc (blocks_to_end memory ((block + 9) % 0x10000) left)
+blocks_go_on memory block n left more goes_on =
+    ap (λ k. blocks_to_end memory block k) more ∙ ap (λ ended. if ended then 1 else suc (blocks_to_end memory ((block + 9) % 0x10000) left)) goes_on
 
--- a stretch has its first block
-stretch_has_first : (memory : List ℕ) (block n : ℕ) → 0 < n → 0 < stretch_length memory block n
-stretch_has_first memory block zero some = absurd (omega arith)
-stretch_has_first memory block (suc n) some = elim (has_end (byte_at memory block)) as (λ ended. 0 < (if ended then 1 else suc (stretch_length memory ((block + 9) % 0x10000) n))) [
+-- the first block is one of them
+blocks_have_first : (memory : List ℕ) (block n : ℕ) → 0 < n → 0 < blocks_to_end memory block n
+blocks_have_first memory block zero some = absurd (omega arith)
+blocks_have_first memory block (suc n) some = elim (has_end (byte_at memory block)) as (λ ended. 0 < (if ended then 1 else suc (blocks_to_end memory ((block + 9) % 0x10000) n))) [
   | true ↦ omega arith
   | false ↦ omega arith
 ]
 
--- a stretch that may be longer is as long at least
-stretch_grows : (memory : List ℕ) (block n m : ℕ) → n ≤ m → stretch_length memory block n ≤ stretch_length memory block m
-stretch_grows memory block zero m grows = omega arith
-stretch_grows memory block (suc n) zero grows = absurd (omega arith)
-stretch_grows memory block (suc n) (suc m) grows =
-    elim (has_end (byte_at memory block)) as (λ ended. (if ended then 1 else suc (stretch_length memory ((block + 9) % 0x10000) n)) ≤ (if ended then 1 else suc (stretch_length memory ((block + 9) % 0x10000) m))) [
+-- where there may be more, there are no fewer
+blocks_grow : (memory : List ℕ) (block n m : ℕ) → n ≤ m → blocks_to_end memory block n ≤ blocks_to_end memory block m
+blocks_grow memory block zero m grows = omega arith
+blocks_grow memory block (suc n) zero grows = absurd (omega arith)
+blocks_grow memory block (suc n) (suc m) grows =
+    elim (has_end (byte_at memory block)) as (λ ended. (if ended then 1 else suc (blocks_to_end memory ((block + 9) % 0x10000) n)) ≤ (if ended then 1 else suc (blocks_to_end memory ((block + 9) % 0x10000) m))) [
       | true ↦ omega arith
-      | false ↦ let rest = stretch_grows memory ((block + 9) % 0x10000) n m (omega arith) in omega arith
+      | false ↦ let rest = blocks_grow memory ((block + 9) % 0x10000) n m (omega arith) in omega arith
     ]
 
--- a chain from its loop word on comes to no page but those of the stretch there
-comes_again : (memory : List ℕ) (to most q : ℕ) → has_page q (pages_of_bytes to (9 * stretch_length memory to most)) ≡ false
+-- a chain from its loop word on comes to no page but those of the blocks up to the first end there
+comes_again : (memory : List ℕ) (to most q : ℕ) → has_page q (pages_of_bytes to (9 * blocks_to_end memory to most)) ≡ false
     → (fuel n : ℕ) → n ≤ fuel → n ≤ most → has_page q (flat_map block_pages (chain memory to n to)) ≡ false
 comes_again memory to most q none fuel zero within few = refl
 comes_again memory to most q none zero (suc n) within few = absurd (omega arith)
 comes_again memory to most q none (suc fuel) (suc n) within few =
-    let stretch : ℕ = stretch_length memory to (suc n) in
-    let some : 0 < stretch = stretch_has_first memory to (suc n) (omega arith) in
-    let grows : stretch ≤ stretch_length memory to most = stretch_grows memory to (suc n) most few in
-    let first : has_page q (pages_of_bytes to (9 * stretch)) ≡ false =
-    has_none (λ i. page_of (to + i)) q 0 (9 * stretch) (λ k from below. none_of (λ i. page_of (to + i)) q 0 (9 * stretch_length memory to most) none k from (omega arith)) in
-    let rest : has_page q (flat_map block_pages (chain memory to (suc n - stretch) to)) ≡ false =
-    comes_again memory to most q none fuel (suc n - stretch) (omega arith) (omega arith) in
-    ap (has_page q) (first_stretch memory to (suc n) to)
-    ∙ list_any-append (eq_by_cmp nat_cmp q) (pages_of_bytes to (9 * stretch)) (flat_map block_pages (chain memory to (suc n - stretch) to))
+    let blocks : ℕ = blocks_to_end memory to (suc n) in
+    let some : 0 < blocks = blocks_have_first memory to (suc n) (omega arith) in
+    let grows : blocks ≤ blocks_to_end memory to most = blocks_grow memory to (suc n) most few in
+    let first : has_page q (pages_of_bytes to (9 * blocks)) ≡ false =
+    has_none (λ i. page_of (to + i)) q 0 (9 * blocks) (λ k from below. none_of (λ i. page_of (to + i)) q 0 (9 * blocks_to_end memory to most) none k from (omega arith)) in
+    let rest : has_page q (flat_map block_pages (chain memory to (suc n - blocks) to)) ≡ false =
+    comes_again memory to most q none fuel (suc n - blocks) (omega arith) (omega arith) in
+    ap (has_page q) (up_to_first_end memory to (suc n) to)
+    ∙ list_any-append (eq_by_cmp nat_cmp q) (pages_of_bytes to (9 * blocks)) (flat_map block_pages (chain memory to (suc n - blocks) to))
     ∙ rw (first, rest) refl
 
--- a chain from its loop word on has the pages of the stretch there
-loop_stretch : (pages : Pages) (memory : List ℕ) (to n : ℕ)
-    → with_pages pages (pages_of_bytes to (9 * stretch_length memory to n)) ≡ with_pages pages (flat_map block_pages (chain memory to n to))
-loop_stretch pages memory to n = with_pages-same pages _ _ (λ q. fail_together _ _ (λ none. comes_again memory to n q none n n (omega arith) (omega arith)) (there q))
+-- a chain from its loop word on has the pages of the blocks up to the first end there
+from_loop_word : (pages : Pages) (memory : List ℕ) (to n : ℕ)
+    → with_pages pages (pages_of_bytes to (9 * blocks_to_end memory to n)) ≡ with_pages pages (flat_map block_pages (chain memory to n to))
+from_loop_word pages memory to n = with_pages-same pages _ _ (λ q. fail_together _ _ (λ none. comes_again memory to n q none n n (omega arith) (omega arith)) (there q))
   where
-    stretch : List ℕ
-    stretch = pages_of_bytes to (9 * stretch_length memory to n)
+    blocks : List ℕ
+    blocks = pages_of_bytes to (9 * blocks_to_end memory to n)
 
     left : List ℕ
-    left = flat_map block_pages (chain memory to (n - stretch_length memory to n) to)
+    left = flat_map block_pages (chain memory to (n - blocks_to_end memory to n) to)
 
-    there : (q : ℕ) → has_page q (flat_map block_pages (chain memory to n to)) ≡ false → has_page q (pages_of_bytes to (9 * stretch_length memory to n)) ≡ false
+    there : (q : ℕ) → has_page q (flat_map block_pages (chain memory to n to)) ≡ false → has_page q (pages_of_bytes to (9 * blocks_to_end memory to n)) ≡ false
     there q none =
-        let parts : (has_page q stretch || has_page q left) ≡ false = sym (list_any-append (eq_by_cmp nat_cmp q) stretch left) ∙ ap (has_page q) (sym (first_stretch memory to n to)) ∙ none in
-        (or_parts (has_page q stretch) (has_page q left) parts).0
+        let parts : (has_page q blocks || has_page q left) ≡ false = sym (list_any-append (eq_by_cmp nat_cmp q) blocks left) ∙ ap (has_page q) (sym (up_to_first_end memory to n to)) ∙ none in
+        (or_parts (has_page q blocks) (has_page q left) parts).0
 
--- a chain has the pages of the stretch at its start and of the stretch at its loop word
-pub two_stretches : (pages : Pages) (memory : List ℕ) (to n block : ℕ)
-    → with_pages (with_pages pages (pages_of_bytes block (9 * stretch_length memory block n))) (pages_of_bytes to (9 * stretch_length memory to (n - stretch_length memory block n)))
+-- a chain has the pages of both parts
+pub chain_in_two_parts : (pages : Pages) (memory : List ℕ) (to n block : ℕ)
+    → with_pages (with_pages pages (pages_of_bytes block (9 * blocks_to_end memory block n))) (pages_of_bytes to (9 * blocks_to_end memory to (n - blocks_to_end memory block n)))
     ≡ with_pages pages (flat_map block_pages (chain memory to n block))
-two_stretches pages memory to n block =
-    let stretch : ℕ = stretch_length memory block n in
-    loop_stretch (with_pages pages (pages_of_bytes block (9 * stretch))) memory to (n - stretch)
-    ∙ with_pages-append pages (pages_of_bytes block (9 * stretch)) (flat_map block_pages (chain memory to (n - stretch) to))
-    ∙ ap (with_pages pages) (sym (first_stretch memory to n block))
+chain_in_two_parts pages memory to n block =
+    let blocks : ℕ = blocks_to_end memory block n in
+    from_loop_word (with_pages pages (pages_of_bytes block (9 * blocks))) memory to (n - blocks)
+    ∙ with_pages-append pages (pages_of_bytes block (9 * blocks)) (flat_map block_pages (chain memory to (n - blocks) to))
+    ∙ ap (with_pages pages) (sym (up_to_first_end memory to n block))
 
--- a chain that is over with its first stretch has the pages of that one
-pub one_stretch : (pages : Pages) (memory : List ℕ) (to n block : ℕ) → n ≤ stretch_length memory block n
-    → with_pages pages (pages_of_bytes block (9 * stretch_length memory block n)) ≡ with_pages pages (flat_map block_pages (chain memory to n block))
-one_stretch pages memory to n block all =
-    let stretch : ℕ = stretch_length memory block n in
-    let none : n - stretch ≡ 0 = omega arith in
-    let alone : flat_map block_pages (chain memory to n block) ≡ pages_of_bytes block (9 * stretch) =
-    first_stretch memory to n block
-    ∙ ap (λ k. pages_of_bytes block (9 * stretch) ++ flat_map block_pages (chain memory to k to)) none
-    ∙ append-nil (pages_of_bytes block (9 * stretch)) in
+-- a chain that is over with its first part has the pages of that one
+pub chain_in_one_part : (pages : Pages) (memory : List ℕ) (to n block : ℕ) → n ≤ blocks_to_end memory block n
+    → with_pages pages (pages_of_bytes block (9 * blocks_to_end memory block n)) ≡ with_pages pages (flat_map block_pages (chain memory to n block))
+chain_in_one_part pages memory to n block all =
+    let blocks : ℕ = blocks_to_end memory block n in
+    let none : n - blocks ≡ 0 = omega arith in
+    let alone : flat_map block_pages (chain memory to n block) ≡ pages_of_bytes block (9 * blocks) =
+    up_to_first_end memory to n block
+    ∙ ap (λ k. pages_of_bytes block (9 * blocks) ++ flat_map block_pages (chain memory to k to)) none
+    ∙ append-nil (pages_of_bytes block (9 * blocks)) in
     ap (with_pages pages) (sym alone)
