@@ -1,2 +1,6 @@
 -- MarkedPages: what a bit set, or two words with a bit in common, mean for the sets of pages.
+-- SetsOfPages: what two words that are joined bit by bit, and words of ones, mean for them.
+-- PagesFrom: the pages from one on, by their numbers.
 pub mod MarkedPages
+pub mod SetsOfPages
+pub mod PagesFrom

@@ -1,5 +1,6 @@
 -- Sets of pages. A page is 256 bytes of memory; page p holds the addresses whose high byte is p.
-use Rattle.std.specs.Prelude.{ℕ, ◌/◌, ◌%◌, Bool, not, ◌==◌}
+use Rattle.std.specs.Prelude.{ℕ, ◌+◌, ◌/◌, ◌%◌, map, Bool, not, ◌==◌}
+use Rattle.std.specs.List.{range_with_len}
 use Rattle.std.specs.Ordering.{nat_cmp}
 use Rattle.std.specs.FinSet as set
 
@@ -10,6 +11,10 @@ page_of address = address % 0x10000 / 256
 -- a set of page numbers
 abbrev pub Pages : Type 0
 Pages = set.FinSet nat_cmp
+
+-- so many pages from a first one on; page 0 follows page 255
+abbrev pub pages_from : (first count : ℕ) → Pages
+pages_from first count = set.from_list (map (λ i. (first + i) % 256) (range_with_len 0 count))
 
 -- the sets have a page in common
 abbrev pub have_common_page : Pages → Pages → Bool

@@ -1,8 +1,8 @@
 //! Sets of pages.
 
-ghost use Rattle.std.specs.Prelude.{◌≡◌, ◌<◌, ◌*◌, ◌%◌, ◌^◌, bit_or};
+ghost use Rattle.std.specs.Prelude.{◌≡◌, ◌≤◌, ◌<◌, ◌-◌, ◌*◌, ◌%◌, ◌^◌, ℕ, bit_or, nat_lt};
 ghost use Rattle.std.specs.FinSet as set;
-ghost use Rattle.aram_core.specs.Pages.{page_of, have_common_page};
+ghost use Rattle.aram_core.specs.Pages.{page_of, pages_from, have_common_page};
 
 use std::marker::Model;
 
@@ -48,6 +48,52 @@ impl PageSet {
         PageSet { low: 0, high: 0 }
     }
 
+    /// The first so many pages.
+    fn below(count: u16) -> PageSet
+        requires { count ≤ 256 }
+        ensures { (q : ℕ) → set.contains result q ≡ nat_lt q count }
+    {
+        PageSet {
+            low: ones(count.min(128)),
+            high: ones(count.saturating_sub(128)),
+        }
+    }
+
+    /// So many pages from a first one on, which go on at page 0 after page 255.
+    pub fn pages_from(first: u8, count: u16) -> PageSet
+        requires { count ≤ 256 }
+        ensures { result ≡ pages_from first count }
+    {
+        let first = u16::from(first);
+        let end = first + count;
+        let before = PageSet::below(first);
+        if end <= 256 {
+            PageSet::below(end).without(&before)
+        } else {
+            let mut pages = PageSet::below(256).without(&before);
+            pages.add_all(&PageSet::below(end - 256));
+            pages
+        }
+    }
+
+    /// The pages of the set that are none of another one's.
+    fn without(&self, other: &PageSet) -> PageSet
+        ensures { result ≡ set.difference self.now other.now }
+    {
+        PageSet {
+            low: self.low & !other.low,
+            high: self.high & !other.high,
+        }
+    }
+
+    /// Puts the pages of another set into the set.
+    pub fn add_all(&mut self, other: &PageSet)
+        ensures { self.new ≡ set.union self.old other.now }
+    {
+        self.low = joined(self.low, other.low);
+        self.high = joined(self.high, other.high);
+    }
+
     /// Puts a page into the set.
     pub fn add(&mut self, page: u8)
         ensures { self.new ≡ set.insert self.old page }
@@ -73,6 +119,25 @@ impl PageSet {
     {
         self.low & other.low != 0 || self.high & other.high != 0
     }
+}
+
+/// A word whose first so many bits are set.
+fn ones(count: u16) -> u128
+    requires { count ≤ 128 }
+    ensures { result ≡ 2 ^ count - 1 }
+{
+    if count == 128 {
+        u128::MAX
+    } else {
+        (1 << count) - 1
+    }
+}
+
+/// The bits of two words.
+fn joined(word: u128, other: u128) -> u128
+    ensures { result ≡ bit_or word other }
+{
+    word | other
 }
 
 /// The word with one more bit set.

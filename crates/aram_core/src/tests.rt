@@ -78,3 +78,22 @@ fn sets_of_pages_at_their_ends(rt: HostRuntime) {
     others.add(0xFF);
     assert_eq!(rt; ends.meets(&others), true);
 }
+
+#[test]
+fn pages_from_one_on_go_on_at_page_0(rt: HostRuntime) {
+    let mut pages = PageSet::pages_from(0xFE, 4);
+    assert_eq!(rt;
+        (pages.has(0xFD), pages.has(0xFE), pages.has(0xFF)),
+        (false, true, true)
+    );
+    assert_eq!(rt;
+        (pages.has(0x00), pages.has(0x01), pages.has(0x02)),
+        (true, true, false)
+    );
+    pages.add_all(&PageSet::pages_from(0x7F, 2));
+    assert_eq!(rt;
+        (pages.has(0x7E), pages.has(0x7F), pages.has(0x80)),
+        (false, true, true)
+    );
+    assert_eq!(rt; (pages.has(0xFF), pages.has(0x81)), (true, false));
+}

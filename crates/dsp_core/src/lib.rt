@@ -1,5 +1,5 @@
-//! The S-DSP: eight voices, the echo and the registers. It makes its samples in batches: by rows where the echo can't write what the voices
-//! read, and else one after another.
+//! The S-DSP: eight voices, the echo and the registers. It makes its samples in batches: by rows where they are more than two and
+//! the echo can't write what the voices read, and else one after another.
 #![tactic(auto)]
 
 #[cfg(test)]

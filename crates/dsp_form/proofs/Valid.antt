@@ -1,4 +1,4 @@
--- What keeps a state valid: the opening, a write of a register, and a sample.
+-- What keeps a state valid: a write of a register, and a sample.
 use Rattle.std.proofs.Common.{◌≡◌, ℕ, ◌+◌, ◌%◌, List, [], ◌∷◌, ℤ, pos, Bool, true, false, ◌&&◌, ◌==◌, nat_le, length, map, if◌then◌else◌, refl, ap, ◌∙◌, arith}
 use Rattle.std.proofs.lemmas.Bool.{and_parts, and_from}
 use Rattle.std.proofs.lemmas.Bool.Decides.{nat_tests}
@@ -11,7 +11,7 @@ use Rattle.echo_unit.proofs.Cells.{is_at_cell-next_echo}
 use Rattle.dsp_form.specs.Registers.{voice_regs, echo_regs}
 use Rattle.dsp_form.specs.Results.{without_bits}
 use Rattle.dsp_form.specs.Sample.{SharedInput, voice_in, voice_result, results_from, shared_input, after_poll, after_noise, sample}
-use Rattle.dsp_form.specs.Outside.{opened_state, register_write}
+use Rattle.dsp_form.specs.Outside.{register_write}
 use Rattle.dsp_form.specs.Valid.{is_valid}
 use Rattle.dsp_form.specs.declared.state.ChipState.{ChipState}
 use Rattle.dsp_form.proofs.EightVoices.{polled_part, voices-before_step, length-voices-sample}
@@ -74,8 +74,3 @@ is_valid-register_write s address byte h = by (nat_le 0x80 address) _ _
     by : (b : Bool) (registers : List ℕ) (waiting : ℕ) → is_valid (if b then s else record s { registers = registers; hidden = record s.hidden { waiting = waiting } }) ≡ true
     by true registers waiting = h
     by false registers waiting = h
-
--- the state at the opening is valid
-pub is_valid-opened_state : (registers : List ℕ) (table : List ℤ) → is_valid (opened_state registers table) ≡ true
-unfolding is_valid opened_state
-is_valid-opened_state registers table = refl

@@ -20,13 +20,6 @@ contains-pages pages p = set.contains-from_list_nat pages p
 pub at_page : (pages : List ℕ) (p q : ℕ) → p ≡ q → has_page pages p ≡ true → has_page pages q ≡ true
 at_page pages p q same h = ap (λ (x : ℕ). has_page pages x) (sym same) ∙ h
 
--- where two lists have no page in common, a page of the one is none of the other
-pub apart_left : (xs ys : List ℕ) (p : ℕ) → have_common_page (set.from_list xs) (set.from_list ys) ≡ false → has_page ys p ≡ true → has_page xs p ≡ false
-apart_left xs ys p apart there = elim (cases_Bool (has_page xs p)) [
-  | inl here ↦ absurd (true≢false (sym (common_page _ _ p (contains-pages xs p ∙ here) (contains-pages ys p ∙ there)) ∙ apart))
-  | inr not_here ↦ not_here
-]
-
 pub apart_right : (xs ys : List ℕ) (p : ℕ) → have_common_page (set.from_list xs) (set.from_list ys) ≡ false → has_page xs p ≡ true → has_page ys p ≡ false
 apart_right xs ys p apart here = elim (cases_Bool (has_page ys p)) [
   | inl there ↦ absurd (true≢false (sym (common_page _ _ p (contains-pages xs p ∙ here) (contains-pages ys p ∙ there)) ∙ apart))

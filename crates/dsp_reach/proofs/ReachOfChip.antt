@@ -9,11 +9,11 @@ use Rattle.dsp_form.specs.Reach.{chip_reach, chip_window}
 use Rattle.dsp_form.specs.declared.registers.TheConstants.{FLG}
 use Rattle.dsp_form.specs.declared.state.ChipState.{ChipState}
 use Rattle.dsp_reach.proofs.PageSets.{has_page, contains-pages, apart_right, not_in_left, not_in_right}
-use Rattle.dsp_reach.proofs.Voices.{pages_from}
+use Rattle.dsp_reach.proofs.Voices.{voice_pages_from}
 
 -- the pages that the voices read, and those of the window
 abbrev pub pages_of_voices : ChipState → List ℕ → List ℕ
-pages_of_voices s memory = pages_from s memory 0 s.hidden.voices
+pages_of_voices s memory = voice_pages_from s memory 0 s.hidden.voices
 
 abbrev pub pages_of_echo : ChipState → List ℕ
 pages_of_echo s = window_pages (chip_window s)

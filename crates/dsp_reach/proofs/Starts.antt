@@ -16,7 +16,7 @@ use Rattle.dsp_form.specs.Reach.{entries_from, voice_starts, starts_from, chip_w
 use Rattle.dsp_reach.proofs.PageSets.{has_page, at_page, in_left, in_right}
 use Rattle.dsp_reach.proofs.ChainPages.{bytes_have, own_pages, AgreeOn, agree_put, start_same, loop_same}
 use Rattle.dsp_reach.proofs.ReachOfChip.{unread_by_voices}
-use Rattle.dsp_reach.proofs.Voices.{pages_from, first_agree, rest_agree}
+use Rattle.dsp_reach.proofs.Voices.{voice_pages_from, first_agree, rest_agree}
 
 -- memories that agree on the pages of a chain have the same chain
 chain_same : (memory m : List ℕ) (loop_to count block : ℕ) → AgreeOn (flat_map block_pages (chain memory loop_to count block)) m memory
@@ -57,7 +57,7 @@ unfolding start_word loop_word
 voice_starts_same s memory m v voice same = rw (start_same s memory v voice m memory same, loop_same s memory v voice m memory same) refl
 
 -- where the voices from v on can be
-pub starts_from_same : (s : ChipState) (memory m : List ℕ) (v : ℕ) (voices : List VoiceState) → AgreeOn (pages_from s memory v voices) m memory
+pub starts_from_same : (s : ChipState) (memory m : List ℕ) (v : ℕ) (voices : List VoiceState) → AgreeOn (voice_pages_from s memory v voices) m memory
     → starts_from s m v voices ≡ starts_from s memory v voices
 starts_from_same s memory m v [] same = refl
 starts_from_same s memory m v (voice ∷ voices) same =
@@ -66,20 +66,16 @@ starts_from_same s memory m v (voice ∷ voices) same =
     starts_from_same s memory m (v + 1) voices (rest_agree s memory v voice voices m memory same) in
     ap (λ (starts : List ChainStart). starts ++ starts_from s m (v + 1) voices) first ∙ ap (λ (starts : List ChainStart). voice_starts s memory v voice ++ starts) rest
 
-pub pages_from_same : (s : ChipState) (memory m : List ℕ) (v : ℕ) (voices : List VoiceState) → AgreeOn (pages_from s memory v voices) m memory
-    → pages_from s m v voices ≡ pages_from s memory v voices
+pub pages_from_same : (s : ChipState) (memory m : List ℕ) (v : ℕ) (voices : List VoiceState) → AgreeOn (voice_pages_from s memory v voices) m memory
+    → voice_pages_from s m v voices ≡ voice_pages_from s memory v voices
 pages_from_same s memory m v voices same =
     ap (λ (starts : List ChainStart). voice_pages m starts (entries_from s.registers v voices)) (starts_from_same s memory m v voices same)
     ∙ voice_pages_same memory m (starts_from s memory v voices) (entries_from s.registers v voices) same
 
 -- a byte that is put on none of the pages of voices
-pub starts_stay : (s : ChipState) (memory : List ℕ) (v : ℕ) (voices : List VoiceState) (at value : ℕ) → has_page (pages_from s memory v voices) (page_of at) ≡ false
-    → starts_from s (with_byte memory at value) v voices ≡ starts_from s memory v voices
-starts_stay s memory v voices at value none = starts_from_same s memory (with_byte memory at value) v voices (agree_put (pages_from s memory v voices) memory at value none)
-
-pub pages_stay : (s : ChipState) (memory : List ℕ) (v : ℕ) (voices : List VoiceState) (at value : ℕ) → has_page (pages_from s memory v voices) (page_of at) ≡ false
-    → pages_from s (with_byte memory at value) v voices ≡ pages_from s memory v voices
-pages_stay s memory v voices at value none = pages_from_same s memory (with_byte memory at value) v voices (agree_put (pages_from s memory v voices) memory at value none)
+pub pages_stay : (s : ChipState) (memory : List ℕ) (v : ℕ) (voices : List VoiceState) (at value : ℕ) → has_page (voice_pages_from s memory v voices) (page_of at) ≡ false
+    → voice_pages_from s (with_byte memory at value) v voices ≡ voice_pages_from s memory v voices
+pages_stay s memory v voices at value none = pages_from_same s memory (with_byte memory at value) v voices (agree_put (voice_pages_from s memory v voices) memory at value none)
 
 -- the reach of the same pages
 reach_of_pages : (memory m : List ℕ) (starts others : List ChainStart) (entries : List ℕ) (window : Window) (writes_on : Bool)

@@ -26,8 +26,8 @@ use Rattle.dsp_reach.proofs.OnChains.{on_first, SeesTheSame, step_on_chains}
 use Rattle.dsp_reach.proofs.ChainPages.{own_pages, block_in, AgreeOn, agree_put, start_same, loop_same, agrees}
 
 -- the pages of the voices from v on
-abbrev pub pages_from : ChipState → List ℕ → (v : ℕ) → (olds : List VoiceState) → List ℕ
-pages_from s memory v olds = voice_pages memory (starts_from s memory v olds) (entries_from s.registers v olds)
+abbrev pub voice_pages_from : ChipState → List ℕ → (v : ℕ) → (olds : List VoiceState) → List ℕ
+voice_pages_from s memory v olds = voice_pages memory (starts_from s memory v olds) (entries_from s.registers v olds)
 
 -- the pages of a voice and those of the rest are pages of all
 first_in : (memory : List ℕ) (starts rest : List ChainStart) (entry : ℕ) (entries : List ℕ) (p : ℕ)
@@ -61,12 +61,12 @@ rest_in memory starts rest entry entries p h =
 -- the bytes on their pages, and key-ons of no voice but those that waited.
 pub record FindTheSame (s : ChipState) (memory : List ℕ) (v : ℕ) (olds : List VoiceState) (shared : SharedInput) : Type 0 where
   pub registers : (address : ℕ) → is_result address ≡ false → slice_index shared.registers address ≡ slice_index s.registers address
-  pub bytes : AgreeOn (pages_from s memory v olds) shared.memory memory
+  pub bytes : AgreeOn (voice_pages_from s memory v olds) shared.memory memory
   pub keyed : (u : ℕ) → (shared.common.is_poll && has_bit shared.common.taken u) ≡ true → has_bit s.hidden.waiting u ≡ true
 
 -- the bytes of all but the first
 pub rest_agree : (s : ChipState) (memory : List ℕ) (v : ℕ) (old : VoiceState) (olds : List VoiceState) (m n : List ℕ)
-    → AgreeOn (pages_from s memory v (old ∷ olds)) m n → AgreeOn (pages_from s memory (v + 1) olds) m n
+    → AgreeOn (voice_pages_from s memory v (old ∷ olds)) m n → AgreeOn (voice_pages_from s memory (v + 1) olds) m n
 rest_agree s memory v old olds m n same at some =
     same at (rest_in memory (voice_starts s memory v old) (starts_from s memory (v + 1) olds) (voice_entry s.registers v) (entries_from s.registers (v + 1) olds) (page_of at) some)
 
@@ -81,7 +81,7 @@ rest_find s memory v old olds shared find = record {
 
 -- the bytes of the first of them
 pub first_agree : (s : ChipState) (memory : List ℕ) (v : ℕ) (old : VoiceState) (olds : List VoiceState) (m n : List ℕ)
-    → AgreeOn (pages_from s memory v (old ∷ olds)) m n → AgreeOn (own_pages s memory v old) m n
+    → AgreeOn (voice_pages_from s memory v (old ∷ olds)) m n → AgreeOn (own_pages s memory v old) m n
 first_agree s memory v old olds m n same at some =
     same at (first_in memory (voice_starts s memory v old) (starts_from s memory (v + 1) olds) (voice_entry s.registers v) (entries_from s.registers (v + 1) olds) (page_of at) some)
 
@@ -130,7 +130,7 @@ voices_stay s memory j v previous shared (old ∷ olds) (new ∷ news) find few 
 
 -- memories that agree on the pages of the voices give them the same results
 pub results_same : (s : ChipState) (memory : List ℕ) (j v : ℕ) (previous : ℤ) (shared : SharedInput) (m : List ℕ) (olds news : List VoiceState) → FindTheSame s memory v olds shared → j ≤ 64
-    → AllStayOnChains s memory j v olds news → AgreeOn (pages_from s memory v olds) m shared.memory
+    → AllStayOnChains s memory j v olds news → AgreeOn (voice_pages_from s memory v olds) m shared.memory
     → results_from (record shared { memory = m }) v previous news ≡ results_from shared v previous news
 results_same s memory j v previous shared m [] [] find few stay same = refl
 results_same s memory j v previous shared m [] (new ∷ news) find few stay same = absurd stay
@@ -148,10 +148,10 @@ results_same s memory j v previous shared m (old ∷ olds) (new ∷ news) find f
 
 -- a byte that is put elsewhere gives the voices the same results
 pub voices_apart : (s : ChipState) (memory : List ℕ) (j v : ℕ) (previous : ℤ) (shared : SharedInput) (olds news : List VoiceState) (at value : ℕ) → FindTheSame s memory v olds shared → j ≤ 64
-    → AllStayOnChains s memory j v olds news → has_page (pages_from s memory v olds) (page_of at) ≡ false
+    → AllStayOnChains s memory j v olds news → has_page (voice_pages_from s memory v olds) (page_of at) ≡ false
     → results_from (record shared { memory = with_byte shared.memory at value }) v previous news ≡ results_from shared v previous news
 voices_apart s memory j v previous shared olds news at value find few stay none =
-    results_same s memory j v previous shared (with_byte shared.memory at value) olds news find few stay (agree_put (pages_from s memory v olds) shared.memory at value none)
+    results_same s memory j v previous shared (with_byte shared.memory at value) olds news find few stay (agree_put (voice_pages_from s memory v olds) shared.memory at value none)
 
 -- when the reach is taken, each voice stands in the first block of its own chain
 all_at_start : (s : ChipState) (memory : List ℕ) (v : ℕ) (voices : List VoiceState) → list_all is_at_group voices ≡ true → AllStayOnChains s memory 0 v voices voices

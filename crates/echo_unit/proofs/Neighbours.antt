@@ -1,17 +1,15 @@
 -- Cells that stand one after another in one page.
-use Rattle.std.proofs.Common.{◌≡◌, ℕ, zero, suc, ◌+◌, ◌-◌, ◌*◌, ◌/◌, ◌%◌, ◌<◌, ◌≤◌, ◌==◌, nat_le, true, List, ℤ, ◌++◌, length, take, drop, set, get_or, slice_set, slice_index, if◌then◌else◌, refl, ap, sym, ◌∙◌, append_assoc, length-append, arith}
-use Rattle.std.specs.Int.{w16, cast_signed, cast_unsigned}
+use Rattle.std.proofs.Common.{◌≡◌, ℕ, zero, suc, ◌+◌, ◌-◌, ◌*◌, ◌/◌, ◌%◌, ◌<◌, ◌≤◌, nat_le, List, ℤ, ◌++◌, length, take, drop, slice_set, slice_index, if◌then◌else◌, refl, ap, sym, ◌∙◌, append_assoc, length-append, arith}
+use Rattle.std.specs.Int.{w16, cast_unsigned}
 use Rattle.std.proofs.Math.Nat.{add-suc}
 use Rattle.std.proofs.lemmas.List.{get_or-take, get_or-drop, drop-drop, length-set, take-append-drop, length-take-le, set-append_left, set-append_right}
-use Rattle.num_fix.specs.Arithmetic.{floor_shift}
 use Rattle.num_fix.specs.declared.Frame.{Frame}
 use Rattle.aram_core.specs.Memory.{byte_at, word_at, with_byte, page_bytes, with_page}
 use Rattle.aram_core.specs.Pages.{page_of}
-use Rattle.echo_unit.specs.Echo.{EchoState, is_at_cell, cell_address, halved_word, cell_pair, with_word, with_cell, at_next_cell, next_echo}
+use Rattle.echo_unit.specs.Echo.{EchoState, cell_address, halved_word, cell_pair, with_word, with_cell, at_next_cell}
 use Rattle.echo_unit.specs.Cells.{after_cells, length_in_force, AreNeighbours}
 use Rattle.echo_unit.specs.Page.{halved_at, pair_in, with_word_in, with_pair_in}
 use Rattle.echo_unit.proofs.Walk.{goes_on}
-use Rattle.echo_unit.proofs.Cells.{is_at_cell-next_cell}
 
 -- so many cells further, and then as many more
 pub after_cells-add : (s : EchoState) (edl j i : ℕ) → after_cells s edl (j + i) ≡ after_cells (after_cells s edl j) edl i
@@ -50,11 +48,6 @@ skipped edl (suc i) s some near =
     let by_end = ap (λ (e : ℕ). if nat_le (length_in_force edl s) e then 0 else e) end in
     let by_length = ap (λ (l : ℕ). if nat_le l ((after_cells s edl i).offset + 4) then 0 else (after_cells s edl i).offset + 4) (sym last.length_is) in
     same_echo _ (after_cells s edl (suc i)) (by_end ∙ by_length) (sym last.length_is) (sym last.history_is)
-
--- the echo stands at a cell after any number of them
-pub is_at_cell-after_cells : (s : EchoState) (edl cells : ℕ) → is_at_cell s ≡ true → is_at_cell (after_cells s edl cells) ≡ true
-is_at_cell-after_cells s edl zero at = at
-is_at_cell-after_cells s edl (suc j) at = is_at_cell-next_cell (after_cells s edl j) edl (is_at_cell-after_cells s edl j at)
 
 -- a byte of a page
 byte_in_page : (memory : List ℕ) (page address at : ℕ) → page < 256 → at < 256 → address % 0x10000 ≡ 256 * page + at → slice_index (page_bytes memory page) at ≡ byte_at memory address

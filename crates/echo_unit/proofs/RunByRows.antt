@@ -28,9 +28,6 @@ pub echo_run-more : (regs : EchoRegs) (main sent : ℕ → Frame) (echo : EchoSt
     })
 echo_run-more regs main sent echo memory j = rw add-one refl
 
-pub after_cells-more : (s : EchoState) (edl j : ℕ) → after_cells s edl (j + 1) ≡ at_next_cell (after_cells s edl j) edl
-after_cells-more s edl j = rw add-one refl
-
 pub pairs_read-more : (s : EchoState) (regs : EchoRegs) (memory : List ℕ) (j : ℕ)
     → pairs_read s regs memory (j + 1) ≡ pairs_read s regs memory j ++ cell_pair memory (cell_address regs.esa (after_cells s regs.edl j).offset) ∷ []
 pairs_read-more s regs memory j = rw add-one refl

@@ -1,21 +1,21 @@
 // The FIR filter.
-ghost use Rattle.std.specs.Prelude.{◌≡◌, ◌<◌, ◌≤◌, ◌+◌, ◌^◌, map, length, unsigned_abs, slice_index};
-ghost use Rattle.num_fix.specs.Arithmetic.{scaled, sign8};
+ghost use Rattle.std.specs.Prelude.{◌≡◌, ◌<◌, ◌≤◌, ◌+◌, map, length, slice_index};
+ghost use Rattle.num_fix.specs.Arithmetic.{scaled, sign8, wrap16};
 ghost use Rattle.num_fix.specs.Words.{number_at};
 ghost use Rattle.echo_unit.specs.Fir.{filtered_sample, eight_from};
 ghost use Rattle.echo_unit.specs.Echo.{filtered_pair};
 
 use crate::volume::signed;
-use num_fix::{Frame, add_clamped, clear_bit0, scaled, wrap16};
+use crate::wrapped::{over_64, wrapped_sum};
+use num_fix::{Frame, add_clamped, clear_bit0};
 
-/// One tap of the filter, over the samples of a row from a place on.
-fn tap(row: &[i16], place: usize, coefficients: &[u8; 8], i: usize) -> i32
+/// One tap of the filter, over the samples of a row from a place on, in 16 bits.
+fn tap(row: &[i16], place: usize, coefficients: &[u8; 8], i: usize) -> i16
     requires tap { i < 8 }
     requires row { place + 8 ≤ length row.now }
-    ensures value { result ≡ scaled (number_at row.now (place + i)) (sign8 (slice_index coefficients.now i)) 6 }
-    ensures bound { unsigned_abs result ≤ 2 ^ 24 }
+    ensures { result ≡ wrap16 (scaled (number_at row.now (place + i)) (sign8 (slice_index coefficients.now i)) 6) }
 {
-    scaled(row[place + i], signed(coefficients[i]), 6)
+    over_64(row[place + i], signed(coefficients[i]))
 }
 
 /// The filter over the eight samples of a row from a place on.
@@ -26,10 +26,9 @@ pub fn filtered_sample(row: &[i16], place: usize, coefficients: &[u8; 8]) -> i16
 {
     let mut sum = 0;
     for i in 0..7 {
-        sum += tap(row, place, coefficients, i);
+        sum = wrapped_sum(sum, tap(row, place, coefficients, i));
     }
-    let last = wrap16(tap(row, place, coefficients, 7));
-    clear_bit0(add_clamped(wrap16(sum), last))
+    clear_bit0(add_clamped(sum, tap(row, place, coefficients, 7)))
 }
 
 /// The left sample of a pair.

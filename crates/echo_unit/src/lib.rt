@@ -11,6 +11,7 @@ mod rows;
 #[cfg(test)]
 mod tests;
 mod volume;
+mod wrapped;
 
 pub use echo::Echo;
 pub use reach_map::Window;

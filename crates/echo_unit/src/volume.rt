@@ -1,5 +1,5 @@
 // Samples at the volumes of registers.
-ghost use Rattle.std.specs.Prelude.{◌≡◌};
+ghost use Rattle.std.specs.Prelude.{◌≡◌, ◌≤◌, unsigned_abs};
 ghost use Rattle.num_fix.specs.Arithmetic.{sign8};
 ghost use Rattle.echo_unit.specs.Echo.{at_volume, side_output, output_frame, feedback_word};
 
@@ -8,7 +8,8 @@ use num_fix::{Frame, add_clamped, clear_bit0, has_bit, scaled, sign8, wrap16};
 
 /// A register, read with a sign.
 pub fn signed(byte: u8) -> i16
-    ensures { result ≡ sign8 byte }
+    ensures value { result ≡ sign8 byte }
+    ensures bound { unsigned_abs result ≤ 128 }
 {
     sign8(byte) as i16
 }

@@ -4,11 +4,11 @@ use Rattle.std.specs.List.{list_any}
 use Rattle.std.specs.Ordering.{nat_cmp, eq_by_cmp}
 use Rattle.std.specs.Cmp.{nat_cmp_total}
 use Rattle.std.specs.FinSet as set
-use Rattle.std.specs.FinMap.{nat_cmp-IsAntisymmetric}
 use Rattle.std.proofs.lemmas.List.{append-nil, take_more}
 use Rattle.std.proofs.lemmas.Grind.{flat_map-append}
 use Rattle.std.proofs.lemmas.List.Folds.{list_any-append}
 use Rattle.aram_core.specs.Pages.{Pages}
+use Rattle.aram_core.proofs.SetsOfPages.{same_pages}
 use Rattle.reach_map.specs.Added.{with_pages}
 
 -- whether a list has a page
@@ -19,9 +19,6 @@ pub contains-with_pages : (pages : Pages) (more : List ℕ) (q : ℕ) → set.co
 unfolding with_pages
 contains-with_pages pages more q =
     set.contains-union nat_cmp_total pages (set.from_list more) q ∙ ap (λ b. set.contains pages q || b) (set.contains-from_list nat_cmp_total more q)
-
-pub same_pages : (these those : Pages) → ((q : ℕ) → set.contains these q ≡ set.contains those q) → these ≡ those
-same_pages these those same = set.same_set nat_cmp_total nat_cmp-IsAntisymmetric these those same
 
 or_assoc : (a b c : Bool) → ((a || b) || c) ≡ (a || (b || c))
 or_assoc true b c = refl

@@ -1,5 +1,5 @@
 -- The pages of bytes that follow one another are those of each 256th byte and of the last one.
-use Rattle.std.proofs.Common.{◌≡◌, ◌≢◌, ℕ, zero, suc, ◌+◌, ◌-◌, ◌*◌, ◌/◌, ◌<◌, ◌≤◌, [], ◌∷◌, ◌++◌, map, Bool, true, false, ◌||◌, nat_eq, ◌⊎◌, refl, sym, ap, ◌∙◌, arith, inl, inr}
+use Rattle.std.proofs.Common.{◌≡◌, ◌≢◌, ℕ, zero, suc, ◌+◌, ◌-◌, ◌*◌, ◌/◌, ◌%◌, ◌<◌, ◌≤◌, [], ◌∷◌, ◌++◌, map, Bool, true, false, ◌||◌, nat_eq, ◌⊎◌, refl, sym, ap, ◌∙◌, arith, inl, inr}
 use Rattle.std.specs.List.{range_with_len}
 use Rattle.std.specs.Ordering.{nat_cmp, eq_by_cmp}
 use Rattle.std.specs.FinSet as set
@@ -8,19 +8,16 @@ use Rattle.std.proofs.lemmas.Bool.{cases_eq, cases_lt, or_parts}
 use Rattle.std.proofs.lemmas.Bool.Decides.{nat_tests}
 use Rattle.std.proofs.lemmas.List.Folds.{list_any-append}
 use Rattle.std.proofs.lemmas.List.FromFn.{map-range_with_len_more}
-use Rattle.aram_core.specs.Pages.{Pages, page_of}
+use Rattle.aram_core.specs.Pages.{Pages, page_of, pages_from}
 use Rattle.reach_map.specs.Added.{with_pages, pages_of_steps}
 use Rattle.reach_map.specs.Reach.{pages_of_bytes}
-use Rattle.reach_map.proofs.Added.{has_page, with_pages-same, with_pages-one, with_pages-push}
-
-tied : (q k : ℕ) → eq_by_cmp nat_cmp q k ≡ nat_eq q k
-tied q k = unsigned_tied q k
+use Rattle.reach_map.proofs.Added.{has_page, with_pages-same, with_pages-one, with_pages-push, with_pages-empty}
 
 tied_other : (q k : ℕ) → q ≢ k → eq_by_cmp nat_cmp q k ≡ false
-tied_other q k other = let no : nat_eq q k ≡ false = grind (arith, nat_tests, other) in tied q k ∙ no
+tied_other q k other = let no : nat_eq q k ≡ false = grind (arith, nat_tests, other) in unsigned_tied q k ∙ no
 
 other_tied : (q k : ℕ) → eq_by_cmp nat_cmp q k ≡ false → q ≢ k
-other_tied q k apart = let differs : nat_eq q k ≡ false = sym (tied q k) ∙ apart in grind (arith, nat_tests, differs)
+other_tied q k apart = let differs : nat_eq q k ≡ false = sym (unsigned_tied q k) ∙ apart in grind (arith, nat_tests, differs)
 
 -- a page that is none of a list's is no entry of it, and the other way round
 pub none_of : (f : ℕ → ℕ) (q a n : ℕ) → has_page q (map f (range_with_len a n)) ≡ false → (k : ℕ) → a ≤ k → k < a + n → q ≢ f k
@@ -101,15 +98,16 @@ two_ends pages start count some few =
     ∙ ap (λ p. with_pages pages (p ∷ page_of (start + (count - 1)) ∷ [])) (sym first)
     ∙ same_steps pages start count 1 some (omega arith) (omega arith)
 
--- one step more
-pub one_step : (pages : Pages) (start i : ℕ) → set.insert (with_pages pages (pages_of_steps start i)) (page_of (start + 256 * i)) ≡ with_pages pages (pages_of_steps start (i + 1))
-one_step pages start i =
-    with_pages-push pages (pages_of_steps start i) (page_of (start + 256 * i))
-    ∙ ap (with_pages pages) (sym (map-range_with_len_more (λ j. page_of (start + 256 * j)) 0 i i (omega arith)))
-
 -- the steps of bytes that follow one another, and the last byte, have the pages of all
 pub last_step : (pages : Pages) (start count : ℕ) → 0 < count
     → set.insert (with_pages pages (pages_of_steps start ((count - 1) / 256 + 1))) (page_of (start + (count - 1))) ≡ with_pages pages (pages_of_bytes start count)
 last_step pages start count some =
     with_pages-push pages (pages_of_steps start ((count - 1) / 256 + 1)) (page_of (start + (count - 1)))
     ∙ same_steps pages start count ((count - 1) / 256 + 1) some (omega arith) (omega arith)
+
+-- so many pages from that of the start on are those of the steps
+pub pages_from-steps : (start count : ℕ) → pages_from (page_of start) count ≡ with_pages set.empty (pages_of_steps start count)
+pages_from-steps start count = ap set.from_list (λ j. map (λ i. same i j) (range_with_len 0 count)) ∙ sym (with_pages-empty (pages_of_steps start count))
+  where
+    same : (i : ℕ) → (page_of start + i) % 256 ≡ page_of (start + 256 * i)
+    same i = omega arith

@@ -4,5 +4,5 @@ pub mod Window
 pub mod Reach
 -- Added: a set of pages with the pages of a list added.
 pub mod Added
--- Stretch: blocks that stand one after another.
-pub mod Stretch
+-- BlocksToEnd: how many blocks stand one after another up to the first that ends.
+pub mod BlocksToEnd

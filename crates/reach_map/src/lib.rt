@@ -9,7 +9,7 @@ mod voices;
 ghost use Rattle.std.specs.Prelude.{◌≡◌, ◌≤◌, length};
 ghost use Rattle.reach_map.specs.Reach.{reach};
 
-use crate::pages::add_window;
+use crate::pages::window_pages;
 use crate::voices::voice_pages;
 use aram_core::{Aram, PageSet};
 
@@ -53,9 +53,9 @@ pub fn reach(
     ensures { result ≡ reach memory.now starts.now entries.now window writes_on }
 {
     let voices = voice_pages(memory, starts, entries);
+    let echo = window_pages(window);
     let mut read_pages = voices;
-    let mut echo = PageSet::empty();
-    add_window(&mut read_pages, &mut echo, window);
+    read_pages.add_all(&echo);
     if writes_on {
         ReachPages {
             read_pages,

@@ -1,7 +1,8 @@
 //! Pages put into sets.
 
-ghost use Rattle.std.specs.Prelude.{◌≡◌, ◌≤◌, ◌+◌, ◌-◌, ◌*◌, ◌<◌};
-ghost use Rattle.reach_map.specs.Added.{with_pages, pages_of_steps};
+ghost use Rattle.std.specs.Prelude.{◌≡◌, ◌≤◌};
+ghost use Rattle.std.specs.FinSet as set;
+ghost use Rattle.reach_map.specs.Added.{with_pages};
 ghost use Rattle.reach_map.specs.Reach.{pages_of_bytes, window_pages};
 
 use crate::Window;
@@ -24,29 +25,14 @@ pub fn add_bytes(pages: &mut PageSet, start: u16, count: u32)
     }
 }
 
-/// Puts the pages of bytes that stand 256 apart into two sets.
-fn add_steps(these: &mut PageSet, those: &mut PageSet, start: u16, count: u16)
-    requires { count ≤ 256 }
-    ensures these { these.new ≡ with_pages these.old (pages_of_steps start count) }
-    ensures those { those.new ≡ with_pages those.old (pages_of_steps start count) }
-{
-    for i in 0..count {
-        let page = page_of(start.wrapping_add(PAGE * i));
-        these.add(page);
-        those.add(page);
-    }
-}
-
-/// Puts the pages of a window into two sets.
-pub fn add_window(these: &mut PageSet, those: &mut PageSet, window: Window)
+/// The pages of a window: those of each 256th byte, and that of the last one.
+pub fn window_pages(window: Window) -> PageSet
     requires some { 1 ≤ window.len }
     requires most { window.len ≤ 0x10000 }
-    ensures these { these.new ≡ with_pages these.old (window_pages window) }
-    ensures those { those.new ≡ with_pages those.old (window_pages window) }
+    ensures { result ≡ set.from_list (window_pages window) }
 {
     let last = (window.len - 1) as u16;
-    add_steps(these, those, window.start, last / PAGE + 1);
-    let page = page_of(window.start.wrapping_add(last));
-    these.add(page);
-    those.add(page);
+    let mut pages = PageSet::pages_from(page_of(window.start), last / PAGE + 1);
+    pages.add(page_of(window.start.wrapping_add(last)));
+    pages
 }

@@ -4,7 +4,7 @@ ghost use Rattle.std.specs.Prelude.{◌≡◌, ◌≤◌, ◌++◌, flat_map, le
 ghost use Rattle.std.specs.FinSet as set;
 ghost use Rattle.reach_map.specs.Added.{with_pages};
 ghost use Rattle.reach_map.specs.Reach.{block_pages, chain, chain_pages, entry_pages, voice_pages};
-ghost use Rattle.reach_map.specs.Stretch.{stretch_length};
+ghost use Rattle.reach_map.specs.BlocksToEnd.{blocks_to_end};
 
 use crate::ChainStart;
 use crate::pages::add_bytes;
@@ -20,8 +20,8 @@ const ENTRY: u32 = 4;
 const BLOCKS: u32 = 18;
 
 /// How many blocks stand one after another from a block on, up to the first that has its end bit, and at most so many.
-fn stretch_length(memory: &Aram, start: u16, most: u32) -> u32
-    ensures length { result ≡ stretch_length memory.now start most }
+fn blocks_to_end(memory: &Aram, start: u16, most: u32) -> u32
+    ensures length { result ≡ blocks_to_end memory.now start most }
     ensures most { result ≤ most }
 {
     let mut block = start;
@@ -36,17 +36,17 @@ fn stretch_length(memory: &Aram, start: u16, most: u32) -> u32
     most - left
 }
 
-/// Puts the pages of so many blocks of a chain into a set: those of the stretch at its start, and those of the stretch at its
-/// loop word. After the end of that stretch come the same blocks again. 28 blocks are shorter than a page.
+/// Puts the pages of so many blocks of a chain into a set: those of its blocks up to the first end, and those from its loop word
+/// up to the first end there. After that end come the same blocks again. 28 blocks are shorter than a page.
 fn add_blocks(pages: &mut PageSet, memory: &Aram, start: ChainStart, count: u32)
     requires some { 1 ≤ count }
     requires few { count ≤ 28 }
     ensures { pages.new ≡ with_pages pages.old (flat_map block_pages (chain memory.now start.loop_word count start.block)) }
 {
-    let first = stretch_length(memory, start.block, count);
+    let first = blocks_to_end(memory, start.block, count);
     add_bytes(pages, start.block, BLOCK * first);
     if first < count {
-        let again = stretch_length(memory, start.loop_word, count - first);
+        let again = blocks_to_end(memory, start.loop_word, count - first);
         add_bytes(pages, start.loop_word, BLOCK * again);
     }
 }

@@ -5,26 +5,25 @@ use Rattle.reach_map.specs.Added.{with_pages}
 use Rattle.reach_map.specs.Reach.{reach, voice_pages, window_pages}
 use Rattle.reach_map.specs.declared.Window.{Window}
 use Rattle.reach_map.specs.declared.ChainStart.{ChainStart}
-use Rattle.reach_map.proofs.Added.{with_pages-empty, with_pages-from_list}
+use Rattle.reach_map.proofs.Added.{with_pages-from_list}
 use Rattle.reach_map.proofs.reach.Goals as goal
 
 reach-on : (memory : List ℕ) (starts : List ChainStart) (entries : List ℕ) (window : Window) (read write : Pages) (entangled : Bool)
-    → read ≡ with_pages (set.from_list (voice_pages memory starts entries)) (window_pages window) → write ≡ with_pages set.empty (window_pages window)
+    → read ≡ set.union (set.from_list (voice_pages memory starts entries)) (set.from_list (window_pages window)) → write ≡ set.from_list (window_pages window)
     → entangled ≡ have_common_page (set.from_list (voice_pages memory starts entries)) write
     → record { read_pages = read; write_pages = write; entangled = entangled } ≡ reach memory starts entries window true
-unfolding reach
+unfolding reach with_pages
 reach-on memory starts entries window read write entangled reads writes common =
     let voices : List ℕ = voice_pages memory starts entries in
     let echo : List ℕ = window_pages window in
     let all : read ≡ set.from_list (voices ++ echo) = reads ∙ with_pages-from_list voices echo in
-    let written : write ≡ set.from_list echo = writes ∙ with_pages-empty echo in
-    let both : entangled ≡ have_common_page (set.from_list voices) (set.from_list echo) = common ∙ ap (have_common_page (set.from_list voices)) written in
-    (λ i. record { read_pages = all i; write_pages = written i; entangled = both i })
+    let both : entangled ≡ have_common_page (set.from_list voices) (set.from_list echo) = common ∙ ap (have_common_page (set.from_list voices)) writes in
+    (λ i. record { read_pages = all i; write_pages = writes i; entangled = both i })
 
 reach-off : (memory : List ℕ) (starts : List ChainStart) (entries : List ℕ) (window : Window) (read write : Pages) (entangled : Bool)
-    → read ≡ with_pages (set.from_list (voice_pages memory starts entries)) (window_pages window) → write ≡ set.empty → entangled ≡ false
+    → read ≡ set.union (set.from_list (voice_pages memory starts entries)) (set.from_list (window_pages window)) → write ≡ set.empty → entangled ≡ false
     → record { read_pages = read; write_pages = write; entangled = entangled } ≡ reach memory starts entries window false
-unfolding reach
+unfolding reach with_pages
 reach-off memory starts entries window read write entangled reads writes common =
     let all : read ≡ set.from_list (voice_pages memory starts entries ++ window_pages window) = reads ∙ with_pages-from_list (voice_pages memory starts entries) (window_pages window) in
     (λ i. record { read_pages = all i; write_pages = writes i; entangled = common i })

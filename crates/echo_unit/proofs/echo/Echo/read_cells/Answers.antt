@@ -1,4 +1,4 @@
-use Rattle.std.proofs.Common.{◌≡◌, ◌+◌, ℕ, refl, sym, ◌∙◌, ap, arith}
+use Rattle.std.proofs.Common.{ℕ, refl, sym, ◌∙◌, ap, arith}
 use Rattle.echo_unit.specs.Echo.{EchoState}
 use Rattle.echo_unit.specs.Cells.{after_cells}
 use Rattle.echo_unit.proofs.Neighbours.{after_cells-add}

@@ -1,4 +1,4 @@
-use Rattle.std.proofs.Common.{rules, ◌≡◌, ◌<◌, ◌+◌, ◌*◌, ◌%◌, ℕ, to_z, of_z, length, refl, ap, sym, ◌∙◌, arith}
+use Rattle.std.proofs.Common.{rules, ◌≡◌, ◌<◌, ◌+◌, ◌%◌, ℕ, to_z, of_z, refl, ap, sym, ◌∙◌, arith}
 use Rattle.std.specs.Int.{w16}
 use Rattle.std.proofs.lemmas.List.{length-set}
 use Rattle.num_fix.specs.declared.Frame.{Frame}
@@ -6,7 +6,6 @@ use Rattle.aram_core.specs.Memory.{page_bytes}
 use Rattle.aram_core.specs.Pages.{page_of}
 use Rattle.echo_unit.specs.Echo.{EchoState, cell_pair, cell_address}
 use Rattle.echo_unit.specs.Cells.{after_cells}
-use Rattle.echo_unit.specs.Page.{pair_in}
 use Rattle.echo_unit.proofs.Neighbours.{after_cells-add, neighbour_pair}
 use Rattle.echo_unit.proofs.RunByRows.{cell_more}
 use Rattle.echo_unit.proofs.echo.Echo.read_neighbours.Goals as goal

@@ -1,12 +1,11 @@
-use Rattle.std.proofs.Common.{rules, ◌≡◌, ◌<◌, ◌+◌, ◌*◌, ◌%◌, ℕ, List, ℤ, to_z, of_z, length, refl, ap, sym, ◌∙◌, arith}
+use Rattle.std.proofs.Common.{rules, ◌≡◌, ◌<◌, ◌+◌, ◌*◌, ◌%◌, ℕ, List, to_z, of_z, ap, sym, ◌∙◌, arith}
 use Rattle.std.specs.Int.{w16}
 use Rattle.num_fix.specs.Words.{number_at}
-use Rattle.aram_core.specs.Memory.{with_page}
 use Rattle.aram_core.specs.Pages.{page_of}
 use Rattle.echo_unit.specs.Echo.{EchoState, cell_address, with_cell}
 use Rattle.echo_unit.specs.Cells.{after_cells}
 use Rattle.echo_unit.specs.Page.{with_pair_in}
-use Rattle.echo_unit.proofs.Neighbours.{after_cells-add, neighbour_put, with_own_page, length-with_pair_in}
+use Rattle.echo_unit.proofs.Neighbours.{after_cells-add, neighbour_put, with_own_page}
 use Rattle.echo_unit.proofs.RunByRows.{with_cells-more}
 use Rattle.echo_unit.proofs.echo.Echo.write_neighbours.Goals as goal
 
