@@ -20,7 +20,7 @@ use Rattle.cut_text.proofs.ThirdWord.{third_word}
 abbrev pub said_after : List Cut → (lines : List (List ℕ)) → Result (List Cut) ℕ
 said_after cuts lines = list_before cuts (cuts_from (length cuts + 1) (cut_samples cuts) lines)
 
-pub samples_more : (cuts : List Cut) (cut : Cut) → cut_samples (cuts ++ cut ∷ []) ≡ cut_samples cuts + cut.count
+samples_more : (cuts : List Cut) (cut : Cut) → cut_samples (cuts ++ cut ∷ []) ≡ cut_samples cuts + cut.count
 samples_more cuts cut = sum_by_push (λ (c : Cut). c.count) cuts cut
 
 said_cut : (old : List Cut) (line : List ℕ) (lines : List (List ℕ)) (cut : Cut) → next_cut old line ≡ Some cut →

@@ -6,7 +6,7 @@ use Rattle.std.proofs.lemmas.List.Splits.{length-slice_split}
 use Rattle.text_parts.specs.Parts.{parts_left}
 
 -- three words and more say nothing
-abbrev pub TooMany : {A : Type 0} → (List (List ℕ) → Option A) → Type 0
+abbrev TooMany : {A : Type 0} → (List (List ℕ) → Option A) → Type 0
 TooMany said = (name word third : List ℕ) (rest : List (List ℕ)) → said (name ∷ (word ∷ (third ∷ rest))) ≡ None
 
 too_many : {A : Type 0} (said : List (List ℕ) → Option A) → TooMany said → (name word : List ℕ) (more : List (List ℕ)) (n : ℕ) → length more ≡ n + 1 →
