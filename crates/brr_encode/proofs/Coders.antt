@@ -7,21 +7,21 @@ use Rattle.brr_encode.specs.Encoding.{best_header, block_samples}
 use Rattle.brr_encode.specs.EncoderParts.{after_target, after_targets, coder_after}
 use Rattle.brr_encode.specs.declared.block.Coder.{Coder}
 
-pub squares_after : (h : ℕ) (coder : Coder) (targets : List ℤ) → (after_targets h coder targets).squares ≡ coder.squares + squares (greedy_samples h coder.last coder.before targets) targets
+squares_after : (h : ℕ) (coder : Coder) (targets : List ℤ) → (after_targets h coder targets).squares ≡ coder.squares + squares (greedy_samples h coder.last coder.before targets) targets
 squares_after h coder [] = omega arith
 squares_after h coder (target ∷ targets) = squares_after h (after_target h coder target) targets ∙ omega arith
 
-pub worst_after : (h : ℕ) (coder : Coder) (targets : List ℤ) → (after_targets h coder targets).worst ≡ max coder.worst (worst (greedy_samples h coder.last coder.before targets) targets)
+worst_after : (h : ℕ) (coder : Coder) (targets : List ℤ) → (after_targets h coder targets).worst ≡ max coder.worst (worst (greedy_samples h coder.last coder.before targets) targets)
 worst_after h coder [] = omega arith
 worst_after h coder (target ∷ targets) = worst_after h (after_target h coder target) targets ∙ omega arith
 
 -- the last two of the two samples before the targets and those that are kept of them
-pub last_after : (h : ℕ) (coder : Coder) (targets : List ℤ)
+last_after : (h : ℕ) (coder : Coder) (targets : List ℤ)
     → (after_targets h coder targets).last ≡ number_at (coder.before ∷ coder.last ∷ greedy_samples h coder.last coder.before targets) (suc (length targets))
 last_after h coder [] = refl
 last_after h coder (target ∷ targets) = last_after h (after_target h coder target) targets
 
-pub before_after : (h : ℕ) (coder : Coder) (targets : List ℤ)
+before_after : (h : ℕ) (coder : Coder) (targets : List ℤ)
     → (after_targets h coder targets).before ≡ number_at (coder.before ∷ coder.last ∷ greedy_samples h coder.last coder.before targets) (length targets)
 before_after h coder [] = refl
 before_after h coder (target ∷ targets) = before_after h (after_target h coder target) targets

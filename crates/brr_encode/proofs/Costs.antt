@@ -3,7 +3,7 @@ use Rattle.std.proofs.Common.{◌≡◌, ℕ, ◌+◌, ◌*◌, ◌<◌, ℤ, Li
 use Rattle.brr_encode.specs.Greedy.{distance, nearest_sample, greedy_squares}
 
 -- one target more
-pub squares_next : (h : ℕ) (p1 p2 : ℤ) (targets : List ℤ) (i : ℕ) (d : ℤ) → i < length targets
+squares_next : (h : ℕ) (p1 p2 : ℤ) (targets : List ℤ) (i : ℕ) (d : ℤ) → i < length targets
     → greedy_squares h p1 p2 (drop i targets)
     ≡ distance (nearest_sample h (get_or targets i d) p1 p2) (get_or targets i d) * distance (nearest_sample h (get_or targets i d) p1 p2) (get_or targets i d)
     + greedy_squares h (nearest_sample h (get_or targets i d) p1 p2) p1 (drop (i + 1) targets)

@@ -14,6 +14,23 @@ use Rattle.brr_encode.specs.declared.report.BlockReport.{BlockReport}
 use Rattle.brr_encode.proofs.Coders.{after_sixteen}
 use Rattle.brr_encode.proofs.Digits.{decoded_digits, digits_of-block}
 
+-- once a block is coded: how many blocks there are with those of the tail, and the last two samples that it keeps
+record IsCoded (first : Bool) (p1 p2 : ℤ) (rest tail : List ℤ) (new : Coder) : Type 0 where
+  count : length rest / 16 ≡ suc (length tail / 16)
+  last : new.last ≡ number_at (block_samples first p1 p2 (take 16 rest)) 15
+  before : new.before ≡ number_at (block_samples first p1 p2 (take 16 rest)) 14
+
+block_is_coded : (first : Bool) (p1 p2 : ℤ) (rest block tail : List ℤ) (new : Coder) → block ≡ take 16 rest → length tail + 16 ≡ length rest
+    → new ≡ after_targets (best_header first p1 p2 block) (coder_after p1 p2) block → IsCoded first p1 p2 rest tail new
+block_is_coded first p1 p2 rest block tail new is_block sized new_is =
+    let sixteen : length block ≡ 16 = ap (λ (l : List ℤ). length l) is_block ∙ length-take-le 16 rest (omega (arith, sized)) in
+    let kept = after_sixteen (best_header first p1 p2 block) p1 p2 block sixteen in
+    record {
+      count = omega (arith, sized);
+      last = ap (λ (c : Coder). c.last) new_is ∙ kept.0 ∙ ap (λ (l : List ℤ). number_at (block_samples first p1 p2 l) 15) is_block;
+      before = ap (λ (c : Coder). c.before) new_is ∙ kept.1 ∙ ap (λ (l : List ℤ). number_at (block_samples first p1 p2 l) 14) is_block;
+    }
+
 -- one block more, and the blocks after it
 pub blocks_next : (items : List ℕ) (first last looped : Bool) (p1 p2 : ℤ) (rest block tail : List ℤ) (new : Coder) (whole : List ℕ)
     → block ≡ take 16 rest → tail ≡ drop 16 rest → length tail + 16 ≡ length rest → last ≡ (length tail / 16 == 0)
@@ -21,16 +38,10 @@ pub blocks_next : (items : List ℕ) (first last looped : Bool) (p1 p2 : ℤ) (r
     → items ++ blocks_of (length rest / 16) first looped p1 p2 rest ≡ whole
     → (items ++ block_of first last looped p1 p2 block) ++ blocks_of (length tail / 16) false looped new.last new.before tail ≡ whole
 blocks_next items first last looped p1 p2 rest block tail new whole is_block is_tail sized last_is new_is all =
-    let count : length rest / 16 ≡ suc (length tail / 16) = omega (arith, sized) in
-    let sixteen : length block ≡ 16 = ap (λ (l : List ℤ). length l) is_block ∙ length-take-le 16 rest (omega (arith, sized)) in
-    let kept = after_sixteen (best_header first p1 p2 block) p1 p2 block sixteen in
-    let last_kept : new.last ≡ number_at (block_samples first p1 p2 (take 16 rest)) 15 =
-    ap (λ (c : Coder). c.last) new_is ∙ kept.0 ∙ ap (λ (l : List ℤ). number_at (block_samples first p1 p2 l) 15) is_block in
-    let kept_before : new.before ≡ number_at (block_samples first p1 p2 (take 16 rest)) 14 =
-    ap (λ (c : Coder). c.before) new_is ∙ kept.1 ∙ ap (λ (l : List ℤ). number_at (block_samples first p1 p2 l) 14) is_block in
+    let coded = block_is_coded first p1 p2 rest block tail new is_block sized new_is in
     append_assoc items _ _
-    ∙ (λ i. items ++ (block_of first (last_is i) looped p1 p2 (is_block i) ++ blocks_of (length tail / 16) false looped (last_kept i) (kept_before i) (is_tail i)))
-    ∙ ap (λ (n : ℕ). items ++ blocks_of n first looped p1 p2 rest) (sym count) ∙ all
+    ∙ (λ i. items ++ (block_of first (last_is i) looped p1 p2 (is_block i) ++ blocks_of (length tail / 16) false looped (coded.last i) (coded.before i) (is_tail i)))
+    ∙ ap (λ (n : ℕ). items ++ blocks_of n first looped p1 p2 rest) (sym coded.count) ∙ all
 
 pub reports_next : (items : List BlockReport) (first last looped : Bool) (p1 p2 : ℤ) (rest block tail : List ℤ) (new : Coder) (whole : List BlockReport)
     → block ≡ take 16 rest → tail ≡ drop 16 rest → length tail + 16 ≡ length rest → last ≡ (length tail / 16 == 0)
@@ -38,16 +49,10 @@ pub reports_next : (items : List BlockReport) (first last looped : Bool) (p1 p2 
     → items ++ block_reports (length rest / 16) first looped p1 p2 rest ≡ whole
     → (items ++ block_report first last looped p1 p2 block ∷ []) ++ block_reports (length tail / 16) false looped new.last new.before tail ≡ whole
 reports_next items first last looped p1 p2 rest block tail new whole is_block is_tail sized last_is new_is all =
-    let count : length rest / 16 ≡ suc (length tail / 16) = omega (arith, sized) in
-    let sixteen : length block ≡ 16 = ap (λ (l : List ℤ). length l) is_block ∙ length-take-le 16 rest (omega (arith, sized)) in
-    let kept = after_sixteen (best_header first p1 p2 block) p1 p2 block sixteen in
-    let last_kept : new.last ≡ number_at (block_samples first p1 p2 (take 16 rest)) 15 =
-    ap (λ (c : Coder). c.last) new_is ∙ kept.0 ∙ ap (λ (l : List ℤ). number_at (block_samples first p1 p2 l) 15) is_block in
-    let kept_before : new.before ≡ number_at (block_samples first p1 p2 (take 16 rest)) 14 =
-    ap (λ (c : Coder). c.before) new_is ∙ kept.1 ∙ ap (λ (l : List ℤ). number_at (block_samples first p1 p2 l) 14) is_block in
+    let coded = block_is_coded first p1 p2 rest block tail new is_block sized new_is in
     append_assoc items _ _
-    ∙ (λ i. items ++ (block_report first (last_is i) looped p1 p2 (is_block i) ∷ block_reports (length tail / 16) false looped (last_kept i) (kept_before i) (is_tail i)))
-    ∙ ap (λ (n : ℕ). items ++ block_reports n first looped p1 p2 rest) (sym count) ∙ all
+    ∙ (λ i. items ++ (block_report first (last_is i) looped p1 p2 (is_block i) ∷ block_reports (length tail / 16) false looped (coded.last i) (coded.before i) (is_tail i)))
+    ∙ ap (λ (n : ℕ). items ++ block_reports n first looped p1 p2 rest) (sym coded.count) ∙ all
 
 -- a header that is tried leaves room for end and loop bits
 header_at-whole : (place : ℕ) → header_at place % 4 ≡ 0
@@ -78,7 +83,7 @@ length-greedy_samples h p1 p2 [] = refl
 length-greedy_samples h p1 p2 (target ∷ targets) = ap suc (length-greedy_samples h (nearest_sample h target p1 p2) p1 targets)
 
 -- the samples that are kept of all blocks
-abbrev pub kept_of : (count : ℕ) → (first : Bool) → (p1 p2 : ℤ) → (targets : List ℤ) → List ℤ
+abbrev kept_of : (count : ℕ) → (first : Bool) → (p1 p2 : ℤ) → (targets : List ℤ) → List ℤ
 kept_of zero first p1 p2 targets = []
 kept_of (suc count) first p1 p2 targets =
     let kept = block_samples first p1 p2 (take 16 targets) in

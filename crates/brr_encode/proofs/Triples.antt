@@ -9,10 +9,10 @@ use Rattle.brr_encode.specs.Triples.{Triple, IsUpTo, filter_count, triple_of}
 use Rattle.brr_encode.proofs.Leasts.{least_place-first}
 
 -- the filter and the shift of a header
-pub filter_of-header_of : (filter shift : ℕ) → filter < 4 → filter_of (header_of filter shift) ≡ filter
+filter_of-header_of : (filter shift : ℕ) → filter < 4 → filter_of (header_of filter shift) ≡ filter
 filter_of-header_of filter shift few = omega arith
 
-pub shift_of-header_of : (filter shift : ℕ) → filter < 4 → shift_of (header_of filter shift) ≡ shift
+shift_of-header_of : (filter shift : ℕ) → filter < 4 → shift_of (header_of filter shift) ≡ shift
 shift_of-header_of filter shift few = omega arith
 
 -- where a header stands in the order in which they are tried

@@ -17,7 +17,7 @@ use Rattle.command_check.specs.declared.sums.Sums.{Sums}
 abbrev pub checked_samples : ℕ
 checked_samples = 320000
 
--- a side modulo 2 ^ 32
+-- a side modulo 2 ^ 32, so that a mix is a natural number, and computed in 64 bits without a sign
 abbrev pub wrapped32 : (side : ℤ) → ℕ
 wrapped32 side = cast_unsigned w32 side
 

@@ -21,7 +21,7 @@ gains_then xs ys us vs a b c one two = record {
 }
 
 -- how many outputs there are then
-pub many_since : (xs : List Output) (a b : HostState) → AreDone xs a b → length b.ended ≡ length a.ended + length xs
+many_since : (xs : List Output) (a b : HostState) → AreDone xs a b → length b.ended ≡ length a.ended + length xs
 many_since xs a b s = ap (length {A = Bool}) s.made.ended ∙ length-append a.ended (all_ended xs) ∙ ap (λ (k : ℕ). length a.ended + k) (length-all_ended xs)
 
 -- outputs that are done after others

@@ -5,7 +5,7 @@ use Rattle.snd_host.specs.Host.{HostState, Files, Output, Rose, ChangesInputs}
 use Rattle.snd_host.specs.declared.host.Failed.{Failed}
 use Rattle.command_frame.specs.declared.refusals.Refusal.{Refusal}
 use Rattle.command_frame.specs.declared.refusals.Refusal.TheVariants.{Usage, ReadFault, WriteFault, OutOfMemory}
-use Rattle.command_frame.specs.Delivery.{Gains, HaveRooms, CountsFaults, Delivers, all_ended}
+use Rattle.command_frame.specs.Delivery.{Gains, HaveRooms, Delivers, all_ended}
 use Rattle.command_frame.specs.Answer.{Answer, done, refused, refusal_of, outputs_of, report_of, line_of, delivery_refusal}
 use Rattle.command_frame.specs.Conduct.{Delivery, NoneRose, EndsAs, Attempts, WritesComplaint, Obeys, Prepares, CarriesOut}
 use Rattle.command_frame.proofs.Delivering.{gains_nothing}
@@ -97,9 +97,6 @@ not_read {C = C} a x y reads steadily = record {
     settled_refused : (b : Answer C) → Some ReadFault ≡ refusal_of b → ([] ≡ report_of b) × ([] ≡ outputs_of b) × ([] ≡ all_ended (outputs_of b))
     settled_refused (done outputs report) same = absurd (cc)
     settled_refused (refused why) same = (refl, refl, refl)
-
-fault : {T E : Type 0} (b a : ℕ) (e : E) → CountsFaults {T = T} {E = E} b a (Err e) → Rose b a
-fault b a e cause = cause.failed
 
 -- the room for the complaint is what it was
 note_room_kept : {T E : Type 0} (outputs : List Output) (report : List ℕ) (x y z : HostState) (r : Result T E) → ChangesInputs x y → Delivers outputs report y z r → (rooms : List ℕ) → x.steady ≡ Some rooms → (after : List ℕ) × (z.steady ≡ Some after) × (get_or after 1 0 ≡ get_or rooms 1 0)

@@ -8,26 +8,23 @@ use Rattle.snd_host.proofs.Writes.{index-rooms_less}
 use Rattle.command_frame.specs.Delivery.{IsBegun, EndedAreWhole, HaveRooms}
 use Rattle.command_frame.specs.Stream.{bytes_of, RoomsAfter}
 
-pub grown_after : (created outputs : List Output) (i : ℕ) (bytes : List ℕ) → outputs_with (created ++ outputs) (length created + i) bytes ≡ created ++ outputs_with outputs i bytes
+grown_after : (created outputs : List Output) (i : ℕ) (bytes : List ℕ) → outputs_with (created ++ outputs) (length created + i) bytes ≡ created ++ outputs_with outputs i bytes
 grown_after [] outputs i bytes = let same : zero + i ≡ i = omega arith in ap (λ (k : ℕ). outputs_with outputs k bytes) same
 grown_after (p ∷ created) outputs i bytes =
     let same : length (p ∷ created) + i ≡ suc (length created + i) = omega arith in
     ap (λ (k : ℕ). outputs_with (p ∷ (created ++ outputs)) k bytes) same ∙ ap (λ (l : List Output). p ∷ l) (grown_after created outputs i bytes)
 
-pub get_after : (flags more : List Bool) (i : ℕ) → slice_get (flags ++ more) (length flags + i) ≡ slice_get more i
+get_after : (flags more : List Bool) (i : ℕ) → slice_get (flags ++ more) (length flags + i) ≡ slice_get more i
 get_after [] more i = let same : zero + i ≡ i = omega arith in ap (λ (k : ℕ). slice_get more k) same
 get_after (f ∷ flags) more i =
     let same : length (f ∷ flags) + i ≡ suc (length flags + i) = omega arith in
     ap (λ (k : ℕ). slice_get (f ∷ (flags ++ more)) k) same ∙ get_after flags more i
 
-pub set_after : (flags more : List Bool) (i : ℕ) (b : Bool) → set (flags ++ more) (length flags + i) b ≡ flags ++ set more i b
+set_after : (flags more : List Bool) (i : ℕ) (b : Bool) → set (flags ++ more) (length flags + i) b ≡ flags ++ set more i b
 set_after [] more i b = let same : zero + i ≡ i = omega arith in ap (λ (k : ℕ). set more k b) same
 set_after (f ∷ flags) more i b =
     let same : length (f ∷ flags) + i ≡ suc (length flags + i) = omega arith in
     ap (λ (k : ℕ). set (f ∷ (flags ++ more)) k b) same ∙ ap (λ (l : List Bool). f ∷ l) (set_after flags more i b)
-
-pub number_is : (n k : ℕ) → n ≡ k + 2 → n ≡ suc (suc k)
-number_is n k is = omega arith
 
 -- a write to the output of the place i among those created since
 pub grown_since : (g : Given) (report complaint : List ℕ) (outputs : List Output) (n k i : ℕ) (bytes : List ℕ) → length g.created ≡ k → n ≡ k + 2 + i →
@@ -65,7 +62,7 @@ bytes_of-given_with [] i bytes below = absurd (omega arith)
 bytes_of-given_with (o ∷ outputs) zero bytes below = refl
 bytes_of-given_with (o ∷ outputs) (suc i) bytes below = bytes_of-given_with outputs i bytes (omega arith)
 
-pub bytes_of-other : (outputs : List Output) (i j : ℕ) (bytes : List ℕ) → j ≢ i → bytes_of (outputs_with outputs i bytes) j ≡ bytes_of outputs j
+bytes_of-other : (outputs : List Output) (i j : ℕ) (bytes : List ℕ) → j ≢ i → bytes_of (outputs_with outputs i bytes) j ≡ bytes_of outputs j
 bytes_of-other [] i j bytes other = refl
 bytes_of-other (o ∷ outputs) zero zero bytes other = absurd (other refl)
 bytes_of-other (o ∷ outputs) zero (suc j) bytes other = refl
@@ -125,7 +122,7 @@ have_at (p ∷ total) rooms place (suc i) o have at =
     let further : place + suc i ≡ place + 1 + i = omega arith in
     rw further (have_at total rooms (place + 1) i o have.3 at)
 
-pub prefix_then : (xs ys zs : List ℕ) → IsPrefix xs ys → IsPrefix ys zs → IsPrefix xs zs
+prefix_then : (xs ys zs : List ℕ) → IsPrefix xs ys → IsPrefix ys zs → IsPrefix xs zs
 prefix_then xs ys zs first second = record { rest = first.rest ++ second.rest; split = sym (append_assoc xs first.rest second.rest) ∙ ap (λ (l : List ℕ). l ++ second.rest) first.split ∙ second.split }
 
 pub prefix_after : (us xs ys : List ℕ) → IsPrefix xs ys → IsPrefix (us ++ xs) (us ++ ys)

@@ -61,7 +61,7 @@ module _ (targets : Targets) (xs ys : List ℕ) (old mid new : HostState) (x : U
           stops_written (pair first (Some name) (us ++ xs) vs) (flags_of (Some name) false) a mid (half first name us vs a are s) file.0 1 (number name a are) {T = Unit {0}} {E = Failed} new ys e (pair first (Some name) ps qs) report (omega arith) v (refl, p, (refl, q, tt)) (refl, (refl, tt))
 
 -- nothing was written yet
-pub puts_nothing : (targets : Targets) (old : HostState) → Puts targets [] [] old old (Ok (tt {0}))
+puts_nothing : (targets : Targets) (old : HostState) → Puts targets [] [] old old (Ok (tt {0}))
 puts_nothing targets old = record {
   ended = refl;
   ok = λ first second us vs a are s. subst (λ (l : List ℕ). Stands (pair first second l (vs ++ [])) (flags_of second false) [] a old) (sym (append-nil us))
@@ -70,7 +70,7 @@ puts_nothing targets old = record {
 }
 
 -- more was written
-pub puts_then : (targets : Targets) (xs ys ps qs : List ℕ) (old mid new : HostState) (x y : Unit {0}) → Puts targets xs ys old mid (Ok x) → Puts targets ps qs mid new (Ok y) → Puts targets (xs ++ ps) (ys ++ qs) old new (Ok y)
+puts_then : (targets : Targets) (xs ys ps qs : List ℕ) (old mid new : HostState) (x y : Unit {0}) → Puts targets xs ys old mid (Ok x) → Puts targets ps qs mid new (Ok y) → Puts targets (xs ++ ps) (ys ++ qs) old new (Ok y)
 puts_then targets xs ys ps qs old mid new x y one two = record {
   ended = two.ended ∙ one.ended;
   ok = λ first second us vs a are s.
@@ -89,7 +89,7 @@ longer us xs ps all rest zs is p = record {
 }
 
 -- a later piece failed
-pub puts_failed : (targets : Targets) (xs ys ps qs all both rest more : List ℕ) (old mid new : HostState) (x : Unit {0}) (e : Failed) → xs ++ (ps ++ rest) ≡ all → ys ++ (qs ++ more) ≡ both →
+puts_failed : (targets : Targets) (xs ys ps qs all both rest more : List ℕ) (old mid new : HostState) (x : Unit {0}) (e : Failed) → xs ++ (ps ++ rest) ≡ all → ys ++ (qs ++ more) ≡ both →
     Puts targets xs ys old mid (Ok x) → Puts targets ps qs mid new (Err e) → Puts targets all both old new (Err e)
 puts_failed targets xs ys ps qs all both rest more old mid new x e first_split second_split one two = record {
   ended = tt;
@@ -98,7 +98,7 @@ puts_failed targets xs ys ps qs all both rest more old mid new x e first_split s
       two.err first second (us ++ xs) (vs ++ ys) a are (one.ok first second us vs a are s) zs ws report (longer us xs ps all rest zs first_split p) (longer vs ys qs both more ws second_split q);
 }
 
-pub targets_open : (first : List ℕ) (second : Option (List ℕ)) (us vs : List ℕ) (targets : Targets) (a c : HostState) → AreTargets second a targets → Stands (pair first second us vs) (flags_of second false) [] a c → AreOpen c.ended targets
+targets_open : (first : List ℕ) (second : Option (List ℕ)) (us vs : List ℕ) (targets : Targets) (a c : HostState) → AreTargets second a targets → Stands (pair first second us vs) (flags_of second false) [] a c → AreOpen c.ended targets
 targets_open first None us vs targets a c are s = let is = are.first in record {
   low = omega arith;
   first_open = rw s.made.ended (unended_since a.ended (flags_of None false) targets.first.0 0 (first_place None a targets are) refl);

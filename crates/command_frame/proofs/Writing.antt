@@ -7,7 +7,7 @@ use Rattle.command_frame.specs.Conduct.{WritesComplaint}
 use Rattle.command_frame.proofs.Places.{prefix_after}
 
 -- a prefix of a front is a prefix of the whole
-pub front_prefix : (part front back : List ℕ) → IsPrefix part front → IsPrefix part (front ++ back)
+front_prefix : (part front back : List ℕ) → IsPrefix part front → IsPrefix part (front ++ back)
 front_prefix part front back p = record { rest = p.rest ++ back; split = sym (append_assoc part p.rest back) ∙ ap (λ (l : List ℕ). l ++ back) p.split }
 
 -- the first piece failed

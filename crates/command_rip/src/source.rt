@@ -36,7 +36,7 @@ impl<'a> Model for RipSource<'a> {
 }
 
 /// The bytes of a block's samples, each with its low byte first.
-fn block_bytes(block: [i16; 16]) -> [u8; BLOCK_BYTES]
+fn wave_bytes(block: [i16; 16]) -> [u8; BLOCK_BYTES]
     ensures { result ≡ wave_bytes block }
 {
     let mut bytes = [0u8; BLOCK_BYTES];
@@ -73,7 +73,7 @@ impl Pieces for RipSource<'_> {
     fn make_next(&mut self) -> bool {
         match self.walk.next(self.memory) {
             Some(block) => {
-                self.piece = block_bytes(block);
+                self.piece = wave_bytes(block);
                 self.is_done = false;
             }
             None => self.is_done = true,

@@ -1,8 +1,8 @@
 -- Room for one more checkpoint, which others are given up for.
-use Rattle.std.proofs.Common.{◌≡◌, ℕ, zero, suc, ◌+◌, ◌-◌, ◌<◌, ◌≤◌, Bool, true, false, ◌&&◌, ◌||◌, ◌==◌, List, [], ◌∷◌, length, drop, refl, sym, ap, ◌∙◌, arith, inl, inr}
+use Rattle.std.proofs.Common.{◌≡◌, ℕ, zero, suc, ◌+◌, ◌-◌, ◌<◌, ◌≤◌, false, ◌==◌, List, [], ◌∷◌, length, drop, refl, sym, ap, ◌∙◌, arith, inl, inr}
 use Rattle.std.specs.List.{remove, remove_range}
 use Rattle.std.proofs.lemmas.List.{drop-drop}
-use Rattle.std.proofs.lemmas.Bool.{cases_Bool}
+use Rattle.std.proofs.lemmas.Bool.{cases_Bool, or_parts}
 use Rattle.cut_form.specs.Checkpoints.{Checkpoint, next_to_dropped, without_entry, has_room, stands_at}
 use Rattle.cut_form.specs.Marks.{Room, room_made}
 use Rattle.cut_server.specs.Table.{TableState, saved_of, live_checkpoints}
@@ -68,15 +68,11 @@ stands_in_next : (dropped : Checkpoint) (live : List Checkpoint) (sample : ℕ) 
 stands_in_next dropped [] sample = refl
 stands_in_next dropped (next ∷ rest) sample = refl
 
-none_of_both : (a b : Bool) → (a || b) ≡ false → (a ≡ false) × (b ≡ false)
-none_of_both true b none = cc
-none_of_both false b none = (refl, none)
-
 none_without : (live : List Checkpoint) (i sample : ℕ) → stands_at live sample ≡ false → stands_at (without_entry live i) sample ≡ false
 none_without [] i sample none = refl
-none_without (x ∷ xs) zero sample none = stands_in_next x xs sample ∙ (none_of_both (x.sample == sample) (stands_at xs sample) none).1
+none_without (x ∷ xs) zero sample none = stands_in_next x xs sample ∙ (or_parts (x.sample == sample) (stands_at xs sample) none).1
 none_without (x ∷ xs) (suc i) sample none =
-    let parts = none_of_both (x.sample == sample) (stands_at xs sample) none in
+    let parts = or_parts (x.sample == sample) (stands_at xs sample) none in
     let rest : stands_at (without_entry xs i) sample ≡ false = none_without xs i sample parts.1 in
     rw (parts.0, rest) refl
 

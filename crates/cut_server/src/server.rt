@@ -69,6 +69,7 @@ impl<C: Chip> CutServer<C> {
         ensures book { IfOk result (λ server. book_of server ≡ opened_book (pages_at C.meaning C.saving server)) }
         ensures slots { IfOk result (λ server. slots_of server ≡ pages) }
     {
+        // No voice is in the mask, so the voices give no records.
         let render = Render::open(alloc, file, chip, 0, 0)?;
         let table = Table::open(alloc, pages, render.save(), render.memory())?;
         let scratch = Aram::from_image(alloc, file.memory())?;
@@ -140,7 +141,7 @@ impl<C: Chip> CutServer<C> {
     }
 
     /// Goes to a sample: from where it stands, unless that is after the sample, or before the last checkpoint up to it; then
-    /// from this checkpoint.
+    /// from this checkpoint. Where it stands at the sample already, it runs none.
     pub fn seek(&mut self, at: u32)
         requires { at ≤ most_frames }
         ensures book { book_of self.new ≡ counted_book (after_seek (book_of self.old) at) }
@@ -181,6 +182,7 @@ impl<C: Chip> CutServer<C> {
             IsOk result ↔ (need ≤ slots_free (slots_of self.old) (book_of self.old).live) }
         ensures tune { KeepsTune C.meaning C.saving self.old self.new }
     {
+        // Each page is compared with that of the newest once, for what is needed and for what is shared alike.
         let shared = self.table.shared_pages(self.render.memory());
         let need = own_slots(&shared);
         let free = self.table.free();

@@ -213,7 +213,7 @@ impl<S: Copy> Table<S> {
         );
     }
 
-    /// Drops the one at a place.
+    /// Drops the one at a place. Those after it move up in their list, about 1 KB each; no memory of the machine is copied.
     pub(crate) fn remove(&mut self, place: usize)
         requires { place < length (samples_of self.old) }
         ensures saved { saved_of self.new ≡ remove (saved_of self.old) place }
@@ -231,7 +231,8 @@ impl<S: Copy> Table<S> {
         self.len() < 64 && own_slots(&self.shared_pages(memory)) <= self.free()
     }
 
-    /// Drops the second one, as long as there is one and no room for one of a memory; tells how many.
+    /// Drops the second one, as long as there is one and no room for one of a memory; tells how many. Before each it compares
+    /// the memory's pages with those of the newest.
     pub(crate) fn make_room(&mut self, memory: &Aram) -> u32
         ensures saved { saved_of self.new ≡ remove_range (saved_of self.old) 1 (result + 1) }
         ensures few { length (live_checkpoints self.new) < most_checkpoints }

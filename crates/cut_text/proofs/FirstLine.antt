@@ -17,7 +17,7 @@ lines_ahead : (line : List ℕ) (parts : List (List ℕ)) (n : ℕ) → length p
 lines_ahead line [] n few = absurd (omega (arith, few))
 lines_ahead line (next ∷ parts) n few = ap (map without_return) (line_before line next parts)
 
-pub line_of_more : (text line after : List ℕ) → slice_split (λ character. character == 10) text ≡ line ∷ slice_split (λ character. character == 10) after →
+line_of_more : (text line after : List ℕ) → slice_split (λ character. character == 10) text ≡ line ∷ slice_split (λ character. character == 10) after →
     text_lines text ≡ without_return line ∷ text_lines after
 line_of_more text line after split =
     ap (λ (parts : List (List ℕ)). map without_return (without_empty_last parts)) split

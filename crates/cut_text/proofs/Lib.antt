@@ -4,3 +4,5 @@ pub mod FirstLine
 pub mod Growing
 -- Listed: a list of cuts that grows by the cut of a line.
 pub mod Listed
+-- ThirdWord: a line of more than two words.
+pub mod ThirdWord

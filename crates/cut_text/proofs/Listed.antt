@@ -1,10 +1,8 @@
 -- A list of cuts that grows by the cut of a line.
 use Rattle.std.proofs.Common.{◌≡◌, ℕ, ◌+◌, ◌≤◌, List, [], ◌∷◌, ◌++◌, length, refl, ap, sym, ◌∙◌, arith}
-use Rattle.std.specs.Prelude.{◌==◌, true, Option, Some, None, Result, Ok, Err}
+use Rattle.std.specs.Prelude.{◌==◌, true, Option, Some, None, Result, Err}
 use Rattle.std.specs.List.{slice_split}
 use Rattle.std.proofs.lemmas.Grind.{common_steps}
-use Rattle.std.proofs.lemmas.List.Splits.{length-slice_split}
-use Rattle.std.proofs.lemmas.List.{append-nil}
 use Rattle.std.proofs.lemmas.List.Sums.{sum_by_push}
 use Rattle.num_fix.specs.Limits.{most_frames}
 use Rattle.cut_form.specs.declared.cut.Cut.{Cut}
@@ -12,23 +10,17 @@ use Rattle.cut_form.specs.TextLines.{line_words, said_before}
 use Rattle.cut_form.specs.CutList.{most_cuts, cut_of_words, cuts_from}
 use Rattle.cut_form.specs.Slices.{cut_samples}
 use Rattle.cut_text.specs.declared.refusal.TextRefusal.{TextRefusal}
-use Rattle.cut_text.specs.declared.refusal.TextRefusal.TheVariants.{Wrong, OutOfMemory}
 use Rattle.text_parts.specs.Parts.{parts_left}
 use Rattle.cut_text.specs.Cuts.{EndWithinHour, IsListed, fits_after, next_cut}
 use Rattle.cut_text.specs.Reading.{Tells, OneMore, IsWrongAfter}
-use Rattle.cut_text.proofs.Growing.{list_before, none_before, one_first, one_before, length_more}
+use Rattle.cut_text.proofs.Growing.{list_before, one_first, one_before, length_more, said_more, tells_wrong}
+use Rattle.cut_text.proofs.ThirdWord.{third_word}
 
 -- what lines say after a list
 abbrev pub said_after : List Cut → (lines : List (List ℕ)) → Result (List Cut) ℕ
 said_after cuts lines = list_before cuts (cuts_from (length cuts + 1) (cut_samples cuts) lines)
 
-pub said_first : (lines : List (List ℕ)) → cuts_from 1 0 lines ≡ said_after [] lines
-said_first lines = none_before (cuts_from 1 0 lines)
-
-pub said_last : (cuts : List Cut) → said_after cuts [] ≡ Ok cuts
-said_last cuts = ap Ok (append-nil cuts)
-
-pub samples_more : (cuts : List Cut) (cut : Cut) → cut_samples (cuts ++ cut ∷ []) ≡ cut_samples cuts + cut.count
+samples_more : (cuts : List Cut) (cut : Cut) → cut_samples (cuts ++ cut ∷ []) ≡ cut_samples cuts + cut.count
 samples_more cuts cut = sum_by_push (λ (c : Cut). c.count) cuts cut
 
 said_cut : (old : List Cut) (line : List ℕ) (lines : List (List ℕ)) (cut : Cut) → next_cut old line ≡ Some cut →
@@ -41,23 +33,18 @@ said_cut old line lines cut is =
     ∙ ap (λ (n : ℕ). list_before (old ++ cut ∷ []) (cuts_from (n + 1) (cut_samples old + cut.count) lines)) (sym (length_more old cut))
     ∙ ap (λ (n : ℕ). list_before (old ++ cut ∷ []) (cuts_from (length (old ++ cut ∷ []) + 1) n lines)) (sym (samples_more old cut))
 
-grown_is : (old new : List Cut) (line : List ℕ) (lines : List (List ℕ)) (next : Option Cut) → next_cut old line ≡ next → OneMore old new next →
-    said_after old (line ∷ lines) ≡ said_after new lines
-grown_is old new line lines None is grown = absurd grown
-grown_is old new line lines (Some cut) is grown = said_cut old line lines cut is ∙ ap (λ (cuts : List Cut). said_after cuts lines) (sym grown)
-
-pub said_more : (old new : List Cut) (line : List ℕ) (lines : List (List ℕ)) → OneMore old new (next_cut old line) → said_after old (line ∷ lines) ≡ said_after new lines
-said_more old new line lines grown = grown_is old new line lines (next_cut old line) refl grown
-
 said_wrong : (old : List Cut) (line : List ℕ) (lines : List (List ℕ)) → next_cut old line ≡ None → said_after old (line ∷ lines) ≡ Err (length old + 1)
 said_wrong old line lines is =
     let step : cuts_from (length old + 1) (cut_samples old) (line ∷ lines) ≡ Err (length old + 1) = rw (is, cuts_from) refl in
     ap (list_before old) step
 
-pub tells_wrong : (old : List Cut) (line : List ℕ) (lines : List (List ℕ)) (said : Result (List Cut) ℕ) (refusal : TextRefusal) →
+pub cuts_more : (old new : List Cut) (line : List ℕ) (lines : List (List ℕ)) → OneMore old new (next_cut old line) → said_after old (line ∷ lines) ≡ said_after new lines
+cuts_more old new line lines grown =
+    said_more (said_after old (line ∷ lines)) (λ (cuts : List Cut). said_after cuts lines) old new (next_cut old line) (said_cut old line lines) grown
+
+pub tells_wrong_cut : (old : List Cut) (line : List ℕ) (lines : List (List ℕ)) (said : Result (List Cut) ℕ) (refusal : TextRefusal) →
     said ≡ said_after old (line ∷ lines) → IsWrongAfter old (next_cut old line) refusal → Tells refusal said
-tells_wrong old line lines said (Wrong number) is wrong = is ∙ said_wrong old line lines wrong.0 ∙ ap Err (sym wrong.1)
-tells_wrong old line lines said OutOfMemory is wrong = tt
+tells_wrong_cut old line lines said refusal is wrong = tells_wrong said old (next_cut old line) refusal (λ none. is ∙ said_wrong old line lines none) wrong
 
 within_more : (cuts : List Cut) (cut : Cut) → EndWithinHour cuts → cut.start + cut.count ≤ most_frames → EndWithinHour (cuts ++ cut ∷ [])
 within_more [] cut within here = (here, tt)
@@ -83,15 +70,9 @@ listed_pushed cuts total cut listed fits = record {
 pub listed_more : (old new : List Cut) (total : ℕ) (cut : Cut) → IsListed old total → new ≡ old ++ cut ∷ [] → fits_after old cut ≡ true → IsListed new (total + cut.count)
 listed_more old new total cut listed grown fits = rw grown (listed_pushed old total cut listed fits)
 
-too_many : (start count : List ℕ) (more : List (List ℕ)) (n : ℕ) → length more ≡ n + 1 → cut_of_words (start ∷ (count ∷ more)) ≡ None
-too_many start count [] n few = absurd (omega (arith, few))
-too_many start count (next ∷ more) n few = refl
-
 -- a line of more than two words
 pub no_cut : (line start rest count after : List ℕ) (one two : Option (List ℕ)) → slice_split (λ character. character == 32) line ≡ start ∷ parts_left 32 one → one ≡ Some rest →
     slice_split (λ character. character == 32) rest ≡ count ∷ parts_left 32 two → two ≡ Some after → None ≡ cut_of_words (line_words line)
 no_cut line start rest count after one two first one-is second two-is =
-    let words : line_words line ≡ start ∷ (count ∷ slice_split (λ character. character == 32) after) =
-    first ∙ ap (λ (r : Option (List ℕ)). start ∷ parts_left 32 r) one-is
-    ∙ ap (λ (l : List (List ℕ)). start ∷ l) (second ∙ ap (λ (r : Option (List ℕ)). count ∷ parts_left 32 r) two-is) in
-    sym (ap cut_of_words words ∙ too_many start count (slice_split (λ character. character == 32) after) _ (length-slice_split (λ character. character == 32) after))
+    third_word cut_of_words (λ name word third more. refl) start rest count after two second two-is
+    ∙ sym (ap cut_of_words (first ∙ ap (λ (r : Option (List ℕ)). start ∷ parts_left 32 r) one-is))

@@ -1,7 +1,12 @@
 -- Words of the contracts of readers of texts.
-use Rattle.std.specs.Prelude.{◌≡◌, ℕ, ◌+◌, List, [], ◌∷◌, ◌++◌, length, Option, Some, None, Result, Err}
+use Rattle.std.specs.Prelude.{◌≡◌, ℕ, ◌+◌, ◌^◌, List, [], ◌∷◌, ◌++◌, length, Option, Some, None, Result, Err}
+use Rattle.cut_form.specs.TextLines.{most_digits}
 use Rattle.cut_text.specs.declared.refusal.TextRefusal.{TextRefusal}
 use Rattle.cut_text.specs.declared.refusal.TextRefusal.TheVariants.{Wrong, OutOfMemory}
+
+-- what each number of a text is below, since it has no more digits than it may have
+abbrev pub number_bound : ℕ
+number_bound = 10 ^ most_digits
 
 -- a refusal for a wrong line has the number of the first one
 abbrev pub Tells : {A : Type 0} → TextRefusal → Result A ℕ → Type 0

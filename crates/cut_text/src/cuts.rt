@@ -1,11 +1,11 @@
 // The list of cuts that a text says.
-ghost use Rattle.std.specs.Prelude.{◌≡◌, ◌+◌, ◌<◌, ◌≤◌, ◌^◌, ◌∷◌, ◌++◌, [], Some, None, Ok, length, IfOk, IfErr, IfSome, OnOk, if◌then◌else◌};
+ghost use Rattle.std.specs.Prelude.{◌≡◌, ◌+◌, ◌<◌, ◌≤◌, ◌∷◌, ◌++◌, [], Some, None, Ok, length, IfOk, IfErr, IfSome, OnOk, if◌then◌else◌};
 ghost use Rattle.num_fix.specs.Limits.{most_frames};
 ghost use Rattle.cut_form.specs.TextLines.{line_words};
 ghost use Rattle.cut_form.specs.CutList.{most_cuts, cut_of_numbers, cut_of_words, cut_list};
 ghost use Rattle.cut_form.specs.Slices.{cut_samples};
 ghost use Rattle.cut_text.specs.Cuts.{EndWithinHour, next_cut, fits_after};
-ghost use Rattle.cut_text.specs.Reading.{Tells, OneMore, IsWrongAfter};
+ghost use Rattle.cut_text.specs.Reading.{Tells, OneMore, IsWrongAfter, number_bound};
 
 use crate::lines::{first_line, number_in};
 use crate::{TextRefusal, add};
@@ -66,8 +66,8 @@ impl CutList {
 
     /// Whether a cut may stand after those of the list.
     fn fits_after(&self, cut: Cut) -> bool
-        requires start { cut.start < 10 ^ 9 }
-        requires count { cut.count < 10 ^ 9 }
+        requires start { cut.start < number_bound }
+        requires count { cut.count < number_bound }
         ensures { result ≡ fits_after self.now cut }
     {
         cut.start + cut.count <= MOST_FRAMES
@@ -104,8 +104,8 @@ fn cut_of_numbers(start: Option<u32>, count: Option<u32>) -> Option<Cut>
 /// The cut that a line says.
 fn cut_in(line: &[u8]) -> Option<Cut>
     ensures cut { result ≡ cut_of_words (line_words line.now) }
-    ensures start { IfSome result (λ cut. cut.start < 10 ^ 9) }
-    ensures count { IfSome result (λ cut. cut.count < 10 ^ 9) }
+    ensures start { IfSome result (λ cut. cut.start < number_bound) }
+    ensures count { IfSome result (λ cut. cut.count < number_bound) }
 {
     let (start, rest) = first_part(b' ', line);
     let (count, rest) = first_part(b' ', rest?);

@@ -1,6 +1,7 @@
 // The lines of a text, the words of a line, and the numbers that words are.
-ghost use Rattle.std.specs.Prelude.{◌≡◌, ◌<◌, ◌∷◌, ◌^◌, [], length, IfSome, IfNone};
+ghost use Rattle.std.specs.Prelude.{◌≡◌, ◌<◌, ◌∷◌, [], length, IfSome, IfNone};
 ghost use Rattle.cut_form.specs.TextLines.{text_lines, without_return, most_digits, number_of_word};
+ghost use Rattle.cut_text.specs.Reading.{number_bound};
 
 use number_text::{decimal_value, is_number};
 use text_parts::first_part;
@@ -37,7 +38,7 @@ pub fn first_line(text: &[u8]) -> Option<(&[u8], &[u8])>
 /// The number that a word is, which has 1 to 9 digits.
 pub fn number_in(word: &[u8]) -> Option<u32>
     ensures number { result ≡ number_of_word word.now }
-    ensures small { IfSome result (λ number. number < 10 ^ 9) }
+    ensures small { IfSome result (λ number. number < number_bound) }
 {
     if is_number(MOST_DIGITS, word) {
         Some(decimal_value(word) as u32)

@@ -51,7 +51,7 @@ unfolding demo_bytes
 length-demo_bytes number = length-padded_to kept_length (fold (λ file part. with_part file part.0 part.1) [] (parts number))
 
 -- what is read of the demo file's bytes is the demo file
-pub demo_is_read : (number : ℕ) → spc_file (demo_bytes number) ≡ Ok (demo_bytes number)
+demo_is_read : (number : ℕ) → spc_file (demo_bytes number) ≡ Ok (demo_bytes number)
 demo_is_read number = read_again (demo_bytes number) (length-demo_bytes number) (IsSigned-demo_bytes number).signed
 
 pub read_as_demo : (bytes : List ℕ) (number : ℕ) → bytes ≡ demo_bytes number → spc_file bytes ≡ Ok (demo_bytes number)

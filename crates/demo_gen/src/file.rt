@@ -68,6 +68,7 @@ pub fn demo(alloc: Global, number: u32) -> Result<SpcFile, OutOfMemory>
     ensures { IfOk result (λ file. file ≡ demo_bytes number) }
 {
     let bytes = demo_bytes(alloc, number)?;
+    // Only a reader can make an SPC file. That it refuses these bytes for their length or signature is out of reach.
     match read_spc(alloc, &bytes) {
         Ok(file) => Ok(file),
         Err(SpcRefusal::OutOfMemory) => Err(OutOfMemory),

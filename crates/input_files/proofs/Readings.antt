@@ -2,12 +2,13 @@
 use Rattle.std.proofs.Common.{◌≡◌, ◌⊎◌, inl, inr, ap, sym, subst, ◌∙◌, refl, rules, arith, ℕ, ◌<◌, length, Bool, true, List, Option, Some, None, Result, Ok, Err, IsSome}
 use Rattle.std.specs.Prelude.{IfOk, IfErr, IsSomeAnd, nat_lt, if◌then◌else◌}
 use Rattle.std.proofs.lemmas.Bool.Decides.{nat_tests}
-use Rattle.snd_host.specs.Host.{HostState, Files, IfTold, Rose, KeepsRooms, ChangesInputs}
+use Rattle.snd_host.specs.Host.{HostState, Files, IfTold, Rose, KeepsRooms}
+use Rattle.snd_host.proofs.WholeInput.{inputs_then}
 use Rattle.command_frame.specs.Answer.{Answer, done, refused}
 use Rattle.command_frame.specs.Conduct.{Delivery, Plans, Prepares}
 use Rattle.command_frame.specs.declared.refusals.Refusal.{Refusal}
 use Rattle.command_frame.specs.declared.refusals.Refusal.TheVariants.{Usage, ReadFault, WriteFault, OutOfMemory, Input}
-use Rattle.input_files.specs.Reading.{bytes_in, value_from, refused_by, answer_from, Declines, Accepts, DeclinesInput, Reads}
+use Rattle.input_files.specs.Reading.{bytes_in, value_from, refused_by, answer_from, Declines, Accepts, Reads}
 
 -- what was refused by itself is refused for the command
 inside : {T C : Type 0} (why other : Refusal C) → ◌≡◌ {A = Result T (Refusal C)} (Err why) (Err other) → why ≡ other
@@ -47,16 +48,6 @@ reads_declined {P = P} {C = C} makes given next x y why r = record {
     told_of files (inl is) = inl (ap (λ g. answer_from g (next files)) is)
     told_of files (inr other) = inr other
 
-changes_then : (x y z : HostState) → ChangesInputs x y → ChangesInputs y z → ChangesInputs x z
-changes_then x y z a b = record {
-  holds = b.holds ∙ a.holds;
-  given = b.given ∙ a.given;
-  ended = b.ended ∙ a.ended;
-  notes = b.notes ∙ a.notes;
-  outputs = b.outputs ∙ a.outputs;
-  rooms = λ rooms told. b.rooms rooms (a.rooms rooms told);
-}
-
 steady_still : (x y : HostState) → KeepsRooms x y → IsSome x.steady → IsSome y.steady
 steady_still x y keeps steady = still x.steady refl steady
   where
@@ -68,7 +59,7 @@ steady_still x y keeps steady = still x.steady refl steady
 pub reads_then : {T P C : Type 0} (makes : P → Delivery) (given : Files → Result T (Refusal C)) (next : Files → T → Answer C) (x y z : HostState) (value : T) (result : Result P (Refusal C)) →
     Reads given x y (Ok value) → Prepares makes (λ files. next files value) y z result → Prepares makes (λ files. answer_from (given files) (next files)) x z result
 reads_then {T = T} {P = P} {C = C} makes given next x y z value result r p = record {
-  others = changes_then x y z r.others p.others;
+  others = inputs_then x y z r.others p.others;
   read = λ is. subst (λ (n : ℕ). Rose n z.faults.inputs) r.calm (p.read is);
   calm = λ other. p.calm other ∙ r.calm;
   no_usage = p.no_usage;

@@ -8,7 +8,7 @@ use Rattle.brr_decode.proofs.Samples.{kept_after, with_all_kept-is}
 use Rattle.brr_decode.proofs.Blocks.{Gives, EndsWith-block, stored_at, length-samples_of}
 use Rattle.sample_rip.specs.Blocks.{block_bytes, stream_of}
 
-pub length-stream_of : (memory : List ℕ) (start n : ℕ) → length (stream_of memory start n) ≡ 9 * n
+length-stream_of : (memory : List ℕ) (start n : ℕ) → length (stream_of memory start n) ≡ 9 * n
 length-stream_of memory start zero = refl
 length-stream_of memory start (suc n) = rw (length-append (stream_of memory start n) (block_bytes memory start n), length-stream_of memory start n) (omega arith)
 
@@ -38,7 +38,7 @@ samples_of-more memory start n =
     ∙ fold-append with_kept [] (digits_of before) (digits_of (block_bytes memory start n))
 
 -- what a decoded block gives stands after the samples of the blocks before it
-pub samples_after_block : (memory : List ℕ) (start n : ℕ) (p1 p2 : ℤ) (given : List ℤ) → EndsWith (samples_of (stream_of memory start n)) p2 p1 → Gives (digits_of (block_bytes memory start n)) p1 p2 given
+samples_after_block : (memory : List ℕ) (start n : ℕ) (p1 p2 : ℤ) (given : List ℤ) → EndsWith (samples_of (stream_of memory start n)) p2 p1 → Gives (digits_of (block_bytes memory start n)) p1 p2 given
     → samples_of (stream_of memory start (suc n)) ≡ samples_of (stream_of memory start n) ++ given
 samples_after_block memory start n p1 p2 given ends gives = samples_of-more memory start n ∙ gives (samples_of (stream_of memory start n)) ends
 
@@ -61,8 +61,8 @@ samples_begin memory start n (suc k) =
           ∙ ap (λ (l : List ℤ). l ++ more) shorter.1 ∙ append_assoc (samples_of (stream_of memory start n)) shorter.0 more),
     )
 
-length-samples : (memory : List ℕ) (start n : ℕ) → length (samples_of (stream_of memory start n)) ≡ 16 * n
-length-samples memory start n = let sized = length-stream_of memory start n in length-samples_of (stream_of memory start n) ∙ omega arith
+pub length-rip : (memory : List ℕ) (start n : ℕ) → length (samples_of (stream_of memory start n)) ≡ 16 * n
+length-rip memory start n = let sized = length-stream_of memory start n in length-samples_of (stream_of memory start n) ∙ omega arith
 
 seam : (xs given rest : List ℤ) (all : List ℤ) (n m : ℕ) → all ≡ (xs ++ given) ++ rest → length xs ≡ n → length (xs ++ given) ≡ m → drop n all ≡ given ++ drop m all
 seam xs given rest all n m is first both =
@@ -76,11 +76,8 @@ samples_ahead_of_block memory start n blocks p1 p2 given inside ends gives =
     let whole : suc n + (blocks - suc n) ≡ blocks = omega arith in
     let here = samples_after_block memory start n p1 p2 given ends gives in
     let all = (rw whole at more.1) ∙ ap (λ (l : List ℤ). l ++ more.0) here in
-    seam (samples_of (stream_of memory start n)) given more.0 (samples_of (stream_of memory start blocks)) (16 * n) (16 * suc n) all (length-samples memory start n) (ap (λ (l : List ℤ). length l) (sym here) ∙ length-samples memory start (suc n))
+    seam (samples_of (stream_of memory start n)) given more.0 (samples_of (stream_of memory start blocks)) (16 * n) (16 * suc n) all (length-rip memory start n) (ap (λ (l : List ℤ). length l) (sym here) ∙ length-rip memory start (suc n))
 
 -- after all blocks nothing is ahead
 pub none_ahead : (memory : List ℕ) (start n : ℕ) → drop (16 * n) (samples_of (stream_of memory start n)) ≡ []
-none_ahead memory start n = rw (sym (length-samples memory start n)) (ap (λ (l : List ℤ). drop (length (samples_of (stream_of memory start n))) l) (sym (append-nil (samples_of (stream_of memory start n)))) ∙ drop-append_seam (samples_of (stream_of memory start n)) [])
-
-pub length-rip : (memory : List ℕ) (start n : ℕ) → length (samples_of (stream_of memory start n)) ≡ 16 * n
-length-rip memory start n = length-samples memory start n
+none_ahead memory start n = rw (sym (length-rip memory start n)) (ap (λ (l : List ℤ). drop (length (samples_of (stream_of memory start n))) l) (sym (append-nil (samples_of (stream_of memory start n)))) ∙ drop-append_seam (samples_of (stream_of memory start n)) [])

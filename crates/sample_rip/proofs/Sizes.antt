@@ -13,7 +13,7 @@ use Rattle.sample_rip.specs.declared.reencoding.RipReport.{RipReport}
 use Rattle.sample_rip.specs.declared.found.RipFound.{RipFound}
 use Rattle.sample_rip.proofs.BlocksInOrder.{length-rip}
 
-length-rip_samples : (memory : List ℕ) (found : RipFound) → length (rip_samples memory found) ≡ 16 * found.blocks
+pub length-rip_samples : (memory : List ℕ) (found : RipFound) → length (rip_samples memory found) ≡ 16 * found.blocks
 unfolding rip_samples
 length-rip_samples memory found = length-rip memory found.start found.blocks
 

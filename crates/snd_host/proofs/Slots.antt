@@ -2,22 +2,22 @@
 use Rattle.std.proofs.Common.{◌≡◌, ◌≢◌, ℕ, zero, suc, ◌+◌, ◌-◌, ◌<◌, Bool, false, List, [], ◌∷◌, ◌++◌, length, get_or, set, map, Some, refl, sym, ◌∙◌, ap, subst, arith}
 use Rattle.std.specs.Prelude.{slice_get}
 use Rattle.std.proofs.lemmas.List.{length-map, length-append, map-append, append_assoc}
-use Rattle.snd_host.specs.Host.{Given, Output, IsOpen, given_with, outputs_with, rooms_less}
+use Rattle.snd_host.specs.Host.{Output, IsOpen, outputs_with, rooms_less}
 use Rattle.snd_host.specs.Memory.{output_of}
 use Rattle.snd_host.specs.declared.memory.Slot.{Slot}
 use Rattle.snd_host.specs.declared.memory.Spare.{Spare}
 
 -- a created output that can be written is there
-pub is_there : (ended : List Bool) (place : ℕ) (b : Bool) → slice_get ended place ≡ Some b → place < length ended
+is_there : (ended : List Bool) (place : ℕ) (b : Bool) → slice_get ended place ≡ Some b → place < length ended
 is_there [] place b h = absurd (cc)
 is_there (e ∷ ended) zero b h = omega arith
 is_there (e ∷ ended) (suc place) b h = omega (arith, is_there ended place b h)
 
 -- an output that is neither the report nor the complaint was created
-pub number_is : (n : ℕ) → n ≢ 0 → n ≢ 1 → n ≡ suc (suc (n - 2))
+number_is : (n : ℕ) → n ≢ 0 → n ≢ 1 → n ≡ suc (suc (n - 2))
 number_is n not_report not_complaint = omega arith
 
-pub open_created : (ended : List Bool) (n : ℕ) → n ≢ 0 → n ≢ 1 → IsOpen ended n → slice_get ended (n - 2) ≡ Some false
+open_created : (ended : List Bool) (n : ℕ) → n ≢ 0 → n ≢ 1 → IsOpen ended n → slice_get ended (n - 2) ≡ Some false
 open_created ended n not_report not_complaint open_yet = subst (λ (k : ℕ). IsOpen ended k) (number_is n not_report not_complaint) open_yet
 
 -- a slot that is replaced by one with more bytes
@@ -50,8 +50,16 @@ ended_of slots = map (λ slot. slot.ended) slots
 pub slot_there : (slots : List Slot) (place : ℕ) → slice_get (ended_of slots) place ≡ Some false → place < length slots
 slot_there slots place h = omega (arith, is_there (ended_of slots) place false h, length-map slots (λ slot. slot.ended))
 
-pub created_there : (slots : List Slot) (n : ℕ) → n ≢ 0 → n ≢ 1 → IsOpen (ended_of slots) n → n - 2 < length slots
-created_there slots n not_report not_complaint open_yet = slot_there slots (n - 2) (open_created (ended_of slots) n not_report not_complaint open_yet)
+-- the number of an output that was created: its place among the created ones, after the report and the complaint
+pub record IsCreated (slots : List Slot) (n : ℕ) : Type 0 where
+  pub number : n ≡ suc (suc (n - 2))
+  pub within : n - 2 < length slots
+
+pub created_there : (slots : List Slot) (n : ℕ) → n ≢ 0 → n ≢ 1 → IsOpen (ended_of slots) n → IsCreated slots n
+created_there slots n not_report not_complaint open_yet = record {
+  number = number_is n not_report not_complaint;
+  within = slot_there slots (n - 2) (open_created (ended_of slots) n not_report not_complaint open_yet);
+}
 
 -- the rooms of created and not yet created outputs stay in their order
 pub rooms_created : (slots later : List Slot) (spares rest : List Spare) (spare : Spare) (slot : Slot) → later ≡ slots ++ slot ∷ [] → spares ≡ spare ∷ rest → slot.sink.room ≡ spare.room →

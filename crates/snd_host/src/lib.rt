@@ -12,6 +12,3 @@ pub use drip::DripHost;
 pub use host::{Failed, Host, InFile, OutFile};
 pub use memory::MemHost;
 pub use std::alloc::AllocError as OutOfMemory;
-
-#[cfg(test)]
-mod tests;

@@ -8,7 +8,8 @@ use Rattle.spc700_asm.specs.Characters.{is_blank, is_semicolon, is_colon, is_com
 use Rattle.spc700_asm.specs.Statements.{Bytes, all_of, items_of, statement_of_word, statement_of}
 use Rattle.text_parts.proofs.Places.{split_at_place, split_none, before_place, after_place}
 use Rattle.spc700_asm.proofs.NumberTexts.{number_of_byte}
-use Rattle.spc700_asm.proofs.LineTexts.{is_text, fails, all_append, plain, no_place, place_after, trim_between, trim_word, take_front, drop_after, statement_is}
+use Rattle.spc700_asm.proofs.Fronts.{take_front}
+use Rattle.spc700_asm.proofs.LineTexts.{is_text, fails, all_append, plain, no_place, place_after, trim_between, trim_word, drop_after, statement_is}
 use Rattle.spc700_asm.proofs.TextCharacters.{byte_characters}
 use Rattle.spc700_asm.proofs.Encoding.{AreBytes}
 

@@ -177,7 +177,8 @@ second_found : (b : Bool) (n : ℕ) (other own rest : List ℕ) → length other
 second_found true n other own rest is = (rest, ap (drop n) (append_assoc other own rest) ∙ drop_front n other (own ++ rest) is)
 second_found false n other own rest is = (other ++ rest, append_assoc own other rest)
 
-abbrev made : (opcode n m : ℕ) → Instruction
+-- an instruction of an opcode and its operands
+abbrev pub made : (opcode n m : ℕ) → Instruction
 made opcode n m = record { opcode = opcode; first = n; second = m }
 
 -- the operands after an opcode are those of the instruction

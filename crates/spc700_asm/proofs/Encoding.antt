@@ -4,6 +4,7 @@ use Rattle.std.specs.Prelude.{◌||◌, ◌&&◌, Option, Some, None, option_and
 use Rattle.std.specs.Option.{option_map}
 use Rattle.std.specs.List.{AllByRecursion}
 use Rattle.std.proofs.lemmas.Bool.Decides.{nat_tests}
+use Rattle.std.proofs.lemmas.Bool.{le-ltb, ltb-true, or_from}
 use Rattle.spc700_table.specs.declared.Form.{Form}
 use Rattle.spc700_table.specs.declared.OpRow.{OpRow}
 use Rattle.spc700_table.specs.Cycles.{cycle_map, printed_cycles}
@@ -19,7 +20,7 @@ use Rattle.spc700_asm.specs.Labels.{Labels}
 use Rattle.spc700_asm.specs.Faults.{has_great_operand, has_great_number}
 use Rattle.spc700_asm.specs.Assembly.{slot_number, operand_number, instruction_written, is_far_operand, is_far}
 use Rattle.spc700_asm.proofs.NumberTexts.{alike_below}
-use Rattle.spc700_asm.proofs.Decoding.{slot_bytes, bytes_by_slot, is_target, distance_by_slot, far_by_slot, IsShown, AreShown}
+use Rattle.spc700_asm.proofs.Decoding.{slot_bytes, bytes_by_slot, is_target, distance_by_slot, far_by_slot, IsShown, AreShown, made}
 use Rattle.spc700_asm.proofs.Expected.{expected, expected_in}
 
 abbrev pub AreBytes : List ℕ → Type 0
@@ -165,6 +166,10 @@ operands_found opcode row next bytes are there =
     let two = operand_found row.second next (drop (second_place row) bytes) (bytes_dropped (second_place row) bytes are) (second_there b (operand_bytes row.first) (operand_bytes row.second) bytes there) in
     (record { first = one.0; second = two.0 }, joined_again b (operand_bytes row.first) (operand_bytes row.second) bytes _ _ one.1 two.1)
 
+-- the instruction of an opcode and the bytes after it at an address
+abbrev pub found_at : (at opcode : ℕ) (operands : List ℕ) → Instruction
+found_at at opcode operands = instruction_in opcode (row_of opcode) (at + length_of opcode) operands
+
 -- an instruction that was found, and the bytes that it was found in
 pub found_again : (at opcode : ℕ) (operands : List ℕ) → AreBytes operands → length_of opcode ≤ length operands + 1 →
     let i = instruction_in opcode (row_of opcode) (at + length_of opcode) operands in
@@ -199,13 +204,6 @@ number_of_expected labels MemoryBit pattern next n is = ap Some (whole n)
 number_of_expected labels (OwnBit own) pattern next n is = refl
 number_of_expected labels (OwnEntry own) pattern next n is = ap Some (sym is)
 
-lt_false : (a b : ℕ) → b ≤ a → nat_lt a b ≡ false
-lt_false a b l = grind (arith, nat_tests)
-
-or_falses : (a b : Bool) → a ≡ false → b ≡ false → (a || b) ≡ false
-or_falses false b x y = y
-or_falses true b x y = x
-
 -- an opcode's own numbers have their greatest
 abbrev own_is_small : Slot → Bool
 own_is_small Absent = true
@@ -217,18 +215,15 @@ own_is_small MemoryBit = true
 own_is_small (OwnBit own) = nat_lt own 8
 own_is_small (OwnEntry own) = nat_lt own 16
 
-lt_by : (a b : ℕ) → nat_lt a b ≡ true → a < b
-lt_by a b t = grind (arith, nat_tests)
-
 expected_is_small : (slot : Slot) (pattern : Pattern) (next n : ℕ) → own_is_small slot ≡ true → IsShown slot next n → great_in slot (expected_in slot pattern n) ≡ false
 expected_is_small Absent pattern next n own is = refl
 expected_is_small Register pattern next n own is = refl
-expected_is_small Byte pattern next n own is = lt_false 0xFF n (omega arith)
-expected_is_small Address pattern next n own is = lt_false 0xFFFF n (omega arith)
-expected_is_small Target pattern next n own is = lt_false 0xFFFF n (omega (arith, is.0))
-expected_is_small MemoryBit pattern next n own is = or_falses _ _ (lt_false 0x1FFF (n % 0x2000) (omega arith)) (lt_false 7 (n / 0x2000) (omega arith))
-expected_is_small (OwnBit bit) pattern next n own is = or_falses _ _ (lt_false 0xFF n (omega arith)) (lt_false 7 bit (omega (arith, lt_by bit 8 own)))
-expected_is_small (OwnEntry entry) pattern next n own is = lt_false 15 entry (omega (arith, lt_by entry 16 own))
+expected_is_small Byte pattern next n own is = le-ltb 0xFF n (omega arith)
+expected_is_small Address pattern next n own is = le-ltb 0xFFFF n (omega arith)
+expected_is_small Target pattern next n own is = le-ltb 0xFFFF n (omega (arith, is.0))
+expected_is_small MemoryBit pattern next n own is = or_from _ _ (le-ltb 0x1FFF (n % 0x2000) (omega arith)) (le-ltb 7 (n / 0x2000) (omega arith))
+expected_is_small (OwnBit bit) pattern next n own is = or_from _ _ (le-ltb 0xFF n (omega arith)) (le-ltb 7 bit (omega (arith, ltb-true bit 8 own)))
+expected_is_small (OwnEntry entry) pattern next n own is = le-ltb 15 entry (omega (arith, ltb-true entry 16 own))
 
 not_far : (slot : Slot) (next n : ℕ) → IsShown slot next n → (is_target slot && not (is_near next n)) ≡ false
 not_far Absent next n is = refl
@@ -256,9 +251,6 @@ second_own : (opcode : ℕ) → opcode < 256 → own_is_small (pattern_of (row_o
 unfolding row_of columns printed_cycles cycle_map
 second_own opcode below = alike_below 256 (λ o. own_is_small (pattern_of (row_of o).second).slot) (λ o. true) refl opcode below
 
-abbrev made : (opcode n m : ℕ) → Instruction
-made opcode n m = record { opcode = opcode; first = n; second = m }
-
 -- the instruction that the operands of a text write
 pub expected_is_written : (labels : Labels) (opcode next n m : ℕ) → AreShown (row_of opcode) next n m → instruction_written labels opcode (expected (row_of opcode).first n) (expected (row_of opcode).second m) ≡ Some (made opcode n m)
 unfolding instruction_written
@@ -274,7 +266,7 @@ pub expected_is_not_great : (opcode next n m : ℕ) → opcode < 256 → AreShow
 expected_is_not_great opcode next n m below are =
     let f = (row_of opcode).first in
     let g = (row_of opcode).second in
-    or_falses (has_great_operand f (expected f n)) (has_great_operand g (expected g m))
+    or_from (has_great_operand f (expected f n)) (has_great_operand g (expected g m))
     (great_by f (expected f n) ∙ expected_is_small (pattern_of f).slot (pattern_of f) next n (first_own opcode below) are.first)
     (great_by g (expected g m) ∙ expected_is_small (pattern_of g).slot (pattern_of g) next m (second_own opcode below) are.second)
 
@@ -283,4 +275,4 @@ shown_is_near at i are =
     let f = (row_of i.opcode).first in
     let g = (row_of i.opcode).second in
     let next = at + length_of i.opcode in
-    or_falses (is_far_operand f next i.first) (is_far_operand g next i.second) (far_by_slot f next i.first ∙ not_far (pattern_of f).slot next i.first are.first) (far_by_slot g next i.second ∙ not_far (pattern_of g).slot next i.second are.second)
+    or_from (is_far_operand f next i.first) (is_far_operand g next i.second) (far_by_slot f next i.first ∙ not_far (pattern_of f).slot next i.first are.first) (far_by_slot g next i.second ∙ not_far (pattern_of g).slot next i.second are.second)

@@ -1,17 +1,11 @@
 -- The characters of a front that pass a test, before one that doesn't.
 use Rattle.std.proofs.Common.{◌≡◌, ℕ, ◌+◌, Bool, true, false, not, cond, List, [], ◌∷◌, ◌++◌, length, take, drop, refl, ap, sym, ◌∙◌, arith}
-use Rattle.std.specs.Prelude.{◌&&◌, Option, Some, option_and_then}
+use Rattle.std.specs.Prelude.{Option, Some, option_and_then}
 use Rattle.std.specs.List.{list_all, prefix_len}
 use Rattle.std.proofs.lemmas.Grind.{common_steps}
+use Rattle.std.proofs.lemmas.Bool.{and_parts}
 use Rattle.spc700_asm.specs.Operands.{Written, written_of, is_mark, is_value_character, operand_with, operand_after_marks, operand_of}
 use Rattle.spc700_asm.proofs.Decoding.{drop_front}
-
-pub and_true : (a b : Bool) → (a && b) ≡ true → (a ≡ true) × (b ≡ true)
-and_true true b e = (refl, e)
-and_true false b e = absurd (differ e)
-  where
-    differ : false ≡ true → ⊥
-    differ e = cc
 
 -- the first character, if there is one, fails
 abbrev pub stops : (p : ℕ → Bool) → List ℕ → Bool
@@ -29,10 +23,10 @@ pub front_len : (p : ℕ → Bool) (a b : List ℕ) → list_all p a ≡ true �
 front_len p [] [] all stop = refl
 front_len p [] (x ∷ b) all stop = not_passed (p x) (1 + prefix_len p b) stop
 front_len p (x ∷ a) b all stop =
-    let both = and_true (p x) (list_all p a) all in
+    let both = and_parts (p x) (list_all p a) all in
     rw both.0 (omega (arith, front_len p a b both.1 stop))
 
-take_front : (n : ℕ) (a b : List ℕ) → n ≡ length a → take n (a ++ b) ≡ a
+pub take_front : (n : ℕ) (a b : List ℕ) → n ≡ length a → take n (a ++ b) ≡ a
 take_front n a b is = grind (arith, common_steps)
 
 pub front_taken : (p : ℕ → Bool) (a b : List ℕ) → list_all p a ≡ true → stops p b ≡ true → take (prefix_len p (a ++ b)) (a ++ b) ≡ a

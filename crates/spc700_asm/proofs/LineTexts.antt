@@ -1,15 +1,15 @@
 -- The text of a line is cut into its mnemonic and its operands.
 use Rattle.std.proofs.Common.{◌≡◌, ℕ, ◌+◌, ◌<◌, Bool, true, false, not, cond, nat_lt, List, [], ◌∷◌, ◌++◌, length, take, drop, refl, ap, sym, ◌∙◌, subst, length-append, append_assoc, arith}
-use Rattle.std.specs.Prelude.{◌&&◌, ◌||◌, codes, position, reverse, Some, None, option_and_then}
+use Rattle.std.specs.Prelude.{◌||◌, codes, position, reverse, Some, None, option_and_then}
 use Rattle.std.specs.List.{list_all, prefix_len, position_or_len, before_first, after_first}
 use Rattle.std.specs.Str.{bytes_eq}
 use Rattle.std.proofs.lemmas.Bool.Decides.{nat_tests}
 use Rattle.std.proofs.lemmas.List.{reverse-append, reverse-reverse}
-use Rattle.std.proofs.lemmas.Grind.{common_steps}
+use Rattle.std.proofs.lemmas.Bool.{and_from, and_parts, not-true}
 use Rattle.spc700_asm.specs.Characters.{is_blank, is_semicolon, is_colon, is_comma, is_line_feed, without_first_blanks, trim, capitals}
 use Rattle.spc700_asm.specs.Operands.{Operand, operand_of}
 use Rattle.spc700_asm.specs.Statements.{code, with_operands, instruction_of, statement_of_word, statement_or_label, text_statement, statement_of}
-use Rattle.spc700_asm.proofs.Fronts.{and_true, front_len}
+use Rattle.spc700_asm.proofs.Fronts.{front_len, take_front}
 use Rattle.text_parts.proofs.Places.{before_place, after_place, before_none, after_none}
 use Rattle.spc700_asm.proofs.Decoding.{drop_front}
 
@@ -20,7 +20,7 @@ fails p xs = list_all (λ character. not (p character)) xs
 all_len : (p : ℕ → Bool) (xs : List ℕ) → list_all p xs ≡ true → prefix_len p xs ≡ length xs
 all_len p [] all = refl
 all_len p (x ∷ xs) all =
-    let both = and_true (p x) (list_all p xs) all in
+    let both = and_parts (p x) (list_all p xs) all in
     rw both.0 (omega (arith, all_len p xs both.1))
 
 none_by : (n m : ℕ) → n ≡ m → cond (nat_lt n m) (Some n) None ≡ None
@@ -50,13 +50,9 @@ abbrev begins : List ℕ → Bool
 begins [] = true
 begins (x ∷ xs) = not (is_blank x)
 
-false_by : (b : Bool) → not b ≡ true → b ≡ false
-false_by false e = refl
-false_by true e = sym e
-
 same_first : (xs : List ℕ) → begins xs ≡ true → without_first_blanks xs ≡ xs
 same_first [] e = refl
-same_first (x ∷ xs) e = rw (false_by (is_blank x) e) refl
+same_first (x ∷ xs) e = rw (not-true (is_blank x) e) refl
 
 pub trim_same : (xs : List ℕ) → begins xs ≡ true → begins (reverse xs) ≡ true → trim xs ≡ xs
 unfolding trim
@@ -70,12 +66,12 @@ begins_front [] b text all = absurd (differ text)
   where
     differ : false ≡ true → ⊥
     differ e = cc
-begins_front (x ∷ a) b text all = (and_true (not (is_blank x)) (fails is_blank a) all).0
+begins_front (x ∷ a) b text all = (and_parts (not (is_blank x)) (fails is_blank a) all).0
 
 pub all_append : (p : ℕ → Bool) (a b : List ℕ) → list_all p a ≡ true → list_all p b ≡ true → list_all p (a ++ b) ≡ true
 all_append p [] b one two = two
 all_append p (x ∷ a) b one two =
-    let both = and_true (p x) (list_all p a) one in rw both.0 (all_append p a b both.1 two)
+    let both = and_parts (p x) (list_all p a) one in rw both.0 (all_append p a b both.1 two)
 
 reversed : (x : ℕ) (xs : List ℕ) → reverse (x ∷ xs) ≡ reverse xs ++ x ∷ []
 reversed x xs = reverse-append (x ∷ []) xs
@@ -83,7 +79,7 @@ reversed x xs = reverse-append (x ∷ []) xs
 all_reverse : (p : ℕ → Bool) (xs : List ℕ) → list_all p xs ≡ true → list_all p (reverse xs) ≡ true
 all_reverse p [] all = refl
 all_reverse p (x ∷ xs) all =
-    let both = and_true (p x) (list_all p xs) all in
+    let both = and_parts (p x) (list_all p xs) all in
     let last : list_all p (x ∷ []) ≡ true = rw both.0 refl in
     subst (λ (t : List ℕ). list_all p t ≡ true) (sym (reversed x xs)) (all_append p (reverse xs) (x ∷ []) (all_reverse p xs both.1) last)
 
@@ -104,7 +100,7 @@ text_front (x ∷ a) b text = refl
 
 begins_word : (xs : List ℕ) → fails is_blank xs ≡ true → begins xs ≡ true
 begins_word [] all = refl
-begins_word (x ∷ xs) all = (and_true (not (is_blank x)) (fails is_blank xs) all).0
+begins_word (x ∷ xs) all = (and_parts (not (is_blank x)) (fails is_blank xs) all).0
 
 -- a text with blanks in its middle alone
 pub trim_between : (a : List ℕ) (x : ℕ) (b : List ℕ) → is_text a ≡ true → fails is_blank a ≡ true → is_text b ≡ true → fails is_blank b ≡ true → trim (a ++ x ∷ b) ≡ a ++ x ∷ b
@@ -145,21 +141,17 @@ plain_character x e =
     let four = not_or (is_comma x) (is_line_feed x) three.1 in
     (one.0, two.0, three.0, four.0, four.1)
 
-and_by : (a b : Bool) → a ≡ true → b ≡ true → (a && b) ≡ true
-and_by true b one two = two
-and_by false b one two = one
-
 pub plain : (xs : List ℕ) → fails is_apart xs ≡ true → IsPlain xs
 plain [] all = record { blank = refl; semicolon = refl; colon = refl; comma = refl; line_feed = refl }
 plain (x ∷ xs) all =
-    let both = and_true (not (is_apart x)) (fails is_apart xs) all in
+    let both = and_parts (not (is_apart x)) (fails is_apart xs) all in
     let here = plain_character x both.0 in
     let rest = plain xs both.1 in record {
-      blank = and_by (not (is_blank x)) (fails is_blank xs) here.0 rest.blank;
-      semicolon = and_by (not (is_semicolon x)) (fails is_semicolon xs) here.1 rest.semicolon;
-      colon = and_by (not (is_colon x)) (fails is_colon xs) here.2 rest.colon;
-      comma = and_by (not (is_comma x)) (fails is_comma xs) here.3 rest.comma;
-      line_feed = and_by (not (is_line_feed x)) (fails is_line_feed xs) here.4 rest.line_feed;
+      blank = and_from (not (is_blank x)) (fails is_blank xs) here.0 rest.blank;
+      semicolon = and_from (not (is_semicolon x)) (fails is_semicolon xs) here.1 rest.semicolon;
+      colon = and_from (not (is_colon x)) (fails is_colon xs) here.2 rest.colon;
+      comma = and_from (not (is_comma x)) (fails is_comma xs) here.3 rest.comma;
+      line_feed = and_from (not (is_line_feed x)) (fails is_line_feed xs) here.4 rest.line_feed;
     }
 
 text_is : (text : List ℕ) → is_text text ≡ true → text_statement text ≡ statement_or_label text (position is_colon text)
@@ -196,9 +188,6 @@ statement_is text comment trimmed there label =
 after_is : (name text : List ℕ) → IsMnemonic name → statement_of_word name text ≡ instruction_of name text
 unfolding statement_of_word
 after_is name text is = rw (is.byte, is.word) (ap (λ (n : List ℕ). instruction_of n text) is.capital)
-
-pub take_front : (n : ℕ) (a b : List ℕ) → n ≡ length a → take n (a ++ b) ≡ a
-take_front n a b is = grind (arith, common_steps)
 
 pub drop_after : (a : List ℕ) (x : ℕ) (b : List ℕ) → drop (length a + 1) (a ++ x ∷ b) ≡ b
 drop_after a x b =

@@ -3,11 +3,11 @@ use Rattle.std.proofs.Common.{◌≡◌, ℕ, zero, suc, ◌+◌, ◌%◌, ◌�
 use Rattle.std.specs.Prelude.{codes, Option, Some, None, Result, Ok, Err}
 use Rattle.std.specs.List.{list_any, flat_map, slice_split}
 use Rattle.std.proofs.lemmas.List.{take-append-drop}
-use Rattle.std.proofs.lemmas.Bool.Decides.{nat_tests}
+use Rattle.std.proofs.lemmas.Bool.{le-ltb}
 use Rattle.spc700_table.specs.Opcodes.{row_of, length_of}
 use Rattle.spc700_asm.specs.declared.instruction.Instruction.{Instruction}
 use Rattle.spc700_asm.specs.declared.refusal.LineFault.TheVariants as fault
-use Rattle.spc700_asm.specs.Instructions.{bytes_of_number, bytes_of, instruction_in, instruction_at}
+use Rattle.spc700_asm.specs.Instructions.{bytes_of_number, bytes_of, instruction_at}
 use Rattle.spc700_asm.specs.Listing.{byte_text, text_of, rest_text, listing_of_first, listing_within, listing}
 use Rattle.spc700_asm.specs.Characters.{is_line_feed, trim}
 use Rattle.spc700_asm.specs.Statements.{Statement, Nothing, Bytes, Code, statement_of}
@@ -15,10 +15,11 @@ use Rattle.spc700_asm.specs.Faults.{LineRefusal, has_great_number}
 use Rattle.spc700_asm.specs.Assembly.{instruction_bytes, line_bytes, lines_of, assembly}
 use Rattle.spc700_asm.proofs.Unrolled.{all_there}
 use Rattle.text_parts.proofs.Places.{split_at_place}
-use Rattle.spc700_asm.proofs.LineTexts.{fails, plain, place_after, take_front, drop_after}
+use Rattle.spc700_asm.proofs.LineTexts.{fails, plain, place_after, drop_after}
+use Rattle.spc700_asm.proofs.Fronts.{take_front}
 use Rattle.spc700_asm.proofs.TextCharacters.{byte_characters}
 use Rattle.spc700_asm.proofs.TextRead.{text_read, text_feed}
-use Rattle.spc700_asm.proofs.Encoding.{AreBytes, bytes_dropped, found_again, expected_is_written, expected_is_not_great, shown_is_near}
+use Rattle.spc700_asm.proofs.Encoding.{AreBytes, bytes_dropped, found_at, found_again, expected_is_written, expected_is_not_great, shown_is_near}
 use Rattle.spc700_asm.proofs.Expected.{expected}
 use Rattle.spc700_asm.proofs.ByteLines.{items, items_fail, rest_read}
 use Rattle.spc700_asm.proofs.GoodLines.{Good, good_assembly}
@@ -31,9 +32,6 @@ line_and_lines t more feed =
     ap (map statement_of) (split_at_place is_line_feed text (length t) (place_after is_line_feed t 10 more feed refl))
     ∙ ap (λ (front : List ℕ). statement_of front ∷ map statement_of (slice_split is_line_feed (drop (length t + 1) text))) (take_front (length t) t (10 ∷ more) refl)
     ∙ ap (λ (after : List ℕ). statement_of t ∷ map statement_of (slice_split is_line_feed after)) (drop_after t 10 more)
-
-lt_false : (a b : ℕ) → b ≤ a → nat_lt a b ≡ false
-lt_false a b l = grind (arith, nat_tests)
 
 fine_fault : (s : Statement) (great long : Bool) → great ≡ false → long ≡ false → cond great (Some fault.Number) (cond long (Some fault.Long) None) ≡ None
 fine_fault s false false x y = refl
@@ -50,16 +48,13 @@ fine_fault s false true x y = absurd (differ y)
 no_lines : (at : ℕ) → at ≤ 0x10000 → Good at (lines_of []) []
 unfolding lines_of statement_of trim
 no_lines at within =
-    let short : nat_lt 0x10000 (at + 0) ≡ false = lt_false 0x10000 (at + 0) (omega arith) in
+    let short : nat_lt 0x10000 (at + 0) ≡ false = le-ltb 0x10000 (at + 0) (omega arith) in
     ([], [], refl, fine_fault Nothing false (nat_lt 0x10000 (at + 0)) refl short, refl, refl, refl)
 
-abbrev found : (at opcode : ℕ) (operands : List ℕ) → Instruction
-found at opcode operands = instruction_in opcode (row_of opcode) (at + length_of opcode) operands
-
 -- the line of an instruction, before good lines
-good_instruction : (at opcode : ℕ) (operands more : List ℕ) → opcode < 256 → AreBytes operands → length_of opcode ≤ length operands + 1 → at + (length operands + 1) ≤ 0x10000 → Good (at + length_of opcode) (lines_of more) (drop (length_of opcode) (opcode ∷ operands)) → Good at (lines_of (text_of (found at opcode operands) ++ codes "\n" ++ more)) (opcode ∷ operands)
+good_instruction : (at opcode : ℕ) (operands more : List ℕ) → opcode < 256 → AreBytes operands → length_of opcode ≤ length operands + 1 → at + (length operands + 1) ≤ 0x10000 → Good (at + length_of opcode) (lines_of more) (drop (length_of opcode) (opcode ∷ operands)) → Good at (lines_of (text_of (found_at at opcode operands) ++ codes "\n" ++ more)) (opcode ∷ operands)
 good_instruction at opcode operands more below are there within good =
-    let i = found at opcode operands in
+    let i = found_at at opcode operands in
     let next = at + length_of opcode in
     let both = found_again at opcode operands are there in
     let lines : lines_of (text_of i ++ codes "\n" ++ more) ≡ Some (Code opcode (expected (row_of opcode).first i.first) (expected (row_of opcode).second i.second)) ∷ lines_of more =
@@ -75,7 +70,7 @@ good_instruction at opcode operands more below are there within good =
       take (length_of opcode) (opcode ∷ operands),
       drop (length_of opcode) (opcode ∷ operands),
       take-append-drop (length_of opcode) (opcode ∷ operands),
-      fine_fault Nothing (has_great_number (Code opcode (expected (row_of opcode).first i.first) (expected (row_of opcode).second i.second))) (nat_lt 0x10000 next) (expected_is_not_great opcode next i.first i.second below both.0) (lt_false 0x10000 next (omega arith)),
+      fine_fault Nothing (has_great_number (Code opcode (expected (row_of opcode).first i.first) (expected (row_of opcode).second i.second))) (nat_lt 0x10000 next) (expected_is_not_great opcode next i.first i.second below both.0) (le-ltb 0x10000 next (omega arith)),
       refl,
       bytes,
       good,
@@ -84,7 +79,7 @@ good_instruction at opcode operands more below are there within good =
 -- bytes are no great numbers, and their own bytes
 not_great : (bytes : List ℕ) → AreBytes bytes → list_any (nat_lt 0xFF) bytes ≡ false
 not_great [] are = refl
-not_great (b ∷ bytes) are = rw (lt_false 0xFF b (omega (arith, are.0))) (not_great bytes are.1)
+not_great (b ∷ bytes) are = rw (le-ltb 0xFF b (omega (arith, are.0))) (not_great bytes are.1)
 
 own_bytes : (bytes : List ℕ) → AreBytes bytes → flat_map (bytes_of_number 1) bytes ≡ bytes
 own_bytes [] are = refl
@@ -105,7 +100,7 @@ good_rest at (b ∷ bytes) are within =
       b ∷ bytes,
       [],
       append-nil (b ∷ bytes),
-      fine_fault Nothing (list_any (nat_lt 0xFF) (b ∷ bytes)) (nat_lt 0x10000 (at + length (b ∷ bytes))) (not_great (b ∷ bytes) are) (lt_false 0x10000 (at + length (b ∷ bytes)) within),
+      fine_fault Nothing (list_any (nat_lt 0xFF) (b ∷ bytes)) (nat_lt 0x10000 (at + length (b ∷ bytes))) (not_great (b ∷ bytes) are) (le-ltb 0x10000 (at + length (b ∷ bytes)) within),
       refl,
       ap Ok (own_bytes (b ∷ bytes) are),
       no_lines (at + length (b ∷ bytes)) within,
@@ -117,7 +112,7 @@ unfolding instruction_at
 good_first most at opcode operands are within after None is = good_rest at (opcode ∷ operands) are within
 good_first most at opcode operands are within after (Some i) is =
     let bytes = opcode ∷ operands in
-    let both = all_there (length operands + 1) (length_of opcode) (found at opcode operands) i is in
+    let both = all_there (length operands + 1) (length_of opcode) (found_at at opcode operands) i is in
     let P : Instruction → Type 0 = λ j. Good at (lines_of (text_of j ++ codes "\n" ++ listing_within most (at + length_of j.opcode) (drop (length_of j.opcode) bytes))) bytes in
     subst P both.0 (good_instruction at opcode operands (listing_within most (at + length_of opcode) (drop (length_of opcode) bytes)) are.0 are.1 both.1 (omega arith) (after both.1))
 

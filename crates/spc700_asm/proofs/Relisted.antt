@@ -1,11 +1,12 @@
 -- What was assembled is listed as its instructions.
 use Rattle.std.proofs.Common.{◌≡◌, ℕ, ◌+◌, ◌*◌, ◌%◌, ◌≤◌, ◌<◌, Bool, true, false, nat_lt, cond, not, List, [], ◌∷◌, ◌++◌, refl, ap, sym, ◌∙◌, subst, append-nil, add-zero, arith}
-use Rattle.std.specs.Prelude.{◌||◌, ◌&&◌, codes, Option, Some, None, Result, Ok, Err, unwrap_or, option_and_then, option_to_list}
+use Rattle.std.specs.Prelude.{◌&&◌, codes, Option, Some, None, Result, Ok, Err, unwrap_or, option_and_then, option_to_list}
 use Rattle.std.specs.Option.{option_map, option_or}
 use Rattle.std.specs.List.{flat_map, list_any}
 use Rattle.std.specs.Str.{bytes_eq}
 use Rattle.std.proofs.lemmas.Bool.Decides.{nat_tests}
 use Rattle.std.proofs.lemmas.Grind.{flat_map-append}
+use Rattle.std.proofs.lemmas.Bool.{true≢false, or_parts}
 use Rattle.spc700_table.specs.declared.Form.{Form}
 use Rattle.spc700_table.specs.Opcodes.{row_of, length_of}
 use Rattle.spc700_asm.specs.declared.pattern.Slot.{Slot}
@@ -26,7 +27,7 @@ use Rattle.spc700_asm.specs.Laws.{is_data, instruction_of_line, instructions_of,
 use Rattle.spc700_asm.proofs.Unrolled.{listing_at_some}
 use Rattle.spc700_asm.proofs.LabelsAppend.{value_of_append}
 use Rattle.spc700_asm.proofs.Assembled.{assembly_where_fine, lines_are_fine}
-use Rattle.spc700_asm.proofs.Decoding.{is_target, far_by_slot, IsShown, AreShown, length_of_bytes, instruction_back, drop_front}
+use Rattle.spc700_asm.proofs.Decoding.{is_target, far_by_slot, IsShown, AreShown, made, length_of_bytes, instruction_back, drop_front}
 
 -- an instruction before other bytes is listed before them
 pub listing_of_instruction : (at : ℕ) (i : Instruction) (rest : List ℕ) → AreShown (row_of i.opcode) (at + length_of i.opcode) i.first i.second → listing at (bytes_of at i ++ rest) ≡ text_of i ++ codes "\n" ++ listing (at + length_of i.opcode) rest
@@ -83,13 +84,6 @@ written_small labels are (Plain number) n is small =
     let below : number ≤ 0xFFFF = grind (arith, nat_tests) in omega arith
 written_small labels are (Named name) n is small = are name n is
 
-or_false : (a b : Bool) → (a || b) ≡ false → (a ≡ false) × (b ≡ false)
-or_false false b e = (refl, e)
-or_false true b e = absurd (differ e)
-  where
-    differ : true ≡ false → ⊥
-    differ e = cc
-
 -- what fills a slot is the number in the line
 slot_is_shown : (labels : Labels) → AreAddresses labels → (slot : Slot) (value : Written) (bit : Option ℕ) (next n : ℕ) → slot_number labels slot value bit ≡ Some n → is_great slot value bit ≡ false → ((slot ≡ Target) → is_near next n ≡ true) → IsShown slot next n
 slot_is_shown labels are Absent value bit next n is small near = sym (some_is 0 n is)
@@ -100,7 +94,7 @@ slot_is_shown labels are Address value bit next n is small near = written_small 
 slot_is_shown labels are Target value bit next n is small near = (written_small labels are value n is small, near refl)
 slot_is_shown labels are MemoryBit value bit next n is small near =
     let same : plain_number value + 0x2000 * unwrap_or bit 0 ≡ n = some_is _ n is in
-    let both = or_false (is_above 0x1FFF value) (nat_lt 7 (unwrap_or bit 0)) small in
+    let both = or_parts (is_above 0x1FFF value) (nat_lt 7 (unwrap_or bit 0)) small in
     let seven : unwrap_or bit 0 ≤ 7 = le (unwrap_or bit 0) both.1 in
     omega (arith, plain_small 0x1FFF value both.0)
   where
@@ -108,7 +102,7 @@ slot_is_shown labels are MemoryBit value bit next n is small near =
     le b t = grind (arith, nat_tests)
 slot_is_shown labels are (OwnBit own) value bit next n is small near =
     let same : plain_number value ≡ n = some_is _ n is in
-    omega (arith, plain_small 0xFF value (or_false (is_above 0xFF value) (nat_lt 7 (unwrap_or bit 0)) small).0)
+    omega (arith, plain_small 0xFF value (or_parts (is_above 0xFF value) (nat_lt 7 (unwrap_or bit 0)) small).0)
 slot_is_shown labels are (OwnEntry own) value bit next n is small near = sym (some_is 0 n is)
 
 -- no number is 0
@@ -135,9 +129,6 @@ operand_is_shown labels are f None next n is small far =
 operand_is_shown labels are f (Some operand) next n is small far =
     slot_is_shown labels are (pattern_of f).slot operand.value operand.bit next n is small (near_by (pattern_of f).slot (is_near next n) (sym (far_by_slot f next n) ∙ far))
 
-abbrev made : (opcode n m : ℕ) → Instruction
-made opcode n m = record { opcode = opcode; first = n; second = m }
-
 written_by : (opcode : ℕ) (a b : Option ℕ) (i : Instruction) → option_and_then (λ n. option_map (λ m. made opcode n m) b) a ≡ Some i → (i.opcode ≡ opcode) × (a ≡ Some i.first) × (b ≡ Some i.second)
 written_by opcode None b i is = absurd (differ is)
   where
@@ -163,8 +154,8 @@ instruction_is_written labels opcode first second i is =
 assembled_is_shown : (labels : Labels) → AreAddresses labels → (at opcode : ℕ) (first second : Option Operand) (i : Instruction) → instruction_written labels opcode first second ≡ Some i → has_great_number (Code opcode first second) ≡ false → is_far at i ≡ false → AreShown (row_of i.opcode) (at + length_of i.opcode) i.first i.second
 assembled_is_shown labels are at opcode first second i is small far =
     let written = instruction_is_written labels opcode first second i is in
-    let smalls = or_false (has_great_operand (row_of opcode).first first) (has_great_operand (row_of opcode).second second) small in
-    let nears = or_false (is_far_operand (row_of i.opcode).first (at + length_of i.opcode) i.first) (is_far_operand (row_of i.opcode).second (at + length_of i.opcode) i.second) far in
+    let smalls = or_parts (has_great_operand (row_of opcode).first first) (has_great_operand (row_of opcode).second second) small in
+    let nears = or_parts (is_far_operand (row_of i.opcode).first (at + length_of i.opcode) i.first) (is_far_operand (row_of i.opcode).second (at + length_of i.opcode) i.second) far in
     let P : ℕ → Type 0 = λ code. operand_number labels (row_of code).first first ≡ Some i.first in
     let Q : ℕ → Type 0 = λ code. operand_number labels (row_of code).second second ≡ Some i.second in
     let G : ℕ → Type 0 = λ code. has_great_operand (row_of code).first first ≡ false in
@@ -192,9 +183,6 @@ ok_is a b e = cc
 err_is_ok : (f : LineFault) (b : List ℕ) → ◌≡◌ {A = Result (List ℕ) LineFault} (Err f) (Ok b) → ⊥
 err_is_ok f b e = cc
 
-true_is_false : true ≡ false → ⊥
-true_is_false e = cc
-
 nothing_listed : (at : ℕ) (b more : List ℕ) → [] ≡ b → listing at (b ++ more) ≡ listing (at + 0) more
 nothing_listed at b more is =
     ap (λ (front : List ℕ). listing at (front ++ more)) (sym is) ∙ ap (λ (n : ℕ). listing n more) (sym (add-zero at))
@@ -210,8 +198,8 @@ line_listed : (labels : Labels) → AreAddresses labels → (at : ℕ) (line : O
 line_listed labels are at None b more fine code is = absurd fine
 line_listed labels are at (Some Nothing) b more fine code is = nothing_listed at b more (ok_is [] b is)
 line_listed labels are at (Some (Name name)) b more fine code is = nothing_listed at b more (ok_is [] b is)
-line_listed labels are at (Some (Bytes numbers)) b more fine code is = absurd (true_is_false code)
-line_listed labels are at (Some (Words words)) b more fine code is = absurd (true_is_false code)
+line_listed labels are at (Some (Bytes numbers)) b more fine code is = absurd (true≢false code)
+line_listed labels are at (Some (Words words)) b more fine code is = absurd (true≢false code)
 line_listed labels are at (Some (Code opcode first second)) b more fine code is = by (instruction_written labels opcode first second) refl is
   where
     near : (i : Instruction) (far : Bool) → is_far at i ≡ far → instruction_written labels opcode first second ≡ Some i → cond far (Err fault.Far) (Ok (bytes_of at i)) ≡ Ok b → listing at (b ++ more) ≡ texts_of (i ∷ []) ++ listing (at + length_of opcode) more
@@ -233,7 +221,7 @@ unfolding bytes_of_lines
 relisted labels are at number [] bytes fine code is = ap (listing at) (sym (all_is [] bytes is)) ∙ nothing_left at
 relisted labels are at number (line ∷ lines) bytes fine code is =
     let parts = joined_ok number (line_bytes labels at line) (bytes_of_lines labels (at + size_of_line line) (number + 1) lines) bytes is in
-    let none = or_false (is_data line) (list_any is_data lines) code in
+    let none = or_parts (is_data line) (list_any is_data lines) code in
     ap (listing at) parts.4
     ∙ line_listed labels are at line parts.0 parts.1 fine.0 none.0 parts.2
     ∙ ap (λ (after : List ℕ). texts_of (instruction_of_line labels line) ++ after) (relisted labels are (at + size_of_line line) (number + 1) lines parts.1 fine.1 none.1 parts.3)

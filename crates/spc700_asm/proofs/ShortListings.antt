@@ -3,7 +3,7 @@ use Rattle.std.proofs.Common.{◌≡◌, ℕ, zero, suc, ◌+◌, ◌*◌, ◌/�
 use Rattle.std.specs.Prelude.{codes, decimal, Option, Some, None}
 use Rattle.std.specs.List.{flat_map}
 use Rattle.std.specs.Fmt.{digits}
-use Rattle.std.proofs.lemmas.Bool.Decides.{nat_tests}
+use Rattle.std.proofs.lemmas.Bool.{leb-true}
 use Rattle.hex.specs.Hex.{encode_with}
 use Rattle.spc700_table.specs.declared.Form.{Form}
 use Rattle.spc700_table.specs.declared.Form.TheVariants as form
@@ -12,21 +12,18 @@ use Rattle.spc700_table.specs.Opcodes.{row_of, columns, operand_bytes, length_of
 use Rattle.spc700_table.specs.Mnemonics.{mnemonic_of}
 use Rattle.spc700_asm.specs.declared.instruction.Instruction.{Instruction}
 use Rattle.spc700_asm.specs.Patterns.{pattern_of, is_absent}
-use Rattle.spc700_asm.specs.Instructions.{instruction_in, instruction_at}
+use Rattle.spc700_asm.specs.Instructions.{instruction_at}
 use Rattle.spc700_asm.specs.Listing.{byte_text, operand_text, operand_after, text_of, rest_text, listing_of_first, listing_within, listing}
 use Rattle.spc700_asm.proofs.Unrolled.{all_there}
 use Rattle.spc700_asm.proofs.NumberTexts.{alike_below}
 use Rattle.spc700_asm.proofs.OperandTexts.{HasRoom}
 use Rattle.spc700_asm.proofs.Decoding.{IsShown}
 use Rattle.spc700_asm.proofs.TextRead.{own_fits, first_fits, second_fits, room}
-use Rattle.spc700_asm.proofs.Encoding.{AreBytes, bytes_dropped, found_again}
-
-le_by : (a b : ℕ) → nat_le a b ≡ true → a ≤ b
-le_by a b t = grind (arith, nat_tests)
+use Rattle.spc700_asm.proofs.Encoding.{AreBytes, bytes_dropped, found_at, found_again}
 
 decimal_is_short : (n : ℕ) → n < 16 → length (decimal n ++ []) ≤ 2
 unfolding digits
-decimal_is_short n below = le_by _ _ (alike_below 16 (λ n. nat_le (length (decimal n ++ [])) 2) (λ n. true) refl n below)
+decimal_is_short n below = leb-true _ _ (alike_below 16 (λ n. nat_le (length (decimal n ++ [])) 2) (λ n. true) refl n below)
 
 bit_is_short : (text : List ℕ) → length text ≤ 2 → suc (suc (suc (suc (length text)))) ≤ 10
 bit_is_short text short = omega arith
@@ -43,28 +40,28 @@ entry_is_short text short = omega arith
 operand_is_short : (f : Form) (n : ℕ) → HasRoom (pattern_of f).slot n → length (operand_text f n) ≤ 4 + 6 * operand_bytes f
 unfolding encode_with
 operand_is_short form.None n room = absurd room
-operand_is_short form.A n room = le_by _ _ refl
-operand_is_short form.X n room = le_by _ _ refl
-operand_is_short form.Y n room = le_by _ _ refl
-operand_is_short form.Ya n room = le_by _ _ refl
-operand_is_short form.Psw n room = le_by _ _ refl
-operand_is_short form.Sp n room = le_by _ _ refl
-operand_is_short form.Carry n room = le_by _ _ refl
-operand_is_short form.PtrX n room = le_by _ _ refl
-operand_is_short form.PtrY n room = le_by _ _ refl
-operand_is_short form.PtrXInc n room = le_by _ _ refl
-operand_is_short form.Imm n room = le_by _ _ refl
-operand_is_short form.Direct n room = le_by _ _ refl
-operand_is_short form.DirectX n room = le_by _ _ refl
-operand_is_short form.DirectY n room = le_by _ _ refl
-operand_is_short form.IndX n room = le_by _ _ refl
-operand_is_short form.IndY n room = le_by _ _ refl
-operand_is_short form.Upper n room = le_by _ _ refl
-operand_is_short form.Abs n room = le_by _ _ refl
-operand_is_short form.AbsX n room = le_by _ _ refl
-operand_is_short form.AbsY n room = le_by _ _ refl
-operand_is_short form.AbsPtrX n room = le_by _ _ refl
-operand_is_short form.Rel n room = le_by _ _ refl
+operand_is_short form.A n room = leb-true _ _ refl
+operand_is_short form.X n room = leb-true _ _ refl
+operand_is_short form.Y n room = leb-true _ _ refl
+operand_is_short form.Ya n room = leb-true _ _ refl
+operand_is_short form.Psw n room = leb-true _ _ refl
+operand_is_short form.Sp n room = leb-true _ _ refl
+operand_is_short form.Carry n room = leb-true _ _ refl
+operand_is_short form.PtrX n room = leb-true _ _ refl
+operand_is_short form.PtrY n room = leb-true _ _ refl
+operand_is_short form.PtrXInc n room = leb-true _ _ refl
+operand_is_short form.Imm n room = leb-true _ _ refl
+operand_is_short form.Direct n room = leb-true _ _ refl
+operand_is_short form.DirectX n room = leb-true _ _ refl
+operand_is_short form.DirectY n room = leb-true _ _ refl
+operand_is_short form.IndX n room = leb-true _ _ refl
+operand_is_short form.IndY n room = leb-true _ _ refl
+operand_is_short form.Upper n room = leb-true _ _ refl
+operand_is_short form.Abs n room = leb-true _ _ refl
+operand_is_short form.AbsX n room = leb-true _ _ refl
+operand_is_short form.AbsY n room = leb-true _ _ refl
+operand_is_short form.AbsPtrX n room = leb-true _ _ refl
+operand_is_short form.Rel n room = leb-true _ _ refl
 operand_is_short form.Bit n room =
     let high : n / 0x2000 < 16 = omega arith in
     one_less _ (memory_bit_is_short (decimal (n / 0x2000) ++ []) (decimal_is_short (n / 0x2000) high))
@@ -84,21 +81,18 @@ after_is_short mark f next n own is = by (is_absent (pattern_of f).slot) refl
 
 mnemonic_is_short : (opcode : ℕ) → opcode < 256 → length (mnemonic_of (row_of opcode).kind) ≤ 5
 unfolding mnemonic_of row_of columns printed_cycles cycle_map
-mnemonic_is_short opcode below = le_by _ _ (alike_below 256 (λ o. nat_le (length (mnemonic_of (row_of o).kind)) 5) (λ o. true) refl opcode below)
+mnemonic_is_short opcode below = leb-true _ _ (alike_below 256 (λ o. nat_le (length (mnemonic_of (row_of o).kind)) 5) (λ o. true) refl opcode below)
 
 joined_length : (name first second more : List ℕ) → length (name ++ first ++ second ++ codes "\n" ++ more) ≡ length name + length first + length second + 1 + length more
 joined_length name first second more =
     omega (arith, length-append name first, length-append (name ++ first) second, length-append (name ++ first ++ second) (codes "\n"), length-append (name ++ first ++ second ++ codes "\n") more)
 
-abbrev found : (at opcode : ℕ) (operands : List ℕ) → Instruction
-found at opcode operands = instruction_in opcode (row_of opcode) (at + length_of opcode) operands
-
 -- the line of an instruction, and what is after it
-line_is_short : (at opcode : ℕ) (operands more : List ℕ) → opcode < 256 → AreBytes operands → length_of opcode ≤ length operands + 1 → length (text_of (found at opcode operands) ++ codes "\n" ++ more) ≤ 16 * length_of opcode + length more
+line_is_short : (at opcode : ℕ) (operands more : List ℕ) → opcode < 256 → AreBytes operands → length_of opcode ≤ length operands + 1 → length (text_of (found_at at opcode operands) ++ codes "\n" ++ more) ≤ 16 * length_of opcode + length more
 unfolding text_of
 line_is_short at opcode operands more below are there =
     let row = row_of opcode in
-    let i = found at opcode operands in
+    let i = found_at at opcode operands in
     let next = at + length_of opcode in
     let both = found_again at opcode operands are there in
     omega (
@@ -127,7 +121,7 @@ unfolding instruction_at
 short_first most at opcode operands are after None is = rest_is_short (opcode ∷ operands)
 short_first most at opcode operands are after (Some i) is =
     let bytes = opcode ∷ operands in
-    let both = all_there (length operands + 1) (length_of opcode) (found at opcode operands) i is in
+    let both = all_there (length operands + 1) (length_of opcode) (found_at at opcode operands) i is in
     let P : Instruction → Type 0 = λ j. length (text_of j ++ codes "\n" ++ listing_within most (at + length_of j.opcode) (drop (length_of j.opcode) bytes)) ≤ 16 * length bytes in
     let line = line_is_short at opcode operands (listing_within most (at + length_of opcode) (drop (length_of opcode) bytes)) are.0 are.1 both.1 in
     subst P both.0 (omega (arith, line, after, both.1, length-drop (length_of opcode) bytes))

@@ -1,22 +1,21 @@
 -- The text of an instruction is read as its opcode and its operands.
-use Rattle.std.proofs.Common.{◌≡◌, ℕ, ◌<◌, Bool, true, false, not, cond, nat_lt, [], ◌∷◌, ◌++◌, map, refl, ap, sym, ◌∙◌, append_assoc, append-nil, arith}
+use Rattle.std.proofs.Common.{◌≡◌, ℕ, ◌<◌, Bool, true, false, not, cond, nat_lt, [], ◌∷◌, ◌++◌, map, refl, ap, sym, ◌∙◌, append_assoc, append-nil}
 use Rattle.std.specs.Prelude.{◌&&◌, codes, position, Option, Some, None}
 use Rattle.std.specs.Option.{option_map, option_or}
 use Rattle.std.specs.List.{range_with_len}
-use Rattle.std.proofs.lemmas.Bool.Decides.{nat_tests}
+use Rattle.std.proofs.lemmas.Bool.{true≢false, ltb-true}
 use Rattle.spc700_table.specs.declared.rows.TheConstants.{ROWS}
 use Rattle.spc700_table.specs.declared.Form.{Form}
 use Rattle.spc700_table.specs.Cycles.{cycle_map, printed_cycles}
 use Rattle.spc700_table.specs.Opcodes.{row_of, columns}
 use Rattle.spc700_asm.specs.declared.pattern.Slot.{Slot}
 use Rattle.spc700_asm.specs.declared.pattern.Slot.TheVariants.{Absent, Register, Byte, Address, Target, MemoryBit, OwnBit, OwnEntry}
-use Rattle.spc700_asm.specs.declared.instruction.Instruction.{Instruction}
 use Rattle.spc700_table.specs.Mnemonics.{mnemonic_of}
 use Rattle.spc700_asm.specs.Patterns.{Pattern, pattern_of, is_absent}
 use Rattle.spc700_asm.specs.Listing.{operand_text, operand_after, text_of}
 use Rattle.spc700_asm.specs.Operands.{Operand}
 use Rattle.spc700_asm.specs.Statements.{Code, is_this, is_alike, all_rows, opcode_written, code, statement_of}
-use Rattle.spc700_asm.proofs.Decoding.{IsShown}
+use Rattle.spc700_asm.proofs.Decoding.{IsShown, made}
 use Rattle.spc700_asm.proofs.NumberTexts.{alike_below}
 use Rattle.spc700_asm.proofs.OperandTexts.{HasRoom, operand_text_read}
 use Rattle.spc700_asm.specs.Characters.{is_line_feed}
@@ -65,34 +64,28 @@ none_alone : (opcode : ℕ) → opcode < 256 → (is_absent (pattern_of (row_of 
 unfolding row_of columns printed_cycles cycle_map
 none_alone opcode below = alike_below 256 (λ o. is_absent (pattern_of (row_of o).first).slot && not (is_absent (pattern_of (row_of o).second).slot)) (λ o. false) refl opcode below
 
-lt_by : (a b : ℕ) → nat_lt a b ≡ true → a < b
-lt_by a b t = grind (arith, nat_tests)
-
-true_is_false : true ≡ false → ⊥
-true_is_false e = cc
-
 pub room : (slot : Slot) (next n : ℕ) → own_fits slot ≡ true → IsShown slot next n → is_absent slot ≡ false → HasRoom slot n
-room Absent next n own is there = true_is_false there
+room Absent next n own is there = true≢false there
 room Register next n own is there = tt
 room Byte next n own is there = is
 room Address next n own is there = is
 room Target next n own is there = is.0
 room MemoryBit next n own is there = is
-room (OwnBit bit) next n own is there = (is, lt_by bit 16 own)
-room (OwnEntry entry) next n own is there = lt_by entry 16 own
+room (OwnBit bit) next n own is there = (is, ltb-true bit 16 own)
+room (OwnEntry entry) next n own is there = ltb-true entry 16 own
 
 nothing_expected : (slot : Slot) (pattern : Pattern) (n : ℕ) → is_absent slot ≡ true → expected_in slot pattern n ≡ None
 nothing_expected Absent pattern n e = refl
-nothing_expected Register pattern n e = absurd (true_is_false (sym e))
-nothing_expected Byte pattern n e = absurd (true_is_false (sym e))
-nothing_expected Address pattern n e = absurd (true_is_false (sym e))
-nothing_expected Target pattern n e = absurd (true_is_false (sym e))
-nothing_expected MemoryBit pattern n e = absurd (true_is_false (sym e))
-nothing_expected (OwnBit bit) pattern n e = absurd (true_is_false (sym e))
-nothing_expected (OwnEntry entry) pattern n e = absurd (true_is_false (sym e))
+nothing_expected Register pattern n e = absurd (true≢false (sym e))
+nothing_expected Byte pattern n e = absurd (true≢false (sym e))
+nothing_expected Address pattern n e = absurd (true≢false (sym e))
+nothing_expected Target pattern n e = absurd (true≢false (sym e))
+nothing_expected MemoryBit pattern n e = absurd (true≢false (sym e))
+nothing_expected (OwnBit bit) pattern n e = absurd (true≢false (sym e))
+nothing_expected (OwnEntry entry) pattern n e = absurd (true≢false (sym e))
 
 something_expected : (slot : Slot) (pattern : Pattern) (n : ℕ) → is_absent slot ≡ false → (e : Operand) × (expected_in slot pattern n ≡ Some e)
-something_expected Absent pattern n e = absurd (true_is_false e)
+something_expected Absent pattern n e = absurd (true≢false e)
 something_expected Register pattern n e = (_, refl)
 something_expected Byte pattern n e = (_, refl)
 something_expected Address pattern n e = (_, refl)
@@ -101,13 +94,10 @@ something_expected MemoryBit pattern n e = (_, refl)
 something_expected (OwnBit bit) pattern n e = (_, refl)
 something_expected (OwnEntry entry) pattern n e = (_, refl)
 
-abbrev made : (opcode n m : ℕ) → Instruction
-made opcode n m = record { opcode = opcode; first = n; second = m }
-
 -- the instruction by its operands' texts
 read_by : (opcode n m next : ℕ) → opcode < 256 → IsShown (pattern_of (row_of opcode).first).slot next n → IsShown (pattern_of (row_of opcode).second).slot next m → (a b : Bool) → is_absent (pattern_of (row_of opcode).first).slot ≡ a → is_absent (pattern_of (row_of opcode).second).slot ≡ b → (a && not b) ≡ false →
     statement_of (mnemonic_of (row_of opcode).kind ++ cond a [] (codes " " ++ operand_text (row_of opcode).first n) ++ cond b [] (codes "," ++ operand_text (row_of opcode).second m)) ≡ code (mnemonic_of (row_of opcode).kind) (expected (row_of opcode).first n) (expected (row_of opcode).second m)
-read_by opcode n m next below one two true false x y none = absurd (true_is_false none)
+read_by opcode n m next below one two true false x y none = absurd (true≢false none)
 read_by opcode n m next below one two true true x y none =
     let name = mnemonic_of (row_of opcode).kind in
     ap statement_of (append-nil (name ++ []) ∙ append-nil name)

@@ -21,8 +21,6 @@ mod pattern;
 mod refusal;
 mod statement;
 mod survey;
-#[cfg(test)]
-mod tests;
 
 pub use assembly::assemble;
 pub use laws::{

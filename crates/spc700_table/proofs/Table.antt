@@ -2,8 +2,8 @@
 use Rattle.std.proofs.Common.{◌≡◌, ℕ, ◌+◌, ◌<◌, ◌≤◌, Bool, true, refl, ap, ◌∙◌, slice_index_or, nat_le, arith}
 use Rattle.std.specs.Prelude.{map}
 use Rattle.std.specs.List.{range_with_len, list_all}
-use Rattle.std.proofs.lemmas.Bool.Decides.{nat_tests}
 use Rattle.std.proofs.lemmas.List.FromFn.{get_or-map-range_with_len}
+use Rattle.std.proofs.lemmas.Bool.{leb-true}
 use Rattle.spc700_table.specs.declared.rows.TheConstants.{ROWS}
 use Rattle.spc700_table.specs.declared.OpRow.{OpRow}
 use Rattle.spc700_table.specs.Cycles.{cycle_map, printed_cycles}
@@ -24,9 +24,6 @@ all_short : list_all is_short (range_with_len 0 256) ≡ true
 unfolding row_of columns printed_cycles cycle_map
 all_short = refl
 
-le_from_test : (a b : ℕ) → nat_le a b ≡ true → a ≤ b
-le_from_test a b test = grind (arith, nat_tests)
-
 -- no instruction has more than two operand bytes
 pub operand_bytes_few : (opcode : ℕ) → opcode < 256 → operand_bytes (row_of opcode).first + operand_bytes (row_of opcode).second ≤ 2
-operand_bytes_few opcode below = le_from_test _ _ (list_all_below is_short 256 opcode all_short below)
+operand_bytes_few opcode below = leb-true _ _ (list_all_below is_short 256 opcode all_short below)

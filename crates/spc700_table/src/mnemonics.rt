@@ -4,77 +4,34 @@ ghost use Rattle.spc700_table.specs.Mnemonics.{mnemonic_of};
 
 use crate::Kind;
 
+/// A match that has several kinds with their mnemonics on a line.
+macro_rules! mnemonics {
+    ($kind:expr; $($name:ident => $text:literal),*) => {
+        match $kind {
+            $(Kind::$name => $text,)*
+        }
+    };
+}
+
 /// The mnemonic of a kind of instruction, in capitals: 2 to 5 letters and digits (Anomie's SPC700 Doc, the instruction list).
 #[tactic(auto, unfolding(crate::specs::Mnemonics::mnemonic_of))]
 pub fn mnemonic(kind: Kind) -> &'static [u8]
     ensures { result.now ≡ mnemonic_of kind }
 {
-    match kind {
-        Kind::Nop => b"NOP",
-        Kind::Bpl => b"BPL",
-        Kind::Clrp => b"CLRP",
-        Kind::Bmi => b"BMI",
-        Kind::Setp => b"SETP",
-        Kind::Bvc => b"BVC",
-        Kind::Clrc => b"CLRC",
-        Kind::Bvs => b"BVS",
-        Kind::Setc => b"SETC",
-        Kind::Bcc => b"BCC",
-        Kind::Ei => b"EI",
-        Kind::Bcs => b"BCS",
-        Kind::Di => b"DI",
-        Kind::Bne => b"BNE",
-        Kind::Clrv => b"CLRV",
-        Kind::Beq => b"BEQ",
-        Kind::Tcall => b"TCALL",
-        Kind::Set1 => b"SET1",
-        Kind::Clr1 => b"CLR1",
-        Kind::Bbs => b"BBS",
-        Kind::Bbc => b"BBC",
-        Kind::Or => b"OR",
-        Kind::And => b"AND",
-        Kind::Eor => b"EOR",
-        Kind::Cmp => b"CMP",
-        Kind::Adc => b"ADC",
-        Kind::Sbc => b"SBC",
-        Kind::Mov => b"MOV",
-        Kind::Or1 => b"OR1",
-        Kind::Decw => b"DECW",
-        Kind::Incw => b"INCW",
-        Kind::And1 => b"AND1",
-        Kind::Cmpw => b"CMPW",
-        Kind::Addw => b"ADDW",
-        Kind::Eor1 => b"EOR1",
-        Kind::Subw => b"SUBW",
-        Kind::Mov1 => b"MOV1",
-        Kind::Movw => b"MOVW",
-        Kind::Not1 => b"NOT1",
-        Kind::Asl => b"ASL",
-        Kind::Rol => b"ROL",
-        Kind::Lsr => b"LSR",
-        Kind::Ror => b"ROR",
-        Kind::Dec => b"DEC",
-        Kind::Inc => b"INC",
-        Kind::Push => b"PUSH",
-        Kind::Notc => b"NOTC",
-        Kind::Tset1 => b"TSET1",
-        Kind::Cbne => b"CBNE",
-        Kind::Tclr1 => b"TCLR1",
-        Kind::Dbnz => b"DBNZ",
-        Kind::Pop => b"POP",
-        Kind::Div => b"DIV",
-        Kind::Das => b"DAS",
-        Kind::Brk => b"BRK",
-        Kind::Jmp => b"JMP",
-        Kind::Bra => b"BRA",
-        Kind::Call => b"CALL",
-        Kind::Pcall => b"PCALL",
-        Kind::Ret => b"RET",
-        Kind::Reti => b"RETI",
-        Kind::Xcn => b"XCN",
-        Kind::Mul => b"MUL",
-        Kind::Daa => b"DAA",
-        Kind::Sleep => b"SLEEP",
-        Kind::Stop => b"STOP",
-    }
+    mnemonics!(
+        kind;
+        Nop => b"NOP", Bpl => b"BPL", Clrp => b"CLRP", Bmi => b"BMI", Setp => b"SETP",
+        Bvc => b"BVC", Clrc => b"CLRC", Bvs => b"BVS", Setc => b"SETC", Bcc => b"BCC", Ei => b"EI",
+        Bcs => b"BCS", Di => b"DI", Bne => b"BNE", Clrv => b"CLRV", Beq => b"BEQ",
+        Tcall => b"TCALL", Set1 => b"SET1", Clr1 => b"CLR1", Bbs => b"BBS", Bbc => b"BBC",
+        Or => b"OR", And => b"AND", Eor => b"EOR", Cmp => b"CMP", Adc => b"ADC", Sbc => b"SBC",
+        Mov => b"MOV", Or1 => b"OR1", Decw => b"DECW", Incw => b"INCW", And1 => b"AND1",
+        Cmpw => b"CMPW", Addw => b"ADDW", Eor1 => b"EOR1", Subw => b"SUBW", Mov1 => b"MOV1",
+        Movw => b"MOVW", Not1 => b"NOT1", Asl => b"ASL", Rol => b"ROL", Lsr => b"LSR",
+        Ror => b"ROR", Dec => b"DEC", Inc => b"INC", Push => b"PUSH", Notc => b"NOTC",
+        Tset1 => b"TSET1", Cbne => b"CBNE", Tclr1 => b"TCLR1", Dbnz => b"DBNZ", Pop => b"POP",
+        Div => b"DIV", Das => b"DAS", Brk => b"BRK", Jmp => b"JMP", Bra => b"BRA", Call => b"CALL",
+        Pcall => b"PCALL", Ret => b"RET", Reti => b"RETI", Xcn => b"XCN", Mul => b"MUL",
+        Daa => b"DAA", Sleep => b"SLEEP", Stop => b"STOP"
+    )
 }

@@ -1,6 +1,6 @@
 use Rattle.std.proofs.Common.{◌≡◌, Bool, true, ◌||◌, nat_lt, get_or, refl, ◌∙◌, ap}
 use Rattle.snd_host.specs.Memory.{is_listed, rooms_of}
-use Rattle.snd_host.proofs.tests.second_write.Goals as goal
+use Rattle.worked_rows.proofs.hosts.second_write.Goals as goal
 
 -- the second call has the number 1, which is listed
 pub returns : goal.returns

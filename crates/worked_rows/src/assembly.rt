@@ -1,6 +1,6 @@
 //! Worked rows of the assembler and the listing.
 
-use crate::{AsmRefusal, LineFault, assemble, disassemble};
+use spc700_asm::{AsmRefusal, LineFault, assemble, disassemble};
 use spc700_table::length;
 use std::test::Fail;
 

@@ -2,7 +2,7 @@
 ghost use Rattle.std.specs.Prelude.{◌≡◌, ◌<◌, [], ◌∷◌, length, true, None, is_err, IfOk};
 ghost use Rattle.snd_host.specs.Memory.{memory_state, calls_of, failing_of};
 
-use crate::{DripHost, Failed, Host, MemHost, OutFile, ReadRefusal, read_whole, write_all};
+use snd_host::{DripHost, Failed, Host, MemHost, OutFile, ReadRefusal, read_whole, write_all};
 use std::alloc::Global;
 use std::test::Fail;
 
