@@ -472,6 +472,10 @@ impl<C: Chip> Looks for LagBus<C> {
     ghost sees = { byte_seen C.meaning };
 
     fn see(&self, addr: u16) -> Option<u8> {
+        // Mostly a mark tells, and then no timer is looked at.
+        if self.late.is_plain(addr) {
+            return Some(self.late.get(addr));
+        }
         if addr == 0xF3 || self.late.is_written(addr) {
             return None;
         }
