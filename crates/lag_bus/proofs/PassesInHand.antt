@@ -17,14 +17,14 @@ use Rattle.lag_bus.proofs.LateTicks.{no_ticks, ticks_to_come}
 use Rattle.lag_bus.proofs.SamplesDue.{with_due-none, pass-with_due}
 
 -- of plain memory neither a port nor a timer nor the ROM is asked or told
-record IsApart (io : Io) (at : ℕ) : Type 0 where
-  register : (at == 0xF3) ≡ false
-  port : is_within 0xF4 0xF7 at ≡ false
-  answer : read_answer io at ≡ None
-  read : after_read io at ≡ io
-  write : (value : ℕ) → after_write io at value ≡ io
+pub record IsApart (io : Io) (at : ℕ) : Type 0 where
+  pub register : (at == 0xF3) ≡ false
+  pub port : is_within 0xF4 0xF7 at ≡ false
+  pub answer : read_answer io at ≡ None
+  pub read : after_read io at ≡ io
+  pub write : (value : ℕ) → after_write io at value ≡ io
 
-plain_apart : (io : Io) (at : ℕ) → IsPlain at → IsApart io at
+pub plain_apart : (io : Io) (at : ℕ) → IsPlain at → IsApart io at
 plain_apart io at plain =
     let outside = plain.0 in
     let below = plain.1 in

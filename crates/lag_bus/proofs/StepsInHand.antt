@@ -62,10 +62,3 @@ module _ {S : Type 0} (chip : ChipMeaning S) (samples : ℕ) (cpu : Cpu) (old : 
       → (next, new) ≡ step_outcome (lagging chip) here there
       → AreStepsOf (lagging chip) (lag_emits chip) samples cpu old next new
   one_step_on there new = one_step_more (lagging chip) (lag_emits chip) samples cpu old (lawful chip) (emits_frames chip) (emits_records chip) here there next new
-
-  -- and one that was taken on the bus in hand
-  pub one_step_in_hand : (there new : Running (Lagging S))
-      → AreStepsOf (lagging chip) (lag_emits chip) samples cpu old here there.bus → (lagging chip).made there.bus < samples
-      → (next, new) ≡ step_outcome (running (lagging chip)) here there
-      → AreStepsOf (lagging chip) (lag_emits chip) samples cpu old next new.bus
-  one_step_in_hand there new taken more does = one_step_on there.bus new.bus taken more (stepped_in_hand (lagging chip) here next there new does)

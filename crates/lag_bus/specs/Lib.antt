@@ -25,10 +25,10 @@ pub mod Merge
 pub mod Each
 -- what always holds of a bus over such a chip
 pub mod IsLagging
--- Words of rounds that only wait, which no promise speaks of:
+-- Rounds that only wait:
 -- the bus after cycles in which it is only looked at
 pub mod Waiting
--- The clock with the ports and timers, of which no promise speaks either
+-- The clock with the ports and timers, of which no promise speaks
 pub mod Clocked
 -- Words of a bus while the processor runs on it, of which no promise speaks
 pub mod Running

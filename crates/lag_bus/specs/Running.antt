@@ -30,8 +30,8 @@ ReadsWithin chip bus = AreReadsWithin chip bus.book.reach bus.book.pending (samp
 abbrev pub IsDrained : {S : Type 0} → Lagging S → Type 0
 IsDrained bus = NoneIsReady bus.book.pending bus.chip_sample bus.machine.frames bus.machine.records
 
--- The bus is behind such a moment: fewer samples are pending there than one batch has at most, and 64 calls at most were made, each of
--- which let one sample fall due at most, unless all was handed over before.
+-- The bus is behind such a moment, at which so many calls were made: fewer samples are pending there than one batch has at most. Its lists
+-- have room for those that fell due: each had a call of its own, or all that can be handed over had been.
 pub record IsBehind {S : Type 0} (clock calls : ℕ) (bus : Lagging S) : Type 0 where
   pub earlier : bus.machine.clock ≤ clock
   pub free : bus.book.pending + due_at clock bus < most_samples_of_batch

@@ -63,8 +63,8 @@ pub record IsKept {S : Type 0} (chip : ChipMeaning S) (bus : Lagging S) : Type 0
   pub total : bus.chip_total ≡ bus.book.total
   pub writes : AreWritesWithin chip bus.book.reach bus.book.pending (samples_made bus.machine) bus.machine.chip bus.machine.memory
 
--- Over cycles in which no counter comes to 1 and fewer samples fall due than one batch has, rounds of steps that only look bring
--- the registers back, and the bus to where their cycles alone bring it, but for the number of its calls.
+-- Over cycles in which no counter that is 0 leaves 0, and at whose end fewer samples are pending than one batch has at most, rounds of
+-- steps that only look bring the registers back, and the bus to where their cycles alone bring it, but for the number of its calls.
 abbrev pub LeavesCyclesOfRounds : {S : Type 0} → ChipMeaning S → Type 0
 LeavesCyclesOfRounds {S} chip =
     (bus : Lagging S) (most rounds steps cycles : ℕ) (cpu : Cpu)

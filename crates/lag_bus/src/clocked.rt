@@ -1,4 +1,5 @@
-// The clock, the calls of the bus, and the ports and timers at the clock, whose ticks are done where they are looked at or changed.
+// The clock, the calls of the bus, and the ports and timers at the clock, whose ticks are done where they are looked at or changed. Its small
+// calls are in line with those of the bus.
 ghost use Rattle.std.specs.Prelude.{◌≡◌, ◌+◌, ◌-◌, ◌<◌, ◌≤◌, ◌^◌};
 ghost use Rattle.ports_timers.specs.Io.{read_answer, after_read, after_write, after_ticks_of};
 ghost use Rattle.lag_bus.specs.Clocked.{clocked_after};

@@ -17,6 +17,7 @@ ghost use Rattle.lag_bus.specs.LagEmits.{lag_emits, after_drain};
 ghost use Rattle.lag_bus.specs.LagLaws.{emits_frames, emits_records, frame_each, counting, beside};
 ghost use Rattle.ports_timers.specs.Zeros.{zeros_stay, AreTimers};
 ghost use Rattle.lag_bus.specs.Waiting.{byte_seen, samples_in};
+ghost use Rattle.lag_bus.specs.Held.{IsPlain};
 
 use crate::OutOfMemory;
 use crate::behind::BehindBus;
@@ -183,6 +184,7 @@ impl<C: Chip> LagBus<C> {
     }
 
     /// A read of F3h.
+    // Out of line, as what is rarer than an access of memory alone.
     #[inline(never)]
     fn read_register(&mut self) -> u8
         requires { self.old.machine.calls < 64 }
@@ -201,7 +203,9 @@ impl<C: Chip> LagBus<C> {
     }
 
     /// A read of an address of which no mark tells anything.
+    // Out of line, as what is rarer than an access of memory alone.
     #[inline(never)]
+    #[tactic(auto, using(crate::proofs::PassesInHand::plain_apart))]
     fn read_unmarked(&mut self, addr: u16) -> u8
         requires { self.old.machine.calls < 64 }
         ensures answer { result ≡ ((lagging C.meaning).read self.old addr).0 }
@@ -213,6 +217,9 @@ impl<C: Chip> LagBus<C> {
         self.time.count();
         if self.late.pending_may_write(addr) {
             settle_for(&mut self.late, &mut self.counts, Cause::Echo);
+        }
+        if is_plain(addr) {
+            return self.late.get(addr);
         }
         let address = self.time.dsp_address();
         let told = self.time.read(addr);
@@ -235,6 +242,7 @@ impl<C: Chip> LagBus<C> {
     }
 
     /// A write of F0h to FFh.
+    // Out of line, as what is rarer than an access of memory alone.
     #[inline(never)]
     fn write_port(&mut self, addr: u16, value: u8)
         requires { self.old.machine.calls < 64 }
@@ -254,6 +262,16 @@ impl<C: Chip> LagBus<C> {
             }
             None => write_beside_pending(&mut self.late, addr, value, sample),
         }
+    }
+}
+
+/// Whether memory alone is at an address: no port, no timer, no register and no ROM.
+fn is_plain(addr: u16) -> bool
+    ensures { result ≡ true → IsPlain addr }
+{
+    match addr {
+        0xF0..=0xFF | 0xFFC0.. => false,
+        _ => true,
     }
 }
 
@@ -383,6 +401,7 @@ impl<C: Chip> Bus for LagBus<C> {
     } };
 }
 
+// What each access in hand asks is in line with it.
 impl<C: Chip> BehindBus for LagBus<C> {
     type C = C;
 
@@ -440,25 +459,30 @@ impl<C: Chip> BehindBus for LagBus<C> {
         pend_all(&mut self.late, due);
     }
 
-    // Out of line, as what is rarer than an access of memory alone: a step keeps the clock and the calls in registers.
+    // Out of line and cold, as what is rarer than an access of memory alone: what a step keeps in registers is put away where it is called,
+    // and not in front of the test. So are the next three.
+    #[cold]
     #[inline(never)]
     fn read_later(&mut self, clock: u64, calls: u8, addr: u16) -> u8 {
         self.catch_up(clock, calls);
         self.read(addr)
     }
 
+    #[cold]
     #[inline(never)]
     fn write_later(&mut self, clock: u64, calls: u8, addr: u16, value: u8) {
         self.catch_up(clock, calls);
         self.write(addr, value);
     }
 
+    #[cold]
     #[inline(never)]
     fn pass_later(&mut self, clock: u64, calls: u8, cycles: u8) {
         self.catch_up(clock, calls);
         self.pass(cycles);
     }
 
+    #[cold]
     #[inline(never)]
     fn step_later(&mut self, clock: u64, calls: u8, cpu: Cpu) -> Cpu {
         self.catch_up(clock, calls);
@@ -472,7 +496,7 @@ impl<C: Chip> Looks for LagBus<C> {
     ghost sees = { byte_seen C.meaning };
 
     fn see(&self, addr: u16) -> Option<u8> {
-        // Mostly a mark tells, and then no timer is looked at.
+        // Mostly a mark tells that memory alone is there, and then no timer is asked.
         if self.late.is_plain(addr) {
             return Some(self.late.get(addr));
         }

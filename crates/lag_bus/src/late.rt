@@ -171,6 +171,7 @@ impl<C: Chip> LateChip<C> {
     }
 
     /// Whether the pending samples may write the byte at an address. A page that they don't write is marked.
+    // Out of line: a page that was asked for is marked.
     #[inline(never)]
     fn may_be_written(&mut self, at: u16) -> bool
         ensures answer { result ≡ may_be_written self.old.reach at }

@@ -1,7 +1,5 @@
 // Rounds of a loop that only wait.
-ghost use Rattle.std.specs.Prelude.{◌≡◌, ◌+◌, ◌-◌, ◌*◌, ◌/◌, ◌<◌, ◌≤◌, ◌++◌, ◌^◌, true, if◌then◌else◌, ◌==◌};
-ghost use Rattle.std.specs.List.{filter};
-ghost use Rattle.dsp_form.specs.Samples.{samples, in_mask};
+ghost use Rattle.std.specs.Prelude.{◌≡◌, ◌+◌, ◌*◌, ◌≤◌};
 ghost use Rattle.ports_timers.specs.Zeros.{counter_is_0};
 ghost use Rattle.lag_bus.specs.Late.{late_with_samples};
 ghost use Rattle.trace_form.specs.Rooms.{frame_room, record_room};

@@ -40,7 +40,7 @@ fn settle_at_end<B: DrainedBus>(bus: &mut B, samples: u32)
     }
 }
 
-/// The lists of a piece, and one for the records as they are drained.
+/// The lists of a piece, one for the records as they are drained, and how long no rounds are tried.
 #[derive(Drop)]
 pub(crate) struct Lists {
     pub(crate) frames: Frames,
@@ -64,7 +64,7 @@ fn make_rounds<B: DrainedBus>(cpu: &Cpu, bus: &mut B, samples: u32)
     bus.wait(cpu, samples);
 }
 
-/// How long no rounds are tried, in fillings of the bus's room for calls. After a trial that found none it is twice as long as before and
+/// How long no rounds are tried, in fillings of the bus's room for calls. After a trial by which no sample fell due it is twice as long as before and
 /// one more, 63 at most.
 #[derive(Drop)]
 pub(crate) struct TrialPause {
@@ -93,7 +93,7 @@ impl TrialPause {
     }
 }
 
-/// The same, where it is time for a trial.
+/// Makes rounds at once, where it is time for a trial.
 fn make_rounds_if_due<B: DrainedBus>(cpu: &Cpu, bus: &mut B, samples: u32, pause: &mut TrialPause)
     requires more { B.means.made bus.old < samples }
     requires few { samples ≤ most_frames }

@@ -150,8 +150,8 @@ impl<C: Chip> Render<C> {
         is_last
     }
 
-    /// Makes the next piece: steps until a frame or a record was emitted, or all samples are made. It looks only after as many
-    /// steps as a drained bus has room for, so that a piece can have more than was emitted first. The pieces in order are the
+    /// Makes the next piece: steps until a frame or a record was emitted, or all samples are made. It looks only where the bus ends its
+    /// steps, so that a piece can have more than was emitted first. The pieces in order are the
     /// whole render, each with at most 128 frames and 1,344 records. After the last one each piece is empty and is a last one.
     pub fn next_piece(&mut self) -> Piece<'_>
         ensures* next { sem 𝓛 (Rests (the_row C.row C.State.row C.Saved.row C.Chip) self.entry
