@@ -2,13 +2,9 @@
 //! the echo can't write what the voices read, and else one after another.
 #![tactic(auto)]
 
-#[cfg(test)]
-mod batch_tests;
 mod dsp;
 mod sample;
 mod saved;
-#[cfg(test)]
-mod tests;
 mod voices;
 
 pub use dsp::Dsp;

@@ -8,8 +8,6 @@ mod filter;
 mod page;
 mod regs;
 mod rows;
-#[cfg(test)]
-mod tests;
 mod volume;
 mod wrapped;
 

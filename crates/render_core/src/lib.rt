@@ -7,12 +7,6 @@ mod making;
 mod piece;
 mod render;
 mod saved;
-#[cfg(test)]
-mod test_support;
-#[cfg(test)]
-mod tests;
-#[cfg(test)]
-mod waiting_tests;
 
 pub use fade::faded;
 pub use laws::{

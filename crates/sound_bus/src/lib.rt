@@ -2,16 +2,6 @@
 #![tactic(auto)]
 
 mod plain;
-#[cfg(test)]
-mod program_tests;
-#[cfg(test)]
-mod taking_tests;
-#[cfg(test)]
-mod test_support;
-#[cfg(test)]
-mod tests;
-#[cfg(test)]
-mod waiting_tests;
 
 pub use lag_bus::{BusState, LagBus, OutOfMemory};
 pub use lock_step::{Chip, Counts, DrainedBus};

@@ -16,8 +16,6 @@ pub mod operand;
 mod registers;
 mod stack;
 mod stepping;
-#[cfg(test)]
-mod tests;
 mod words;
 
 pub use bus::Bus;

@@ -14,8 +14,6 @@ mod rest;
 mod row;
 mod run;
 mod sounding;
-#[cfg(test)]
-mod tests;
 mod voice;
 mod workroom;
 

@@ -1,8 +1,8 @@
 //! Steps that a bus takes by itself, as a render has it do.
 
-use crate::test_support::{Emitted, START, chip_of, drain, nothing, opening_of};
-use crate::waiting_tests::{QUIET, counts_of, driver, writes_of};
-use crate::{Counts, DrainedBus, LagBus, PlainBus};
+use crate::machines::{Emitted, START, chip_of, drain, nothing, opening_of};
+use crate::waits::{QUIET, counts_of, driver, writes_of};
+use sound_bus::{Counts, DrainedBus, LagBus, PlainBus};
 use std::alloc::Global;
 use std::test::Fail;
 
@@ -29,7 +29,7 @@ struct Taken {
     made: u32,
 }
 
-/// The driver of timer 2 over the bus that makes each sample at once.
+/// A program over the bus that makes each sample at once.
 fn take_plain(alloc: Global, code: &[u8]) -> Result<Taken, Fail> {
     let opening = opening_of(alloc, &[(0x0400, code)], &QUIET)?;
     let chip = chip_of(alloc, &opening)?;
@@ -76,5 +76,26 @@ fn a_bus_takes_the_steps_of_a_driver(rt: HostRuntime) -> Result<(), Fail> {
         late.emitted.frames.as_slice(),
         plain.emitted.frames.as_slice()
     );
+    Ok(())
+}
+
+/// A loop of 11 cycles counts in page 7, which no sample reads, and port 0 is told of its 256th round, in sample 88. Then it goes
+/// on, or the processor stops. The chip runs when 64 samples are pending, at that write, and at the end.
+#[test]
+fn steps_go_on_past_the_64th_pending_sample_and_a_stop(rt: HostRuntime) -> Result<(), Fail> {
+    let alloc = rt.alloc();
+    let wanted = writes_of(alloc, 0x5A, &[88])?;
+    for [last, distance] in [[0x2F, 0xF5], [0xFF, 0x00]] {
+        let code = [
+            0xC5, 0x00, 0x07, 0xBC, 0xD0, 0xFA, 0x8F, 0x5A, 0xF4, last, distance,
+        ];
+        let plain = take_plain(alloc, &code)?;
+        assert_eq!(rt; plain.emitted.records.as_slice(), wanted.as_slice());
+        assert_eq!(rt; (plain.counts, plain.made), (counts_of(100, 0, 0, 0), 100));
+        let late = take_late(alloc, &code)?;
+        assert_eq!(rt; late.emitted.records.as_slice(), wanted.as_slice());
+        assert_eq!(rt; (late.counts, late.made), (counts_of(3, 1, 1, 1), 100));
+        assert_eq!(rt; late.emitted.frames.len(), 100);
+    }
     Ok(())
 }

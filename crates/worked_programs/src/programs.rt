@@ -1,6 +1,6 @@
 //! Runs of the processor over the bus that makes each sample at once.
 
-use crate::test_support::{KEYED, SILENCE, SOURCE, chip_of, opening_of, run_plain};
+use crate::machines::{KEYED, SILENCE, SOURCE, chip_of, opening_of, run_plain};
 use std::test::Fail;
 use trace_form::Record;
 

@@ -2,31 +2,18 @@
 
 ghost use Rattle.std.specs.Prelude.{◌≤◌};
 
-use crate::Dsp;
+use crate::sources::{memory_of_a_source, put_all};
 use aram_core::{Aram, PageSet};
+use dsp_core::Dsp;
 use gauss_table::GaussTable;
 use num_fix::Frame;
 use std::alloc::Global;
 use std::test::Fail;
 use trace_form::{Frames, Record, Records};
 
-/// Puts bytes from an address on.
-pub(crate) fn put_all(memory: &mut Aram, from: u16, bytes: &[u8]) {
-    let mut at = from;
-    for byte in bytes {
-        memory.put(at, *byte);
-        at = at.wrapping_add(1);
-    }
-}
-
 /// A chip whose voice 0 is set to play one source, with such a KON, and the memory with that source.
 fn keyed_voice(alloc: Global, key_on: u8) -> Result<(Dsp, Aram), Fail> {
-    let zeros = vec![in alloc; 0u8; 0x10000]?;
-    let mut memory = Aram::from_image(alloc, &zeros)?;
-    let block = [0xc3, 0x11, 0x11, 0x11, 0x11, 0x11, 0x11, 0x11, 0x11];
-    put_all(&mut memory, 0x0200, &[0x00, 0x05, 0x00, 0x06]);
-    put_all(&mut memory, 0x0500, &block);
-    put_all(&mut memory, 0x0600, &block);
+    let memory = memory_of_a_source(alloc)?;
     let mut registers = [0; 128];
     registers[0x00] = 0x7f;
     registers[0x01] = 0x7f;
@@ -48,7 +35,7 @@ fn one_voice(alloc: Global) -> Result<(Dsp, Aram), Fail> {
 }
 
 /// Makes n samples anew, with the records of the voices in a mask.
-pub(crate) fn play_masked(
+pub fn play_masked(
     dsp: &mut Dsp,
     memory: &mut Aram,
     n: u8,

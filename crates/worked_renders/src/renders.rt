@@ -1,11 +1,11 @@
 // Worked renders and fades.
 ghost use Rattle.std.specs.Prelude.{◌≡◌, ◌≤◌};
 
-use crate::test_support::{SILENT, SOUND, chip_of, file};
-use crate::{Render, faded};
+use crate::openings::{SILENT, SOUND, chip_of, file};
 use aram_core::Aram;
 use lock_step::Chip;
 use num_fix::Frame;
+use render_core::{Render, faded};
 use spc_form::SpcFile;
 use std::alloc::Global;
 use std::test::Fail;

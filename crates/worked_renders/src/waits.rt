@@ -1,9 +1,9 @@
 //! Renders of programs that wait.
 ghost use Rattle.std.specs.Prelude.{◌≡◌, ◌≤◌};
 
-use crate::Render;
-use crate::test_support::{SILENT, chip_of, file};
+use crate::openings::{SILENT, chip_of, file};
 use lock_step::{Chip, Counts};
+use render_core::Render;
 use spc_form::SpcFile;
 use std::alloc::Global;
 use std::test::Fail;

@@ -1,6 +1,6 @@
 use Rattle.std.proofs.Common.{◌≡◌, ℕ, zero, suc, get_or, refl, arith}
 use Rattle.std.specs.Prelude.{replicate}
-use Rattle.voice_unit.proofs.tests.rows_with_a_key_on.Goals as goal
+use Rattle.worked_sounds.proofs.voices.rows_with_a_key_on.Goals as goal
 
 zeros : (n j : ℕ) → ◌≡◌ {A = ℕ} (get_or (replicate n 0) j 0) 0
 zeros zero j = refl

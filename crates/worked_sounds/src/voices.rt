@@ -1,23 +1,12 @@
-//! Worked examples: one key on and eight steps, one by one and over a batch, and pitches.
+//! Worked examples: one key on and eight steps, one by one and over a batch, and pitches that an output bends.
 
 ghost use Rattle.std.specs.Prelude.{◌<◌, ℕ, slice_index};
 
-use crate::level::bent_pitch;
-use crate::{BatchLane, BatchRows, OutRow, Voice, VoiceIn, VoiceOut, VoiceRegs};
-use aram_core::Aram;
+use crate::sources::memory_of_a_source;
 use gauss_table::GaussTable;
 use rate_clock::RateClock;
-use std::alloc::Global;
 use std::test::Fail;
-
-/// Puts bytes from an address on.
-fn put_all(memory: &mut Aram, from: u16, bytes: &[u8]) {
-    let mut at = from;
-    for byte in bytes {
-        memory.put(at, *byte);
-        at = at.wrapping_add(1);
-    }
-}
+use voice_unit::{BatchLane, BatchRows, OutRow, Voice, VoiceIn, VoiceOut, VoiceRegs};
 
 /// What a step reads in sample `k`, where a key on waits for the first poll.
 fn input_of(k: u32) -> VoiceIn
@@ -34,17 +23,6 @@ fn input_of(k: u32) -> VoiceIn
         koff: false,
         kon: k == 0,
     }
-}
-
-/// A memory with one source, whose entry stands at 0200h: a block at 0500h, and one at 0600h that it loops to.
-fn memory_of_a_source(alloc: Global) -> Result<Aram, Fail> {
-    let zeros = vec![in alloc; 0u8; 0x10000]?;
-    let mut memory = Aram::from_image(alloc, &zeros)?;
-    let block = [0xc3, 0x11, 0x11, 0x11, 0x11, 0x11, 0x11, 0x11, 0x11];
-    put_all(&mut memory, 0x0200, &[0x00, 0x05, 0x00, 0x06]);
-    put_all(&mut memory, 0x0500, &block);
-    put_all(&mut memory, 0x0600, &block);
-    Ok(memory)
 }
 
 /// Registers of a voice that plays that source at its own pitch, at the highest direct level.
@@ -151,20 +129,47 @@ fn a_silent_row_has_no_sound(rt: HostRuntime) {
     }
 }
 
-#[test]
-fn an_output_bends_the_pitch_of_the_next_voice(rt: HostRuntime) {
-    for (pitch, previous, want) in [
-        (0x1000, 0, 0x1000),
-        (0x1000, 0x1f, 0x1000),
-        (0x1000, -1, 0x0ffc),
-        (0x1000, 0x4000, 0x1800),
-        (0x1000, -0x4000, 0x0800),
-        (0x3fff, -0x8000, 0x0000),
-    ] {
-        assert_eq!(rt;
-            bent_pitch(pitch, previous),
-            want,
-            "at {pitch} and {previous}"
-        );
+/// The step, of 100 from a key on, in which a voice that is modulated by such an output first ends its block. It has three of
+/// the block's four groups when it is heard in step 6, and comes to the fourth, the loop with it, once it has gone 4000h.
+fn first_loop(rt: HostRuntime, pitch: u16, previous: i16) -> Result<Option<u32>, Fail>
+    requires { pitch < 0x4000 }
+{
+    let memory = memory_of_a_source(rt.alloc())?;
+    let table = GaussTable::straight(rt.alloc())?;
+    let mut regs = registers();
+    regs.pitch = pitch;
+    let mut clock = RateClock::new();
+    let mut voice = Voice::new();
+    for k in 0..100u32 {
+        let mut input = input_of(k);
+        input.modulated = true;
+        input.previous = previous;
+        clock.step();
+        if voice.step(&regs, &input, &memory, &table, &clock).looped {
+            return Ok(Some(k));
+        }
     }
+    Ok(None)
+}
+
+#[test]
+fn an_output_bends_the_pitch_of_the_next_voice(rt: HostRuntime) -> Result<(), Fail> {
+    for (pitch, previous, want) in [
+        // at 1000h, in four steps of sound
+        (0x1000, 0, Some(10)),
+        // at 0FFFh in five, and at 1002h in four
+        (0x0fff, 0x1f, Some(11)),
+        (0x0fff, 0x20, Some(10)),
+        // at 0FFCh in five
+        (0x1000, -1, Some(11)),
+        // at 1800h in three, and at 0800h in eight
+        (0x1000, 0x4000, Some(9)),
+        (0x1000, -0x4000, Some(14)),
+        // at 0000h never
+        (0x3fff, -0x8000, None),
+    ] {
+        let step = first_loop(rt, pitch, previous)?;
+        assert_eq!(rt; step, want, "at {pitch} and {previous}");
+    }
+    Ok(())
 }

@@ -2,11 +2,11 @@
 
 ghost use Rattle.std.specs.Prelude.{◌≡◌, IfOk};
 
-use crate::{Chip, Counts, DrainedBus, LagBus, PlainBus};
 use aram_core::Aram;
 use dsp_core::Dsp;
 use gauss_table::GaussTable;
 use num_fix::Frame;
+use sound_bus::{Chip, Counts, DrainedBus, LagBus, PlainBus};
 use spc_form::OpenState;
 use spc700_exec::{Bus, Cpu, step};
 use std::alloc::Global;

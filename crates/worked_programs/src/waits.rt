@@ -1,8 +1,8 @@
 //! Loops that wait, over both buses. The bus that makes samples late makes their rounds at once, the other one step by step.
 
-use crate::Counts;
-use crate::test_support::{KEYED, Run, SILENCE, SOURCE, chip_of, opening_of, run_late, run_plain};
+use crate::machines::{KEYED, Run, SILENCE, SOURCE, chip_of, opening_of, run_late, run_plain};
 use num_fix::Frame;
+use sound_bus::Counts;
 use std::alloc::Global;
 use std::test::Fail;
 use trace_form::Record;

@@ -2,11 +2,11 @@
 
 ghost use Rattle.std.specs.Prelude.{◌≡◌};
 
-use crate::test_support::{Emitted, KEYED, SILENCE, SOURCE, chip_of, drain, nothing, opening_of};
-use crate::{Chip, Counts, DrainedBus, LagBus, PlainBus};
+use crate::machines::{Emitted, KEYED, SILENCE, SOURCE, chip_of, drain, nothing, opening_of};
 use aram_core::Aram;
 use dsp_core::Dsp;
 use gauss_table::GaussTable;
+use sound_bus::{Chip, Counts, DrainedBus, LagBus, PlainBus};
 use spc_form::OpenState;
 use spc700_exec::Bus;
 use std::alloc::Global;

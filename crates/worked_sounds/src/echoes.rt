@@ -1,5 +1,5 @@
-use crate::{Echo, EchoRegs, Window};
 use aram_core::Aram;
+use echo_unit::{Echo, EchoRegs, Window};
 use num_fix::Frame;
 use std::test::Fail;
 

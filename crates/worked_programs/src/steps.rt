@@ -2,11 +2,11 @@
 
 ghost use Rattle.std.specs.Prelude.{◌≡◌, ◌+◌, ◌<◌, ◌≤◌, IfOk};
 
-use crate::{
+use aram_core::{Aram, OutOfMemory};
+use spc700_exec::{
     Cpu, MemBus, accesses_are_those_of_the_table, asking_makes_the_step,
     forms_suit_their_operations, step, steps_are_short,
 };
-use aram_core::{Aram, OutOfMemory};
 use std::alloc::Global;
 use std::test::Fail;
 

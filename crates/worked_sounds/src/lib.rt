@@ -1,0 +1,14 @@
+//! Worked rows of a voice, of the echo and of the S-DSP. A crate with tests is proved once more for them, so the tests of
+//! these stand here, where that costs nothing.
+#![tactic(auto)]
+
+#[cfg(test)]
+mod batches;
+#[cfg(test)]
+mod chips;
+#[cfg(test)]
+mod echoes;
+#[cfg(test)]
+mod sources;
+#[cfg(test)]
+mod voices;
