@@ -1,14 +1,15 @@
 -- What each chip keeps.
 use Rattle.std.specs.Prelude.{◌≡◌, ℕ, ◌+◌, ◌<◌, ◌≤◌, List, [], ◌∷◌, Bool, true, false, ◌&&◌, ◌==◌}
 use Rattle.std.specs.FinSet as set
-use Rattle.aram_core.specs.Memory.{byte_at, with_byte}
+use Rattle.aram_core.specs.Memory.{with_byte}
 use Rattle.aram_core.specs.Pages.{page_of}
 use Rattle.trace_form.specs.declared.record.Record.{Record}
 use Rattle.trace_form.specs.declared.record.Record.TheVariants.{Reg, Port, Voice}
+use Rattle.dsp_form.specs.Limits.{most_samples_of_batch}
+use Rattle.dsp_form.specs.ReachLaws.{WritesInside, ReadsInside}
 use Rattle.dsp_form.specs.Results.{is_result}
 use Rattle.dsp_form.specs.Samples.{samples}
 use Rattle.lock_step.specs.ChipMeaning.{ChipMeaning}
-use Rattle.dsp_form.specs.Limits.{most_samples_of_batch}
 
 -- whether records are those of the voices from v to 7 in order, in the sample of number k
 unfoldable pub are_voice_records : (k v : ℕ) → List Record → Bool
@@ -28,15 +29,10 @@ pub record IsLawfulChip {S : Type 0} (chip : ChipMeaning S) : Type 0 where
   pub gives_voice_records : (k : ℕ) (s : S) (memory : List ℕ) → chip.is_valid s ≡ true
       → are_voice_records k 0 (chip.sample k s memory).records ≡ true
   -- the samples change memory on write pages alone
-  pub writes_inside : (n k : ℕ) (s : S) (memory : List ℕ) (at : ℕ) → n ≤ most_samples_of_batch → chip.is_valid s ≡ true
-      → set.contains (chip.reach s memory).write_pages (page_of at) ≡ false
-      → byte_at (samples chip.sample n k s memory).memory at ≡ byte_at memory at
-  -- where the reach isn't entangled, a byte put outside its read pages changes nothing of what the samples do, nor the reach
-  pub reads_inside : (n k : ℕ) (s : S) (memory : List ℕ) (at value : ℕ) → n ≤ most_samples_of_batch → chip.is_valid s ≡ true
-      → (chip.reach s memory).entangled ≡ false
-      → set.contains (chip.reach s memory).read_pages (page_of at) ≡ false
-      → samples chip.sample n k s (with_byte memory at value)
-      ≡ record (samples chip.sample n k s memory) { memory = with_byte (samples chip.sample n k s memory).memory at value }
+  pub writes_inside : WritesInside chip.sample chip.reach chip.is_valid
+  -- where the reach isn't entangled, a byte put off its read pages changes nothing of what the samples leave and give
+  pub reads_inside : ReadsInside chip.sample chip.reach chip.is_valid
+  -- nor does it change the reach
   pub reach_stays : (s : S) (memory : List ℕ) (at value : ℕ) → chip.is_valid s ≡ true
       → (chip.reach s memory).entangled ≡ false
       → set.contains (chip.reach s memory).read_pages (page_of at) ≡ false

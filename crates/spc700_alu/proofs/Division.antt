@@ -2,9 +2,9 @@
 use Rattle.std.proofs.Common.{◌≡◌, ℕ, ◌*◌, ◌/◌, ◌%◌, ◌<◌, true, arith}
 use Rattle.std.proofs.lemmas.Bool.Decides.{nat_tests}
 use Rattle.std.proofs.lemmas.Nat.{div_below}
-use Rattle.spc700_alu.specs.WordArithmetic.{div_is_exact}
+use Rattle.spc700_alu.specs.WordArithmetic.{quotient_fits_nine_bits}
 
-pub exact : (ya x : ℕ) → ya < 0x100 * x → div_is_exact ya x ≡ true
+pub exact : (ya x : ℕ) → ya < 0x100 * x → quotient_fits_nine_bits ya x ≡ true
 exact ya x fits =
     let below : ya / 0x100 < 2 * x = omega arith in
     grind (arith, nat_tests)

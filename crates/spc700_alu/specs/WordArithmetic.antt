@@ -33,17 +33,17 @@ cmpw_of ya w psw = with_nz16 ((ya + 0x10000 - w) % 0x10000) (with_flag C (nat_le
 unfoldable pub mul_of : (y a psw : ℕ) → Out16
 mul_of y a psw = record { value = y * a; psw = with_nz (y * a / 0x100) psw }
 
--- DIV is exact where Y is below 2 X; else it counts down from FFh by what is above 512 X, in steps of 256 - X
-abbrev pub div_is_exact : (ya x : ℕ) → Bool
-div_is_exact ya x = nat_lt (ya / 0x100) (2 * x)
+-- The quotient of DIV fits in nine bits where Y is below 2 X. Else A counts down from FFh by what is above 512 X, in steps of 256 - X.
+abbrev pub quotient_fits_nine_bits : (ya x : ℕ) → Bool
+quotient_fits_nine_bits ya x = nat_lt (ya / 0x100) (2 * x)
 
 -- the new A of DIV
 abbrev pub div_a : (ya x : ℕ) → ℕ
-div_a ya x = if div_is_exact ya x then ya / x % 0x100 else 0xff - (ya - 0x200 * x) / (0x100 - x)
+div_a ya x = if quotient_fits_nine_bits ya x then ya / x % 0x100 else 0xff - (ya - 0x200 * x) / (0x100 - x)
 
 -- the new Y of DIV
 abbrev pub div_y : (ya x : ℕ) → ℕ
-div_y ya x = if div_is_exact ya x then ya % x else x + (ya - 0x200 * x) % (0x100 - x)
+div_y ya x = if quotient_fits_nine_bits ya x then ya % x else x + (ya - 0x200 * x) % (0x100 - x)
 
 -- DIV: H where the low digit of X is at most that of Y; V where X is at most Y, both of the old values; N and Z of the new A
 unfoldable pub div_of : (ya x psw : ℕ) → Out16

@@ -4,6 +4,7 @@ use Rattle.std.specs.List.{list_all}
 use Rattle.std.specs.Char.{is_ascii_digit, is_ascii_alphanumeric, to_ascii_uppercase}
 use Rattle.std.specs.Str.{byte}
 use Rattle.hex.specs.Hex.{hex_digit_value}
+use Rattle.number_text.specs.Decimals.{is_number, decimal_value}
 
 -- a blank: a space, a tab or a carriage return
 abbrev pub is_blank : ℕ → Bool
@@ -49,24 +50,22 @@ unfoldable pub is_name : List ℕ → Bool
 is_name text =
     nat_lt 0 (length text) && (nat_le (length text) 32 && (not (is_ascii_digit (slice_index text 0)) && list_all is_name_character text))
 
--- the value of a decimal digit
-abbrev pub decimal_digit_value : ℕ → Option ℕ
-decimal_digit_value character = if is_ascii_digit character then Some (character - 48) else None
+-- the number of hexadecimal digits, after a number of digits before them
+abbrev pub number_of_hex_digits : (number : ℕ) → List ℕ → Option ℕ
+number_of_hex_digits number [] = Some number
+number_of_hex_digits number (character ∷ characters) =
+    option_and_then (λ digit. number_of_hex_digits (number * 16 + digit) characters) (hex_digit_value character)
 
--- the number of digits to a base, after a number of digits before them
-abbrev pub number_of_digits : (base : ℕ) → (digit_value : ℕ → Option ℕ) → (number : ℕ) → List ℕ → Option ℕ
-number_of_digits base digit_value number [] = Some number
-number_of_digits base digit_value number (character ∷ characters) =
-    option_and_then (λ digit. number_of_digits base digit_value (number * base + digit) characters) (digit_value character)
+-- a number of 1 to 4 hexadecimal digits
+abbrev pub hex_number : List ℕ → Option ℕ
+hex_number digits = if nat_lt 0 (length digits) && nat_le (length digits) 4 then number_of_hex_digits 0 digits else None
 
--- a number of 1 to so many digits
-abbrev pub number_within : (most base : ℕ) → (digit_value : ℕ → Option ℕ) → List ℕ → Option ℕ
-number_within most base digit_value digits =
-    if nat_lt 0 (length digits) && nat_le (length digits) most then number_of_digits base digit_value 0 digits else None
+-- a number of 1 to 5 decimal digits
+abbrev pub decimal_number : List ℕ → Option ℕ
+decimal_number digits = if is_number 5 digits then Some (decimal_value digits) else None
 
 -- a number: `$` and 1 to 4 hexadecimal digits, or 1 to 5 decimal digits
 unfoldable pub number_of : List ℕ → Option ℕ
 number_of [] = None
 number_of (character ∷ characters) =
-    if is_dollar character then number_within 4 16 hex_digit_value characters
-    else number_within 5 10 decimal_digit_value (character ∷ characters)
+    if is_dollar character then hex_number characters else decimal_number (character ∷ characters)

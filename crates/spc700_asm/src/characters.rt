@@ -3,7 +3,9 @@ ghost use Rattle.std.specs.Prelude.{◌≡◌, ◌+◌, ◌*◌, ◌<◌, ◌≤
 ghost use Rattle.std.specs.List.{before_first, after_first, list_all};
 ghost use Rattle.std.specs.Str.{bytes_eq};
 ghost use Rattle.hex.specs.Hex.{hex_digit_value};
-ghost use Rattle.spc700_asm.specs.Characters.{is_blank, is_semicolon, is_name_character, is_name, trim, without_first_blanks, capitals, decimal_digit_value, number_of_digits, number_within, number_of};
+ghost use Rattle.spc700_asm.specs.Characters.{is_blank, is_semicolon, is_name_character, is_name, trim, without_first_blanks, capitals, hex_number, decimal_number, number_of_hex_digits, number_of};
+
+use number_text::{decimal_value, is_number};
 
 /// A blank: a space, a tab or a carriage return.
 pub fn is_blank(character: u8) -> bool
@@ -111,21 +113,9 @@ fn hex_digit(character: u8) -> Option<u32>
     }
 }
 
-/// The value of a decimal digit.
-fn decimal_digit(character: u8) -> Option<u32>
-    ensures value { result ≡ decimal_digit_value character }
-    ensures bound { IfSome result (λ digit. digit < 10) }
-{
-    if character.is_ascii_digit() {
-        Some(u32::from(character - 48))
-    } else {
-        None
-    }
-}
-
 /// A number of 1 to 4 hexadecimal digits.
 fn hex_number(digits: &[u8]) -> Option<u32>
-    ensures value { result ≡ number_within 4 16 hex_digit_value digits.now }
+    ensures value { result ≡ hex_number digits.now }
     ensures bound { IfSome result (λ number. number < 100000) }
 {
     if digits.is_empty() || digits.len() > 4 {
@@ -140,17 +130,14 @@ fn hex_number(digits: &[u8]) -> Option<u32>
 
 /// A number of 1 to 5 decimal digits.
 fn decimal_number(digits: &[u8]) -> Option<u32>
-    ensures value { result ≡ number_within 5 10 decimal_digit_value digits.now }
+    ensures value { result ≡ decimal_number digits.now }
     ensures bound { IfSome result (λ number. number < 100000) }
 {
-    if digits.is_empty() || digits.len() > 5 {
-        return None;
+    if is_number(5, digits) {
+        Some(decimal_value(digits) as u32)
+    } else {
+        None
     }
-    let mut number = 0;
-    for digit in digits {
-        number = number * 10 + decimal_digit(*digit)?;
-    }
-    Some(number)
 }
 
 /// The number that a text is: `$` and hexadecimal digits, or decimal digits.

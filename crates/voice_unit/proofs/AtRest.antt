@@ -8,8 +8,8 @@ use Rattle.envelope.specs.Envelope.{EnvelopeState}
 use Rattle.envelope.specs.declared.Mode.{Mode}
 use Rattle.envelope.specs.declared.Mode.TheVariants.{Release}
 use Rattle.voice_unit.specs.Directory.{loop_word}
-use Rattle.voice_unit.specs.Rest.{is_silencing, IsSilent, IsAtRest}
-use Rattle.voice_unit.specs.Voice.{VoiceState, needs_group, is_at_last_group, after_delay, after_silencing, after_keys, after_envelope, after_decoding, at_next_group, after_reading, after_pitch, step_header, step_pitch, pitch_of, is_keyed, is_looped, output, voice_step, voice_answer}
+use Rattle.voice_unit.specs.Rest.{IsSilent, IsAtRest}
+use Rattle.voice_unit.specs.Voice.{is_silencing, VoiceState, needs_group, is_at_last_group, after_delay, after_silencing, after_keys, after_envelope, after_decoding, at_next_group, after_reading, after_pitch, step_header, step_pitch, pitch_of, is_keyed, is_looped, output, voice_step, voice_answer}
 use Rattle.voice_unit.specs.declared.interface.VoiceRegs.{VoiceRegs}
 use Rattle.voice_unit.specs.declared.interface.VoiceIn.{VoiceIn}
 

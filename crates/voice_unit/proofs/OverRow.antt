@@ -14,10 +14,10 @@ use Rattle.voice_unit.specs.Directory.{loop_word}
 use Rattle.voice_unit.specs.Batch.{steps, answer_of_step}
 use Rattle.voice_unit.specs.Plain.{PlaysPlainly}
 use Rattle.voice_unit.specs.Play.{Lane, IsOnItsWay, voice_at, answer_at}
-use Rattle.voice_unit.specs.Rest.{is_silencing, IsSilent, IsAtRest}
+use Rattle.voice_unit.specs.Rest.{IsSilent, IsAtRest}
 use Rattle.voice_unit.specs.Row.{place_after, groups_before, is_end, is_read_in, loops_in, PlaysOn, row_of, place_of, StandsAt}
 use Rattle.voice_unit.specs.OutsOverRow.{out_over_row}
-use Rattle.voice_unit.specs.Voice.{VoiceState, interpolation, output, source_sample, needs_group, is_at_last_group, after_reading, after_pitch, voice_step}
+use Rattle.voice_unit.specs.Voice.{is_silencing, VoiceState, interpolation, output, source_sample, needs_group, is_at_last_group, after_reading, after_pitch, voice_step}
 use Rattle.voice_unit.specs.declared.batch.BatchLane.{BatchLane}
 use Rattle.voice_unit.specs.declared.interface.VoiceIn.{VoiceIn}
 use Rattle.voice_unit.specs.declared.row.Place.{Place}

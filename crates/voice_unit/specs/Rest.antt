@@ -1,16 +1,11 @@
 -- Voices whose envelopes rest.
-use Rattle.std.specs.Prelude.{◌≡◌, ℕ, ◌<◌, List, Bool, true, not, ◌&&◌, ◌||◌}
+use Rattle.std.specs.Prelude.{◌≡◌, ℕ, ◌<◌, List, Bool, true}
 use Rattle.aram_core.specs.Memory.{byte_at}
-use Rattle.brr_decode.specs.Header.{has_end, has_loop}
 use Rattle.envelope.specs.Envelope.{EnvelopeState}
 use Rattle.envelope.specs.Rest.{RestsFor}
 use Rattle.envelope.specs.declared.Mode.TheVariants.{Release}
-use Rattle.voice_unit.specs.Voice.{VoiceState}
+use Rattle.voice_unit.specs.Voice.{VoiceState, is_silencing}
 use Rattle.voice_unit.specs.declared.interface.VoiceRegs.{VoiceRegs}
-
--- the soft reset, or the header of a block that ends without a loop, silences a voice
-abbrev pub is_silencing : (reset : Bool) → (header : ℕ) → Bool
-is_silencing reset header = reset || (has_end header && not (has_loop header))
 
 -- an envelope that is released at level 0
 pub record IsSilent (e : EnvelopeState) : Type 0 where

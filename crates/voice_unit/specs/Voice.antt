@@ -79,9 +79,13 @@ source_sample v i table = if i.noisy then wrap16 (pos (2 * i.noise)) else interp
 unfoldable pub output : VoiceState → VoiceIn → (table : List ℤ) → ℤ
 output v i table = clear_bit0 (scaled (source_sample v i table) (pos v.envelope.level) 11)
 
--- the soft reset, and a block that ends without a loop, silence the envelope
+-- the soft reset, or the header of a block that ends without a loop, silences a voice
+abbrev pub is_silencing : (reset : Bool) → (header : ℕ) → Bool
+is_silencing reset header = reset || (has_end header && not (has_loop header))
+
+-- what silences a voice releases its envelope at level 0
 unfoldable pub after_silencing : EnvelopeState → VoiceIn → (header : ℕ) → EnvelopeState
-after_silencing e i header = if i.reset || (has_end header && not (has_loop header)) then record e { mode = Release; level = 0 } else e
+after_silencing e i header = if is_silencing i.reset header then record e { mode = Release; level = 0 } else e
 
 -- a voice is keyed at a poll that took its key on
 abbrev pub is_keyed : VoiceIn → Bool
@@ -104,7 +108,7 @@ after_envelope v r i header counter =
     let keyed = after_keys (after_silencing v.envelope i header) i in
     record v { delay = delay; envelope = if delay == 0 then envelope_step keyed r.adsr1 r.adsr2 r.gain counter else keyed }
 
--- the position has come to the end of the eight samples that it may play, so a group is to be read
+-- the position is past the four samples of a group, so the next group is to be read
 abbrev pub needs_group : VoiceState → Bool
 needs_group v = nat_le 0x4000 v.position
 

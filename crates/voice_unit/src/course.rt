@@ -2,7 +2,7 @@
 
 ghost use Rattle.std.specs.Prelude.{◌≡◌, ◌<◌, ◌≤◌, ◌+◌, ◌*◌, ◌%◌, ◌^◌, ◌-◌, ℕ, true, false, slice_index, take, if◌then◌else◌};
 ghost use Rattle.aram_core.specs.Memory.{byte_at};
-ghost use Rattle.voice_unit.specs.Rest.{is_silencing};
+ghost use Rattle.voice_unit.specs.Voice.{is_silencing};
 ghost use Rattle.voice_unit.specs.Row.{next_place, place_after, kept_row, groups_before, ends_in, loops_in};
 
 use crate::play::mark_loop;

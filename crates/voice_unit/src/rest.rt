@@ -4,11 +4,11 @@ ghost use Rattle.std.specs.Prelude.{◌≡◌, ◌<◌, ◌≤◌, ◌+◌, ℕ,
 ghost use Rattle.aram_core.specs.Memory.{byte_at};
 ghost use Rattle.rate_clock.specs.Counter.{counter_at};
 ghost use Rattle.voice_unit.specs.Directory.{loop_word};
-ghost use Rattle.voice_unit.specs.Voice.{voice_step, voice_answer, is_keyed, is_looped, needs_group, after_reading, after_pitch};
+ghost use Rattle.voice_unit.specs.Voice.{is_silencing, voice_step, voice_answer, is_keyed, is_looped, needs_group, after_reading, after_pitch};
 ghost use Rattle.voice_unit.specs.declared.interface.VoiceRegs.{VoiceRegs as Registers};
 ghost use Rattle.voice_unit.specs.declared.interface.VoiceIn.{VoiceIn as Input};
 ghost use Rattle.envelope.specs.declared.Mode.TheVariants.{Release};
-ghost use Rattle.voice_unit.specs.Rest.{is_silencing, IsSilent, IsAtRest};
+ghost use Rattle.voice_unit.specs.Rest.{IsSilent, IsAtRest};
 
 use crate::interface::{VoiceIn, VoiceOut, VoiceRegs, is_keyed};
 use crate::level::{high_byte, pitch_of};

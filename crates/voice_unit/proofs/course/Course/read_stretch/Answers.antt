@@ -1,7 +1,7 @@
 use Rattle.std.proofs.Common.{◌≡◌, ◌+◌, ◌-◌, ◌*◌, ◌<◌, ◌≤◌, nat_lt, nat_le, ℕ, Bool, true, false, List, take, slice_index, refl, sym, ap, ◌∙◌, arith}
 use Rattle.std.proofs.lemmas.Bool.Decides.{nat_tests}
 use Rattle.aram_core.specs.Memory.{byte_at}
-use Rattle.voice_unit.specs.Rest.{is_silencing}
+use Rattle.voice_unit.specs.Voice.{is_silencing}
 use Rattle.voice_unit.specs.Row.{next_place, place_after, groups_before}
 use Rattle.voice_unit.specs.declared.row.Place.{Place}
 use Rattle.voice_unit.proofs.Counting.{groups_before-rise}

@@ -1,6 +1,6 @@
 use Rattle.std.proofs.Common.{◌≡◌, ◌<◌, ◌≤◌, ◌+◌, ◌*◌, ◌%◌, ℕ, true, take, slice_index}
 use Rattle.aram_core.specs.Memory.{byte_at}
-use Rattle.voice_unit.specs.Rest.{is_silencing}
+use Rattle.voice_unit.specs.Voice.{is_silencing}
 use Rattle.voice_unit.specs.Row.{place_after, kept_row}
 use Rattle.voice_unit.proofs.LoopBits.{bit_if, marked}
 use Rattle.voice_unit.proofs.course.Course.read_stretch.Given as goal

@@ -2,9 +2,9 @@ use Rattle.std.proofs.Common.{◌≡◌, ◌+◌, ◌-◌, ◌*◌, ◌^◌, ◌
 use Rattle.std.proofs.lemmas.Bool.Decides.{nat_tests}
 use Rattle.aram_core.specs.Memory.{byte_at}
 use Rattle.voice_unit.specs.Directory.{loop_word}
-use Rattle.voice_unit.specs.Rest.{is_silencing, IsSilent}
+use Rattle.voice_unit.specs.Rest.{IsSilent}
 use Rattle.voice_unit.specs.Row.{place_after, groups_before, loops_in, place_of}
-use Rattle.voice_unit.specs.Voice.{VoiceState}
+use Rattle.voice_unit.specs.Voice.{is_silencing, VoiceState}
 use Rattle.voice_unit.proofs.LoopBits.{bit-bound}
 use Rattle.voice_unit.proofs.Played.{doubled}
 use Rattle.voice_unit.proofs.PartsOfRow.{last_twelve}
