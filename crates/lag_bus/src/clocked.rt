@@ -1,5 +1,5 @@
-// The clock, the calls of the bus, and the ports and timers at the clock, whose ticks are done where they are looked at or changed. Its small
-// calls are in line with those of the bus.
+// The clock, the calls of the bus, and the ports and timers at the clock, whose ticks are done where they are looked at or changed, and where
+// the bus itself passes cycles. Its small calls are in line with those of the bus.
 ghost use Rattle.std.specs.Prelude.{◌≡◌, ◌+◌, ◌-◌, ◌<◌, ◌≤◌, ◌^◌};
 ghost use Rattle.ports_timers.specs.Io.{read_answer, after_read, after_write, after_ticks_of};
 ghost use Rattle.lag_bus.specs.Clocked.{clocked_after};
@@ -8,7 +8,7 @@ use ports_timers::{Io, tick_through};
 use std::marker::Model;
 
 /// The clock, the calls since the last drain, and the ports, the ROM and the timers as they are at the clock. The ticks of
-/// the cycles that passed are done late, where something asks for them.
+/// the cycles that passed are done late: where something asks for them, or the bus itself passes more.
 #[derive(Drop)]
 pub struct ClockedIo {
     io: Io,

@@ -176,8 +176,9 @@ fn step_once<'a, B: BehindBus>(cpu: &mut Cpu, running: &mut RunningBus<'a, B>)
     }
 }
 
-/// Takes steps of the processor on a bus in hand, one at least, until the run is at its end, or the room for calls is filled
-/// and something is to be drained or it was filled so many times before. The answer is how many of these times are left.
+/// Takes steps of the processor on a bus in hand, one at least, until the run is at its end, the processor halts, or the room for
+/// calls is filled and something is to be drained or it was filled so many times before. Of a processor that has halted it is one
+/// step. The answer is how many of these times are left.
 // In line with what takes the bus in hand, so that its clock and its calls may stay in registers from step to step.
 #[inline(always)]
 fn step_on<'a, B: BehindBus>(cpu: &mut Cpu, running: &mut RunningBus<'a, B>, rooms: u8) -> u8
@@ -188,10 +189,18 @@ fn step_on<'a, B: BehindBus>(cpu: &mut Cpu, running: &mut RunningBus<'a, B>, roo
     ensures steps { AreStepsOf (lagging B.C.meaning) (lag_emits B.C.meaning) running.old.samples cpu.old running.old.bus cpu.new running.new.bus }
     ensures some { running.old.bus.machine.clock < running.new.bus.machine.clock }
 {
+    if cpu.halted {
+        running.step_on_bus(cpu);
+        return rooms;
+    }
     let mut left = rooms;
     'steps: loop {
-        step_once(cpu, running);
         if running.is_at_end() {
+            break;
+        }
+        step_once(cpu, running);
+        // Asked where an instruction ends, each of which has its own answer: so no step in hand asks whether the one before it halted.
+        if cpu.halted {
             break;
         }
         if !running.has_room() {
@@ -207,8 +216,9 @@ fn step_on<'a, B: BehindBus>(cpu: &mut Cpu, running: &mut RunningBus<'a, B>, roo
     left
 }
 
-/// Takes steps of the processor on a bus, one at least, until so many samples are made or pending, or the room for calls is filled and
-/// something is to be drained or it was filled so many times before. The answer is how many of these times are left.
+/// Takes steps of the processor on a bus, one at least, until so many samples are made or pending, the processor halts, or the room
+/// for calls is filled and something is to be drained or it was filled so many times before. Of a processor that has halted it is
+/// one step. The answer is how many of these times are left.
 pub(crate) fn take_steps<B: BehindBus>(bus: &mut B, cpu: &mut Cpu, samples: u32, rooms: u8) -> u8
     requires calls { (B.shows bus.old).machine.calls ≤ most_calls_before_step }
     requires more { (B.shows bus.old).machine.clock / 32 < samples }

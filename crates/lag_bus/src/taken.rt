@@ -4,6 +4,7 @@ ghost use Rattle.lag_bus.specs.Book.{may_be_read, may_be_written};
 ghost use Rattle.lag_bus.specs.Held.{plain_end, IsPlain};
 
 use crate::cause;
+use aram_core::page_of;
 use reach_map::ReachPages;
 use std::marker::Model;
 
@@ -86,7 +87,7 @@ impl TakenReach {
         ensures unwritten { result ≡ true → IfSome self.now (λ reach. may_be_written reach at ≡ false) }
         ensures plain { result ≡ true → IsPlain at }
     {
-        at < self.unwritten[usize::from(at / 0x100)]
+        at < self.unwritten[usize::from(page_of(at))]
     }
 
     /// Whether the page of an address is marked as one that no sample writes.
@@ -95,7 +96,7 @@ impl TakenReach {
         ensures taken { result ≡ true → IsSome self.now }
         ensures unwritten { result ≡ true → IfSome self.now (λ reach. may_be_written reach at ≡ false) }
     {
-        0 < self.unwritten[usize::from(at / 0x100)]
+        0 < self.unwritten[usize::from(page_of(at))]
     }
 
     /// Whether a mark tells that memory alone is at an address, which no sample reads.
@@ -105,7 +106,7 @@ impl TakenReach {
         ensures unread { result ≡ true → IfSome self.now (λ reach. may_be_read reach at ≡ false) }
         ensures plain { result ≡ true → IsPlain at }
     {
-        at < self.unread[usize::from(at / 0x100)]
+        at < self.unread[usize::from(page_of(at))]
     }
 
     /// Whether a write at an address may make the reach that was taken another one. Where it can't, the page of the address is marked.
@@ -129,7 +130,7 @@ impl TakenReach {
         requires unwritten { IfSome self.old (λ reach. may_be_written reach at ≡ false) }
         ensures { self.new ≡ self.old }
     {
-        self.unwritten[usize::from(at / 0x100)] = plain_end(at);
+        self.unwritten[usize::from(page_of(at))] = plain_end(at);
     }
 
     /// Marks the page of an address, which no sample reads.
@@ -138,6 +139,6 @@ impl TakenReach {
         requires unread { IfSome self.old (λ reach. may_be_read reach at ≡ false) }
         ensures { self.new ≡ self.old }
     {
-        self.unread[usize::from(at / 0x100)] = plain_end(at);
+        self.unread[usize::from(page_of(at))] = plain_end(at);
     }
 }

@@ -112,8 +112,8 @@ fn make_rounds_if_due<B: DrainedBus>(cpu: &Cpu, bus: &mut B, samples: u32, pause
     }
 }
 
-/// Steps of the run, one at least: rounds that only wait, where it is time for a trial, and steps one by one until the run ends, or the
-/// room for calls is filled and something is to be drained or it is time for a trial again.
+/// Steps of the run, one at least: rounds that only wait, where it is time for a trial, and steps one by one until the run ends, the
+/// processor halts, or the room for calls is filled and something is to be drained or it is time for a trial again.
 fn go_on<B: DrainedBus>(cpu: &mut Cpu, bus: &mut B, samples: u32, pause: &mut TrialPause)
     requires calls { B.means.calls bus.old ≡ 0 }
     requires more { B.means.made bus.old < samples }

@@ -1,4 +1,4 @@
-use Rattle.std.proofs.Common.{◌∙◌, refl, arith}
+use Rattle.std.proofs.Common.{◌∙◌, ◌/◌, ◌<◌, refl, arith}
 use Rattle.std.proofs.lemmas.Bool.Decides.{nat_tests}
 use Rattle.lock_step.proofs.StepsTaken.{no_steps, calls_anew}
 use Rattle.lag_bus.specs.Lagging.{lagging}
@@ -13,17 +13,17 @@ steps-init g c = record {
   samples = refl;
   taken = no_steps (lagging g.B.C.Chip.meaning) (lag_emits g.B.C.Chip.meaning) c.args.running.now.samples c.args.cpu.now c.args.running.now.bus;
   calls = c.requires.calls;
-  more = c.requires.more;
   on = omega arith;
 }
 
+-- one step more, since the run wasn't at its end
 pub steps-preserved-then-not-has_room : goal.steps-preserved-then-not-has_room
 steps-preserved-then-not-has_room g c =
     let chip = g.B.C.Chip.meaning in
     let run = c.steps.invariant.samples in
-    let more = c.steps.invariant.more in
-    let taken = one_step_on chip c.args.running.now.samples c.args.cpu.now c.args.running.now.bus c.steps.cpu c.step_once.new.cpu c.steps.running.bus c.step_once.new.running.bus c.steps.invariant.taken (rw run at more) c.step_once.ensures.does in
     let made = c.if-is_at_end.ensures in
+    let more : c.steps.running.bus.machine.clock / 32 < c.steps.running.samples = grind (arith, nat_tests) in
+    let taken = one_step_on chip c.args.running.now.samples c.args.cpu.now c.args.running.now.bus c.steps.cpu c.step_once.new.cpu c.steps.running.bus c.step_once.new.running.bus c.steps.invariant.taken (rw run at more) c.step_once.ensures.does in
     let later = c.step_once.ensures.some in
     let on = c.steps.invariant.on in
     rw c.if-not-begin_calls_anew.ensures.anew
@@ -32,7 +32,6 @@ steps-preserved-then-not-has_room g c =
       samples = c.step_once.ensures.samples ∙ c.steps.invariant.samples;
       taken = calls_anew (lagging chip) (lag_emits chip) c.args.running.now.samples c.args.cpu.now c.args.running.now.bus c.step_once.new.cpu c.step_once.new.running.bus (without_calls c.step_once.new.running.bus) taken refl refl refl;
       calls = omega arith;
-      more = grind (arith, nat_tests);
       on = omega arith;
     })
 
@@ -40,8 +39,8 @@ pub steps-preserved : goal.steps-preserved
 steps-preserved g c =
     let chip = g.B.C.Chip.meaning in
     let run = c.steps.invariant.samples in
-    let more = c.steps.invariant.more in
     let made = c.if-is_at_end.ensures in
+    let more : c.steps.running.bus.machine.clock / 32 < c.steps.running.samples = grind (arith, nat_tests) in
     let room = c.if-not-has_room.ensures in
     let later = c.step_once.ensures.some in
     let on = c.steps.invariant.on in
@@ -50,25 +49,33 @@ steps-preserved g c =
       samples = c.step_once.ensures.samples ∙ c.steps.invariant.samples;
       taken = one_step_on chip c.args.running.now.samples c.args.cpu.now c.args.running.now.bus c.steps.cpu c.step_once.new.cpu c.steps.running.bus c.step_once.new.running.bus c.steps.invariant.taken (rw run at more) c.step_once.ensures.does;
       calls = grind (arith, nat_tests);
-      more = grind (arith, nat_tests);
       on = omega arith;
     }
 
-pub returns-then-is_at_end-clause-steps : goal.returns-then-is_at_end-clause-steps
-returns-then-is_at_end-clause-steps g c =
+pub returns-then-cpu-clause-steps : goal.returns-then-cpu-clause-steps
+returns-then-cpu-clause-steps g c =
+    let chip = g.B.C.Chip.meaning in
+    one_step_on chip c.args.running.now.samples c.args.cpu.now c.args.running.now.bus c.args.cpu.now c.step_on_bus.new.cpu c.args.running.now.bus c.step_on_bus.new.self.bus
+    (no_steps (lagging chip) (lag_emits chip) c.args.running.now.samples c.args.cpu.now c.args.running.now.bus) c.requires.more c.step_on_bus.ensures.does
+
+pub returns-then-cpu-2-clause-steps : goal.returns-then-cpu-2-clause-steps
+returns-then-cpu-2-clause-steps g c =
     let run = c.steps.invariant.samples in
-    let more = c.steps.invariant.more in
+    let made = c.if-is_at_end.ensures in
+    let more : c.steps.running.bus.machine.clock / 32 < c.steps.running.samples = grind (arith, nat_tests) in
     one_step_on g.B.C.Chip.meaning c.args.running.now.samples c.args.cpu.now c.args.running.now.bus c.steps.cpu c.step_once.new.cpu c.steps.running.bus c.step_once.new.running.bus c.steps.invariant.taken (rw run at more) c.step_once.ensures.does
 
 pub returns-then-left-eq0-clause-steps : goal.returns-then-left-eq0-clause-steps
 returns-then-left-eq0-clause-steps g c =
     let run = c.steps.invariant.samples in
-    let more = c.steps.invariant.more in
+    let made = c.if-is_at_end.ensures in
+    let more : c.steps.running.bus.machine.clock / 32 < c.steps.running.samples = grind (arith, nat_tests) in
     one_step_on g.B.C.Chip.meaning c.args.running.now.samples c.args.cpu.now c.args.running.now.bus c.steps.cpu c.step_once.new.cpu c.steps.running.bus c.step_once.new.running.bus c.steps.invariant.taken (rw run at more) c.step_once.ensures.does
 
 pub returns-then-not-begin_calls_anew-clause-steps : goal.returns-then-not-begin_calls_anew-clause-steps
 returns-then-not-begin_calls_anew-clause-steps g c =
     let run = c.steps.invariant.samples in
-    let more = c.steps.invariant.more in
+    let made = c.if-is_at_end.ensures in
+    let more : c.steps.running.bus.machine.clock / 32 < c.steps.running.samples = grind (arith, nat_tests) in
     rw c.if-not-begin_calls_anew.ensures.same
     (one_step_on g.B.C.Chip.meaning c.args.running.now.samples c.args.cpu.now c.args.running.now.bus c.steps.cpu c.step_once.new.cpu c.steps.running.bus c.step_once.new.running.bus c.steps.invariant.taken (rw run at more) c.step_once.ensures.does)

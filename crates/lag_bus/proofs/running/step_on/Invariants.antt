@@ -1,17 +1,16 @@
-use Rattle.std.proofs.Common.{◌≡◌, ◌*◌, ◌-◌, ◌/◌, ◌<◌, ◌≤◌}
+use Rattle.std.proofs.Common.{◌≡◌, ◌*◌, ◌-◌, ◌≤◌}
 use Rattle.lock_step.specs.StepsOfRun.{AreStepsOf}
 use Rattle.lag_bus.specs.Lagging.{lagging}
 use Rattle.lag_bus.specs.LagEmits.{lag_emits}
 use Rattle.lag_bus.proofs.running.step_on.Given as goal
 
--- the steps so far, on the same bus and for the same run, with room for one more that isn't at its end
+-- the steps so far, on the same bus and for the same run, with room for one more
 abbrev pub invariant-steps : goal.invariant-steps
 invariant-steps g l = record {
   name : l.running.name ≡ l.initial.running.name;
   samples : l.running.samples ≡ l.initial.running.samples;
   taken : AreStepsOf (lagging g.B.C.Chip.meaning) (lag_emits g.B.C.Chip.meaning) l.initial.running.samples l.initial.cpu l.initial.running.bus l.cpu l.running.bus;
   calls : l.running.bus.machine.calls ≤ 32;
-  more : l.running.bus.machine.clock / 32 < l.running.samples;
   on : l.initial.running.bus.machine.clock ≤ l.running.bus.machine.clock;
 }
 
