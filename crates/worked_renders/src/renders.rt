@@ -1,5 +1,6 @@
 // Worked renders and fades.
 ghost use Rattle.std.specs.Prelude.{◌≡◌, ◌≤◌};
+ghost use Rattle.num_fix.specs.Limits.{most_frames};
 
 use crate::openings::{SILENT, SOUND, chip_of, file};
 use aram_core::Aram;
@@ -38,7 +39,7 @@ fn give_all<C: Chip>(
 
 /// Renders so many samples of a file over a chip, with the records of voice 0.
 fn render_over<C: Chip>(alloc: Global, file: &SpcFile, chip: C, samples: u32) -> Result<Given, Fail>
-    requires few { samples ≤ 115200000 }
+    requires few { samples ≤ most_frames }
     requires sample { C.sample chip ≡ 0 }
     requires batches { C.batches chip ≡ 0 }
 {
@@ -58,7 +59,7 @@ fn render_over<C: Chip>(alloc: Global, file: &SpcFile, chip: C, samples: u32) ->
 
 /// Renders so many samples of a file, with the records of voice 0.
 fn rendered(alloc: Global, file: &SpcFile, samples: u32) -> Result<Given, Fail>
-    requires { samples ≤ 115200000 }
+    requires { samples ≤ most_frames }
 {
     render_over(alloc, file, chip_of(alloc, file)?, samples)
 }
@@ -151,7 +152,7 @@ fn send_on<C: Chip>(
     samples: u32,
     frames: &mut Vec<Frame>,
 ) -> Result<(bool, u32, u64), Fail>
-    requires { samples ≤ 115200000 }
+    requires { samples ≤ most_frames }
 {
     if render.is_done() && render.chip().sample() <= samples {
         render.aim(samples);

@@ -1,5 +1,6 @@
 //! Renders of programs that wait.
 ghost use Rattle.std.specs.Prelude.{◌≡◌, ◌≤◌};
+ghost use Rattle.num_fix.specs.Limits.{most_frames};
 
 use crate::openings::{SILENT, chip_of, file};
 use lock_step::{Chip, Counts};
@@ -35,7 +36,7 @@ fn add_all<C: Chip>(render: &mut Render<C>, told: &mut Told) -> Result<(), Fail>
 
 /// Renders so many samples of a file over a chip, without records of voices.
 fn tell<C: Chip>(alloc: Global, file: &SpcFile, chip: C, samples: u32) -> Result<Told, Fail>
-    requires few { samples ≤ 115200000 }
+    requires few { samples ≤ most_frames }
     requires sample { C.sample chip ≡ 0 }
     requires batches { C.batches chip ≡ 0 }
 {
