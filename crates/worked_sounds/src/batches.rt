@@ -1,6 +1,6 @@
 //! One batch of 64 samples beside 64 batches of one, over the registers and the memory of demo file 7.
 
-use crate::chips::play_masked;
+use crate::chips::{SILENCE, play_masked};
 use aram_core::Aram;
 use demo_gen::demo;
 use dsp_core::Dsp;
@@ -49,6 +49,26 @@ fn played_one_by_one(
     Ok((frames, records))
 }
 
+/// Whether records begin with those of eight voices that are keyed in sample 0.
+fn begin_with_key_ons(records: &[Record]) -> bool {
+    for (k, record) in (0..8u8).zip(records) {
+        let keyed = Record::Voice {
+            sample: 0,
+            voice: k,
+            level: 0,
+            out: 0,
+            block: 0,
+            keyed: true,
+            looped: false,
+        };
+        if *record != keyed {
+            return false;
+        }
+    }
+    true
+}
+
+// All eight voices of the file are keyed at its first poll, in sample 0, and silent for six samples.
 #[test]
 fn a_batch_of_64_has_the_frames_and_records_of_64_batches(rt: HostRuntime) -> Result<(), Fail> {
     let alloc = rt.alloc();
@@ -68,6 +88,14 @@ fn a_batch_of_64_has_the_frames_and_records_of_64_batches(rt: HostRuntime) -> Re
     );
     let (all_frames, all_records) = played_one_by_one(alloc, &mut split, &mut other.memory)?;
     assert_eq!(rt; (all_frames.len(), all_records.len()), (64, 512));
+    assert!(rt; begin_with_key_ons(records.as_slice()));
+    assert!(rt;
+        frames
+            .as_slice()
+            .iter()
+            .take(6)
+            .all(|frame| *frame == SILENCE)
+    );
     assert_eq!(rt; frames.as_slice(), all_frames.as_slice());
     assert_eq!(rt; records.as_slice(), all_records.as_slice());
     assert!(rt; have_same_registers(&whole, &split) && have_same_bytes(&one.memory, &other.memory));

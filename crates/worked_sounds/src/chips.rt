@@ -71,7 +71,7 @@ fn is_quiet(record: &Record) -> bool {
     )
 }
 
-const SILENCE: Frame = Frame { left: 0, right: 0 };
+pub const SILENCE: Frame = Frame { left: 0, right: 0 };
 
 const SOUND: Frame = Frame {
     left: 4000,
