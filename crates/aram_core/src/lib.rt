@@ -3,8 +3,6 @@
 
 mod aram;
 mod page_set;
-#[cfg(test)]
-mod tests;
 
 pub use aram::Aram;
 pub use page_set::{PageSet, page_of};

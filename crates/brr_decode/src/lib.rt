@@ -6,8 +6,6 @@ mod digit;
 mod group_memory;
 mod laws;
 mod stream;
-#[cfg(test)]
-mod tests;
 
 pub use block::{decode_block, decode_group};
 pub use digit::kept_sample;

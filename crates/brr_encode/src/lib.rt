@@ -7,8 +7,6 @@ mod laws;
 mod nearest;
 mod report;
 mod search;
-#[cfg(test)]
-mod tests;
 
 pub use encoder::{EncodeRefusal, Encoded, encode};
 pub use laws::{best_header_has_the_least_triple, least_place_is_first};

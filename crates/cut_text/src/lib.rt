@@ -5,8 +5,6 @@ mod cuts;
 pub mod lines;
 mod lists;
 mod refusal;
-#[cfg(test)]
-mod tests;
 
 pub use cuts::{CutList, read_cuts};
 pub use lists::add;

@@ -6,8 +6,6 @@ mod draws;
 mod driver;
 mod file;
 mod samples;
-#[cfg(test)]
-mod tests;
 mod writes;
 
 pub use file::demo;

@@ -3,8 +3,6 @@
 
 mod rest;
 mod target;
-#[cfg(test)]
-mod tests;
 
 ghost use Rattle.std.specs.Prelude.{◌≡◌, ◌≤◌, pos};
 ghost use Rattle.envelope.specs.declared.Mode.TheVariants.{Attack, Release};

@@ -5,8 +5,6 @@ mod quad;
 mod refusal;
 mod table;
 mod taps;
-#[cfg(test)]
-mod tests;
 
 pub use quad::Quad;
 pub use refusal::TableRefusal;

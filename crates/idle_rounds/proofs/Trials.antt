@@ -1,5 +1,6 @@
 -- What a step tells over a bus that only looks.
 use Rattle.std.proofs.Common.{◌≡◌, ℕ, suc, ◌+◌, ◌-◌, Bool, true, false, ◌&&◌, nat_lt, refl, sym, ap, ◌∙◌, arith, Option, Some, None}
+use Rattle.std.proofs.lemmas.Bool.{and_parts}
 use Rattle.std.specs.Prelude.{if◌then◌else◌, unwrap_or, is_some}
 use Rattle.std.proofs.lemmas.Bool.Decides.{nat_tests}
 use Rattle.spc700_exec.specs.declared.cpu.Cpu.{Cpu}
@@ -7,7 +8,6 @@ use Rattle.spc700_exec.specs.Bus.{byte_read, after_read, after_write}
 use Rattle.spc700_exec.specs.Script.{Script, Read, Write, End, Cycles, ToSample, cycles_at, outcome}
 use Rattle.spc700_exec.specs.Instruction.{script, step_outcome}
 use Rattle.idle_rounds.specs.Looking.{then_if, look_of_script, look_of_steps, Look, look_meaning, HaltsToSample}
-use Rattle.spc700_alu.proofs.Apart.{and_left, and_right}
 use Rattle.idle_rounds.proofs.Halting.{HaltsToSample-script}
 
 -- what is seen is what a read answers
@@ -25,7 +25,7 @@ module _ {L : Type 0} (sees : L → ℕ → Option ℕ) where
 
   idle-outcome : (t : Script) (start made : ℕ) (s : Look L) → (outcome (look_meaning sees) start made t s).1.idle ≡ true → s.idle ≡ true
   idle-outcome (Read at next) start made s h =
-      and_left s.idle (is_some (sees s.from at)) (idle-outcome (next (byte_read (look_meaning sees) at s)) start (made + 1) (after_read (look_meaning sees) at s) h)
+      (and_parts s.idle (is_some (sees s.from at)) (idle-outcome (next (byte_read (look_meaning sees) at s)) start (made + 1) (after_read (look_meaning sees) at s) h)).0
   idle-outcome (Write at value next) start made s h =
       let off : false ≡ true = idle-outcome next start (made + 1) (after_write (look_meaning sees) at value s) h in
       absurd (cc)
@@ -44,7 +44,7 @@ module _ {L : Type 0} (sees : L → ℕ → Option ℕ) where
       let after : Look L = after_read (look_meaning sees) at s in
       let still : (s.idle && is_some (sees s.from at)) ≡ true = idle-outcome (next byte) start (made + 1) after idle in
       let clock : s.clock + 1 ≡ base + (made + 1) = omega arith in
-      seen_then (sees s.from at) (λ byte. look_of_script (sees s.from) (made + 1) (next byte)) _ (and_right s.idle (is_some (sees s.from at)) still)
+      seen_then (sees s.from at) (λ byte. look_of_script (sees s.from) (made + 1) (next byte)) _ (and_parts s.idle (is_some (sees s.from at)) still).1
       (look_of_script-outcome (next byte) start base (made + 1) after (halts byte) clock idle runs)
   look_of_script-outcome (Write at value next) start base made s halts e idle runs =
       let off : false ≡ true = idle-outcome next start (made + 1) (after_write (look_meaning sees) at value s) idle in

@@ -1,6 +1,6 @@
 -- What a chip some samples late comes to, after each change of what is held.
 use Rattle.std.proofs.Common.{◌≡◌, ◌≢◌, if◌then◌else◌, ℕ, zero, suc, ◌+◌, ◌-◌, ◌*◌, ◌<◌, ◌≤◌, List, [], ◌∷◌, ◌++◌, length, Bool, true, false, not, ◌||◌, ◌==◌, refl, ap, sym, ◌∙◌, arith, rules, append_assoc, length-append}
-use Rattle.std.proofs.lemmas.Bool.{or_parts}
+use Rattle.std.proofs.lemmas.Bool.{or_parts, not-true}
 use Rattle.std.proofs.lemmas.List.{append-nil}
 use Rattle.std.proofs.Math.Seq.{take-append_seam, drop-append_seam}
 use Rattle.std.proofs.lemmas.List.Elements.{filter-append}
@@ -23,10 +23,6 @@ use Rattle.lag_bus.specs.Late.{late_with_sample}
 use Rattle.lag_bus.specs.Held.{Held, IsHeld, pending_samples, late_of}
 use Rattle.lag_bus.proofs.MergedRecords.{Each-append, Each-map, Each-filter, Each-merge, merge_voices, merge_event, merge_nothing, length-merge, number_before, later_before, event_after, voice_before, voice_after, voice_number, filter_all, filter_none}
 use Rattle.lag_bus.proofs.LawfulSamples.{frame_count_of_samples, voices_within, is_valid-samples, voices_within-samples, voices_of_mask}
-
-not_true : (b : Bool) → not b ≡ true → b ≡ false
-not_true true h = cc
-not_true false h = refl
 
 -- the voices of a sample have its number
 number_of_voice : (k : ℕ) (item : Record) → IsVoiceWithin k (k + 1) item → sample_number item ≡ k
@@ -59,7 +55,7 @@ module _ {S : Type 0} {chip : ChipMeaning S} (laws : IsLawfulChip chip) where
   byte_stays zero k s memory at few valid free = rw samples_none refl
   byte_stays (suc n) k s memory at few valid free =
       let some : (suc n == 0) ≡ false = search rules in
-      laws.writes_inside (suc n) k s memory at few valid (not_true _ (rw some at free))
+      laws.writes_inside (suc n) k s memory at few valid (not-true _ (rw some at free))
 
   register_stays : (n k : ℕ) (s : S) (memory : List ℕ) (address : ℕ) → n ≤ 64 → chip.is_valid s ≡ true
       → (n == 0 || not (is_result address)) ≡ true
@@ -67,7 +63,7 @@ module _ {S : Type 0} {chip : ChipMeaning S} (laws : IsLawfulChip chip) where
   register_stays zero k s memory address few valid free = rw samples_none refl
   register_stays (suc n) k s memory address few valid free =
       let some : (suc n == 0) ≡ false = search rules in
-      laws.registers_stay (suc n) k s memory address few valid (not_true _ (rw some at free))
+      laws.registers_stay (suc n) k s memory address few valid (not-true _ (rw some at free))
 
   untouched : (s : S) (memory : List ℕ) (at value : ℕ) → chip.is_valid s ≡ true → may_be_read (chip.reach s memory) at ≡ false
       → chip.reach s (with_byte memory at value) ≡ chip.reach s memory
@@ -80,7 +76,7 @@ module _ {S : Type 0} {chip : ChipMeaning S} (laws : IsLawfulChip chip) where
   put_apart zero k s memory at value few valid free = simp samples_none refl
   put_apart (suc n) k s memory at value few valid free =
       let some : (suc n == 0) ≡ false = search rules in
-      let apart : may_be_read (chip.reach s memory) at ≡ false = not_true _ (rw some at free) in
+      let apart : may_be_read (chip.reach s memory) at ≡ false = not-true _ (rw some at free) in
       laws.reads_inside (suc n) k s memory at value few valid (or_parts _ _ apart).0 (or_parts _ _ apart).1
 
   module _ {h : Held S} (is : IsHeld chip h) where

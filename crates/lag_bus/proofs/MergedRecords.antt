@@ -1,5 +1,6 @@
 -- What a merge of voice records and events has, and how it grows.
 use Rattle.std.proofs.Common.{◌≡◌, ℕ, suc, ◌+◌, ◌<◌, ◌≤◌, List, [], ◌∷◌, ◌++◌, length, Bool, true, false, nat_le, slice_get, get_or, drop, drop-cons, Some, None, if◌then◌else◌, cond, refl, ap, sym, ◌∙◌, arith, rules, append_assoc, length-append, add-one}
+use Rattle.std.proofs.lemmas.Bool.{le-leb, lt-leb}
 use Rattle.std.proofs.lemmas.List.{append-nil, drop_all}
 use Rattle.std.specs.List.{filter}
 use Rattle.trace_form.specs.declared.record.Record.{Record}
@@ -29,27 +30,21 @@ pub filter_none : {X : Type 0} (p : X → Bool) (xs : List X) → Each (λ x. p 
 filter_none p [] h = refl
 filter_none p (x ∷ xs) h = rw h.0 (filter_none p xs h.1)
 
-pub le_test : (a b : ℕ) → a ≤ b → nat_le a b ≡ true
-le_test a b h = search rules
-
-pub lt_test : (a b : ℕ) → b < a → nat_le a b ≡ false
-lt_test a b h = search rules
-
 pub early_takes : (k : ℕ) (e : Record) (events : List Record) → sample_number e ≤ k → events_up_to k (e ∷ events) ≡ e ∷ events_up_to k events
 unfolding events_up_to
-early_takes k e events h = rw (le_test (sample_number e) k h)
+early_takes k e events h = rw (le-leb (sample_number e) k h)
 
 pub early_stops : (k : ℕ) (e : Record) (events : List Record) → k < sample_number e → events_up_to k (e ∷ events) ≡ []
 unfolding events_up_to
-early_stops k e events h = rw (lt_test (sample_number e) k h)
+early_stops k e events h = rw (lt-leb (sample_number e) k h)
 
 pub later_drops : (k : ℕ) (e : Record) (events : List Record) → sample_number e ≤ k → events_after k (e ∷ events) ≡ events_after k events
 unfolding events_after
-later_drops k e events h = rw (le_test (sample_number e) k h)
+later_drops k e events h = rw (le-leb (sample_number e) k h)
 
 pub later_keeps : (k : ℕ) (e : Record) (events : List Record) → k < sample_number e → events_after k (e ∷ events) ≡ e ∷ events
 unfolding events_after
-later_keeps k e events h = rw (lt_test (sample_number e) k h)
+later_keeps k e events h = rw (lt-leb (sample_number e) k h)
 
 -- all events are early
 pub early_all : (k : ℕ) (events : List Record) → Each (λ e. sample_number e ≤ k) events → events_up_to k events ≡ events
@@ -147,14 +142,14 @@ merge_voices k (v ∷ voices) new events he hn =
 -- an event beyond all voices comes last
 pub early_more : (k : ℕ) (events : List Record) (e : Record) → k < sample_number e → events_up_to k (events ++ e ∷ []) ≡ events_up_to k events
 unfolding events_up_to
-early_more k [] e h = rw (lt_test (sample_number e) k h)
+early_more k [] e h = rw (lt-leb (sample_number e) k h)
 early_more k (x ∷ events) e h =
     elim (nat_le (sample_number x) k) as (λ b. (if b then x ∷ events_up_to k (events ++ e ∷ []) else []) ≡ (if b then x ∷ events_up_to k events else []))
     [ true ↦ ap (λ (xs : List Record). x ∷ xs) (early_more k events e h) | false ↦ refl ]
 
 pub later_more : (k : ℕ) (events : List Record) (e : Record) → k < sample_number e → events_after k (events ++ e ∷ []) ≡ events_after k events ++ e ∷ []
 unfolding events_after
-later_more k [] e h = rw (lt_test (sample_number e) k h)
+later_more k [] e h = rw (lt-leb (sample_number e) k h)
 later_more k (x ∷ events) e h =
     elim (nat_le (sample_number x) k) as (λ b. (if b then events_after k (events ++ e ∷ []) else x ∷ (events ++ e ∷ [])) ≡ (if b then events_after k events else x ∷ events) ++ e ∷ [])
     [ true ↦ later_more k events e h | false ↦ refl ]

@@ -1,5 +1,6 @@
 -- Over cycles in which nothing comes that is read, the machine with its lag book is a bus that waits.
 use Rattle.std.proofs.Common.{◌≡◌, ℕ, ◌+◌, ◌-◌, ◌*◌, ◌/◌, ◌<◌, ◌≤◌, ◌++◌, Bool, true, false, not, ◌&&◌, ◌==◌, refl, sym, ap, ◌∙◌, arith, Option, Some, None}
+use Rattle.std.proofs.lemmas.Bool.{and_parts, not-true}
 use Rattle.std.specs.Prelude.{if◌then◌else◌, unwrap_or}
 use Rattle.aram_core.specs.Memory.{byte_at}
 use Rattle.ports_timers.specs.declared.io.Io.{Io}
@@ -23,14 +24,10 @@ use Rattle.lag_bus.specs.Lagging.{Lagging, lagging, with_book}
 use Rattle.idle_rounds.specs.Looking.{look_of_steps, after_n_steps, IsWaiting}
 use Rattle.ports_timers.specs.Zeros.{zeros_stay, counter_is_0, AreTimers}
 use Rattle.lag_bus.specs.Waiting.{only_looks, byte_seen, samples_in, with_due, after_wait, without_calls, IsKept}
-use Rattle.ports_timers.proofs.Stays.{and_first, and_second, read_answer-stays, after_read-stays}
+use Rattle.ports_timers.proofs.Stays.{read_answer-stays, after_read-stays}
 use Rattle.ports_timers.proofs.Fewer.{zeros_stay-less}
 use Rattle.lag_bus.proofs.PassesOfAWait.{pass-wait, wait-none}
 use Rattle.idle_rounds.proofs.Rounds.{waited-rounds}
-
-not_holds : (b : Bool) → not b ≡ true → b ≡ false
-not_holds true h = absurd (cc)
-not_holds false h = refl
 
 if_some : (b : Bool) (x byte : ℕ) → (if b then Some x else None) ≡ Some byte → (b ≡ true) × (x ≡ byte)
 if_some true x byte h = (refl, cc)
@@ -44,11 +41,11 @@ record IsLook (bus_reach : Bool) (register : Bool) (counter : Bool) : Type 0 whe
 
 look_of : (register written counter : Bool) → (not register && not written && counter) ≡ true → IsLook written register counter
 look_of register written counter h =
-    let front : (not register && not written) ≡ true = and_first _ counter h in
+    let front : (not register && not written) ≡ true = (and_parts _ counter h).0 in
     record {
-      free = not_holds written (and_second (not register) _ front);
-      elsewhere = not_holds register (and_first (not register) _ front);
-      zero = and_second (not register && not written) counter h;
+      free = not-true written (and_parts (not register) _ front).1;
+      elsewhere = not-true register (and_parts (not register) _ front).0;
+      zero = (and_parts (not register && not written) counter h).1;
     }
 
 module _ {S : Type 0} (chip : ChipMeaning S) where

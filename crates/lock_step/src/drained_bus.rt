@@ -22,7 +22,7 @@ pub trait DrainedBus: Bus {
 
     /// Whether there is room for one more step before the next drain, for who makes the steps one by one.
     fn has_room(&self) -> bool
-        ensures { result ≡ nat_le (Self.means.calls self.now) 32 };
+        ensures { result ≡ nat_le (Self.means.calls self.now) most_calls_before_step };
 
     /// Takes steps of the processor, one at least, of which none begins at the end of a run to so many samples. The bus may begin its
     /// calls anew, where nothing is to be drained, so many times; the answer is how many of these times are left.

@@ -1,9 +1,6 @@
 //! Arithmetic of 16-bit sound hardware: clamping, wrapping, floor shifts and signed readings, and a stereo frame.
 #![tactic(auto)]
 
-#[cfg(test)]
-mod tests;
-
 ghost use Rattle.std.specs.Prelude.{◌≡◌, ◌<◌, ◌≤◌, ◌^◌, ◌-◌, ◌+ℤ◌, unsigned_abs};
 ghost use Rattle.num_fix.specs.Arithmetic.{clamp16, wrap16, floor_shift, scaled, clear_bit0, sign4, sign8, has_bit};
 

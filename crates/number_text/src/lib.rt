@@ -3,8 +3,6 @@
 
 mod decimals;
 mod digits;
-#[cfg(test)]
-mod tests;
 
 pub use decimals::{decimal_value, is_number};
 pub use digits::{four_digits, two_digits};

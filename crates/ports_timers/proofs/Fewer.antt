@@ -1,11 +1,11 @@
 -- Counters that stay 0 over some cycles do so over fewer.
 use Rattle.std.proofs.Common.{◌≡◌, ℕ, ◌≤◌, Bool, true, false, ◌||◌, ◌&&◌, nat_lt, refl, arith}
+use Rattle.std.proofs.lemmas.Bool.{and_parts}
 use Rattle.std.proofs.lemmas.Bool.Decides.{nat_tests}
 use Rattle.ports_timers.specs.declared.io.Io.{Io}
 use Rattle.ports_timers.specs.Timer.{tick_count}
 use Rattle.ports_timers.specs.Io.{is_enabled}
 use Rattle.ports_timers.specs.Zeros.{stays_if_0, zeros_stay}
-use Rattle.ports_timers.proofs.Stays.{and_first, and_second}
 
 or_less : (a e : Bool) (x y k : ℕ) → x ≤ y → (a || (e || nat_lt y k)) ≡ true → (a || (e || nat_lt x k)) ≡ true
 or_less true e x y k less h = refl
@@ -32,5 +32,5 @@ zeros_stay-less io clock n most less h =
     let s0 = stays_if_0 (is_enabled 0 io.control) 128 clock most io.timer0 in
     let s1 = stays_if_0 (is_enabled 1 io.control) 128 clock most io.timer1 in
     let s2 = stays_if_0 (is_enabled 2 io.control) 16 clock most io.timer2 in
-    let front : (s0 && s1) ≡ true = and_first (s0 && s1) s2 h in
-    zeros_stay-each io clock n most most most less less less (and_first s0 s1 front) (and_second s0 s1 front) (and_second (s0 && s1) s2 h)
+    let front : (s0 && s1) ≡ true = (and_parts (s0 && s1) s2 h).0 in
+    zeros_stay-each io clock n most most most less less less (and_parts s0 s1 front).0 (and_parts s0 s1 front).1 (and_parts (s0 && s1) s2 h).1

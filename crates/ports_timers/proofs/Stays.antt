@@ -1,6 +1,7 @@
 -- Over cycles in which each counter that is 0 stays 0, a read of an input port, of a constant cell or of such a
 -- counter has one answer, and changes nothing.
 use Rattle.std.proofs.Common.{◌≡◌, ℕ, Bool, true, false, not, ◌||◌, ◌&&◌, ◌==◌, refl, ap, ◌∙◌, arith, Some}
+use Rattle.std.proofs.lemmas.Bool.{and_parts}
 use Rattle.std.specs.Prelude.{if◌then◌else◌}
 use Rattle.std.proofs.lemmas.Bool.Decides.{nat_tests}
 use Rattle.ports_timers.specs.declared.timer.Timer.{Timer}
@@ -18,14 +19,6 @@ if_same false x y x' y' first second = second
 or_holds : (a b : Bool) → (not a || b) ≡ true → a ≡ true → b ≡ true
 or_holds true b h is = h
 or_holds false b h is = absurd (cc)
-
-pub and_first : (a b : Bool) → (a && b) ≡ true → a ≡ true
-and_first true b h = refl
-and_first false b h = h
-
-pub and_second : (a b : Bool) → (a && b) ≡ true → b ≡ true
-and_second true b h = h
-and_second false b h = absurd (cc)
 
 output-zero : (enabled : Bool) (period clock cycles : ℕ) (timer : Timer) → IsTimer timer → stays_if_0 enabled period clock cycles timer ≡ true
     → (timer.output == 0) ≡ true → (after_cycles enabled period clock cycles timer).output ≡ timer.output
@@ -59,16 +52,16 @@ are_alike at io clock cycles small stay zero =
     let s0 = stays_if_0 (is_enabled 0 io.control) 128 clock cycles io.timer0 in
     let s1 = stays_if_0 (is_enabled 1 io.control) 128 clock cycles io.timer1 in
     let s2 = stays_if_0 (is_enabled 2 io.control) 16 clock cycles io.timer2 in
-    let front : (s0 && s1) ≡ true = and_first (s0 && s1) s2 stay in
+    let front : (s0 && s1) ≡ true = (and_parts (s0 && s1) s2 stay).0 in
     record {
-      timer0 = λ is. output-zero (is_enabled 0 io.control) 128 clock cycles io.timer0 small.timer0 (and_first s0 s1 front)
+      timer0 = λ is. output-zero (is_enabled 0 io.control) 128 clock cycles io.timer0 small.timer0 (and_parts s0 s1 front).0
           (zero0 (at == 0xFD) (at == 0xFE) (at == 0xFF) _ _ _ zero is);
       timer1 = λ is. let other : (at == 0xFD) ≡ false = grind (arith, nat_tests) in
-          output-zero (is_enabled 1 io.control) 128 clock cycles io.timer1 small.timer1 (and_second s0 s1 front)
+          output-zero (is_enabled 1 io.control) 128 clock cycles io.timer1 small.timer1 (and_parts s0 s1 front).1
           (zero1 (at == 0xFD) (at == 0xFE) (at == 0xFF) _ _ _ zero other is);
       timer2 = λ is. let other : (at == 0xFD) ≡ false = grind (arith, nat_tests) in
           let another : (at == 0xFE) ≡ false = grind (arith, nat_tests) in
-          output-zero (is_enabled 2 io.control) 16 clock cycles io.timer2 small.timer2 (and_second (s0 && s1) s2 stay)
+          output-zero (is_enabled 2 io.control) 16 clock cycles io.timer2 small.timer2 (and_parts (s0 && s1) s2 stay).1
           (zero2 (at == 0xFD) (at == 0xFE) (at == 0xFF) _ _ _ zero other another is);
     }
 

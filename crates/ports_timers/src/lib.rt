@@ -3,8 +3,6 @@
 
 mod io;
 mod laws;
-#[cfg(test)]
-mod tests;
 mod timer;
 mod zeros;
 

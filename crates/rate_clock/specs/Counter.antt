@@ -2,9 +2,13 @@
 use Rattle.std.specs.Prelude.{◌≡◌, ℕ, zero, suc, ◌+◌, ◌%◌, ◌<◌, List, [], ◌∷◌, Bool, false, ◌&&◌, ◌==◌, nat_lt, pos, negsuc, unsigned_abs, slice_index}
 use Rattle.std.specs.Int.{int_rem_euclid}
 
--- the counter while sample number k is made: -(k + 1) modulo 30,720
+-- the samples in which the counter comes round
+abbrev pub counter_round : ℕ
+counter_round = 30720
+
+-- the counter while sample number k is made: it falls by 1 a sample, and below 0 it goes on from the round's end
 abbrev pub counter_at : ℕ → ℕ
-counter_at k = unsigned_abs (int_rem_euclid (negsuc k) (pos 30720))
+counter_at k = unsigned_abs (int_rem_euclid (negsuc k) (pos counter_round))
 
 -- the counter once n samples are made: 0 before the first, and then that of the last
 abbrev pub counter_after : ℕ → ℕ

@@ -3,8 +3,6 @@
 
 mod clock;
 mod noise;
-#[cfg(test)]
-mod tests;
 
 pub use clock::RateClock;
 pub use noise::Noise;

@@ -2,8 +2,6 @@
 #![tactic(auto)]
 
 mod pages;
-#[cfg(test)]
-mod tests;
 mod voices;
 
 ghost use Rattle.std.specs.Prelude.{◌≡◌, ◌≤◌, length};

@@ -1,5 +1,6 @@
 -- A run emits a frame for each sample.
 use Rattle.std.proofs.Common.{◌≡◌, ℕ, zero, suc, ◌+◌, ◌-◌, ◌*◌, ◌/◌, ◌≤◌, ◌<◌, Bool, true, false, nat_le, nat_lt, List, length, refl, sym, ◌∙◌, ap, arith, inl, inr}
+use Rattle.std.proofs.lemmas.Bool.{lt-leb, cases_lt}
 use Rattle.std.specs.Prelude.{if◌then◌else◌, ◌%◌}
 use Rattle.std.proofs.lemmas.Bool.Decides.{nat_tests}
 use Rattle.spc700_exec.specs.Bus.{BusMeaning, IsLawful, byte_read, after_read, after_write}
@@ -10,7 +11,7 @@ use Rattle.spc700_exec.proofs.Short.{IsShort-script}
 use Rattle.num_fix.specs.declared.Frame.{Frame}
 use Rattle.lock_step.specs.Emits.{IsFrameEach}
 use Rattle.render_core.specs.MachineRun.{Whole, after_step, after_steps, after_run}
-use Rattle.render_core.proofs.RunBySteps.{lt_or, le_false, after_steps-reached, clock-after_step-least, clock-after_step-most}
+use Rattle.render_core.proofs.RunBySteps.{after_steps-reached, clock-after_step-least, clock-after_step-most}
 
 module _ {S : Type 0} (bus : BusMeaning S) (lawful : IsLawful bus) (frames : S → List Frame) (law : IsFrameEach bus frames) where
   counted-either : (s : S) (b : Bool) (cycles : ℕ) → cycles ≤ 32 → length (frames (if b then bus.pass s cycles else s)) + bus.made s ≡ length (frames s) + bus.made (if b then bus.pass s cycles else s)
@@ -50,11 +51,11 @@ module _ {S : Type 0} (bus : BusMeaning S) (lawful : IsLawful bus) (frames : S �
       let most = clock-after_step-most bus lawful w in
       let next_made = lawful.samples next.1 in
       let step = counted-step w in
-      elim (lt_or (bus.made w.1) samples) [
+      elim (cases_lt (bus.made w.1) samples) [
         | inl more ↦
             let rest = counted-steps samples steps next (omega arith) (omega arith) in
             let same : length (frames (after_steps bus samples (suc steps) w).1) ≡ length (frames (after_steps bus samples steps next).1) =
-            ap (λ (b : Bool). length (frames (if b then w else after_steps bus samples steps next).1)) (le_false samples (bus.made w.1) more) in
+            ap (λ (b : Bool). length (frames (if b then w else after_steps bus samples steps next).1)) (lt-leb samples (bus.made w.1) more) in
             omega arith
         | inr all ↦
             let same : length (frames (after_steps bus samples (suc steps) w).1) ≡ length (frames w.1) =

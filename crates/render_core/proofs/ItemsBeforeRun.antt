@@ -1,5 +1,6 @@
 -- What was emitted before a run stands before what the run emits, and makes no other difference.
 use Rattle.std.proofs.Common.{◌≡◌, ◌≤◌, inl, inr, ℕ, zero, suc, ◌-◌, ◌*◌, ◌/◌, ◌<◌, Bool, true, false, nat_le, nat_lt, List, ◌++◌, refl, sym, ◌∙◌, ap, subst}
+use Rattle.std.proofs.lemmas.Bool.{cases_lt}
 use Rattle.std.specs.Prelude.{if◌then◌else◌}
 use Rattle.std.proofs.lemmas.List.Elements.{filter-append}
 use Rattle.spc700_exec.specs.declared.cpu.Cpu.{Cpu}
@@ -11,7 +12,7 @@ use Rattle.trace_form.specs.declared.record.Record.{Record}
 use Rattle.render_core.specs.MachineRun.{Whole, after_step, after_steps, after_run}
 use Rattle.lock_step.specs.SampleNumbers.{sample_number}
 use Rattle.render_core.specs.Items.{records_before}
-use Rattle.render_core.proofs.RunBySteps.{lt_or, after_run-reached}
+use Rattle.render_core.proofs.RunBySteps.{after_run-reached}
 
 module _ {S I : Type 0} (bus : BusMeaning S) (lawful : IsLawful bus) (cleared : S → S) (items : S → List I) (law : IsEmitting bus cleared items) where
   -- the same registers, and a bus that is ahead by some items
@@ -75,7 +76,7 @@ module _ {S I : Type 0} (bus : BusMeaning S) (lawful : IsLawful bus) (cleared : 
       made-drained = made-cleared drained settled same ∙ made-settled
 
       pub items-after_run-settled : items (after_run bus samples (cpu, next)).1 ≡ got ++ items (after_run bus samples (cpu, drained)).1
-      items-after_run-settled = elim (lt_or (bus.made next) samples) [
+      items-after_run-settled = elim (cases_lt (bus.made next) samples) [
         | inl more ↦ items-after_run-drained cpu next drained got (ap items (sym (still more)) ∙ split) (same ∙ ap cleared (still more))
         | inr all ↦
             let all_drained : samples ≤ bus.made drained = subst (λ (n : ℕ). samples ≤ n) (sym made-drained) all in
@@ -85,7 +86,7 @@ module _ {S I : Type 0} (bus : BusMeaning S) (lawful : IsLawful bus) (cleared : 
 
       pub end-after_run-settled : (at_rest : S → S) → ((s : S) → at_rest (cleared s) ≡ at_rest s) → at_rest settled ≡ at_rest next
           → resting at_rest (after_run bus samples (cpu, next)) ≡ resting at_rest (after_run bus samples (cpu, drained))
-      end-after_run-settled at_rest beside told = elim (lt_or (bus.made next) samples) [
+      end-after_run-settled at_rest beside told = elim (cases_lt (bus.made next) samples) [
         | inl more ↦ end-after_run-drained at_rest beside cpu next drained got (ap items (sym (still more)) ∙ split) (same ∙ ap cleared (still more))
         | inr all ↦
             let all_drained : samples ≤ bus.made drained = subst (λ (n : ℕ). samples ≤ n) (sym made-drained) all in

@@ -1,29 +1,12 @@
 -- A run is its next step and the run from there; where the samples are made it is no step.
-use Rattle.std.proofs.Common.{◌≡◌, ◌⊎◌, inl, inr, ℕ, zero, suc, ◌+◌, ◌-◌, ◌*◌, ◌≤◌, ◌<◌, Bool, true, false, nat_le, List, [], refl, sym, ◌∙◌, ap, subst, arith}
+use Rattle.std.proofs.Common.{◌≡◌, inl, inr, ℕ, zero, suc, ◌+◌, ◌-◌, ◌*◌, ◌≤◌, ◌<◌, Bool, true, nat_le, List, [], refl, sym, ◌∙◌, ap, subst, arith}
+use Rattle.std.proofs.lemmas.Bool.{leb-true, le-leb, lt-leb, cases_lt}
 use Rattle.std.specs.Prelude.{if◌then◌else◌}
-use Rattle.std.proofs.lemmas.Bool.Decides.{nat_tests}
 use Rattle.spc700_exec.specs.declared.cpu.Cpu.{Cpu}
 use Rattle.spc700_exec.specs.Bus.{BusMeaning, IsLawful}
 use Rattle.spc700_exec.specs.Instruction.{step_outcome}
 use Rattle.spc700_exec.proofs.Bounds.{clock-step_outcome-least, clock-step_outcome-most}
 use Rattle.render_core.specs.MachineRun.{Whole, after_step, after_steps, after_run}
-
-le_true : (a b : ℕ) → a ≤ b → nat_le a b ≡ true
-le_true a b h = grind (arith, nat_tests)
-
-le_from_test : (a b : ℕ) → nat_le a b ≡ true → a ≤ b
-le_from_test a b h = grind (arith, nat_tests)
-
-pub le_false : (a b : ℕ) → b < a → nat_le a b ≡ false
-le_false a b h = grind (arith, nat_tests)
-
-pub lt_or : (a b : ℕ) → (a < b) ⊎ (b ≤ a)
-lt_or a zero = inr (omega arith)
-lt_or zero (suc b) = inl (omega arith)
-lt_or (suc a) (suc b) = elim (lt_or a b) [
-  | inl less ↦ inl (omega arith)
-  | inr more ↦ inr (omega arith)
-]
 
 module _ {S : Type 0} (bus : BusMeaning S) (lawful : IsLawful bus) where
   pub clock-after_step-least : (w : Whole S) → bus.clock w.1 + 1 ≤ bus.clock (after_step bus w).1
@@ -37,7 +20,7 @@ module _ {S : Type 0} (bus : BusMeaning S) (lawful : IsLawful bus) where
   module _ (samples : ℕ) where
     pub after_steps-reached : (steps : ℕ) (w : Whole S) → samples ≤ bus.made w.1 → after_steps bus samples steps w ≡ w
     after_steps-reached zero w all = refl
-    after_steps-reached (suc steps) w all = ap (λ (b : Bool). if b then w else after_steps bus samples steps (after_step bus w)) (le_true samples (bus.made w.1) all)
+    after_steps-reached (suc steps) w all = ap (λ (b : Bool). if b then w else after_steps bus samples steps (after_step bus w)) (le-leb samples (bus.made w.1) all)
 
     -- all numbers of steps that are enough do the same
     after_steps-enough : (i j : ℕ) (w : Whole S) → 32 * samples ≤ bus.clock w.1 + i → 32 * samples ≤ bus.clock w.1 + j → after_steps bus samples i w ≡ after_steps bus samples j w
@@ -60,13 +43,13 @@ module _ {S : Type 0} (bus : BusMeaning S) (lawful : IsLawful bus) where
         let k = 32 * samples - bus.clock w.1 - 1 in
         let left : 32 * samples - bus.clock w.1 ≡ suc k = omega arith in
         ap (λ (steps : ℕ). after_steps bus samples steps w) left
-        ∙ ap (λ (b : Bool). if b then w else after_steps bus samples k next) (le_false samples (bus.made w.1) more)
+        ∙ ap (λ (b : Bool). if b then w else after_steps bus samples k next) (lt-leb samples (bus.made w.1) more)
         ∙ after_steps-enough k (32 * samples - bus.clock next.1) next (omega arith) (omega arith)
 
     -- nothing is to come once the samples are made and all was handed over
     pub items-after_run-none : {I : Type 0} (items : S → List I) (w : Whole S) (made : ℕ) → made ≡ bus.made w.1 → nat_le samples made ≡ true → (samples ≤ bus.made w.1 → items w.1 ≡ []) → items (after_run bus samples w).1 ≡ []
     items-after_run-none items w made is test none =
-        let all : samples ≤ bus.made w.1 = subst (λ (n : ℕ). samples ≤ n) is (le_from_test samples made test) in
+        let all : samples ≤ bus.made w.1 = subst (λ (n : ℕ). samples ≤ n) is (leb-true samples made test) in
         ap (λ (v : Whole S). items v.1) (after_run-reached w all) ∙ none all
 
     made-after_steps : (steps : ℕ) (w : Whole S) → 32 * samples ≤ bus.clock w.1 + steps → bus.made w.1 ≤ samples → bus.made (after_steps bus samples steps w).1 ≡ samples
@@ -77,9 +60,9 @@ module _ {S : Type 0} (bus : BusMeaning S) (lawful : IsLawful bus) where
         let later = clock-after_step-least w in
         let most = clock-after_step-most w in
         let next_made = lawful.samples next.1 in
-        elim (lt_or (bus.made w.1) samples) [
+        elim (cases_lt (bus.made w.1) samples) [
           | inl more ↦
-              ap (λ (b : Bool). bus.made (if b then w else after_steps bus samples steps next).1) (le_false samples (bus.made w.1) more)
+              ap (λ (b : Bool). bus.made (if b then w else after_steps bus samples steps next).1) (lt-leb samples (bus.made w.1) more)
               ∙ made-after_steps steps next (omega arith) (omega arith)
           | inr all ↦
               let same : bus.made (after_steps bus samples (suc steps) w).1 ≡ bus.made w.1 = ap (λ (v : Whole S). bus.made v.1) (after_steps-reached (suc steps) w all) in
@@ -100,4 +83,4 @@ module _ {S : Type 0} (bus : BusMeaning S) (lawful : IsLawful bus) where
 
   -- a run whose samples are made takes no step
   pub after_run-over : (samples : ℕ) (w : Whole S) (made : ℕ) → made ≡ bus.made w.1 → nat_le samples made ≡ true → after_run bus samples w ≡ w
-  after_run-over samples w made is test = after_run-reached samples w (subst (λ (n : ℕ). samples ≤ n) is (le_from_test samples made test))
+  after_run-over samples w made is test = after_run-reached samples w (subst (λ (n : ℕ). samples ≤ n) is (leb-true samples made test))

@@ -1,5 +1,6 @@
 -- What holds of every whole machine that is saved, loaded and run.
 use Rattle.std.proofs.Common.{◌≡◌, inl, inr, ℕ, zero, suc, ◌+◌, ◌-◌, ◌*◌, ◌/◌, ◌≤◌, Bool, true, false, nat_le, nat_lt, ◌++◌, refl, sym, ◌∙◌, ap, arith}
+use Rattle.std.proofs.lemmas.Bool.{lt-leb, cases_lt}
 use Rattle.std.specs.Prelude.{if◌then◌else◌}
 use Rattle.std.proofs.lemmas.List.{append-nil}
 use Rattle.spc700_exec.specs.Bus.{BusMeaning, IsLawful, byte_read, after_read, after_write}
@@ -14,7 +15,7 @@ use Rattle.lock_step.specs.LockStepEmits.{drained_machine}
 use Rattle.lock_step.specs.LockStepLaws.{emits_frames, frame_each}
 use Rattle.render_core.specs.MachineRun.{Whole, after_step, after_steps, after_run}
 use Rattle.render_core.specs.Whole.{with_lists_of, whole_after_run, frames_of_run, IsPlayedLawfully}
-use Rattle.render_core.proofs.RunBySteps.{lt_or, le_false, after_steps-reached, after_run-next, after_run-reached, made-after_run}
+use Rattle.render_core.proofs.RunBySteps.{after_steps-reached, after_run-next, after_run-reached, made-after_run}
 use Rattle.render_core.proofs.ItemsBeforeRun.{items-after_run-drained, end-after_run-drained}
 use Rattle.render_core.proofs.FrameEachSample.{length-frames-after_run}
 use Rattle.render_core.proofs.FramesFromOpening.{lock_step-lawful}
@@ -23,9 +24,9 @@ use Rattle.render_core.proofs.FramesFromOpening.{lock_step-lawful}
 module _ {S : Type 0} (bus : BusMeaning S) (lawful : IsLawful bus) (k n : ℕ) (less : k ≤ n) where
   after_run-after_steps : (steps : ℕ) (w : Whole S) → after_run bus n (after_steps bus k steps w) ≡ after_run bus n w
   after_run-after_steps zero w = refl
-  after_run-after_steps (suc steps) w = elim (lt_or (bus.made w.1) k) [
+  after_run-after_steps (suc steps) w = elim (cases_lt (bus.made w.1) k) [
     | inl more ↦
-        ap (λ (b : Bool). after_run bus n (if b then w else after_steps bus k steps (after_step bus w))) (le_false k (bus.made w.1) more)
+        ap (λ (b : Bool). after_run bus n (if b then w else after_steps bus k steps (after_step bus w))) (lt-leb k (bus.made w.1) more)
         ∙ after_run-after_steps steps (after_step bus w)
         ∙ sym (after_run-next bus lawful n w (omega arith))
     | inr all ↦ ap (λ (v : Whole S). after_run bus n v) (after_steps-reached bus lawful k (suc steps) w all)

@@ -6,11 +6,20 @@ use Rattle.num_fix.specs.Limits.{most_frames}
 use Rattle.wav_form.specs.Wave.{frame_bytes}
 use Rattle.trace_form.specs.declared.record.Record.{Record}
 use Rattle.trace_form.specs.Line.{lines_of}
+use Rattle.trace_form.specs.Rooms.{frame_room, record_room}
 use Rattle.lock_step.specs.ChipMeaning.{ChipMeaning}
 use Rattle.render_core.specs.RenderState.{RenderState, frames_to_come, records_to_come, counts_to_come}
 use Rattle.render_core.specs.Fade.{faded_from}
 use Rattle.command_frame.specs.Stream.{Both}
 use Rattle.render_files.specs.RenderReport.{sound_report}
+
+-- the bytes of the most frames that a piece has
+abbrev pub most_bytes_of_frames : ℕ
+most_bytes_of_frames = 4 * frame_room
+
+-- the bytes of the most lines that it has, each of at most 48
+abbrev pub most_bytes_of_lines : ℕ
+most_bytes_of_lines = 48 * record_room
 
 pub record FilesState (S : Type 0) : Type 0 where
   pub render : RenderState S

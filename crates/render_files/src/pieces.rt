@@ -7,7 +7,7 @@ ghost use Rattle.render_core.specs.Fade.{faded_from, faded_frames};
 ghost use Rattle.render_core.specs.RenderState.{frames_to_come, records_to_come, counts_to_come};
 ghost use Rattle.render_files.specs.RenderReport.{sound_report};
 ghost use Rattle.num_fix.specs.Limits.{most_frames};
-ghost use Rattle.render_files.specs.RenderFiles.{trace_of, to_come_of, held_of, report_of, work_of, IsUnmade};
+ghost use Rattle.render_files.specs.RenderFiles.{most_bytes_of_frames, most_bytes_of_lines, trace_of, to_come_of, held_of, report_of, work_of, IsUnmade};
 ghost use Rattle.report_text.specs.Room.{room_size};
 
 use crate::batches::put_sound_report;
@@ -129,8 +129,8 @@ impl<C: Chip> RenderFiles<C> {
 
     /// Adds the next piece of the render, and answers whether it is the last one.
     fn add_piece(&mut self) -> bool
-        requires wave_room { length self.old.wave + 512 ≤ room_size }
-        requires trace_room { length self.old.trace + 64512 ≤ room_size }
+        requires wave_room { length self.old.wave + most_bytes_of_frames ≤ room_size }
+        requires trace_room { length self.old.trace + most_bytes_of_lines ≤ room_size }
         ensures first { self.old.wave ++ (to_come_of C.meaning self.old).first ≡ self.new.wave ++ (to_come_of C.meaning self.new).first }
         ensures second { self.old.trace ++ (to_come_of C.meaning self.old).second ≡ self.new.trace ++ (to_come_of C.meaning self.new).second }
         ensures first_done { result ≡ true → (to_come_of C.meaning self.new).first ≡ [] }

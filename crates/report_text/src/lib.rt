@@ -3,8 +3,6 @@
 
 mod byte_room;
 mod growing;
-#[cfg(test)]
-mod tests;
 
 pub use byte_room::{ByteRoom, put_count};
 pub use growing::{put_named, put_number, put_signed, put_text, put_two_digits, put_word};

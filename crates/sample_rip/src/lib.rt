@@ -8,8 +8,6 @@ mod finding;
 mod found;
 mod laws;
 mod reencoding;
-#[cfg(test)]
-mod tests;
 mod walk;
 
 pub use entries::wanted;

@@ -3,8 +3,6 @@
 
 mod reading;
 mod script;
-#[cfg(test)]
-mod tests;
 
 pub use reading::read_script;
 pub use script::ScriptLines;

@@ -48,9 +48,13 @@ failing_of host = host.failing.items
 abbrev pub is_listed : MemHost → Bool
 is_listed host = list_any (λ number. number == calls_of host) (failing_of host)
 
+-- the number of a call that those after it keep
+abbrev pub greatest_number_of_call : ℕ
+greatest_number_of_call = 4294967295
+
 -- One call was counted, and the same numbers are listed.
 pub record CountsCall (old new : MemHost) : Type 0 where
-  pub calls : calls_of new ≡ min (calls_of old + 1) 4294967295
+  pub calls : calls_of new ≡ min (calls_of old + 1) greatest_number_of_call
   pub failing : failing_of new ≡ failing_of old
 
 -- An input has this name.

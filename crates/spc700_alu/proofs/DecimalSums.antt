@@ -1,11 +1,12 @@
 -- Decimal sums, by a test of all pairs of numbers below 100 and both carries.
 use Rattle.std.proofs.Common.{◌≡◌, ℕ, ◌+◌, ◌%◌, ◌<◌, Bool, true, false, ◌&&◌, ◌||◌, ◌==◌, nat_le, nat_lt, refl, ◌∙◌, arith, if◌then◌else◌}
+use Rattle.std.proofs.lemmas.Bool.{and_parts}
 use Rattle.std.proofs.lemmas.Bool.Decides.{nat_tests}
 use Rattle.spc700_alu.specs.Flags.{H, C, flag, carry_in}
 use Rattle.spc700_alu.specs.Bytes.{byte_sum, adc_of}
 use Rattle.spc700_alu.specs.Decimal.{daa_of}
 use Rattle.spc700_alu.specs.Ranges.{decimal_byte, IsDecimalSum}
-use Rattle.spc700_alu.proofs.Apart.{all_below, and_left, and_right, at_each, same, from_same}
+use Rattle.spc700_alu.proofs.Apart.{all_below, at_each, same, from_same}
 use Rattle.spc700_alu.proofs.SumFlags.{h_of_five, c_of_five, c_of_three, with_five-small}
 
 -- what DAA gives for A, C and H
@@ -57,6 +58,6 @@ decimal_sum x y psw sx sy sp =
     let c : flag C sum.psw ≡ sum_carries x y (carry_in psw) = c_of_five psw _ _ _ _ _ sp in
     let h : flag H sum.psw ≡ sum_carries_half x y (carry_in psw) = h_of_five psw _ _ _ _ _ sp in
     let test : is_decimal (carry_in psw) x y ≡ true = is_decimal_at (flag C psw) x y sx sy in (
-      (λ i. adjusted_value sum.value (c i) (h i)) ∙ equal_from_test _ _ (and_left _ _ test),
-      c_of_three sum.psw _ _ _ (with_five-small psw _ _ _ _ _ sp) ∙ (λ i. has_tens sum.value (c i)) ∙ from_same _ _ (and_right _ _ test),
+      (λ i. adjusted_value sum.value (c i) (h i)) ∙ equal_from_test _ _ (and_parts _ _ test).0,
+      c_of_three sum.psw _ _ _ (with_five-small psw _ _ _ _ _ sp) ∙ (λ i. has_tens sum.value (c i)) ∙ from_same _ _ (and_parts _ _ test).1,
     )

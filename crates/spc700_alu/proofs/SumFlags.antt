@@ -1,16 +1,17 @@
 -- The flags of a sum that were set one after another.
 use Rattle.std.proofs.Common.{◌≡◌, ℕ, ◌<◌, Bool, true, false, ◌&&◌, nat_lt, refl, arith}
+use Rattle.std.proofs.lemmas.Bool.{and_parts}
 use Rattle.std.proofs.lemmas.Bool.Decides.{nat_tests}
 use Rattle.spc700_alu.specs.Flags.{N, V, H, Z, C, flag, with_flag}
-use Rattle.spc700_alu.proofs.Apart.{all_below, and_left, and_right, at_each, same, from_same}
+use Rattle.spc700_alu.proofs.Apart.{all_below, at_each, same, from_same}
 
 -- a test of both answers
 abbrev of_both : (Bool → Bool) → Bool
 of_both test = test true && test false
 
 at_one : (test : Bool → Bool) (b : Bool) → of_both test ≡ true → test b ≡ true
-at_one test true h = and_left _ _ h
-at_one test false h = and_right _ _ h
+at_one test true h = (and_parts _ _ h).0
+at_one test false h = (and_parts _ _ h).1
 
 -- a status with the five flags of a sum
 abbrev pub with_five : (n z v h c : Bool) → (psw : ℕ) → ℕ
@@ -38,13 +39,13 @@ three psw n z v h c below =
     (at_each has_all 256 psw all_have below)))))
 
 pub v_of_five : (psw : ℕ) (n z v h c : Bool) → psw < 256 → flag V (with_five n z v h c psw) ≡ v
-v_of_five psw n z v h c below = from_same _ _ (and_left _ _ (three psw n z v h c below))
+v_of_five psw n z v h c below = from_same _ _ (and_parts _ _ (three psw n z v h c below)).0
 
 pub h_of_five : (psw : ℕ) (n z v h c : Bool) → psw < 256 → flag H (with_five n z v h c psw) ≡ h
-h_of_five psw n z v h c below = from_same _ _ (and_left _ _ (and_right _ _ (three psw n z v h c below)))
+h_of_five psw n z v h c below = from_same _ _ (and_parts _ _ (and_parts _ _ (three psw n z v h c below)).1).0
 
 pub c_of_five : (psw : ℕ) (n z v h c : Bool) → psw < 256 → flag C (with_five n z v h c psw) ≡ c
-c_of_five psw n z v h c below = from_same _ _ (and_left _ _ (and_right _ _ (and_right _ _ (three psw n z v h c below))))
+c_of_five psw n z v h c below = from_same _ _ (and_parts _ _ (and_parts _ _ (and_parts _ _ (three psw n z v h c below)).1).1).0
 
 lt_from_test : (x y : ℕ) → nat_lt x y ≡ true → x < y
 lt_from_test x y test = grind (arith, nat_tests)
@@ -53,9 +54,9 @@ pub with_five-small : (psw : ℕ) (n z v h c : Bool) → psw < 256 → with_five
 with_five-small psw n z v h c below =
     let new = with_five n z v h c psw in
     let fits = nat_lt new 256 in
-    let without_v = and_right (same (flag V new) v) (same (flag H new) h && (same (flag C new) c && fits)) (three psw n z v h c below) in
-    let without_h = and_right (same (flag H new) h) (same (flag C new) c && fits) without_v in
-    lt_from_test new 256 (and_right (same (flag C new) c) fits without_h)
+    let without_v = (and_parts (same (flag V new) v) (same (flag H new) h && (same (flag C new) c && fits)) (three psw n z v h c below)).1 in
+    let without_h = (and_parts (same (flag H new) h) (same (flag C new) c && fits) without_v).1 in
+    lt_from_test new 256 (and_parts (same (flag C new) c) fits without_h).1
 
 -- C in a status with the three flags of an adjustment
 abbrev has_carry : (psw : ℕ) → (n z c : Bool) → Bool

@@ -6,8 +6,6 @@ pub mod bytes;
 pub mod decimal;
 pub mod flags;
 mod laws;
-#[cfg(test)]
-mod tests;
 pub mod words;
 
 pub use bits::{BitKind, bitop};

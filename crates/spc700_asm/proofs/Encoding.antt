@@ -5,6 +5,7 @@ use Rattle.std.specs.Option.{option_map}
 use Rattle.std.specs.List.{AllByRecursion}
 use Rattle.std.proofs.lemmas.Bool.Decides.{nat_tests}
 use Rattle.std.proofs.lemmas.Bool.{le-ltb, ltb-true, or_from}
+use Rattle.std.proofs.Math.Seq.{take-nil}
 use Rattle.spc700_table.specs.declared.Form.{Form}
 use Rattle.spc700_table.specs.declared.OpRow.{OpRow}
 use Rattle.spc700_table.specs.Cycles.{cycle_map, printed_cycles}
@@ -132,13 +133,9 @@ operand_found f next bytes are there =
     let found : P (is_target (pattern_of f).slot) (operand_bytes f) = subst (P (is_target (pattern_of f).slot)) (sym (bytes_by_slot f)) (slot_found (pattern_of f).slot next bytes are (subst Q (bytes_by_slot f) there)) in
     subst (λ (b : Bool). P b (operand_bytes f)) (sym (distance_by_slot f)) found
 
-take_nil : (n : ℕ) → take {A = ℕ} n [] ≡ []
-take_nil zero = refl
-take_nil (suc n) = refl
-
 take_both : (a b : ℕ) (xs : List ℕ) → take a xs ++ take b (drop a xs) ≡ take (a + b) xs
 take_both zero b xs = let same : b ≡ zero + b = omega arith in ap (λ (n : ℕ). take n xs) same
-take_both (suc a) b [] = take_nil b ∙ sym (take_nil (suc a + b))
+take_both (suc a) b [] = take-nil b ∙ sym (take-nil (suc a + b))
 take_both (suc a) b (x ∷ xs) =
     let same : suc (a + b) ≡ suc a + b = omega arith in
     ap (λ (front : List ℕ). x ∷ front) (take_both a b xs) ∙ ap (λ (n : ℕ). take n (x ∷ xs)) same

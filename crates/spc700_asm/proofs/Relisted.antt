@@ -7,6 +7,7 @@ use Rattle.std.specs.Str.{bytes_eq}
 use Rattle.std.proofs.lemmas.Bool.Decides.{nat_tests}
 use Rattle.std.proofs.lemmas.Grind.{flat_map-append}
 use Rattle.std.proofs.lemmas.Bool.{true≢false, or_parts}
+use Rattle.std.proofs.lemmas.Option.{same_Some}
 use Rattle.spc700_table.specs.declared.Form.{Form}
 use Rattle.spc700_table.specs.Opcodes.{row_of, length_of}
 use Rattle.spc700_asm.specs.declared.pattern.Slot.{Slot}
@@ -49,9 +50,6 @@ none_is value e = absurd (differ e)
     differ : ◌≡◌ {A = Option ℕ} None (Some value) → ⊥
     differ e = cc
 
-some_is : (a b : ℕ) → ◌≡◌ {A = Option ℕ} (Some a) (Some b) → a ≡ b
-some_is a b e = cc
-
 label_is_address : (at : ℕ) (line : Option Statement) → AreAddresses (label_at at line)
 label_is_address at None name value is = none_is value is
 label_is_address at (Some Nothing) name value is = none_is value is
@@ -61,7 +59,7 @@ label_is_address at (Some (Code opcode first second)) name value is = none_is va
 label_is_address at (Some (Name label)) name value is = by (bytes_eq name label) is
   where
     by : (b : Bool) → cond b (Some (at % 0x10000)) None ≡ Some value → value < 0x10000
-    by true e = let same : at % 0x10000 ≡ value = some_is _ value e in omega arith
+    by true e = let same : at % 0x10000 ≡ value = same_Some _ value e in omega arith
     by false e = none_is value e
 
 pub labels_are_addresses : (at : ℕ) (lines : List (Option Statement)) → AreAddresses (labels_of at lines)
@@ -80,20 +78,20 @@ plain_small greatest (Named name) small = omega arith
 
 written_small : (labels : Labels) → AreAddresses labels → (value : Written) (n : ℕ) → number_written labels value ≡ Some n → is_above 0xFFFF value ≡ false → n < 0x10000
 written_small labels are (Plain number) n is small =
-    let same : number ≡ n = some_is number n is in
+    let same : number ≡ n = same_Some number n is in
     let below : number ≤ 0xFFFF = grind (arith, nat_tests) in omega arith
 written_small labels are (Named name) n is small = are name n is
 
 -- what fills a slot is the number in the line
 slot_is_shown : (labels : Labels) → AreAddresses labels → (slot : Slot) (value : Written) (bit : Option ℕ) (next n : ℕ) → slot_number labels slot value bit ≡ Some n → is_great slot value bit ≡ false → ((slot ≡ Target) → is_near next n ≡ true) → IsShown slot next n
-slot_is_shown labels are Absent value bit next n is small near = sym (some_is 0 n is)
-slot_is_shown labels are Register value bit next n is small near = sym (some_is 0 n is)
+slot_is_shown labels are Absent value bit next n is small near = sym (same_Some 0 n is)
+slot_is_shown labels are Register value bit next n is small near = sym (same_Some 0 n is)
 slot_is_shown labels are Byte value bit next n is small near =
-    let same : plain_number value ≡ n = some_is _ n is in omega (arith, plain_small 0xFF value small)
+    let same : plain_number value ≡ n = same_Some _ n is in omega (arith, plain_small 0xFF value small)
 slot_is_shown labels are Address value bit next n is small near = written_small labels are value n is small
 slot_is_shown labels are Target value bit next n is small near = (written_small labels are value n is small, near refl)
 slot_is_shown labels are MemoryBit value bit next n is small near =
-    let same : plain_number value + 0x2000 * unwrap_or bit 0 ≡ n = some_is _ n is in
+    let same : plain_number value + 0x2000 * unwrap_or bit 0 ≡ n = same_Some _ n is in
     let both = or_parts (is_above 0x1FFF value) (nat_lt 7 (unwrap_or bit 0)) small in
     let seven : unwrap_or bit 0 ≤ 7 = le (unwrap_or bit 0) both.1 in
     omega (arith, plain_small 0x1FFF value both.0)
@@ -101,9 +99,9 @@ slot_is_shown labels are MemoryBit value bit next n is small near =
     le : (b : ℕ) → nat_lt 7 b ≡ false → b ≤ 7
     le b t = grind (arith, nat_tests)
 slot_is_shown labels are (OwnBit own) value bit next n is small near =
-    let same : plain_number value ≡ n = some_is _ n is in
+    let same : plain_number value ≡ n = same_Some _ n is in
     omega (arith, plain_small 0xFF value (or_parts (is_above 0xFF value) (nat_lt 7 (unwrap_or bit 0)) small).0)
-slot_is_shown labels are (OwnEntry own) value bit next n is small near = sym (some_is 0 n is)
+slot_is_shown labels are (OwnEntry own) value bit next n is small near = sym (same_Some 0 n is)
 
 -- no number is 0
 zero_is_shown : (slot : Slot) (next n : ℕ) → 0 ≡ n → ((slot ≡ Target) → is_near next n ≡ true) → IsShown slot next n
@@ -125,7 +123,7 @@ near_by slot false far is = absurd (differ (sym (subst (λ (s : Slot). (is_targe
 
 operand_is_shown : (labels : Labels) → AreAddresses labels → (f : Form) (o : Option Operand) (next n : ℕ) → operand_number labels f o ≡ Some n → has_great_operand f o ≡ false → is_far_operand f next n ≡ false → IsShown (pattern_of f).slot next n
 operand_is_shown labels are f None next n is small far =
-    zero_is_shown (pattern_of f).slot next n (some_is 0 n is) (near_by (pattern_of f).slot (is_near next n) (sym (far_by_slot f next n) ∙ far))
+    zero_is_shown (pattern_of f).slot next n (same_Some 0 n is) (near_by (pattern_of f).slot (is_near next n) (sym (far_by_slot f next n) ∙ far))
 operand_is_shown labels are f (Some operand) next n is small far =
     slot_is_shown labels are (pattern_of f).slot operand.value operand.bit next n is small (near_by (pattern_of f).slot (is_near next n) (sym (far_by_slot f next n) ∙ far))
 

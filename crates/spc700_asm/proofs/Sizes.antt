@@ -4,6 +4,7 @@ use Rattle.std.specs.Prelude.{Option, Some, None}
 use Rattle.std.specs.Option.{option_map}
 use Rattle.std.specs.Prelude.{IfSome, option_and_then}
 use Rattle.std.proofs.lemmas.Bool.Decides.{nat_tests}
+use Rattle.std.proofs.lemmas.Option.{same_Some}
 use Rattle.spc700_asm.specs.Statements.{Statement, all_of}
 use Rattle.spc700_asm.specs.Seen.{within}
 use Rattle.text_parts.specs.Parts.{parts_left}
@@ -34,17 +35,11 @@ taken (Some first) None found n counts is = absurd (none_is is)
   where
     none_is : None ≡ Some found → ⊥
     none_is e = cc
-taken (Some first) (Some rest) found n counts is = ap length (sym (some_is is)) ∙ ap suc (counts rest refl)
-  where
-    some_is : Some (first ∷ rest) ≡ Some found → first ∷ rest ≡ found
-    some_is e = cc
+taken (Some first) (Some rest) found n counts is = ap length (sym (same_Some _ _ is)) ∙ ap suc (counts rest refl)
 
 -- each item that has a value is one found
 all_of_length : {B : Type 0} (value : List ℕ → Option B) (items : List (List ℕ)) (found : List B) → all_of value items ≡ Some found → length found ≡ length items
-all_of_length value [] found is = ap length (sym (some_is is))
-  where
-    some_is : Some [] ≡ Some found → [] ≡ found
-    some_is e = cc
+all_of_length value [] found is = ap length (sym (same_Some _ _ is))
 all_of_length value (item ∷ items) found is = taken (value item) (all_of value items) found (length items) (λ rest e. all_of_length value items rest e) is
 
 -- what holds of a statement of as many values as there are items holds of the one that is seen

@@ -2,6 +2,7 @@
 use Rattle.std.proofs.Common.{◌∙◌, subst, cond, true, false, nat_lt, ◌≡◌, ℕ, zero, suc, ◌+◌, ◌≤◌, List, [], ◌∷◌, ◌++◌, length, drop, refl, ap, arith, length-drop}
 use Rattle.std.specs.Prelude.{codes, Option, Some, None}
 use Rattle.std.proofs.lemmas.Bool.Decides.{nat_tests}
+use Rattle.std.proofs.lemmas.Option.{same_Some}
 use Rattle.spc700_table.specs.Opcodes.{row_of, length_of}
 use Rattle.spc700_asm.specs.declared.instruction.Instruction.{Instruction}
 use Rattle.spc700_asm.specs.Instructions.{instruction_in, instruction_at}
@@ -45,14 +46,11 @@ listing_at_none at bytes is = listing_by at bytes None is
 pub all_there : (have count : ℕ) (x i : Instruction) → cond (nat_lt have count) None (Some x) ≡ Some i → (x ≡ i) × (count ≤ have)
 all_there have count x i is = elim (nat_lt have count) as (λ b. nat_lt have count ≡ b → cond b None (Some x) ≡ Some i → (x ≡ i) × (count ≤ have)) [
   | true ↦ λ test e. absurd (none_is_some e)
-  | false ↦ λ test e. (some_is e, le_by test)
+  | false ↦ λ test e. (same_Some _ _ e, le_by test)
 ] refl is
   where
     none_is_some : None ≡ Some i → ⊥
     none_is_some e = cc
-
-    some_is : Some x ≡ Some i → x ≡ i
-    some_is e = cc
 
     le_by : nat_lt have count ≡ false → count ≤ have
     le_by test = grind (arith, nat_tests)

@@ -1,7 +1,7 @@
 -- The row of a number that is no opcode.
 use Rattle.std.proofs.Common.{◌≡◌, ℕ, ◌/◌, ◌%◌, ◌<◌, ◌≤◌, List, [], length, true, nat_le, slice_index_or, refl, sym, subst, ap, ◌∙◌, inl, inr, arith}
 use Rattle.std.specs.List.{range_with_len, list_all}
-use Rattle.std.proofs.lemmas.Bool.{cases_lt}
+use Rattle.std.proofs.lemmas.Bool.{cases_lt, leb-true}
 use Rattle.std.proofs.lemmas.List.{get_or_past}
 use Rattle.spc700_table.specs.declared.Form.TheVariants as F
 use Rattle.spc700_table.specs.declared.Kind.TheVariants as K
@@ -10,7 +10,6 @@ use Rattle.spc700_table.specs.Cycles.{cycle_map, printed_cycles}
 use Rattle.spc700_table.specs.Opcodes.{row_of, columns}
 use Rattle.spc700_table.proofs.Below.{list_all_below}
 use Rattle.spc700_exec.specs.Operations.{Operation, operation_of}
-use Rattle.spc700_exec.proofs.TrueTests.{le_from_test}
 use Rattle.spc700_exec.proofs.Steady.{IsListed}
 use Rattle.spc700_exec.proofs.EveryRow.{rows_suit, rows_are_steady}
 
@@ -27,7 +26,7 @@ unfolding cycle_map
 map_is_short = refl
 
 length-column : (j : ℕ) → j < 16 → length (slice_index_or columns j []) ≤ 16
-length-column j below = le_from_test _ _ (list_all_below (λ j. nat_le (length (slice_index_or columns j [])) 16) 16 j columns_are_short below)
+length-column j below = leb-true _ _ (list_all_below (λ j. nat_le (length (slice_index_or columns j [])) 16) 16 j columns_are_short below)
 
 no_count : (op : ℕ) → 256 ≤ op → printed_cycles op ≡ 0
 unfolding printed_cycles

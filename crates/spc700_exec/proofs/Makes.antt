@@ -1,5 +1,6 @@
 -- Each operation makes the accesses of the table of accesses, each at its address.
 use Rattle.std.proofs.Common.{◌≡◌, ℕ, ◌+◌, ◌-◌, ◌%◌, ◌^◌, ◌==◌, List, [], ◌∷◌, ◌++◌, Bool, true, false, refl, sym, ap, ◌∙◌, subst, inl, inr}
+use Rattle.std.proofs.lemmas.Bool.{and_parts}
 use Rattle.std.specs.Prelude.{if◌then◌else◌, not, ◌&&◌}
 use Rattle.std.proofs.lemmas.List.{append-nil, append_assoc}
 use Rattle.spc700_table.specs.declared.Form.{Form}
@@ -9,7 +10,6 @@ use Rattle.spc700_table.specs.Opcodes.{is_distance}
 use Rattle.spc700_alu.specs.Flags.{with_nz, with_nz16}
 use Rattle.spc700_alu.specs.Bytes.{cmp_of}
 use Rattle.spc700_alu.specs.Bits.{bitop_of}
-use Rattle.spc700_alu.proofs.Apart.{and_left, and_right}
 use Rattle.spc700_exec.specs.declared.cpu.Cpu.{Cpu}
 use Rattle.spc700_exec.specs.declared.operand.Operand.{Operand}
 use Rattle.spc700_exec.specs.declared.operand.Both.{Both}
@@ -119,7 +119,7 @@ module _ (row : OpRow) (start : Cpu) where
   first_then_second : (n : List Access) (next : Both → Cpu → Script) → is_steady row ≡ true → AfterBoth n next → Makes row start (begun start) ((operand_reads First row.first ++ operand_reads Second row.second) ++ n) (addressed row.first start (λ first cpu. addressed row.second cpu (λ second cpu. next (pair first second) cpu)))
   first_then_second n next steady h =
       let t = addressed row.first start (λ first cpu. addressed row.second cpu (λ second cpu. next (pair first second) cpu)) in
-      let apart = not_both (changes_x row.first) (looks_at_x row.second) (and_right (not (changes_x row.second && looks_at_x row.first)) _ steady) in
+      let apart = not_both (changes_x row.first) (looks_at_x row.second) (and_parts (not (changes_x row.second && looks_at_x row.first)) _ steady).1 in
       subst (λ (l : List Access). Makes row start (begun start) l t) (sym (append_assoc (operand_reads First row.first) (operand_reads Second row.second) n))
       (first_operand (operand_reads Second row.second ++ n) (λ first cpu. addressed row.second cpu (λ second cpu. next (pair first second) cpu)) (λ first bytes pc y f stays.
       after_addressed row start Second row.second (record { pc = pc; sp = start.sp; first = bytes; second = [] }) y n (λ second cpu. next (pair first second) cpu) refl (λ looks. stays (apart looks)) (λ second more pc z g _. h (pair first second) _ _ f g)))
@@ -127,7 +127,7 @@ module _ (row : OpRow) (start : Cpu) where
   second_then_first : (n : List Access) (next : Both → Cpu → Script) → is_steady row ≡ true → AfterBoth n next → Makes row start (begun start) ((operand_reads Second row.second ++ operand_reads First row.first) ++ n) (addressed row.second start (λ second cpu. addressed row.first cpu (λ first cpu. next (pair first second) cpu)))
   second_then_first n next steady h =
       let t = addressed row.second start (λ second cpu. addressed row.first cpu (λ first cpu. next (pair first second) cpu)) in
-      let apart = not_both (changes_x row.second) (looks_at_x row.first) (and_left (not (changes_x row.second && looks_at_x row.first)) _ steady) in
+      let apart = not_both (changes_x row.second) (looks_at_x row.first) (and_parts (not (changes_x row.second && looks_at_x row.first)) _ steady).0 in
       subst (λ (l : List Access). Makes row start (begun start) l t) (sym (append_assoc (operand_reads Second row.second) (operand_reads First row.first) n))
       (second_operand (operand_reads First row.first ++ n) (λ second cpu. addressed row.first cpu (λ first cpu. next (pair first second) cpu)) (λ second bytes pc y g stays.
       after_addressed row start First row.first (record { pc = pc; sp = start.sp; first = []; second = bytes }) y n (λ first cpu. next (pair first second) cpu) refl (λ looks. stays (apart looks)) (λ first more pc z f _. h (pair first second) _ _ f g)))
@@ -167,23 +167,23 @@ module _ (row : OpRow) (start : Cpu) where
       ((refl, refl), λ r. after_branched (after_access (OperandRead First) r (begun start)) (condition start.psw) r (with_next_pc start))
   Makes-line_of (BitBranch on) listed =
       let next : Both → Cpu → Script = λ both cpu. loaded both.first cpu (λ byte. loaded both.second cpu (λ r. branched (flag_is (2 ^ bit_of both.first) on byte) r row cpu)) in
-      after_distance_last (source First row ++ source Second row) next listed.steady (and_right (is_bit row.first) (is_distance row.second) listed.suits) (λ both p cpu f g. after_loaded First p both.first (source Second row) _ _ f (λ v. last_loaded Second p both.second _ _ g (λ r. after_branched p _ r _)))
+      after_distance_last (source First row ++ source Second row) next listed.steady (and_parts (is_bit row.first) (is_distance row.second) listed.suits).1 (λ both p cpu f g. after_loaded First p both.first (source Second row) _ _ f (λ v. last_loaded Second p both.second _ _ g (λ r. after_branched p _ r _)))
   Makes-line_of CompareBranch listed =
       let next : Both → Cpu → Script = λ both cpu. loaded both.first cpu (λ byte. loaded both.second cpu (λ r. branched (not (cpu.a == byte)) r row cpu)) in
-      after_distance_last (source First row ++ source Second row) next listed.steady (and_right (is_address row.first) (is_distance row.second) listed.suits) (λ both p cpu f g. after_loaded First p both.first (source Second row) _ _ f (λ v. last_loaded Second p both.second _ _ g (λ r. after_branched p _ r _)))
+      after_distance_last (source First row ++ source Second row) next listed.steady (and_parts (is_address row.first) (is_distance row.second) listed.suits).1 (λ both p cpu f g. after_loaded First p both.first (source Second row) _ _ f (λ v. last_loaded Second p both.second _ _ g (λ r. after_branched p _ r _)))
   Makes-line_of CountBranch listed =
       let less : ℕ → ℕ = λ byte. (byte + 0x100 - 1) % 0x100 in
       let next : Both → Cpu → Script = λ both cpu. loaded both.first cpu (λ byte. loaded both.second cpu (λ r. stored both.first (less byte) cpu (λ cpu. branched (not (less byte == 0)) r row cpu))) in
-      after_distance_last (source First row ++ (source Second row ++ destination row)) next listed.steady (and_right (is_target row.first) (is_distance row.second) listed.suits) (λ both p cpu f g. after_loaded First p both.first (source Second row ++ destination row) _ _ f (λ v. after_loaded Second p both.second (destination row) _ _ g (λ r. last_stored p both.first _ _ _ f (λ cpu. after_branched p _ r cpu))))
+      after_distance_last (source First row ++ (source Second row ++ destination row)) next listed.steady (and_parts (is_target row.first) (is_distance row.second) listed.suits).1 (λ both p cpu f g. after_loaded First p both.first (source Second row ++ destination row) _ _ f (λ v. after_loaded Second p both.second (destination row) _ _ g (λ r. last_stored p both.first _ _ _ f (λ cpu. after_branched p _ r cpu))))
   Makes-line_of Move listed =
       let next : Both → Cpu → Script = λ both cpu. loaded both.second cpu (λ v. stored both.first v cpu (λ cpu. done row (with_nz_of_move both.first v cpu))) in
-      after_source_first (source Second row ++ destination row) next listed.steady (and_right (is_target row.first) (is_source row.second) listed.suits) (λ both p cpu f g. after_loaded Second p both.second (destination row) _ _ g (λ v. last_stored p both.first v _ _ f (λ cpu. inl refl)))
+      after_source_first (source Second row ++ destination row) next listed.steady (and_parts (is_target row.first) (is_source row.second) listed.suits).1 (λ both p cpu f g. after_loaded Second p both.second (destination row) _ _ g (λ v. last_stored p both.first v _ _ f (λ cpu. inl refl)))
   Makes-line_of (Calculate calculate) listed =
       let next : Both → Cpu → Script = λ both cpu. loaded both.second cpu (λ b. loaded both.first cpu (λ a. let out = calculate a b cpu.psw in stored both.first out.value (record cpu { psw = out.psw }) (λ cpu. done row cpu))) in
-      after_source_first (source Second row ++ (source First row ++ destination row)) next listed.steady (and_right (is_target row.first) (is_source row.second) listed.suits) (λ both p cpu f g. after_loaded Second p both.second (source First row ++ destination row) _ _ g (λ b. after_loaded First p both.first (destination row) _ _ f (λ a. last_stored p both.first _ _ _ f (λ cpu. inl refl))))
+      after_source_first (source Second row ++ (source First row ++ destination row)) next listed.steady (and_parts (is_target row.first) (is_source row.second) listed.suits).1 (λ both p cpu f g. after_loaded Second p both.second (source First row ++ destination row) _ _ g (λ b. after_loaded First p both.first (destination row) _ _ f (λ a. last_stored p both.first _ _ _ f (λ cpu. inl refl))))
   Makes-line_of Compare listed =
       let next : Both → Cpu → Script = λ both cpu. loaded both.second cpu (λ b. loaded both.first cpu (λ a. done row (record cpu { psw = cmp_of a b cpu.psw }))) in
-      after_source_first (source Second row ++ source First row) next listed.steady (and_right (is_target row.first) (is_source row.second) listed.suits) (λ both p cpu f g. after_loaded Second p both.second (source First row) _ _ g (λ b. last_loaded First p both.first _ _ f (λ a. inl refl)))
+      after_source_first (source Second row ++ source First row) next listed.steady (and_parts (is_target row.first) (is_source row.second) listed.suits).1 (λ both p cpu f g. after_loaded Second p both.second (source First row) _ _ g (λ b. last_loaded First p both.first _ _ f (λ a. inl refl)))
   Makes-line_of (Modify change) listed =
       let next : Operand → Cpu → Script = λ o cpu. loaded o cpu (λ byte. let out = change byte cpu.psw in stored o out.value (record cpu { psw = out.psw }) (λ cpu. done row cpu)) in
       changed_in_place next (λ o p cpu f. after_loaded First p o (destination row) _ _ f (λ v. last_stored p o _ _ _ f (λ cpu. inl refl)))

@@ -22,7 +22,7 @@ pub mod Accesses
 pub mod Forms
 -- at most how many accesses and cycles a script has
 pub mod Length
--- For the layers above: buses that emit items, of which nothing else depends
+-- For the layers above: buses that emit items, on which nothing else depends
 pub mod Emitting
 -- Words of the contracts of the parts of a step; the promise on a step doesn't speak of them:
 pub mod Calculations

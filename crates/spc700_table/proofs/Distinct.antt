@@ -4,14 +4,16 @@ use Rattle.std.specs.Prelude.{List, position, ◌==◌, ◌&&◌, Option, Some, 
 use Rattle.std.specs.List.{range_with_len, list_all}
 use Rattle.std.specs.Str.{bytes_eq}
 use Rattle.std.proofs.lemmas.Bool.Decides.{nat_tests}
+use Rattle.std.proofs.lemmas.Bool.{agree_below, agree_below_at}
+use Rattle.std.proofs.lemmas.Option.{same_Some}
 use Rattle.spc700_table.specs.declared.rows.TheConstants.{ROWS}
 use Rattle.spc700_table.specs.declared.Form.{Form}
 use Rattle.spc700_table.specs.declared.Form.TheVariants.{None as NoOperand, A, X, Y, Ya, Psw, Sp, Carry, Imm, Direct, DirectX, DirectY, Abs, AbsX, AbsY, PtrX, PtrY, PtrXInc, IndX, IndY, AbsPtrX, Bit, NotBit, DirectBit, Rel, Upper, Table}
 use Rattle.spc700_table.specs.declared.OpRow.{OpRow}
 use Rattle.spc700_table.specs.Cycles.{cycle_map, printed_cycles}
-use Rattle.spc700_table.specs.Laws.{RowsDiffer, is_in_range, BitsAndEntriesInRange}
+use Rattle.spc700_table.specs.Laws.{RowsDiffer, is_in_range, BitsAndEntriesInRange, compares_and_branches, TextOrderOfBranches}
 use Rattle.spc700_table.specs.Mnemonics.{mnemonic_of}
-use Rattle.spc700_table.specs.Opcodes.{row_of, columns}
+use Rattle.spc700_table.specs.Opcodes.{row_of, columns, is_in_text_order}
 use Rattle.spc700_table.proofs.Below.{list_all_below}
 
 -- a number for each form
@@ -68,9 +70,6 @@ has_its_place : (opcode : ℕ) → opcode < 256 → place_of (row_of opcode) ≡
 has_its_place opcode below =
     this_place opcode _ (list_all_below (λ opcode. is_this opcode (place_of (row_of opcode))) 256 opcode each_has_its_place below)
 
-some_is : (a b : ℕ) → ◌≡◌ {A = Option ℕ} (Some a) (Some b) → a ≡ b
-some_is a b e = cc
-
 pub rows_differ : RowsDiffer
 rows_differ a b inside within name first second =
     let one : place_of (row_of a) ≡ place (mnemonic_of (row_of b).kind) (form_number (row_of a).first) (form_number (row_of a).second) =
@@ -80,7 +79,7 @@ rows_differ a b inside within name first second =
     ap (λ (form : Form). place (mnemonic_of (row_of b).kind) (form_number form) (form_number (row_of a).second)) first in
     let three : place (mnemonic_of (row_of b).kind) (form_number (row_of b).first) (form_number (row_of a).second) ≡ place_of (row_of b) =
     ap (λ (form : Form). place (mnemonic_of (row_of b).kind) (form_number (row_of b).first) (form_number form)) second in
-    some_is a b (sym (has_its_place a inside) ∙ one ∙ two ∙ three ∙ has_its_place b within)
+    same_Some a b (sym (has_its_place a inside) ∙ one ∙ two ∙ three ∙ has_its_place b within)
 
 all_in_range : list_all (λ opcode. is_in_range (row_of opcode).first && is_in_range (row_of opcode).second) (range_with_len 0 256) ≡ true
 unfolding row_of columns printed_cycles cycle_map
@@ -88,3 +87,10 @@ all_in_range = refl
 
 pub in_range : BitsAndEntriesInRange
 in_range opcode below = list_all_below (λ opcode. is_in_range (row_of opcode).first && is_in_range (row_of opcode).second) 256 opcode all_in_range below
+
+orders_agree : agree_below (λ opcode. is_in_text_order (row_of opcode)) compares_and_branches 256 ≡ true
+unfolding row_of columns printed_cycles cycle_map
+orders_agree = refl
+
+pub text_order : TextOrderOfBranches
+text_order opcode below = agree_below_at (λ opcode. is_in_text_order (row_of opcode)) compares_and_branches 256 opcode orders_agree below

@@ -4,13 +4,11 @@
 mod laws;
 mod mnemonics;
 mod rows;
-#[cfg(test)]
-mod tests;
 
 ghost use Rattle.std.specs.Prelude.{◌≡◌, ◌≤◌};
 ghost use Rattle.spc700_table.specs.Opcodes.{row_of, length_of, operand_bytes, is_in_text_order};
 
-pub use laws::{bits_and_entries_are_in_range, rows_differ};
+pub use laws::{bits_and_entries_are_in_range, branches_have_text_order, rows_differ};
 pub use mnemonics::mnemonic;
 use rows::ROWS;
 

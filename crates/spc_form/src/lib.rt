@@ -7,8 +7,6 @@ mod parts;
 mod reading;
 mod state;
 mod tags;
-#[cfg(test)]
-mod tests;
 
 pub use file::SpcFile;
 pub use reading::{SpcRefusal, read_spc, write_spc};

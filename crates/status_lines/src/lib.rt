@@ -5,8 +5,6 @@
 mod cause;
 mod lines;
 mod status;
-#[cfg(test)]
-mod tests;
 
 pub use cause::{Cause, LineFault};
 pub use status::{Status, status_for};

@@ -5,9 +5,6 @@ ghost use Rattle.std.specs.Prelude.{◌≡◌, ◌<◌, ◌==◌, ◌∷◌, len
 ghost use Rattle.std.specs.List.{slice_split};
 ghost use Rattle.text_parts.specs.Parts.{parts_left};
 
-#[cfg(test)]
-mod tests;
-
 /// The place of the first such character.
 pub fn place_of(character: u8, text: &[u8]) -> Option<usize>
     ensures place { result ≡ position (λ other. other == character) text.now }

@@ -4,8 +4,6 @@
 mod lists;
 mod record;
 mod ring;
-#[cfg(test)]
-mod tests;
 mod text;
 
 pub use lists::{Frames, Records};

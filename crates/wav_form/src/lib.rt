@@ -4,8 +4,6 @@
 mod chunk;
 mod mono;
 mod refusal;
-#[cfg(test)]
-mod tests;
 mod written;
 
 pub use mono::read_mono;

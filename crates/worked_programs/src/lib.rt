@@ -1,5 +1,5 @@
 //! Worked programs over plain memory, over the machine in lock step and over the bus that makes samples late. A crate with
-//! tests is proved once more for them, so the tests of the processor and of the buses stand here, where that costs nothing.
+//! tests is proved once more for them, so the tests of the processor, of the rounds of its loops and of the buses stand here, where that costs nothing.
 #![tactic(auto)]
 
 #[cfg(test)]
@@ -8,6 +8,8 @@ mod buses;
 mod machines;
 #[cfg(test)]
 mod programs;
+#[cfg(test)]
+mod rounds;
 #[cfg(test)]
 mod steps;
 #[cfg(test)]

@@ -1,5 +1,5 @@
-use crate::{BlockReport, EncodeRefusal, Encoded, encode};
 use brr_decode::decode_stream;
+use brr_encode::{BlockReport, EncodeRefusal, Encoded, encode};
 use std::test::Fail;
 
 /// What is encoded, or that nothing is.

@@ -1,5 +1,5 @@
-use crate::{RipEnd, RipFound, RipReport, RipWalk, reencode, rip, wanted};
 use aram_core::Aram;
+use sample_rip::{RipEnd, RipFound, RipReport, RipWalk, reencode, rip, wanted};
 use spc_form::{SpcFile, read_spc};
 use std::alloc::Global;
 use std::test::Fail;

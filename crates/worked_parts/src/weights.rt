@@ -1,6 +1,6 @@
 //! The table of straight lines, and what is no table.
 
-use crate::{GaussTable, TableRefusal};
+use gauss_table::{GaussTable, TableRefusal};
 use std::test::Fail;
 
 #[test]

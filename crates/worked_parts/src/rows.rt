@@ -1,6 +1,6 @@
 //! Rows of the instruction list, as the public documents have them.
 
-use crate::{Form, Kind, OpRow, length, row};
+use spc700_table::{Form, Kind, OpRow, length, row};
 use std::test::Fail;
 
 #[test]

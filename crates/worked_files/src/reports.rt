@@ -1,5 +1,5 @@
 // Numbers and texts of reports.
-use crate::{
+use report_text::{
     ByteRoom, put_count, put_named, put_number, put_signed, put_text, put_two_digits, put_word,
 };
 use std::test::Fail;

@@ -1,4 +1,4 @@
-use crate::{Aram, PageSet, page_of};
+use aram_core::{Aram, PageSet, page_of};
 use std::alloc::Global;
 use std::test::Fail;
 

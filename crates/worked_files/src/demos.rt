@@ -1,4 +1,4 @@
-use crate::demo;
+use demo_gen::demo;
 use spc_form::{Tag, write_spc};
 use std::test::Fail;
 

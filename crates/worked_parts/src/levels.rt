@@ -1,6 +1,6 @@
 //! Worked examples of steps.
 
-use crate::{Envelope, Mode};
+use envelope::{Envelope, Mode};
 use rate_clock::RateClock;
 
 #[test]

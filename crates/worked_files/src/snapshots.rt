@@ -1,4 +1,4 @@
-use crate::{Length, SpcFile, SpcRefusal, Tag, opening, read_spc, write_spc};
+use spc_form::{Length, SpcFile, SpcRefusal, Tag, opening, read_spc, write_spc};
 use std::alloc::Global;
 use std::test::Fail;
 

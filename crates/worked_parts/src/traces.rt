@@ -1,6 +1,6 @@
-use crate::{EventRing, Frames, Full, Record, Records, line};
 use num_fix::Frame;
 use std::test::Fail;
+use trace_form::{EventRing, Frames, Full, Record, Records, line};
 
 #[test]
 fn the_line_of_each_kind_of_record(rt: HostRuntime) {

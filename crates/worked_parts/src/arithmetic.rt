@@ -1,7 +1,7 @@
 //! Worked results, by the rules of the public documents.
 
-use crate::flags::{CARRY, ZERO, carry, is_set, put, put_nz, put_nz16};
-use crate::{
+use spc700_alu::flags::{CARRY, ZERO, carry, is_set, put, put_nz, put_nz16};
+use spc700_alu::{
     BitKind, LogicKind, Out8, Out16, ShiftKind, adc, addw, bitop, bump, cmp, cmpw, daa, das, div,
     flags_change_alone, logic, mul, other_flags_stay, sbc, shift, subw,
 };

@@ -1,6 +1,6 @@
 //! Worked rounds over one page of memory.
 
-use crate::{Looks, try_round};
+use idle_rounds::{Looks, try_round};
 use spc700_exec::Cpu;
 use std::test::Fail;
 

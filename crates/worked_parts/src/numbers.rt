@@ -1,4 +1,4 @@
-use crate::{
+use num_fix::{
     Frame, add_clamped, clamp16, clear_bit0, half, has_bit, sar, scaled, sign4, sign8, wrap16,
 };
 

@@ -1,4 +1,4 @@
-use crate::{TextRefusal, read_cuts};
+use cut_text::{TextRefusal, read_cuts};
 use std::alloc::Global;
 use std::test::Fail;
 

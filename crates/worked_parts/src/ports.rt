@@ -1,4 +1,4 @@
-use crate::Io;
+use ports_timers::Io;
 
 // From zeros with timer 0 enabled: the target 0 means 256 ticks of 128 cycles, and a read clears the output counter.
 // Enabling an enabled timer changes nothing; off and on again clears both counters.

@@ -1,7 +1,7 @@
 //! Worked examples: the pages of a chain, of entries of the directory and of windows.
 
-use crate::{ChainStart, Window, reach};
 use aram_core::{Aram, PageSet};
+use reach_map::{ChainStart, Window, reach};
 use std::alloc::Global;
 use std::test::Fail;
 

@@ -1,7 +1,7 @@
 // Headers, frames and samples of known files.
-use crate::{WavRefusal, header, put_frame, read_mono};
 use num_fix::Frame;
 use std::test::Fail;
+use wav_form::{WavRefusal, header, put_frame, read_mono};
 
 #[test]
 fn headers_are_those_of_known_files(rt: HostRuntime) -> Result<(), Fail> {

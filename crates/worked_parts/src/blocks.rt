@@ -1,4 +1,4 @@
-use crate::{BrrRefusal, GroupMemory, decode_block, decode_group, decode_stream, kept_sample};
+use brr_decode::{BrrRefusal, GroupMemory, decode_block, decode_group, decode_stream, kept_sample};
 use std::test::Fail;
 
 // Shift and filter: the least digit under the shifts 12 and 13, and 4096 falling under filter 1.

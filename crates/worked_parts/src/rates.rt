@@ -1,6 +1,6 @@
 //! Worked examples of the counter and the noise.
 
-use crate::{Noise, RateClock};
+use rate_clock::{Noise, RateClock};
 
 #[test]
 fn rate_30_waits_for_an_even_counter(rt: HostRuntime) {
