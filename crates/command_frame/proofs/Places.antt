@@ -3,7 +3,7 @@ use Rattle.std.proofs.Common.{◌≡◌, ◌≢◌, inl, inr, ℕ, zero, suc, �
 use Rattle.std.specs.Prelude.{slice_get}
 use Rattle.std.proofs.lemmas.List.{get_or-set_other, length-set}
 use Rattle.std.proofs.lemmas.Bool.{cases_eq}
-use Rattle.snd_host.specs.Host.{Given, Output, IsOpen, IsPrefix, given_with, outputs_with, rooms_less}
+use Rattle.snd_host.specs.Host.{Given, Output, IsPrefix, given_with, outputs_with, rooms_less}
 use Rattle.snd_host.proofs.Writes.{index-rooms_less}
 use Rattle.command_frame.specs.Delivery.{IsBegun, EndedAreWhole, HaveRooms}
 use Rattle.command_frame.specs.Stream.{bytes_of, RoomsAfter}
@@ -33,12 +33,6 @@ grown_since g report complaint outputs n k i bytes many is =
     let place : n ≡ suc (suc (length g.created + i)) = omega arith in
     ap (λ (m : ℕ). given_with (record { report = report; complaint = complaint; created = g.created ++ outputs }) m bytes) place
     ∙ ap (λ (l : List Output). record { report = report; complaint = complaint; created = l }) (grown_after g.created outputs i bytes)
-
--- an output that was created since, and not ended, is open
-pub open_since : (old flags : List Bool) (n i : ℕ) → n ≡ length old + 2 + i → slice_get flags i ≡ Some false → IsOpen (old ++ flags) n
-open_since old flags n i is unended =
-    let place : n ≡ suc (suc (length old + i)) = omega arith in
-    subst (λ (m : ℕ). IsOpen (old ++ flags) m) (sym place) (get_after old flags i ∙ unended)
 
 pub unended_since : (old flags : List Bool) (n i : ℕ) → n ≡ length old + 2 + i → slice_get flags i ≡ Some false → slice_get (old ++ flags) (n - 2) ≡ Some false
 unended_since old flags n i is unended = let place : n - 2 ≡ length old + i = omega arith in ap (λ (m : ℕ). slice_get (old ++ flags) m) place ∙ get_after old flags i ∙ unended

@@ -1,11 +1,10 @@
 -- A state in which outputs stand that were created since another state: each call goes from one such state to the next, or it fails and a part stands.
 use Rattle.std.proofs.Common.{◌≡◌, ◌≢◌, Ok, Err, IsOk, ℕ, ◌+◌, ◌-◌, ◌≤◌, ◌<◌, Bool, true, false, List, [], ◌∷◌, ◌++◌, length, get_or, set, map, Some, refl, sym, ◌∙◌, ap, subst, arith, rules, append_assoc, length-append}
-use Rattle.std.specs.Prelude.{slice_get}
 use Rattle.std.proofs.lemmas.List.{append-nil, length-set}
-use Rattle.snd_host.specs.Host.{HostState, Given, Output, HasCause, Rose, ChangesOutputs, KeepsRooms, IsOpen, Writes, WritesAll, outputs_with, rooms_less}
+use Rattle.snd_host.specs.Host.{HostState, Given, Output, HasCause, Rose, ChangesOutputs, KeepsRooms, Writes, WritesAll, outputs_with, rooms_less}
 use Rattle.command_frame.specs.Delivery.{Gains, IsBegun, EndedAreWhole, HaveRooms, Delivers, all_ended}
 use Rattle.command_frame.specs.Stream.{bytes_of, RoomsAfter, Stands, Stops, AreDone}
-use Rattle.command_frame.proofs.Places.{grown_since, open_since, ended_since, length-outputs_with, bytes_of-end, bytes_of-past, rooms_lowered, begun_at, have_at, begun_less, prefix_short, bytes_of-given_with, ended_are_whole, NoneEnded, none_ended}
+use Rattle.command_frame.proofs.Places.{grown_since, ended_since, length-outputs_with, bytes_of-end, bytes_of-past, rooms_lowered, begun_at, have_at, begun_less, prefix_short, bytes_of-given_with, ended_are_whole, NoneEnded, none_ended}
 
 -- nothing was created yet
 pub stands_at_first : (a : HostState) → ((given : Given) → a.given ≡ Some given → length given.created ≡ length a.ended) → Stands [] [] [] a a
@@ -56,9 +55,6 @@ pub next_number : (outputs : List Output) (flags : List Bool) (a c : HostState) 
 next_number outputs flags a c n s is = let both : length c.ended ≡ length a.ended + length outputs = ap (length {A = Bool}) s.made.ended ∙ length-append a.ended flags ∙ ap (λ (k : ℕ). length a.ended + k) s.even in omega arith
 
 module _ (outputs : List Output) (flags : List Bool) (a c : HostState) (s : Stands outputs flags [] a c) (n i : ℕ) (is : n ≡ length a.ended + 2 + i) where
-  pub is_open : slice_get flags i ≡ Some false → IsOpen c.ended n
-  is_open unended = rw s.made.ended (open_since a.ended flags n i is unended)
-
   made_written : (d : HostState) (bytes : List ℕ) → Writes n bytes c d → Gains [] [] (outputs_with outputs i bytes) flags a d
   made_written d bytes w = record {
     given = λ g told. w.given _ (s.made.given g told) ∙ ap (λ (h : Given). Some h) (grown_since g (g.report ++ []) (g.complaint ++ []) outputs n (length a.ended) i bytes (s.tells_each g told) is);

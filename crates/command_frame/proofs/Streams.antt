@@ -247,9 +247,6 @@ all_ended first (Some name) xs ys = refl
 
 -- the whole, step by step: the head, the pieces and the end
 module _ (first : List ℕ) (second : Option (List ℕ)) (head xs ys : List ℕ) (a b : HostState) (targets : Targets) (begun : AreTargets second a targets × Stands (pair first second [] []) (flags_of second false) [] a b) where
-  pub head_failed : (c : HostState) (e : Failed) (report : List ℕ) → Puts targets head [] b c (Err e) → Stops (pair first second (head ++ xs) ys) report a c
-  head_failed c e report p = p.err first second [] [] a begun.0 begun.1 (head ++ xs) ys report (record { rest = xs; split = refl }) (record { rest = ys; split = refl })
-
   headed : (c : HostState) (x : Unit {0}) → Puts targets head [] b c (Ok x) → Stands (pair first second head []) (flags_of second false) [] a c
   headed c x p = p.ok first second [] [] a begun.0 begun.1
 

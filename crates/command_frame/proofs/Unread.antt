@@ -6,8 +6,8 @@ use Rattle.snd_host.specs.declared.host.Failed.{Failed}
 use Rattle.command_frame.specs.Answer.{Answer, refused, delivery_refusal}
 use Rattle.command_frame.specs.Conduct.{Delivery, Plans, Prepares, CarriesOut, Attempts}
 use Rattle.command_frame.specs.declared.refusals.Refusal.{Refusal}
-use Rattle.command_frame.specs.declared.refusals.Refusal.TheVariants.{Usage, ReadFault, OutOfMemory}
-use Rattle.command_frame.proofs.Obeying.{attempts, attempts_no_usage}
+use Rattle.command_frame.specs.declared.refusals.Refusal.TheVariants.{ReadFault, OutOfMemory}
+use Rattle.command_frame.proofs.Obeying.{attempts}
 
 module _ {P C : Type 0} (makes : P → Delivery) (answer : Answer C) where
   answered : (why : Refusal C) → (answer ≡ refused why) ⊎ (why ≡ OutOfMemory) → (answer ≡ refused why) ⊎ (why ≡ ReadFault) ⊎ (why ≡ OutOfMemory)
@@ -63,6 +63,3 @@ module _ {P C : Type 0} (makes : P → Delivery) (answer : Answer C) where
         note_room = t.note_room;
         answered = t.answered;
       }
-
-  pub unread_no_usage : (x z : HostState) (prepared : Result P (Refusal C)) (refusal : Option (Refusal C)) → Plans makes answer prepared → CarriesOut makes prepared x z refusal → refusal ≡ Some Usage → ⊥
-  unread_no_usage x z prepared refusal p c = attempts_no_usage makes (λ (files : Files). answer) x x z prepared refusal (prepares x prepared p) c

@@ -130,9 +130,6 @@ neighbour_put memory bytes esa edl cells i left right s long whole near below =
     pair_put memory bytes (page_of (cell_address esa s.offset)) (cell_address esa (after_cells s edl i).offset) (cell_address esa s.offset % 256 + 4 * i) left right
     long whole (page_below (cell_address esa s.offset)) (inside_page esa edl cells i s near below) (neighbour_at esa edl cells i s near below)
 
-pub length-with_pair_in : (bytes : List ℕ) (at : ℕ) (left right : ℤ) → length (with_pair_in bytes at left right) ≡ length bytes
-length-with_pair_in bytes at left right = length-put (with_word_in bytes at left) (at + 2) right ∙ length-put bytes at left
-
 -- a page put back as it was
 pub with_own_page : (memory : List ℕ) (page : ℕ) → with_page memory page (page_bytes memory page) ≡ memory
 with_own_page memory page =

@@ -99,10 +99,6 @@ module _ {S : Type 0} {chip : ChipMeaning S} (laws : IsLawfulChip chip) where
         → chip.reach h.state memory ≡ chip.reach (late_of chip (record h { memory = memory })).chip (late_of chip (record h { memory = memory })).memory
     late_put_reach memory none = rw (none, samples_none) refl
 
-    pub late_reach_stays : (at value : ℕ) → may_be_read (chip.reach h.state h.memory) at ≡ false
-        → chip.reach h.state (with_byte h.memory at value) ≡ chip.reach h.state h.memory
-    late_reach_stays at value free = untouched h.state h.memory at value is.is_valid free
-
     -- one sample more that is pending
     pub late_pend : late_of chip (record h { pending = h.pending + 1 }) ≡
         late_with_sample chip (late_of chip h)

@@ -12,8 +12,6 @@ pub mod WritesToCome
 pub mod PendingSamples
 -- CountsAddUp: the batches are those of the causes together
 pub mod CountsAddUp
--- BookWithoutPending: the lag book while nothing is pending
-pub mod BookWithoutPending
 -- PageMarks: marks of pages that samples don't write
 pub mod PageMarks
 -- SamplesDue: a bus at which some samples more are pending, and a pass from there

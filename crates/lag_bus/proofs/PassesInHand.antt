@@ -1,18 +1,13 @@
 -- A bus that is behind, and what is done to the one that runs on it.
-use Rattle.std.proofs.Common.{◌≡◌, ℕ, ◌+◌, ◌-◌, ◌<◌, ◌≤◌, ◌++◌, ◌==◌, false, None, refl, sym, ◌∙◌, arith}
-use Rattle.std.specs.List.{filter}
+use Rattle.std.proofs.Common.{◌≡◌, ℕ, ◌+◌, ◌-◌, ◌<◌, ◌≤◌, ◌==◌, false, None, refl, sym, ◌∙◌, arith}
 use Rattle.std.proofs.lemmas.Bool.Decides.{nat_tests}
-use Rattle.std.proofs.lemmas.List.{append-nil}
-use Rattle.aram_core.specs.Memory.{byte_at, with_byte}
 use Rattle.ports_timers.specs.declared.io.Io.{Io}
 use Rattle.ports_timers.specs.Io.{is_within, read_answer, after_read, after_write, after_ticks_of}
-use Rattle.dsp_form.specs.Samples.{in_mask}
 use Rattle.lock_step.specs.ChipMeaning.{ChipMeaning}
-use Rattle.lag_bus.specs.Book.{may_be_read, may_be_written}
 use Rattle.lag_bus.specs.Held.{IsPlain}
 use Rattle.lag_bus.specs.Lagging.{Lagging, lagging, with_book, MatchesBook}
 use Rattle.lag_bus.specs.Waiting.{with_due}
-use Rattle.lag_bus.specs.Running.{due_at, caught_up, IsBehind, WritesWithin, ReadsWithin}
+use Rattle.lag_bus.specs.Running.{due_at, caught_up, IsBehind}
 use Rattle.lag_bus.proofs.LateTicks.{no_ticks, ticks_to_come}
 use Rattle.lag_bus.proofs.SamplesDue.{with_due-none, pass-with_due}
 
@@ -73,32 +68,3 @@ module _ {S : Type 0} (chip : ChipMeaning S) (bus : Lagging S) where
 
     few : bus.book.pending + due_at clock bus ≤ 64
     few = let free = behind.free in omega arith
-
-    -- a read of memory alone that samples to come don't write
-    pub read-caught_up : (at : ℕ) → WritesWithin chip bus → IsPlain at → may_be_written bus.book.reach at ≡ false
-        → (lagging chip).read (caught_up chip clock calls bus) at ≡ (byte_at bus.machine.memory at, caught_up chip clock (calls + 1) bus)
-    read-caught_up at writes plain free =
-        let there = caught_up chip clock calls bus in
-        let apart = plain_apart there.machine.io at plain in
-        let byte = writes (due_at clock bus) at few free in
-        rw (apart.answer, apart.read, apart.register, free) (λ i. (byte i, caught_up chip clock (calls + 1) bus))
-
-    -- a write of memory alone that samples to come don't read
-    pub write-caught_up : (at value : ℕ) → ReadsWithin chip bus → IsPlain at → may_be_read bus.book.reach at ≡ false
-        → (lagging chip).write (caught_up chip clock calls bus) at value
-        ≡ caught_up chip clock (calls + 1) (record bus { machine = record bus.machine { memory = with_byte bus.machine.memory at value } })
-    write-caught_up at value reads plain free =
-        let m = bus.machine in
-        let there = caught_up chip clock calls bus in
-        let apart = plain_apart there.machine.io at plain in
-        let made = sym (reads (due_at clock bus) at value few free) in
-        rw (apart.write value, apart.register, free, apart.port, apart.port, append-nil)
-        (λ i. with_book
-        (record there.machine {
-          memory = (made i).memory;
-          chip = (made i).state;
-          frames = m.frames ++ (made i).frames;
-          records = m.records ++ filter (in_mask m.mask) (made i).records;
-          calls = calls + 1;
-        })
-        there.book)

@@ -139,10 +139,3 @@ module _ {S : Type 0} (chip : ChipMeaning S) where
 
   pub counts-settle : (bus : Lagging S) → IsCountedOn (lagging chip) (lag_emits chip) bus (after_settle chip bus)
   counts-settle bus = counts-asked (bus.machine.clock / 32) bus.machine bus.book (bus.book.pending == 0)
-
-  rest-asked : (bus : Lagging S) (b : Bool) → (bus.book.pending == 0) ≡ b → without_items (after_settle chip (after_settle chip bus)) ≡ without_items (after_settle chip bus)
-  rest-asked bus true is = rw is (rw is refl)
-  rest-asked bus false is = rw is refl
-
-  pub rest-settle : (bus : Lagging S) → (lag_emits chip).at_rest (after_settle chip bus) ≡ (lag_emits chip).at_rest bus
-  rest-settle bus = rest-asked bus (bus.book.pending == 0) refl

@@ -1,7 +1,5 @@
 -- RecordCounts: how many records a sample gives
 pub mod RecordCounts
--- PassWithoutTick: cycles that bring neither a tick nor a sample
-pub mod PassWithoutTick
 -- NoWait: a bus that made no round at once
 pub mod NoWait
 -- ChipCounts: a chip counts on over nothing, and over one stretch after another

@@ -2,9 +2,7 @@
 use Rattle.std.proofs.Common.{◌≡◌, inl, inr, ℕ, zero, suc, ◌+◌, ◌-◌, ◌*◌, ◌≤◌, ◌<◌, Bool, true, nat_le, List, [], refl, sym, ◌∙◌, ap, subst, arith}
 use Rattle.std.proofs.lemmas.Bool.{leb-true, le-leb, lt-leb, cases_lt}
 use Rattle.std.specs.Prelude.{if◌then◌else◌}
-use Rattle.spc700_exec.specs.declared.cpu.Cpu.{Cpu}
 use Rattle.spc700_exec.specs.Bus.{BusMeaning, IsLawful}
-use Rattle.spc700_exec.specs.Instruction.{step_outcome}
 use Rattle.spc700_exec.proofs.Bounds.{clock-step_outcome-least, clock-step_outcome-most}
 use Rattle.render_core.specs.MachineRun.{Whole, after_step, after_steps, after_run}
 
@@ -73,13 +71,6 @@ module _ {S : Type 0} (bus : BusMeaning S) (lawful : IsLawful bus) where
     pub made-after_run : (w : Whole S) → bus.made w.1 ≤ samples → bus.made (after_run bus samples w).1 ≡ samples
     unfolding after_run
     made-after_run w few = made-after_steps (32 * samples - bus.clock w.1) w (omega arith) few
-
-  -- the same of the step that a processor made
-  pub after_run-stepped : (samples : ℕ) (cpu next_cpu : Cpu) (s next : S) (made : ℕ) → made ≡ bus.made s → made < samples → (next_cpu, next) ≡ step_outcome bus cpu s → after_run bus samples (cpu, s) ≡ after_run bus samples (next_cpu, next)
-  unfolding after_step
-  after_run-stepped samples cpu next_cpu s next made is more does =
-      let below : bus.made s < samples = omega arith in
-      after_run-next samples (cpu, s) below ∙ ap (λ (w : Whole S). after_run bus samples w) (sym does)
 
   -- a run whose samples are made takes no step
   pub after_run-over : (samples : ℕ) (w : Whole S) (made : ℕ) → made ≡ bus.made w.1 → nat_le samples made ≡ true → after_run bus samples w ≡ w

@@ -1,7 +1,6 @@
 -- Two states of a bus that differ only in what was emitted before: whatever a script does to both, they go on alike.
 use Rattle.std.proofs.Common.{◌≡◌, ℕ, ◌+◌, ◌-◌, Bool, true, false, List, ◌++◌, refl, sym, ◌∙◌, ap, subst, append_assoc}
 use Rattle.std.specs.Prelude.{nat_lt, if◌then◌else◌}
-use Rattle.std.proofs.lemmas.List.{append-nil}
 use Rattle.spc700_exec.specs.declared.cpu.Cpu.{Cpu}
 use Rattle.spc700_exec.specs.Bus.{BusMeaning, byte_read, after_read, after_write}
 use Rattle.spc700_exec.specs.Script.{Script, Read, Write, End, cycles_at, outcome}
@@ -9,10 +8,6 @@ use Rattle.spc700_exec.specs.Instruction.{script, step_outcome}
 use Rattle.spc700_exec.specs.Emitting.{IsEmitting, IsAhead}
 
 module _ {S I : Type 0} (bus : BusMeaning S) (cleared : S → S) (items : S → List I) (law : IsEmitting bus cleared items) where
-  -- a bus is ahead of itself without what it emitted
-  IsAhead-cleared : (s : S) → IsAhead cleared items (items s) s (cleared s)
-  IsAhead-cleared s = record { same = sym (law.again s); front = sym (ap (λ (l : List I). items s ++ l) (law.none s) ∙ append-nil (items s)) }
-
   pub clock-cleared : (s t : S) → cleared s ≡ cleared t → bus.clock s ≡ bus.clock t
   clock-cleared s t same = sym (law.clock s) ∙ ap bus.clock same ∙ law.clock t
 

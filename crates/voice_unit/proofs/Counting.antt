@@ -22,22 +22,6 @@ groups_before-rise position pitch (suc j) (suc i) below =
     let less : j * pitch ≤ i * pitch = mul-le-mul_right pitch (omega arith) in
     omega arith
 
--- one group is read in a sample at most
-groups_before-next : (position pitch j : ℕ) → position < 0x8000 → pitch < 0x4000 → groups_before position pitch (j + 1) ≤ groups_before position pitch j + 1
-groups_before-next position pitch zero low slow = rw (groups_before-more position pitch 0, groups_before-zero position pitch) (omega arith)
-groups_before-next position pitch (suc j) low slow =
-    let next : groups_before position pitch (suc j) ≡ (position + j * pitch) / 0x4000 = rw add-one at (groups_before-more position pitch j) in
-    let further : position + suc j * pitch ≡ position + j * pitch + pitch = omega arith in
-    rw (groups_before-more position pitch (suc j), next, further) (omega arith)
-
--- at most 64 groups are read in 64 samples
-groups_before-few : (position pitch n : ℕ) → position < 0x8000 → pitch < 0x4000 → n ≤ 64 → groups_before position pitch n ≤ 64
-unfolding groups_before
-groups_before-few position pitch zero low slow few = omega arith
-groups_before-few position pitch (suc n) low slow few =
-    let less : n * pitch ≤ 63 * pitch = mul-le-mul_right pitch (omega arith) in
-    omega arith
-
 -- a sample before which fewer groups are read is earlier
 pub earlier : (position pitch j n group : ℕ) → groups_before position pitch j ≤ group → group < groups_before position pitch n → j < n
 earlier position pitch j n group few more = by (nat_lt j n) refl

@@ -1,15 +1,13 @@
 //! Calls of both buses.
 
-ghost use Rattle.std.specs.Prelude.{◌≡◌};
-
-use crate::machines::{Emitted, KEYED, SILENCE, SOURCE, chip_of, drain, nothing, opening_of};
+use crate::machines::{Emitted, KEYED, SILENCE, SOURCE, chip_of, opening_of};
 use aram_core::Aram;
 use dsp_core::Dsp;
 use gauss_table::GaussTable;
 use sound_bus::{Chip, Counts, DrainedBus, LagBus, PlainBus};
-use spc_form::OpenState;
 use spc700_exec::Bus;
 use std::alloc::Global;
+use std::process::Abort;
 use std::test::Fail;
 use trace_form::{Frames, Record, Records};
 
@@ -24,12 +22,7 @@ enum Call {
 }
 
 /// Makes a call, and gives the byte that was read, or the number of frames that were drained, or 0.
-fn make<B: DrainedBus>(
-    alloc: Global,
-    bus: &mut B,
-    call: Call,
-    all: &mut Emitted,
-) -> Result<u8, Fail> {
+fn make<B: DrainedBus>(bus: &mut B, call: Call, all: &mut Emitted) -> Result<u8, Fail> {
     if !bus.has_room() || bus.made() > 1000 {
         return Ok(0xEE);
     }
@@ -38,7 +31,7 @@ fn make<B: DrainedBus>(
         Call::Read(address) => return Ok(bus.read(address)),
         Call::Write(address, value) => bus.write(address, value),
         Call::Settle => bus.settle(),
-        Call::Drain => return drain(alloc, bus, all),
+        Call::Drain => return all.drain(bus),
     }
     Ok(0)
 }
@@ -54,21 +47,15 @@ struct Told {
     time: (u32, u8),
 }
 
-/// Calls of the bus that makes each sample at once.
-fn call_plain<C: Chip>(
-    alloc: Global,
-    opening: OpenState,
-    chip: C,
-    calls: &[Call],
-) -> Result<Told, Fail>
-    requires sample { C.sample chip ≡ 0 }
-    requires batches { C.batches chip ≡ 0 }
-{
-    let mut bus = PlainBus::open(alloc, opening, chip, 1)?;
+/// Calls of the bus that makes each sample at once, over the source and these registers.
+fn call_plain(alloc: Global, registers: &[(usize, u8)], calls: &[Call]) -> Result<Told, Fail> {
     let mut answers = Vec::new(alloc);
-    let mut emitted = nothing(alloc);
+    let mut emitted = Emitted::none(alloc)?;
+    let opening = opening_of(alloc, &SOURCE, registers)?;
+    let chip = chip_of(alloc, &opening)?;
+    let mut bus = PlainBus::open(alloc, opening, chip, 1)?;
     for call in calls {
-        let byte = make(alloc, &mut bus, *call, &mut emitted)?;
+        let byte = make(&mut bus, *call, &mut emitted)?;
         answers.push((byte, bus.pending()))?;
     }
     Ok(Told {
@@ -80,20 +67,14 @@ fn call_plain<C: Chip>(
 }
 
 /// Calls of the bus that makes samples late.
-fn call_late<C: Chip>(
-    alloc: Global,
-    opening: OpenState,
-    chip: C,
-    calls: &[Call],
-) -> Result<Told, Fail>
-    requires sample { C.sample chip ≡ 0 }
-    requires batches { C.batches chip ≡ 0 }
-{
-    let mut bus = LagBus::open(alloc, opening, chip, 1)?;
+fn call_late(alloc: Global, registers: &[(usize, u8)], calls: &[Call]) -> Result<Told, Fail> {
     let mut answers = Vec::new(alloc);
-    let mut emitted = nothing(alloc);
+    let mut emitted = Emitted::none(alloc)?;
+    let opening = opening_of(alloc, &SOURCE, registers)?;
+    let chip = chip_of(alloc, &opening)?;
+    let mut bus = LagBus::open(alloc, opening, chip, 1)?;
     for call in calls {
-        let byte = make(alloc, &mut bus, *call, &mut emitted)?;
+        let byte = make(&mut bus, *call, &mut emitted)?;
         answers.push((byte, bus.pending()))?;
     }
     Ok(Told {
@@ -157,12 +138,18 @@ fn are_three_of_voice_0(records: &[Record]) -> bool {
     )
 }
 
+/// Looks at what came of those calls: each has such an answer, and three silent samples were made in such batches.
+fn look_at(rt: &impl Abort, told: &Told, answers: &[(u8, u8)], counts: Counts) {
+    assert_eq!(rt; told.answers.as_slice(), answers);
+    assert_eq!(rt; (told.time, told.counts), ((3, 32), counts));
+    assert_eq!(rt; told.emitted.frames.as_slice(), [SILENCE; 3].as_slice());
+    assert!(rt; are_three_of_voice_0(told.emitted.records.as_slice()));
+}
+
 #[test]
 fn each_call_acts_at_once(rt: HostRuntime) -> Result<(), Fail> {
-    let opening = opening_of(rt.alloc(), &SOURCE, &KEYED)?;
-    let chip = chip_of(rt.alloc(), &opening)?;
-    let told = call_plain(rt.alloc(), opening, chip, &CALLS)?;
-    let wanted = [
+    let told = call_plain(rt.alloc(), &KEYED, &CALLS)?;
+    let answers = [
         (0, 0),
         (0, 0),
         (0, 0),
@@ -175,21 +162,15 @@ fn each_call_acts_at_once(rt: HostRuntime) -> Result<(), Fail> {
         (3, 0),
         (0, 0),
     ];
-    assert_eq!(rt; told.answers.as_slice(), wanted.as_slice());
-    assert_eq!(rt; told.time, (3, 32));
-    assert_eq!(rt; told.counts, counts_of(3, 0));
-    assert_eq!(rt; told.emitted.frames.as_slice(), [SILENCE; 3].as_slice());
-    assert!(rt; are_three_of_voice_0(told.emitted.records.as_slice()));
+    look_at(&rt, &told, &answers, counts_of(3, 0));
     Ok(())
 }
 
 /// The same calls: no sample is made before one of them needs it.
 #[test]
 fn samples_wait_until_they_are_needed(rt: HostRuntime) -> Result<(), Fail> {
-    let opening = opening_of(rt.alloc(), &SOURCE, &KEYED)?;
-    let chip = chip_of(rt.alloc(), &opening)?;
-    let told = call_late(rt.alloc(), opening, chip, &CALLS)?;
-    let wanted = [
+    let told = call_late(rt.alloc(), &KEYED, &CALLS)?;
+    let answers = [
         (0, 1),
         (0, 2),
         (0, 3),
@@ -202,12 +183,26 @@ fn samples_wait_until_they_are_needed(rt: HostRuntime) -> Result<(), Fail> {
         (3, 0),
         (0, 0),
     ];
-    assert_eq!(rt; told.answers.as_slice(), wanted.as_slice());
-    assert_eq!(rt; told.time, (3, 32));
-    assert_eq!(rt; told.counts, counts_of(1, 1));
-    assert_eq!(rt; told.emitted.frames.as_slice(), [SILENCE; 3].as_slice());
-    assert!(rt; are_three_of_voice_0(told.emitted.records.as_slice()));
+    look_at(&rt, &told, &answers, counts_of(1, 1));
     Ok(())
+}
+
+/// Whether records are those of a voice in samples 0 to 2, a write of a port in sample 3, and then a voice in it.
+fn are_in_order(records: &[Record]) -> bool {
+    matches!(
+        records,
+        [
+            Record::Voice { sample: 0, .. },
+            Record::Voice { sample: 1, .. },
+            Record::Voice { sample: 2, .. },
+            Record::Port {
+                sample: 3,
+                port: 0,
+                value: 0x5A
+            },
+            Record::Voice { sample: 3, .. },
+        ]
+    )
 }
 
 /// Once all voices play and the echo is elsewhere, no sample reads page 0. A write of a port between two samples then waits
@@ -226,10 +221,8 @@ fn what_waits_is_handed_over_in_order(rt: HostRuntime) -> Result<(), Fail> {
         Call::Settle,
         Call::Drain,
     ];
-    let opening = opening_of(rt.alloc(), &SOURCE, &registers)?;
-    let chip = chip_of(rt.alloc(), &opening)?;
-    let told = call_late(rt.alloc(), opening, chip, &calls)?;
-    let wanted = [
+    let told = call_late(rt.alloc(), &registers, &calls)?;
+    let answers = [
         (0, 1),
         (0, 2),
         (0, 0),
@@ -240,24 +233,8 @@ fn what_waits_is_handed_over_in_order(rt: HostRuntime) -> Result<(), Fail> {
         (0, 0),
         (2, 0),
     ];
-    assert_eq!(rt; told.answers.as_slice(), wanted.as_slice());
-    let port = Record::Port {
-        sample: 3,
-        port: 0,
-        value: 0x5A,
-    };
-    match told.emitted.records.as_slice() {
-        [
-            Record::Voice { sample: 0, .. },
-            Record::Voice { sample: 1, .. },
-            Record::Voice { sample: 2, .. },
-            event,
-            Record::Voice { sample: 3, .. },
-        ] => {
-            assert_eq!(rt; *event, port);
-        }
-        _ => panic!(rt; "not in order"),
-    }
+    assert_eq!(rt; told.answers.as_slice(), answers.as_slice());
+    assert!(rt; are_in_order(told.emitted.records.as_slice()));
     Ok(())
 }
 

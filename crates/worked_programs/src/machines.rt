@@ -6,7 +6,7 @@ use aram_core::Aram;
 use dsp_core::Dsp;
 use gauss_table::GaussTable;
 use num_fix::Frame;
-use sound_bus::{Chip, Counts, DrainedBus, LagBus, PlainBus};
+use sound_bus::{Counts, DrainedBus, LagBus, PlainBus};
 use spc_form::OpenState;
 use spc700_exec::{Bus, Cpu, step};
 use std::alloc::Global;
@@ -79,28 +79,33 @@ pub fn chip_of(alloc: Global, opening: &OpenState) -> Result<Dsp, Fail>
     Ok(Dsp::open(alloc, &opening.dsp, GaussTable::straight(alloc)?)?)
 }
 
-/// What was emitted.
+/// What was emitted, and what the last drain of it gave.
 #[derive(Drop)]
 pub struct Emitted {
     pub frames: Vec<Frame>,
     pub records: Vec<Record>,
+    last_frames: Frames,
+    last_records: Records,
 }
 
-/// Drains a bus, and gives the number of frames.
-pub fn drain<B: DrainedBus>(alloc: Global, bus: &mut B, all: &mut Emitted) -> Result<u8, Fail> {
-    let mut frames = Frames::new(alloc)?;
-    let mut records = Records::new(alloc)?;
-    bus.drain(&mut frames, &mut records);
-    all.frames.extend_from_slice(frames.as_slice())?;
-    all.records.extend_from_slice(records.as_slice())?;
-    Ok(frames.as_slice().len() as u8)
-}
+impl Emitted {
+    /// Nothing is emitted yet.
+    pub fn none(alloc: Global) -> Result<Emitted, Fail> {
+        Ok(Emitted {
+            frames: Vec::new(alloc),
+            records: Vec::new(alloc),
+            last_frames: Frames::new(alloc)?,
+            last_records: Records::new(alloc)?,
+        })
+    }
 
-/// Nothing is emitted yet.
-pub fn nothing(alloc: Global) -> Emitted {
-    Emitted {
-        frames: Vec::new(alloc),
-        records: Vec::new(alloc),
+    /// Drains a bus, and gives the number of frames.
+    pub fn drain<B: DrainedBus>(&mut self, bus: &mut B) -> Result<u8, Fail> {
+        bus.drain(&mut self.last_frames, &mut self.last_records);
+        self.frames.extend_from_slice(self.last_frames.as_slice())?;
+        self.records
+            .extend_from_slice(self.last_records.as_slice())?;
+        Ok(self.last_frames.as_slice().len() as u8)
     }
 }
 
@@ -126,23 +131,18 @@ fn wait_and_step<B: DrainedBus>(cpu: &mut Cpu, bus: &mut B, samples: u32) {
 }
 
 /// Runs a program at 0400h until some samples are made or pending, makes those that are pending, and gives the steps that it took.
-fn run_to<B: DrainedBus>(
-    alloc: Global,
-    bus: &mut B,
-    samples: u32,
-    all: &mut Emitted,
-) -> Result<u32, Fail> {
+fn run_to<B: DrainedBus>(bus: &mut B, samples: u32, all: &mut Emitted) -> Result<u32, Fail> {
     let mut cpu = START;
     let mut steps = 0u32;
     for _ in 0u32..10000 {
         if bus.made() < samples {
             wait_and_step(&mut cpu, bus, samples);
-            drain(alloc, bus, all)?;
+            all.drain(bus)?;
             steps = steps.wrapping_add(1);
         }
     }
     bus.settle();
-    drain(alloc, bus, all)?;
+    all.drain(bus)?;
     Ok(steps)
 }
 
@@ -157,18 +157,11 @@ pub struct Run {
 }
 
 /// A run over the bus that makes each sample at once.
-pub fn run_plain<C: Chip>(
-    alloc: Global,
-    opening: OpenState,
-    chip: C,
-    samples: u32,
-) -> Result<Run, Fail>
-    requires sample { C.sample chip ≡ 0 }
-    requires batches { C.batches chip ≡ 0 }
-{
+pub fn run_plain(alloc: Global, opening: OpenState, samples: u32) -> Result<Run, Fail> {
+    let mut emitted = Emitted::none(alloc)?;
+    let chip = chip_of(alloc, &opening)?;
     let mut bus = PlainBus::open(alloc, opening, chip, 0)?;
-    let mut emitted = nothing(alloc);
-    let steps = run_to(alloc, &mut bus, samples, &mut emitted)?;
+    let steps = run_to(&mut bus, samples, &mut emitted)?;
     Ok(Run {
         emitted,
         counts: bus.counts(),
@@ -178,18 +171,11 @@ pub fn run_plain<C: Chip>(
 }
 
 /// A run over the bus that makes samples late.
-pub fn run_late<C: Chip>(
-    alloc: Global,
-    opening: OpenState,
-    chip: C,
-    samples: u32,
-) -> Result<Run, Fail>
-    requires sample { C.sample chip ≡ 0 }
-    requires batches { C.batches chip ≡ 0 }
-{
+pub fn run_late(alloc: Global, opening: OpenState, samples: u32) -> Result<Run, Fail> {
+    let mut emitted = Emitted::none(alloc)?;
+    let chip = chip_of(alloc, &opening)?;
     let mut bus = LagBus::open(alloc, opening, chip, 0)?;
-    let mut emitted = nothing(alloc);
-    let steps = run_to(alloc, &mut bus, samples, &mut emitted)?;
+    let steps = run_to(&mut bus, samples, &mut emitted)?;
     Ok(Run {
         emitted,
         counts: bus.counts(),

@@ -71,48 +71,47 @@ fn adds_and_branches(rt: HostRuntime) -> Result<(), Fail> {
     Ok(())
 }
 
+/// The processor after one step of a program, and the clock.
+fn after_step(
+    alloc: Global,
+    parts: &[(u16, &[u8])],
+    pc: u16,
+    x: u8,
+) -> Result<(Cpu, u64), OutOfMemory> {
+    let mut bus = bus_with(alloc, parts)?;
+    let mut cpu = start(pc, x);
+    next(&mut cpu, &mut bus);
+    Ok((cpu, bus.clock()))
+}
+
 #[test]
 fn wraps_at_the_ends_of_memory_and_of_the_direct_page(rt: HostRuntime) -> Result<(), Fail> {
     // BRA at FFFFh with its distance at 0000h.
-    let mut bus = bus_with(rt.alloc(), &[(0xffff, &[0x2f, 0xfe])])?;
-    let mut cpu = start(0xffff, 0);
-    next(&mut cpu, &mut bus);
-    assert_eq!(rt; (cpu.pc, bus.clock()), (0xffff, 4));
+    let (cpu, clock) = after_step(rt.alloc(), &[(0xffff, &[0x2f, 0xfe])], 0xffff, 0)?;
+    assert_eq!(rt; (cpu.pc, clock), (0xffff, 4));
 
     // MOVW YA,FFh: the high byte is at 00h.
-    let mut bus = bus_with(
-        rt.alloc(),
-        &[(0x400, &[0xba, 0xff]), (0, &[0x12]), (0xff, &[0x34, 0x99])],
-    )?;
-    let mut cpu = start(0x400, 0);
-    next(&mut cpu, &mut bus);
+    let parts: [(u16, &[u8]); 3] = [(0x400, &[0xba, 0xff]), (0, &[0x12]), (0xff, &[0x34, 0x99])];
+    let (cpu, _) = after_step(rt.alloc(), &parts, 0x400, 0)?;
     assert_eq!(rt; (cpu.y, cpu.a), (0x12, 0x34));
 
     // MOV A,[FEh+X] with X 1: the pointer stands at FFh and 00h.
-    let mut bus = bus_with(
-        rt.alloc(),
-        &[
-            (0x400, &[0xe7, 0xfe]),
-            (0, &[0x05]),
-            (0xff, &[0x00, 0x99]),
-            (0x500, &[0x5a]),
-        ],
-    )?;
-    let mut cpu = start(0x400, 1);
-    next(&mut cpu, &mut bus);
+    let parts: [(u16, &[u8]); 4] = [
+        (0x400, &[0xe7, 0xfe]),
+        (0, &[0x05]),
+        (0xff, &[0x00, 0x99]),
+        (0x500, &[0x5a]),
+    ];
+    let (cpu, _) = after_step(rt.alloc(), &parts, 0x400, 1)?;
     assert_eq!(rt; cpu.a, 0x5a);
 
     // JMP [!FFFEh+X] with X 1: the pointer stands at FFFFh and 0000h.
-    let mut bus = bus_with(
-        rt.alloc(),
-        &[
-            (0x400, &[0x1f, 0xfe, 0xff]),
-            (0xffff, &[0x00, 0x06]),
-            (0xff00, &[0x99]),
-        ],
-    )?;
-    let mut cpu = start(0x400, 1);
-    next(&mut cpu, &mut bus);
+    let parts: [(u16, &[u8]); 3] = [
+        (0x400, &[0x1f, 0xfe, 0xff]),
+        (0xffff, &[0x00, 0x06]),
+        (0xff00, &[0x99]),
+    ];
+    let (cpu, _) = after_step(rt.alloc(), &parts, 0x400, 1)?;
     assert_eq!(rt; cpu.pc, 0x600);
     Ok(())
 }
@@ -125,13 +124,13 @@ fn calls_and_returns(rt: HostRuntime) -> Result<(), Fail> {
     )?;
     let mut cpu = start(0x400, 0);
     next(&mut cpu, &mut bus);
-    assert_eq!(rt; (cpu.pc, cpu.sp), (0x500, 0xed));
-    assert_eq!(rt; bus.memory().get(0x1ef), 0x04);
-    assert_eq!(rt; bus.memory().get(0x1ee), 0x03);
-    assert_eq!(rt; bus.clock(), 8);
+    assert_eq!(rt; (cpu.pc, cpu.sp, bus.clock()), (0x500, 0xed, 8));
+    assert_eq!(rt;
+        (bus.memory().get(0x1ef), bus.memory().get(0x1ee)),
+        (0x04, 0x03)
+    );
     next(&mut cpu, &mut bus);
-    assert_eq!(rt; (cpu.pc, cpu.sp), (0x403, 0xef));
-    assert_eq!(rt; bus.clock(), 13);
+    assert_eq!(rt; (cpu.pc, cpu.sp, bus.clock()), (0x403, 0xef, 13));
     Ok(())
 }
 

@@ -1,23 +1,25 @@
 //! Steps that a bus takes by itself, as a render has it do.
 
-use crate::machines::{Emitted, START, chip_of, drain, nothing, opening_of};
+use crate::machines::{Emitted, START, chip_of, opening_of};
 use crate::waits::{QUIET, counts_of, driver, writes_of};
 use sound_bus::{Counts, DrainedBus, LagBus, PlainBus};
 use std::alloc::Global;
+use std::process::Abort;
 use std::test::Fail;
+use trace_form::Record;
 
 /// What a bus emits that takes steps until 100 samples are made or pending, with three rooms more for its calls each time.
 fn take_all<B: DrainedBus>(alloc: Global, bus: &mut B) -> Result<Emitted, Fail> {
     let mut cpu = START;
-    let mut all = nothing(alloc);
+    let mut all = Emitted::none(alloc)?;
     for _ in 0u32..2000 {
         if bus.has_room() && bus.made() < 100 {
             bus.take_steps(&mut cpu, 100, 3);
-            drain(alloc, bus, &mut all)?;
+            all.drain(bus)?;
         }
     }
     bus.settle();
-    drain(alloc, bus, &mut all)?;
+    all.drain(bus)?;
     Ok(all)
 }
 
@@ -55,47 +57,63 @@ fn take_late(alloc: Global, code: &[u8]) -> Result<Taken, Fail> {
     })
 }
 
+/// Looks at what a program comes to over both buses: such records, a frame for each sample, and such counts of the bus that makes
+/// samples late.
+fn look_at(
+    rt: &impl Abort,
+    alloc: Global,
+    code: &[u8],
+    records: &[Record],
+    counts: Counts,
+) -> Result<(), Fail> {
+    let plain = take_plain(alloc, code)?;
+    let late = take_late(alloc, code)?;
+    assert_eq!(rt; plain.emitted.records.as_slice(), records);
+    assert_eq!(rt; late.emitted.records.as_slice(), records);
+    assert_eq!(rt; (plain.counts, plain.made), (counts_of(100, 0, 0, 0), 100));
+    assert_eq!(rt; (late.counts, late.made), (counts, 100));
+    assert!(rt; are_100_alike(&plain.emitted, &late.emitted));
+    Ok(())
+}
+
+/// Whether 100 frames were emitted, the same by both.
+fn are_100_alike(plain: &Emitted, late: &Emitted) -> bool {
+    plain.frames.len() == 100 && late.frames.as_slice() == plain.frames.as_slice()
+}
+
 /// The driver writes in the samples in which it does so step by step: see `a_driver_polls_each_counter`.
 #[test]
 fn a_bus_takes_the_steps_of_a_driver(rt: HostRuntime) -> Result<(), Fail> {
-    let alloc = rt.alloc();
-    let code = driver(0xFF, 10, 0x04);
     let samples = [
         5, 11, 16, 20, 26, 30, 36, 40, 46, 51, 55, 61, 65, 71, 75, 81, 86, 90, 96,
     ];
-    let wanted = writes_of(alloc, 1, &samples)?;
-    let plain = take_plain(alloc, &code)?;
-    assert_eq!(rt; plain.emitted.records.as_slice(), wanted.as_slice());
-    assert_eq!(rt; plain.counts, counts_of(100, 0, 0, 0));
-    let late = take_late(alloc, &code)?;
-    assert_eq!(rt; late.emitted.records.as_slice(), wanted.as_slice());
-    assert_eq!(rt; late.counts, counts_of(20, 19, 0, 1));
-    assert_eq!(rt; (plain.made, late.made), (100, 100));
-    assert_eq!(rt; plain.emitted.frames.len(), 100);
-    assert_eq!(rt;
-        late.emitted.frames.as_slice(),
-        plain.emitted.frames.as_slice()
-    );
-    Ok(())
+    let wanted = writes_of(rt.alloc(), 1, &samples)?;
+    let code = driver(0xFF, 10, 0x04);
+    look_at(
+        &rt,
+        rt.alloc(),
+        &code,
+        wanted.as_slice(),
+        counts_of(20, 19, 0, 1),
+    )
 }
 
 /// A loop of 11 cycles counts in page 7, which no sample reads, and port 0 is told of its 256th round, in sample 88. Then it goes
 /// on, or the processor stops. The chip runs when 64 samples are pending, at that write, and at the end.
 #[test]
 fn steps_go_on_past_the_64th_pending_sample_and_a_stop(rt: HostRuntime) -> Result<(), Fail> {
-    let alloc = rt.alloc();
-    let wanted = writes_of(alloc, 0x5A, &[88])?;
+    let wanted = writes_of(rt.alloc(), 0x5A, &[88])?;
     for [last, distance] in [[0x2F, 0xF5], [0xFF, 0x00]] {
         let code = [
             0xC5, 0x00, 0x07, 0xBC, 0xD0, 0xFA, 0x8F, 0x5A, 0xF4, last, distance,
         ];
-        let plain = take_plain(alloc, &code)?;
-        assert_eq!(rt; plain.emitted.records.as_slice(), wanted.as_slice());
-        assert_eq!(rt; (plain.counts, plain.made), (counts_of(100, 0, 0, 0), 100));
-        let late = take_late(alloc, &code)?;
-        assert_eq!(rt; late.emitted.records.as_slice(), wanted.as_slice());
-        assert_eq!(rt; (late.counts, late.made), (counts_of(3, 1, 1, 1), 100));
-        assert_eq!(rt; late.emitted.frames.len(), 100);
+        look_at(
+            &rt,
+            rt.alloc(),
+            &code,
+            wanted.as_slice(),
+            counts_of(3, 1, 1, 1),
+        )?;
     }
     Ok(())
 }

@@ -1,9 +1,10 @@
 //! Loops that wait, over both buses. The bus that makes samples late makes their rounds at once, the other one step by step.
 
-use crate::machines::{KEYED, Run, SILENCE, SOURCE, chip_of, opening_of, run_late, run_plain};
+use crate::machines::{KEYED, Run, SILENCE, SOURCE, opening_of, run_late, run_plain};
 use num_fix::Frame;
 use sound_bus::Counts;
 use std::alloc::Global;
+use std::process::Abort;
 use std::test::Fail;
 use trace_form::Record;
 
@@ -29,12 +30,10 @@ fn run_both(
 ) -> Result<(Run, Run), Fail> {
     let mut opening = opening_of(alloc, pieces, registers)?;
     opening.cells[4] = latch;
-    let chip = chip_of(alloc, &opening)?;
-    let plain = run_plain(alloc, opening, chip, samples)?;
+    let plain = run_plain(alloc, opening, samples)?;
     let mut opening = opening_of(alloc, pieces, registers)?;
     opening.cells[4] = latch;
-    let chip = chip_of(alloc, &opening)?;
-    let late = run_late(alloc, opening, chip, samples)?;
+    let late = run_late(alloc, opening, samples)?;
     Ok((plain, late))
 }
 
@@ -59,6 +58,26 @@ pub fn counts_of(batches: u64, memory: u64, full: u64, end: u64) -> Counts {
         events: 0,
         end,
     }
+}
+
+/// Looks at what a loop comes to over both buses: the same, with such records, the second with such counts and by rounds made at once.
+fn look_at(
+    rt: &impl Abort,
+    (plain, late): &(Run, Run),
+    samples: u32,
+    records: &[Record],
+    counts: Counts,
+) {
+    assert!(rt; are_alike(plain, late, samples));
+    assert_eq!(rt; late.emitted.records.as_slice(), records);
+    assert_eq!(rt; late.counts, counts);
+    assert!(rt; late.steps < plain.steps / 2);
+}
+
+/// Whether the source is heard from sample 6 on, and nothing before.
+fn are_heard_from_6_on(frames: &[Frame]) -> bool {
+    frames.iter().take(6).all(|frame| *frame == SILENCE)
+        && frames.iter().skip(6).all(|frame| *frame == LOUD)
 }
 
 /// The records of writes of a byte, to port 0 in these samples.
@@ -113,58 +132,40 @@ pub fn driver(counter: u8, target: u8, control: u8) -> [u8; 26] {
 /// cycles after the counter the poll came: from the third one on it is a sample later.
 #[test]
 fn a_driver_polls_each_counter(rt: HostRuntime) -> Result<(), Fail> {
-    let alloc = rt.alloc();
-    let rows: [([u8; 3], &[u32]); 3] = [
-        (
-            [0xFD, 2, 0x01],
-            &[8, 16, 25, 33, 40, 49, 57, 64, 72, 81, 89, 96],
-        ),
-        ([0xFE, 3, 0x02], &[12, 25, 37, 48, 61, 72, 85, 96]),
-        (
-            [0xFF, 10, 0x04],
-            &[
-                5, 11, 16, 20, 26, 30, 36, 40, 46, 51, 55, 61, 65, 71, 75, 81, 86, 90, 96,
-            ],
-        ),
+    let timer0 = [8, 16, 25, 33, 40, 49, 57, 64, 72, 81, 89, 96];
+    poll_counter(&rt, rt.alloc(), &driver(0xFD, 2, 0x01), &timer0)?;
+    let timer1 = [12, 25, 37, 48, 61, 72, 85, 96];
+    poll_counter(&rt, rt.alloc(), &driver(0xFE, 3, 0x02), &timer1)?;
+    let timer2 = [
+        5, 11, 16, 20, 26, 30, 36, 40, 46, 51, 55, 61, 65, 71, 75, 81, 86, 90, 96,
     ];
-    for ([counter, target, control], samples) in rows {
-        let code = driver(counter, target, control);
-        let (plain, late) = run_both(alloc, &[(0x0400, &code)], &QUIET, 0, 100)?;
-        assert!(rt; are_alike(&plain, &late, 100));
-        let wanted = writes_of(alloc, 1, samples)?;
-        assert_eq!(rt; late.emitted.records.as_slice(), wanted.as_slice());
-        // each write has the samples before it made, the last ones wait for the end
-        let writes = samples.len() as u64;
-        assert_eq!(rt;
-            late.counts,
-            counts_of(writes.wrapping_add(1), writes, 0, 1)
-        );
-        assert!(rt; late.steps < plain.steps / 2);
-    }
+    poll_counter(&rt, rt.alloc(), &driver(0xFF, 10, 0x04), &timer2)
+}
+
+/// Looks at a driver that writes in these samples: each write has the samples before it made, the last ones wait for the end.
+fn poll_counter(rt: &impl Abort, alloc: Global, code: &[u8], samples: &[u32]) -> Result<(), Fail> {
+    let wanted = writes_of(alloc, 1, samples)?;
+    let runs = run_both(alloc, &[(0x0400, code)], &QUIET, 0, 100)?;
+    let writes = samples.len() as u64;
+    let counts = counts_of(writes.wrapping_add(1), writes, 0, 1);
+    look_at(rt, &runs, 100, wanted.as_slice(), counts);
     Ok(())
 }
 
 /// The same driver where the first write alone has samples made, the eight before it: from then on the writes wait for 64 samples.
 #[test]
 fn writes_of_a_driver_wait_for_64_samples(rt: HostRuntime) -> Result<(), Fail> {
-    let alloc = rt.alloc();
     let [directory, _, first, second] = SOURCE;
     let code = driver(0xFD, 2, 0x01);
     let pieces = [directory, first, second, (0x0400, &code)];
-    let (plain, late) = run_both(alloc, &pieces, &ALL_KEYED, 0, 190)?;
-    assert!(rt; are_alike(&plain, &late, 190));
-    let wanted = writes_of(
-        alloc,
-        1,
-        &[
-            8, 16, 25, 33, 40, 49, 57, 64, 72, 81, 89, 96, 105, 113, 120, 128, 137, 145, 152, 161,
-            169, 176, 184,
-        ],
-    )?;
-    assert_eq!(rt; late.emitted.records.as_slice(), wanted.as_slice());
+    let samples = [
+        8, 16, 25, 33, 40, 49, 57, 64, 72, 81, 89, 96, 105, 113, 120, 128, 137, 145, 152, 161, 169,
+        176, 184,
+    ];
+    let wanted = writes_of(rt.alloc(), 1, &samples)?;
+    let runs = run_both(rt.alloc(), &pieces, &ALL_KEYED, 0, 190)?;
     // 8 samples, 64 and 64 more, and the last 54
-    assert_eq!(rt; late.counts, counts_of(4, 1, 2, 1));
-    assert!(rt; late.steps < plain.steps / 2);
+    look_at(&rt, &runs, 190, wanted.as_slice(), counts_of(4, 1, 2, 1));
     Ok(())
 }
 
@@ -178,10 +179,7 @@ const TWO_POLLS: [u8; 22] = [
 /// The first poll comes at 13 and each 12 cycles on, 15 after a first poll that saw a 1, and 13 after such a second one.
 #[test]
 fn a_counter_leaves_0_in_the_middle_of_a_round(rt: HostRuntime) -> Result<(), Fail> {
-    let alloc = rt.alloc();
-    let (plain, late) = run_both(alloc, &[(0x0400, &TWO_POLLS)], &QUIET, 0, 100)?;
-    assert!(rt; are_alike(&plain, &late, 100));
-    let mut wanted = Vec::new(alloc);
+    let mut wanted = Vec::new(rt.alloc());
     for (sample, port) in [
         (8, 1),
         (16, 1),
@@ -202,9 +200,8 @@ fn a_counter_leaves_0_in_the_middle_of_a_round(rt: HostRuntime) -> Result<(), Fa
             value: 1,
         })?;
     }
-    assert_eq!(rt; late.emitted.records.as_slice(), wanted.as_slice());
-    assert_eq!(rt; late.counts, counts_of(13, 12, 0, 1));
-    assert!(rt; late.steps < plain.steps / 2);
+    let runs = run_both(rt.alloc(), &[(0x0400, &TWO_POLLS)], &QUIET, 0, 100)?;
+    look_at(&rt, &runs, 100, wanted.as_slice(), counts_of(13, 12, 0, 1));
     Ok(())
 }
 
@@ -212,25 +209,18 @@ fn a_counter_leaves_0_in_the_middle_of_a_round(rt: HostRuntime) -> Result<(), Fa
 /// cycles after the poll that sees a 1, and the next poll 35.
 #[test]
 fn a_loop_of_two_branches_waits(rt: HostRuntime) -> Result<(), Fail> {
-    let alloc = rt.alloc();
     let code = [
         0x8F, 0x02, 0xFA, 0x8F, 0x01, 0xF1, 0xE4, 0xFD, 0xD0, 0x02, 0x2F, 0xFA, 0, 0, 0, 0, 0, 0,
         0, 0, 0, 0, 0xC4, 0xF4, 0x2F, 0xEC,
     ];
-    let (plain, late) = run_both(alloc, &[(0x0400, &code)], &QUIET, 0, 100)?;
-    assert!(rt; are_alike(&plain, &late, 100));
-    let wanted = writes_of(alloc, 1, &[8, 16, 25, 32, 41, 48, 57, 64, 73, 80, 88, 97])?;
-    assert_eq!(rt; late.emitted.records.as_slice(), wanted.as_slice());
-    assert_eq!(rt; late.counts, counts_of(13, 12, 0, 1));
-    assert!(rt; late.steps < plain.steps / 2);
-    Ok(())
+    let samples = [8, 16, 25, 32, 41, 48, 57, 64, 73, 80, 88, 97];
+    poll_counter(&rt, rt.alloc(), &code, &samples)
 }
 
 /// A program writes 5Ah to port 0 and polls it, in a round of 7 cycles. It gets the input latch and not what it has written, and
 /// sends it on to port 1 where it isn't 0.
 #[test]
 fn a_loop_polls_a_port(rt: HostRuntime) -> Result<(), Fail> {
-    let alloc = rt.alloc();
     let [directory, _, first, second] = SOURCE;
     let code = [
         0x8F, 0x5A, 0xF4, 0xE4, 0xF4, 0xF0, 0xFC, 0xC4, 0xF5, 0x2F, 0xFE,
@@ -250,14 +240,9 @@ fn a_loop_polls_a_port(rt: HostRuntime) -> Result<(), Fail> {
         (0, [written].as_slice()),
         (0xC3, [written, sent].as_slice()),
     ] {
-        let (plain, late) = run_both(alloc, &pieces, &KEYED, latch, 200)?;
-        assert!(rt; are_alike(&plain, &late, 200));
-        assert_eq!(rt; late.emitted.records.as_slice(), records);
-        let frames = late.emitted.frames.as_slice();
-        assert!(rt; frames.iter().take(6).all(|frame| *frame == SILENCE));
-        assert!(rt; frames.iter().skip(6).all(|frame| *frame == LOUD));
-        assert_eq!(rt; late.counts, counts_of(4, 0, 3, 1));
-        assert!(rt; late.steps < plain.steps / 2);
+        let runs = run_both(rt.alloc(), &pieces, &KEYED, latch, 200)?;
+        look_at(&rt, &runs, 200, records, counts_of(4, 0, 3, 1));
+        assert!(rt; are_heard_from_6_on(runs.1.emitted.frames.as_slice()));
     }
     Ok(())
 }
@@ -266,33 +251,24 @@ fn a_loop_polls_a_port(rt: HostRuntime) -> Result<(), Fail> {
 /// after the poll that sees a 1, and the next poll of the counter 38.
 #[test]
 fn a_loop_polls_a_port_and_a_counter(rt: HostRuntime) -> Result<(), Fail> {
-    let alloc = rt.alloc();
     let code = [
         0x8F, 0x02, 0xFA, 0x8F, 0x01, 0xF1, 0xE4, 0xF4, 0xD0, 0x12, 0xE4, 0xFD, 0xF0, 0xF8, 0, 0,
         0, 0, 0, 0, 0, 0, 0, 0, 0xC4, 0xF4, 0x2F, 0xEA, 0xC4, 0xF5, 0x2F, 0xFE,
     ];
-    let (plain, late) = run_both(alloc, &[(0x0400, &code)], &QUIET, 0, 100)?;
-    assert!(rt; are_alike(&plain, &late, 100));
-    let wanted = writes_of(alloc, 1, &[8, 16, 25, 33, 40, 48, 56, 64, 73, 81, 88, 96])?;
-    assert_eq!(rt; late.emitted.records.as_slice(), wanted.as_slice());
-    assert_eq!(rt; late.counts, counts_of(13, 12, 0, 1));
-    assert!(rt; late.steps < plain.steps / 2);
-    Ok(())
+    let samples = [8, 16, 25, 33, 40, 48, 56, 64, 73, 81, 88, 96];
+    poll_counter(&rt, rt.alloc(), &code, &samples)
 }
 
 /// Three NOPs of 2 cycles, and then SLEEP or STOP, which lasts to the next sample, as each later step of the processor does.
 #[test]
 fn each_step_of_a_halted_processor_is_a_sample(rt: HostRuntime) -> Result<(), Fail> {
-    let alloc = rt.alloc();
     let [directory, _, first, second] = SOURCE;
     for halt in [0xEF, 0xFF] {
         let code = [0x00, 0x00, 0x00, halt, 0x2F, 0xFE];
         let pieces = [directory, first, second, (0x0400, &code)];
-        let (plain, late) = run_both(alloc, &pieces, &KEYED, 0, 200)?;
-        assert!(rt; are_alike(&plain, &late, 200));
-        assert!(rt; late.emitted.records.is_empty());
-        let frames = late.emitted.frames.as_slice();
-        assert!(rt; frames.iter().skip(6).all(|frame| *frame == LOUD));
+        let (plain, late) = run_both(rt.alloc(), &pieces, &KEYED, 0, 200)?;
+        assert!(rt; are_alike(&plain, &late, 200) && late.emitted.records.is_empty());
+        assert!(rt; are_heard_from_6_on(late.emitted.frames.as_slice()));
         assert_eq!(rt; (plain.steps, late.steps), (203, 203));
         assert_eq!(rt; (plain.time, late.time), ((200, 32), (200, 32)));
         assert_eq!(rt; late.counts, counts_of(4, 0, 3, 1));

@@ -57,11 +57,18 @@ fn render_over<C: Chip>(alloc: Global, file: &SpcFile, chip: C, samples: u32) ->
     })
 }
 
-/// Renders so many samples of a file, with the records of voice 0.
-fn rendered(alloc: Global, file: &SpcFile, samples: u32) -> Result<Given, Fail>
+/// Renders so many samples of a file of these pieces, with the records of voice 0.
+fn rendered(
+    alloc: Global,
+    sound: &[(usize, &[u8])],
+    program: &[u8],
+    samples: u32,
+) -> Result<Given, Fail>
     requires { samples ≤ most_frames }
 {
-    render_over(alloc, file, chip_of(alloc, file)?, samples)
+    let file = file(alloc, sound, program)?;
+    let chip = chip_of(alloc, &file)?;
+    render_over(alloc, &file, chip, samples)
 }
 
 /// A record of voice 0 that plays the block at 0500h.
@@ -82,23 +89,24 @@ const LOUD: Frame = Frame {
     right: 4000,
 };
 
+/// The key on of voice 0.
+const KEYED: Record = Record::Voice {
+    sample: 0,
+    voice: 0,
+    level: 0,
+    out: 0,
+    block: 0,
+    keyed: true,
+    looped: false,
+};
+
 #[test]
 fn a_voice_is_heard_from_sample_six_on(rt: HostRuntime) -> Result<(), Fail> {
-    let playing = file(rt.alloc(), &SOUND, &[])?;
-    let eight = rendered(rt.alloc(), &playing, 8)?;
+    let eight = rendered(rt.alloc(), &SOUND, &[], 8)?;
     let frames = [SILENT, SILENT, SILENT, SILENT, SILENT, SILENT, LOUD, LOUD];
     assert_eq!(rt; eight.frames.as_slice(), frames.as_slice());
-    let keyed = Record::Voice {
-        sample: 0,
-        voice: 0,
-        level: 0,
-        out: 0,
-        block: 0,
-        keyed: true,
-        looped: false,
-    };
     let records = [
-        keyed,
+        KEYED,
         voice(1, 0, 0),
         voice(2, 0, 0),
         voice(3, 0, 0),
@@ -109,37 +117,41 @@ fn a_voice_is_heard_from_sample_six_on(rt: HostRuntime) -> Result<(), Fail> {
     ];
     assert_eq!(rt; eight.records.as_slice(), records.as_slice());
     assert_eq!(rt; (eight.batches, eight.made), (1, 8));
-    // It is heard on where the program stops.
-    let stopped = file(rt.alloc(), &SOUND, &[0xFF])?;
-    let long = rendered(rt.alloc(), &stopped, 200)?;
+    Ok(())
+}
+
+#[test]
+fn a_voice_is_heard_on_where_the_program_stops(rt: HostRuntime) -> Result<(), Fail> {
+    let long = rendered(rt.alloc(), &SOUND, &[0xFF], 200)?;
     assert_eq!(rt; (long.frames.len(), long.batches), (200, 4));
     assert!(rt; long.frames.iter().take(6).all(|frame| *frame == SILENT));
     assert!(rt; long.frames.iter().skip(6).all(|frame| *frame == LOUD));
     Ok(())
 }
 
-#[test]
-fn records_after_the_last_frame_are_dropped(rt: HostRuntime) -> Result<(), Fail> {
-    // 14 NOPs, and then a write of port 0 whose last cycle is that of a sample's end.
-    let program = [
-        0, 0, 0, 0, 0, 0, 0, 0, 0, 0, 0, 0, 0, 0, 0x8F, 0x5A, 0xF4, 0x2F, 0xFE,
-    ];
-    let quiet = file(rt.alloc(), &[], &program)?;
+/// 14 NOPs, and then a write of port 0 whose last cycle is that of a sample's end.
+const LATE_WRITE: [u8; 19] = [
+    0, 0, 0, 0, 0, 0, 0, 0, 0, 0, 0, 0, 0, 0, 0x8F, 0x5A, 0xF4, 0x2F, 0xFE,
+];
+
+/// Whether so many silent frames were given, and so many records of that write.
+fn are_silent_with_writes(all: &Given, samples: u32, writes: usize) -> bool {
     let port = Record::Port {
         sample: 1,
         port: 0,
         value: 0x5A,
     };
-    for (samples, written) in [(0, 0), (1, 0), (2, 1), (3, 1)] {
+    all.frames.len() == samples as usize
+        && all.frames.iter().all(|frame| *frame == SILENT)
+        && all.records.iter().filter(|item| **item == port).count() == writes
+}
+
+#[test]
+fn records_after_the_last_frame_are_dropped(rt: HostRuntime) -> Result<(), Fail> {
+    for (samples, writes) in [(0, 0), (1, 0), (2, 1), (3, 1)] {
         assert!(rt; samples <= 3);
-        let all = rendered(rt.alloc(), &quiet, samples)?;
-        assert_eq!(rt; all.frames.len(), samples as usize, "{samples}");
-        assert!(rt;
-            all.frames.iter().all(|frame| *frame == SILENT),
-            "{samples}"
-        );
-        let ports = all.records.iter().filter(|item| **item == port).count();
-        assert_eq!(rt; ports, written, "{samples}");
+        let all = rendered(rt.alloc(), &[], &LATE_WRITE, samples)?;
+        assert!(rt; are_silent_with_writes(&all, samples, writes), "{samples}");
     }
     Ok(())
 }

@@ -35,7 +35,7 @@ fn add_all<C: Chip>(render: &mut Render<C>, told: &mut Told) -> Result<(), Fail>
 }
 
 /// Renders so many samples of a file over a chip, without records of voices.
-fn tell<C: Chip>(alloc: Global, file: &SpcFile, chip: C, samples: u32) -> Result<Told, Fail>
+fn tell_over<C: Chip>(alloc: Global, file: &SpcFile, chip: C, samples: u32) -> Result<Told, Fail>
     requires few { samples ≤ most_frames }
     requires sample { C.sample chip ≡ 0 }
     requires batches { C.batches chip ≡ 0 }
@@ -50,6 +50,28 @@ fn tell<C: Chip>(alloc: Global, file: &SpcFile, chip: C, samples: u32) -> Result
     add_all(&mut render, &mut told)?;
     told.counts = render.counts();
     Ok(told)
+}
+
+/// Renders so many samples of a silent program.
+fn tell(alloc: Global, program: &[u8], samples: u32) -> Result<Told, Fail>
+    requires { samples ≤ most_frames }
+{
+    let file = file(alloc, &[], program)?;
+    let chip = chip_of(alloc, &file)?;
+    tell_over(alloc, &file, chip, samples)
+}
+
+/// The records of writes of a 1, to port 0 in these samples.
+fn writes_of(alloc: Global, samples: &[u32]) -> Result<Vec<Record>, Fail> {
+    let mut records = Vec::new(alloc);
+    for sample in samples {
+        records.push(Record::Port {
+            sample: *sample,
+            port: 0,
+            value: 1,
+        })?;
+    }
+    Ok(records)
 }
 
 /// Counts of so many batches: for writes of memory, for 64 pending samples and at the end.
@@ -69,23 +91,15 @@ fn counts_of(batches: u64, memory: u64, full: u64, end: u64) -> Counts {
 /// it reads is written to port 0 after 29 cycles, and 37 after it the next poll comes. Each write has the samples before it made.
 #[test]
 fn a_driver_waits_for_its_timer(rt: HostRuntime) -> Result<(), Fail> {
+    let samples = [
+        5, 11, 16, 20, 26, 30, 36, 40, 46, 51, 55, 61, 65, 71, 75, 81, 86, 90, 96,
+    ];
+    let wanted = writes_of(rt.alloc(), &samples)?;
     let program = [
         0x8F, 10, 0xFC, 0x8F, 0x04, 0xF1, 0xE4, 0xFF, 0xF0, 0xFC, 0, 0, 0, 0, 0, 0, 0, 0, 0, 0, 0,
         0, 0xC4, 0xF4, 0x2F, 0xEC,
     ];
-    let driven = file(rt.alloc(), &[], &program)?;
-    let told = tell(rt.alloc(), &driven, chip_of(rt.alloc(), &driven)?, 100)?;
-    let samples = [
-        5, 11, 16, 20, 26, 30, 36, 40, 46, 51, 55, 61, 65, 71, 75, 81, 86, 90, 96,
-    ];
-    let mut wanted = Vec::new(rt.alloc());
-    for sample in samples {
-        wanted.push(Record::Port {
-            sample,
-            port: 0,
-            value: 1,
-        })?;
-    }
+    let told = tell(rt.alloc(), &program, 100)?;
     assert_eq!(rt; told.records.as_slice(), wanted.as_slice());
     assert_eq!(rt; (told.frames, told.loud), (100, 0));
     assert_eq!(rt; told.counts, counts_of(20, 19, 0, 1));
@@ -95,9 +109,7 @@ fn a_driver_waits_for_its_timer(rt: HostRuntime) -> Result<(), Fail> {
 /// The longest render: an hour is 115,200,000 samples, in 1,800,000 batches of 64.
 #[test]
 fn a_stopped_processor_is_rendered_for_an_hour(rt: HostRuntime) -> Result<(), Fail> {
-    let stopped = file(rt.alloc(), &[], &[0xFF])?;
-    let chip = chip_of(rt.alloc(), &stopped)?;
-    let told = tell(rt.alloc(), &stopped, chip, 115200000)?;
+    let told = tell(rt.alloc(), &[0xFF], 115200000)?;
     assert_eq!(rt; (told.frames, told.loud), (115200000, 0));
     assert!(rt; told.records.is_empty());
     assert_eq!(rt; told.counts, counts_of(1800000, 0, 1800000, 0));

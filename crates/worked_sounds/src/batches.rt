@@ -1,52 +1,34 @@
 //! One batch of 64 samples beside 64 batches of one, over the registers and the memory of demo file 7.
 
-use crate::chips::{SILENCE, play_masked};
-use aram_core::Aram;
+use crate::stage::{SILENCE, Stage, have_same_bytes, have_same_registers};
 use demo_gen::demo;
-use dsp_core::Dsp;
-use gauss_table::GaussTable;
 use num_fix::Frame;
-use spc_form::opening;
+use spc_form::{OpenState, SpcFile, opening};
 use std::alloc::Global;
 use std::test::Fail;
-use trace_form::{Frames, Record, Records};
+use trace_form::Record;
 
-/// Whether two chips have the same registers.
-fn have_same_registers(one: &Dsp, other: &Dsp) -> bool {
-    for address in 0..128u8 {
-        if one.reg_read(address) != other.reg_read(address) {
-            return false;
-        }
-    }
-    true
-}
-
-/// Whether two memories have the same bytes.
-fn have_same_bytes(one: &Aram, other: &Aram) -> bool {
-    for at in 0..=0xffffu16 {
-        if one.get(at) != other.get(at) {
-            return false;
-        }
-    }
-    true
+/// A chip that opens as the file has it.
+fn opened(alloc: Global, file: &SpcFile) -> Result<Stage, Fail> {
+    let OpenState { memory, dsp, .. } = opening(alloc, file)?;
+    Stage::open(alloc, &dsp, memory)
 }
 
 /// What 64 batches of one sample each give.
-fn played_one_by_one(
-    alloc: Global,
-    dsp: &mut Dsp,
-    memory: &mut Aram,
-) -> Result<(Vec<Frame>, Vec<Record>), Fail> {
-    let mut frame = Frames::new(alloc)?;
-    let mut told = Records::new(alloc)?;
+fn played_one_by_one(alloc: Global, stage: &mut Stage) -> Result<(Vec<Frame>, Vec<Record>), Fail> {
     let mut frames = Vec::new(alloc);
     let mut records = Vec::new(alloc);
     for _ in 0..64 {
-        play_masked(dsp, memory, 1, 0xff, &mut frame, &mut told);
-        frames.extend_from_slice(frame.as_slice())?;
-        records.extend_from_slice(told.as_slice())?;
+        stage.play(1, 0xff);
+        frames.extend_from_slice(stage.frames.as_slice())?;
+        records.extend_from_slice(stage.records.as_slice())?;
     }
     Ok((frames, records))
+}
+
+/// Whether frames begin with six silent ones.
+fn begin_in_silence(frames: &[Frame]) -> bool {
+    frames.iter().take(6).all(|frame| *frame == SILENCE)
 }
 
 /// Whether records begin with those of eight voices that are keyed in sample 0.
@@ -71,34 +53,17 @@ fn begin_with_key_ons(records: &[Record]) -> bool {
 // All eight voices of the file are keyed at its first poll, in sample 0, and silent for six samples.
 #[test]
 fn a_batch_of_64_has_the_frames_and_records_of_64_batches(rt: HostRuntime) -> Result<(), Fail> {
-    let alloc = rt.alloc();
-    let file = demo(alloc, 7)?;
-    let (mut one, mut other) = (opening(alloc, &file)?, opening(alloc, &file)?);
-    let mut whole = Dsp::open(alloc, &one.dsp, GaussTable::straight(alloc)?)?;
-    let mut split = Dsp::open(alloc, &other.dsp, GaussTable::straight(alloc)?)?;
-    let mut frames = Frames::new(alloc)?;
-    let mut records = Records::new(alloc)?;
-    play_masked(
-        &mut whole,
-        &mut one.memory,
-        64,
-        0xff,
-        &mut frames,
-        &mut records,
-    );
-    let (all_frames, all_records) = played_one_by_one(alloc, &mut split, &mut other.memory)?;
-    assert_eq!(rt; (all_frames.len(), all_records.len()), (64, 512));
-    assert!(rt; begin_with_key_ons(records.as_slice()));
-    assert!(rt;
-        frames
-            .as_slice()
-            .iter()
-            .take(6)
-            .all(|frame| *frame == SILENCE)
-    );
-    assert_eq!(rt; frames.as_slice(), all_frames.as_slice());
-    assert_eq!(rt; records.as_slice(), all_records.as_slice());
-    assert!(rt; have_same_registers(&whole, &split) && have_same_bytes(&one.memory, &other.memory));
-    assert_eq!(rt; (whole.batches(), split.batches()), (1, 64));
+    let file = demo(rt.alloc(), 7)?;
+    let mut whole = opened(rt.alloc(), &file)?;
+    let mut split = opened(rt.alloc(), &file)?;
+    whole.play(64, 0xff);
+    let (frames, records) = played_one_by_one(rt.alloc(), &mut split)?;
+    assert_eq!(rt; (frames.len(), records.len()), (64, 512));
+    assert!(rt; begin_with_key_ons(records.as_slice()) && begin_in_silence(frames.as_slice()));
+    assert_eq!(rt; whole.frames.as_slice(), frames.as_slice());
+    assert_eq!(rt; whole.records.as_slice(), records.as_slice());
+    assert!(rt; have_same_registers(&whole.dsp, &split.dsp));
+    assert!(rt; have_same_bytes(&whole.memory, &split.memory));
+    assert_eq!(rt; (whole.dsp.batches(), split.dsp.batches()), (1, 64));
     Ok(())
 }

@@ -1,19 +1,16 @@
 //! Worked examples over whole samples: keys, the echo's window, and the reach.
 
-ghost use Rattle.std.specs.Prelude.{◌≤◌};
-
 use crate::sources::{memory_of_a_source, put_all};
+use crate::stage::{SILENCE, Stage, have_same_bytes, have_same_registers};
 use aram_core::{Aram, PageSet};
 use dsp_core::Dsp;
-use gauss_table::GaussTable;
 use num_fix::Frame;
 use std::alloc::Global;
 use std::test::Fail;
-use trace_form::{Frames, Record, Records};
+use trace_form::Record;
 
-/// A chip whose voice 0 is set to play one source, with such a KON, and the memory with that source.
-fn keyed_voice(alloc: Global, key_on: u8) -> Result<(Dsp, Aram), Fail> {
-    let memory = memory_of_a_source(alloc)?;
+/// A chip whose voice 0 is set to play one source, with such a KON.
+fn keyed_voice(alloc: Global, key_on: u8) -> Result<Stage, Fail> {
     let mut registers = [0; 128];
     registers[0x00] = 0x7f;
     registers[0x01] = 0x7f;
@@ -25,38 +22,17 @@ fn keyed_voice(alloc: Global, key_on: u8) -> Result<(Dsp, Aram), Fail> {
     registers[0x5d] = 0x02;
     registers[0x6c] = 0x20;
     registers[0x6d] = 0xe0;
-    let dsp = Dsp::open(alloc, &registers, GaussTable::straight(alloc)?)?;
-    Ok((dsp, memory))
+    Stage::open(alloc, &registers, memory_of_a_source(alloc)?)
 }
 
 /// The same chip, whose voice 0 waits for a key on.
-fn one_voice(alloc: Global) -> Result<(Dsp, Aram), Fail> {
+fn one_voice(alloc: Global) -> Result<Stage, Fail> {
     keyed_voice(alloc, 0)
 }
 
-/// Makes n samples anew, with the records of the voices in a mask.
-pub fn play_masked(
-    dsp: &mut Dsp,
-    memory: &mut Aram,
-    n: u8,
-    mask: u8,
-    frames: &mut Frames,
-    records: &mut Records,
-)
-    requires { n ≤ 64 }
-{
-    frames.clear();
-    records.clear();
-    if dsp.sample() < 1_000_000 {
-        dsp.advance(n, memory, mask, frames, records);
-    }
-}
-
-/// The same with the records of voice 0.
-fn play(dsp: &mut Dsp, memory: &mut Aram, n: u8, frames: &mut Frames, records: &mut Records)
-    requires { n ≤ 64 }
-{
-    play_masked(dsp, memory, n, 0x01, frames, records);
+/// ENVX and OUTX of voice 0.
+fn results(dsp: &Dsp) -> (u8, u8) {
+    (dsp.reg_read(0x08), dsp.reg_read(0x09))
 }
 
 /// Whether a record is one of voice 0 that was not keyed.
@@ -70,8 +46,6 @@ fn is_quiet(record: &Record) -> bool {
         }
     )
 }
-
-pub const SILENCE: Frame = Frame { left: 0, right: 0 };
 
 const SOUND: Frame = Frame {
     left: 4000,
@@ -92,37 +66,47 @@ struct Made {
     batches: u64,
 }
 
+/// Writes bytes to registers.
+fn write_all(dsp: &mut Dsp, writes: &[(u8, u8)]) {
+    for (address, value) in writes {
+        dsp.reg_write(*address, *value);
+    }
+}
+
+/// Writes registers, and then makes n samples.
+fn take_step(stage: &mut Stage, writes: &[(u8, u8)], n: u8) {
+    write_all(&mut stage.dsp, writes);
+    if n <= 64 {
+        stage.play(n, 0x01);
+    }
+}
+
 /// Makes samples in steps: writes of registers, and then so many samples as one batch.
 fn played(alloc: Global, steps: &[(&[(u8, u8)], u8)]) -> Result<Made, Fail> {
-    let (mut dsp, mut memory) = one_voice(alloc)?;
-    let mut frames = Frames::new(alloc)?;
-    let mut records = Records::new(alloc)?;
-    let mut all_frames = Vec::new(alloc);
-    let mut all_records = Vec::new(alloc);
+    let mut stage = one_voice(alloc)?;
+    let mut frames = Vec::new(alloc);
+    let mut records = Vec::new(alloc);
     for (writes, n) in steps {
-        for (address, value) in *writes {
-            dsp.reg_write(*address, *value);
-        }
-        if *n <= 64 {
-            play(&mut dsp, &mut memory, *n, &mut frames, &mut records);
-        }
-        all_frames.extend_from_slice(frames.as_slice())?;
-        all_records.extend_from_slice(records.as_slice())?;
+        take_step(&mut stage, *writes, *n);
+        frames.extend_from_slice(stage.frames.as_slice())?;
+        records.extend_from_slice(stage.records.as_slice())?;
     }
     Ok(Made {
-        frames: all_frames,
-        records: all_records,
-        results: (dsp.reg_read(0x08), dsp.reg_read(0x89)),
-        sample: dsp.sample(),
-        batches: dsp.batches(),
+        frames,
+        records,
+        results: (stage.dsp.reg_read(0x08), stage.dsp.reg_read(0x89)),
+        sample: stage.dsp.sample(),
+        batches: stage.dsp.batches(),
     })
 }
 
-#[test]
-fn a_key_on_after_a_poll_is_lost_at_the_next(rt: HostRuntime) -> Result<(), Fail> {
-    let made = played(rt.alloc(), &[(&[(0x4c, 0x01)], 1), (&[(0x4c, 0x01)], 7)])?;
-    assert_eq!(rt; made.frames.get(0), Some(&SILENCE));
-    assert!(rt; made.frames.iter().skip(1).eq(SEVEN.iter()));
+/// Whether frames are silence and then these.
+fn are_silence_then(frames: &[Frame], rest: &[Frame]) -> bool {
+    frames.get(0) == Some(&SILENCE) && frames.iter().skip(1).eq(rest.iter())
+}
+
+/// Whether records are of the key on of voice 0 in sample 0, and of it in seven samples more.
+fn are_of_one_key_on(records: &[Record]) -> bool {
     let keyed = Record::Voice {
         sample: 0,
         voice: 0,
@@ -132,25 +116,30 @@ fn a_key_on_after_a_poll_is_lost_at_the_next(rt: HostRuntime) -> Result<(), Fail
         keyed: true,
         looped: false,
     };
-    assert_eq!(rt; made.records.get(0), Some(&keyed));
-    assert_eq!(rt; made.records.len(), 8);
-    assert!(rt; made.records.iter().skip(1).all(is_quiet));
-    assert_eq!(rt; made.results, (127, 15));
-    assert_eq!(rt; (made.sample, made.batches), (8, 2));
+    records.len() == 8 && records.get(0) == Some(&keyed) && records.iter().skip(1).all(is_quiet)
+}
+
+#[test]
+fn a_key_on_after_a_poll_is_lost_at_the_next(rt: HostRuntime) -> Result<(), Fail> {
+    let made = played(rt.alloc(), &[(&[(0x4c, 0x01)], 1), (&[(0x4c, 0x01)], 7)])?;
+    assert!(rt; are_silence_then(made.frames.as_slice(), &SEVEN));
+    assert!(rt; are_of_one_key_on(made.records.as_slice()));
+    assert_eq!(rt;
+        (made.results, made.sample, made.batches),
+        ((127, 15), 8, 2)
+    );
     Ok(())
 }
 
 #[test]
 fn the_first_sound_is_told_in_the_results(rt: HostRuntime) -> Result<(), Fail> {
-    let (mut dsp, mut memory) = keyed_voice(rt.alloc(), 0x01)?;
-    let mut frames = Frames::new(rt.alloc())?;
-    let mut records = Records::new(rt.alloc())?;
-    play(&mut dsp, &mut memory, 6, &mut frames, &mut records);
-    assert_eq!(rt; frames.as_slice(), [SILENCE; 6].as_slice());
-    assert_eq!(rt; (dsp.reg_read(0x08), dsp.reg_read(0x09)), (0, 0));
-    play(&mut dsp, &mut memory, 1, &mut frames, &mut records);
-    assert_eq!(rt; frames.as_slice(), [SOUND].as_slice());
-    assert_eq!(rt; (dsp.reg_read(0x08), dsp.reg_read(0x09)), (127, 15));
+    let mut stage = keyed_voice(rt.alloc(), 0x01)?;
+    stage.play(6, 0x01);
+    assert_eq!(rt; stage.frames.as_slice(), [SILENCE; 6].as_slice());
+    assert_eq!(rt; results(&stage.dsp), (0, 0));
+    stage.play(1, 0x01);
+    assert_eq!(rt; stage.frames.as_slice(), [SOUND].as_slice());
+    assert_eq!(rt; results(&stage.dsp), (127, 15));
     Ok(())
 }
 
@@ -178,88 +167,84 @@ fn the_soft_reset_silences_from_the_next_sample_on(rt: HostRuntime) -> Result<()
     Ok(())
 }
 
+/// The samples, the batches, and the samples that were made in all.
+fn numbers(dsp: &Dsp) -> (u32, u64, u64) {
+    (dsp.sample(), dsp.batches(), dsp.total())
+}
+
 #[test]
 fn what_was_saved_plays_again(rt: HostRuntime) -> Result<(), Fail> {
-    let (mut dsp, mut memory) = one_voice(rt.alloc())?;
-    let mut frames = Frames::new(rt.alloc())?;
-    let mut records = Records::new(rt.alloc())?;
-    dsp.reg_write(0x4c, 0x01);
-    play(&mut dsp, &mut memory, 3, &mut frames, &mut records);
-    let third = dsp.save();
-    play(&mut dsp, &mut memory, 5, &mut frames, &mut records);
     let rest = [SILENCE, SILENCE, SILENCE, SOUND, SOUND];
-    assert_eq!(rt; frames.as_slice(), rest.as_slice());
-    dsp.load(&third);
+    let mut stage = one_voice(rt.alloc())?;
+    take_step(&mut stage, &[(0x4c, 0x01)], 3);
+    let third = stage.dsp.save();
+    stage.play(5, 0x01);
+    assert_eq!(rt; stage.frames.as_slice(), rest.as_slice());
+    stage.dsp.load(&third);
     // neither the batches nor the total go back
-    assert_eq!(rt; (dsp.sample(), dsp.batches(), dsp.total()), (3, 2, 8));
-    play(&mut dsp, &mut memory, 5, &mut frames, &mut records);
-    assert_eq!(rt; frames.as_slice(), rest.as_slice());
-    assert_eq!(rt; (dsp.sample(), dsp.batches(), dsp.total()), (8, 3, 13));
+    assert_eq!(rt; numbers(&stage.dsp), (3, 2, 8));
+    stage.play(5, 0x01);
+    assert_eq!(rt; stage.frames.as_slice(), rest.as_slice());
+    assert_eq!(rt; numbers(&stage.dsp), (8, 3, 13));
     Ok(())
 }
 
-/// Makes n samples anew, and no records.
-fn play_unseen(dsp: &mut Dsp, memory: &mut Aram, n: u8, frames: &mut Frames, records: &mut Records)
-    requires { n ≤ 64 }
-{
-    play_masked(dsp, memory, n, 0, frames, records);
+/// Voice 1 loops at a pitch bent by voice 0, under ADSR, and both are heard in an echo with feedback.
+const BENT_VOICE: [(u8, u8); 15] = [
+    (0x10, 0x40),
+    (0x11, 0xc0),
+    (0x12, 0x34),
+    (0x13, 0x0a),
+    (0x15, 0x8a),
+    (0x16, 0x2c),
+    (0x2c, 0x30),
+    (0x3c, 0x50),
+    (0x2d, 0x02),
+    (0x4d, 0x03),
+    (0x0d, 0x60),
+    (0x7f, 0x70),
+    (0x0f, 0x10),
+    (0x7d, 0x01),
+    (0x6c, 0x00),
+];
+
+/// A chip with that voice beside the one that waits for a key on.
+fn two_voices(alloc: Global) -> Result<Stage, Fail> {
+    let mut stage = one_voice(alloc)?;
+    write_all(&mut stage.dsp, &BENT_VOICE);
+    Ok(stage)
 }
 
-/// Sets voice 1 to loop at a pitch bent by voice 0, under ADSR, and both to be heard in an echo with feedback.
-fn add_a_bent_voice(dsp: &mut Dsp) {
-    let writes = [
-        (0x10, 0x40),
-        (0x11, 0xc0),
-        (0x12, 0x34),
-        (0x13, 0x0a),
-        (0x15, 0x8a),
-        (0x16, 0x2c),
-        (0x2c, 0x30),
-        (0x3c, 0x50),
-        (0x2d, 0x02),
-        (0x4d, 0x03),
-        (0x0d, 0x60),
-        (0x7f, 0x70),
-        (0x0f, 0x10),
-        (0x7d, 0x01),
-        (0x6c, 0x00),
-    ];
-    for (register, byte) in writes {
-        dsp.reg_write(register, byte);
+/// Whether the next n samples, made one by one, are the frames of a batch.
+fn are_made_one_by_one(split: &mut Stage, frames: &[Frame]) -> bool {
+    for frame in frames {
+        split.play(1, 0);
+        if split.frames.as_slice() != [*frame].as_slice() {
+            return false;
+        }
     }
+    true
 }
 
+// A key on waits in the first batch, a key off holds from the third on, and noise takes the place of voice 0 in the last.
 #[test]
 fn a_batch_is_its_samples_one_by_one(rt: HostRuntime) -> Result<(), Fail> {
-    let (mut whole, mut memory) = one_voice(rt.alloc())?;
-    let (mut split, mut other) = one_voice(rt.alloc())?;
-    let mut frames = Frames::new(rt.alloc())?;
-    let mut frame = Frames::new(rt.alloc())?;
-    let mut records = Records::new(rt.alloc())?;
-    add_a_bent_voice(&mut whole);
-    add_a_bent_voice(&mut split);
-    // a key on waits in the first batch, a key off holds from the third on, and noise takes the place of voice 0 in the last
+    let mut whole = two_voices(rt.alloc())?;
+    let mut split = two_voices(rt.alloc())?;
     for (n, register, byte) in [
         (64, 0x4c, 0x03),
         (64, 0x4c, 0x01),
         (63, 0x5c, 0x02),
         (64, 0x3d, 0x01),
     ] {
-        whole.reg_write(register, byte);
-        split.reg_write(register, byte);
-        play_unseen(&mut whole, &mut memory, n, &mut frames, &mut records);
-        for made in frames.as_slice() {
-            play_unseen(&mut split, &mut other, 1, &mut frame, &mut records);
-            assert_eq!(rt; frame.as_slice(), [*made].as_slice());
-        }
-        for address in 0..128u8 {
-            assert_eq!(rt; whole.reg_read(address), split.reg_read(address));
-        }
+        whole.dsp.reg_write(register, byte);
+        split.dsp.reg_write(register, byte);
+        whole.play(n, 0);
+        assert!(rt; are_made_one_by_one(&mut split, whole.frames.as_slice()));
+        assert!(rt; have_same_registers(&whole.dsp, &split.dsp));
     }
-    assert_eq!(rt; (whole.batches(), split.batches()), (4, 255));
-    for at in 0..=0xffffu16 {
-        assert_eq!(rt; memory.get(at), other.get(at));
-    }
+    assert_eq!(rt; (whole.dsp.batches(), split.dsp.batches()), (4, 255));
+    assert!(rt; have_same_bytes(&whole.memory, &split.memory));
     Ok(())
 }
 
@@ -283,33 +268,43 @@ fn are_all(memory: &Aram, from: u16, to: u16, value: u8) -> bool {
     true
 }
 
-#[test]
-fn the_echo_goes_round_its_window(rt: HostRuntime) -> Result<(), Fail> {
-    let ones = vec![in rt.alloc(); 0x11u8; 0x10000]?;
-    let mut memory = Aram::from_image(rt.alloc(), &ones)?;
-    let mut frames = Frames::new(rt.alloc())?;
-    let mut records = Records::new(rt.alloc())?;
+/// A chip whose echo, of 65 samples at first, goes round the end of a memory of ones.
+fn echo_round_the_end(alloc: Global) -> Result<Stage, Fail> {
+    let ones = vec![in alloc; 0x11u8; 0x10000]?;
     let mut registers = [0; 128];
     registers[0x6d] = 0xff;
     registers[0x7d] = 0x01;
-    let mut dsp = Dsp::open(rt.alloc(), &registers, GaussTable::straight(rt.alloc())?)?;
-    play(&mut dsp, &mut memory, 64, &mut frames, &mut records);
-    play(&mut dsp, &mut memory, 1, &mut frames, &mut records);
-    assert_eq!(rt; zeros_from(&memory, 0xff00), 0x104);
-    assert!(rt; are_all(&memory, 0x0004, 0xfeff, 0x11));
-    dsp.reg_write(0x7d, 0x02);
-    for n in [64, 64, 64, 64, 64, 64, 63] {
-        play(&mut dsp, &mut memory, n, &mut frames, &mut records);
+    Stage::open(alloc, &registers, Aram::from_image(alloc, &ones)?)
+}
+
+/// Makes samples in batches.
+fn play_all(stage: &mut Stage, batches: &[u8]) {
+    for n in batches {
+        take_step(stage, &[], *n);
     }
+}
+
+#[test]
+fn the_echo_goes_round_its_window(rt: HostRuntime) -> Result<(), Fail> {
+    let mut stage = echo_round_the_end(rt.alloc())?;
+    play_all(&mut stage, &[64, 1]);
+    assert_eq!(rt; zeros_from(&stage.memory, 0xff00), 0x104);
+    assert!(rt; are_all(&stage.memory, 0x0004, 0xfeff, 0x11));
+    stage.dsp.reg_write(0x7d, 0x02);
+    play_all(&mut stage, &[64, 64, 64, 64, 64, 64, 63]);
     // the 512 cells of the first length are done, and the next is the first one again
-    assert_eq!(rt; (dsp.sample(), zeros_from(&memory, 0xff00)), (512, 0x800));
-    put_all(&mut memory, 0xff00, &[0x11, 0x11, 0x11, 0x11]);
-    play(&mut dsp, &mut memory, 1, &mut frames, &mut records);
-    assert_eq!(rt; zeros_from(&memory, 0xff00), 0x800);
-    for _ in 0..8 {
-        play(&mut dsp, &mut memory, 64, &mut frames, &mut records);
-    }
-    assert_eq!(rt; (dsp.sample(), zeros_from(&memory, 0xff00)), (1025, 0x804));
+    assert_eq!(rt;
+        (stage.dsp.sample(), zeros_from(&stage.memory, 0xff00)),
+        (512, 0x800)
+    );
+    put_all(&mut stage.memory, 0xff00, &[0x11, 0x11, 0x11, 0x11]);
+    play_all(&mut stage, &[1]);
+    assert_eq!(rt; zeros_from(&stage.memory, 0xff00), 0x800);
+    play_all(&mut stage, &[64, 64, 64, 64, 64, 64, 64, 64]);
+    assert_eq!(rt;
+        (stage.dsp.sample(), zeros_from(&stage.memory, 0xff00)),
+        (1025, 0x804)
+    );
     Ok(())
 }
 
@@ -318,21 +313,21 @@ fn has_exactly(pages: &PageSet, numbers: &[u8]) -> bool {
     (0..=255u8).all(|page| pages.has(page) == numbers.contains(&page))
 }
 
+/// Whether the samples to come read exactly these pages and write exactly those.
+fn reaches_exactly(stage: &Stage, read: &[u8], written: &[u8]) -> bool {
+    let reach = stage.dsp.reach(&stage.memory);
+    has_exactly(&reach.read_pages, read) && has_exactly(&reach.write_pages, written)
+}
+
 #[test]
 fn the_reach_has_the_start_of_a_voice_whose_key_on_waits(rt: HostRuntime) -> Result<(), Fail> {
-    let (mut dsp, memory) = one_voice(rt.alloc())?;
+    let mut stage = one_voice(rt.alloc())?;
     // the block at 0000h of all voices, the directory's entry at 0200h, and the echo's cell at E000h
-    let idle = dsp.reach(&memory);
-    assert!(rt; has_exactly(&idle.read_pages, &[0x00, 0x02, 0xe0]));
-    assert!(rt; has_exactly(&idle.write_pages, &[]));
-    assert_eq!(rt; idle.entangled, false);
+    assert!(rt; reaches_exactly(&stage, &[0x00, 0x02, 0xe0], &[]));
+    assert_eq!(rt; stage.dsp.reach(&stage.memory).entangled, false);
     // with the first block of voice 0 and the one to which it loops; and an echo that writes where that one is
-    dsp.reg_write(0x4c, 0x01);
-    dsp.reg_write(0x6c, 0x00);
-    dsp.reg_write(0x6d, 0x06);
-    let keyed = dsp.reach(&memory);
-    assert!(rt; has_exactly(&keyed.read_pages, &[0x00, 0x02, 0x05, 0x06]));
-    assert!(rt; has_exactly(&keyed.write_pages, &[0x06]));
-    assert_eq!(rt; keyed.entangled, true);
+    write_all(&mut stage.dsp, &[(0x4c, 0x01), (0x6c, 0x00), (0x6d, 0x06)]);
+    assert!(rt; reaches_exactly(&stage, &[0x00, 0x02, 0x05, 0x06], &[0x06]));
+    assert_eq!(rt; stage.dsp.reach(&stage.memory).entangled, true);
     Ok(())
 }

@@ -11,4 +11,6 @@ mod echoes;
 #[cfg(test)]
 mod sources;
 #[cfg(test)]
+mod stage;
+#[cfg(test)]
 mod voices;

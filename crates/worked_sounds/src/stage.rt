@@ -1,0 +1,71 @@
+//! A chip at play.
+
+ghost use Rattle.std.specs.Prelude.{◌≤◌};
+
+use aram_core::Aram;
+use dsp_core::Dsp;
+use gauss_table::GaussTable;
+use num_fix::Frame;
+use std::alloc::Global;
+use std::test::Fail;
+use trace_form::{Frames, Records};
+
+pub const SILENCE: Frame = Frame { left: 0, right: 0 };
+
+/// A chip with its memory, and what its last batch made.
+#[derive(Drop)]
+pub struct Stage {
+    pub dsp: Dsp,
+    pub memory: Aram,
+    pub frames: Frames,
+    pub records: Records,
+}
+
+impl Stage {
+    /// A chip with these registers, before its first sample.
+    pub fn open(alloc: Global, registers: &[u8; 128], memory: Aram) -> Result<Stage, Fail> {
+        Ok(Stage {
+            dsp: Dsp::open(alloc, registers, GaussTable::straight(alloc)?)?,
+            memory,
+            frames: Frames::new(alloc)?,
+            records: Records::new(alloc)?,
+        })
+    }
+
+    /// Makes n samples anew, with the records of the voices in a mask.
+    pub fn play(&mut self, n: u8, mask: u8)
+        requires { n ≤ 64 }
+    {
+        self.frames.clear();
+        self.records.clear();
+        if self.dsp.sample() < 1_000_000 {
+            self.dsp.advance(
+                n,
+                &mut self.memory,
+                mask,
+                &mut self.frames,
+                &mut self.records,
+            );
+        }
+    }
+}
+
+/// Whether two chips have the same registers.
+pub fn have_same_registers(one: &Dsp, other: &Dsp) -> bool {
+    for address in 0..128u8 {
+        if one.reg_read(address) != other.reg_read(address) {
+            return false;
+        }
+    }
+    true
+}
+
+/// Whether two memories have the same bytes.
+pub fn have_same_bytes(one: &Aram, other: &Aram) -> bool {
+    for at in 0..=0xffffu16 {
+        if one.get(at) != other.get(at) {
+            return false;
+        }
+    }
+    true
+}
