@@ -1,6 +1,5 @@
 pub mod Driven
 pub mod ByClock
-pub mod TrueTests
 pub mod Steady
 pub mod EveryRow
 pub mod Beyond

@@ -1,5 +1,6 @@
 -- Which accesses an instruction makes after its opcode, in order, whatever the bytes: each with its role and its address. This
--- table is this project's own, and knows nothing of how the lines are written.
+-- table is this project's own. It shares with the lines of the scripts the words for a byte of the direct page, for the next byte in
+-- its page, for an entry of TCALL's table and for the stack pointer, and knows nothing else of how these are written.
 use Rattle.std.specs.Prelude.{◌≡◌, ◌⊎◌, ℕ, ◌+◌, ◌*◌, ◌%◌, List, [], ◌∷◌, ◌++◌, replicate, Bool, true, false, if◌then◌else◌}
 use Rattle.spc700_table.specs.declared.Form.{Form}
 use Rattle.spc700_table.specs.declared.Form.TheVariants.{None, A, X, Y, Ya, Psw, Sp, Carry, Imm, Direct, DirectX, DirectY, Abs, AbsX, AbsY, PtrX, PtrY, PtrXInc, IndX, IndY, AbsPtrX, Bit, NotBit, DirectBit, Rel, Upper, Table}
