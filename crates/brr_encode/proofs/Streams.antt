@@ -1,7 +1,6 @@
 -- The blocks of an encoding, one by one and decoded, and their reports.
 use Rattle.std.proofs.Common.{◌≡◌, ℕ, zero, suc, ◌+◌, ◌*◌, ◌/◌, ◌%◌, ◌<◌, Bool, true, false, ◌==◌, ℤ, pos, List, [], ◌∷◌, ◌++◌, length, take, drop, refl, sym, ap, ◌∙◌, arith, append_assoc, length-append}
-use Rattle.std.proofs.Math.Seq.{drop-append_seam, take-append_seam}
-use Rattle.std.proofs.lemmas.List.{length-take-le, length-drop}
+use Rattle.std.proofs.lemmas.List.{length-take-le, length-drop, take_at, drop_at}
 use Rattle.num_fix.specs.Words.{number_at}
 use Rattle.brr_decode.specs.Kept.{Digit, kept_sample, digits_of, digits_under, samples_of}
 use Rattle.brr_decode.proofs.Samples.{kept_after, length-kept_after, samples_of-is}
@@ -133,13 +132,6 @@ length-blocks_of (suc count) first looped p1 p2 targets sized =
     let ih = length-blocks_of count false looped (number_at kept 15) (number_at kept 14) (drop 16 targets) left in
     length-append (block_of first (count == 0) looped p1 p2 (take 16 targets)) _ ∙ omega (arith, block, ih)
 
--- the first part of two, where its length is known
-take_first : {X : Type 0} (n : ℕ) (xs ys : List X) → length xs ≡ n → take n (xs ++ ys) ≡ xs
-take_first n xs ys is = ap (λ (k : ℕ). take k (xs ++ ys)) (sym is) ∙ take-append_seam xs ys
-
-drop_first : {X : Type 0} (n : ℕ) (xs ys : List X) → length xs ≡ n → drop n (xs ++ ys) ≡ ys
-drop_first n xs ys is = ap (λ (k : ℕ). drop k (xs ++ ys)) (sym is) ∙ drop-append_seam xs ys
-
 -- the reports, read off the blocks and their kept samples
 reports_of_kept : (count : ℕ) (first looped : Bool) (p1 p2 : ℤ) (targets : List ℤ) → length targets ≡ 16 * count
     → block_reports count first looped p1 p2 targets ≡ reports_from count (blocks_of count first looped p1 p2 targets) (kept_of count first p1 p2 targets) targets
@@ -154,9 +146,9 @@ reports_of_kept (suc count) first looped p1 p2 targets sized =
     let others = kept_of count false (number_at kept 15) (number_at kept 14) (drop 16 targets) in
     let sixteen : length block ≡ 16 = length-take-le 16 targets (omega (arith, sized)) in
     let left : length (drop 16 targets) ≡ 16 * count = length-drop 16 targets ∙ omega (arith, sized) in
-    let here = take_first 16 kept others (length-greedy_samples h p1 p2 block ∙ sixteen) in
-    let after = drop_first 16 kept others (length-greedy_samples h p1 p2 block ∙ sixteen) in
-    let bytes_after = drop_first 9 bytes rest (length-block_of first (count == 0) looped p1 p2 block sixteen) in
+    let here = take_at kept others 16 (length-greedy_samples h p1 p2 block ∙ sixteen) in
+    let after = drop_at kept others 16 (length-greedy_samples h p1 p2 block ∙ sixteen) in
+    let bytes_after = drop_at bytes rest 9 (length-block_of first (count == 0) looped p1 p2 block sixteen) in
     ap (λ (l : List BlockReport). record { header = h + e; worst = worst kept block; squares = squares kept block } ∷ l)
     (reports_of_kept count false looped (number_at kept 15) (number_at kept 14) (drop 16 targets) left)
     ∙ (λ i. record { header = h + e; worst = worst (sym here i) block; squares = squares (sym here i) block } ∷ reports_from count (sym bytes_after i) (sym after i) (drop 16 targets))

@@ -6,7 +6,7 @@ use Rattle.std.specs.Prelude.{IsSomeAnd}
 use Rattle.snd_host.specs.Host.{HostState, Given, Output}
 use Rattle.command_frame.specs.Delivery.{Gains, all_ended}
 use Rattle.command_frame.specs.Conduct.{HasComplaint}
-use Rattle.command_frame.specs.Leaves.{Leaves, ReportsLast, ReportsBehindEnded, Complains}
+use Rattle.command_frame.specs.Leaves.{Leaves, ReportsLast, ReportsAfterEnded, Complains}
 
 pub leaves : (report complaint : List ℕ) (outputs : List Output) (flags : List Bool) (x z : HostState) → Gains report complaint outputs flags x z → Leaves report outputs flags x z
 leaves report complaint outputs flags x z gains = record {
@@ -38,7 +38,7 @@ reports_last {C = C} a report complaint outputs flags x z gains last before told
 
 -- and behind outputs that were ended, whatever the answer was
 pub reports_behind_ended : (report complaint : List ℕ) (outputs : List Output) (flags : List Bool) (x z : HostState) → Gains report complaint outputs flags x z →
-    (report ≢ [] → flags ≡ all_ended outputs) → ReportsBehindEnded x z
+    (report ≢ [] → flags ≡ all_ended outputs) → ReportsAfterEnded x z
 reports_behind_ended report complaint outputs flags x z gains last before told now told_now grew =
     let done_so : Answer (Unit {0}) = done outputs report in
     let told_last = reports_last done_so report complaint outputs flags x z gains (λ some. (refl, last some)) before told now told_now grew in

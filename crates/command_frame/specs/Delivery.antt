@@ -1,6 +1,6 @@
 -- What a delivery makes on a host: outputs that are created, written and ended, and then the report.
 use Rattle.std.specs.Prelude.{◌≡◌, ◌≢◌, ℕ, ◌+◌, ◌-◌, ◌≤◌, ◌<◌, Bool, true, List, [], ◌∷◌, ◌++◌, length, map, Some, Result, IsOk, OnOk, OnErr, slice_index}
-use Rattle.snd_host.specs.Host.{HostState, Given, Output, IfTold, Rose, IsPrefix, most_outputs}
+use Rattle.snd_host.specs.Host.{HostState, Given, Output, IfTold, Rose, IsPrefix, most_outputs, longest_name}
 
 -- Two outputs more have numbers below 2 ^ 32.
 abbrev pub CanDeliver : HostState → Type 0
@@ -34,11 +34,11 @@ EndedAreWhole (o ∷ begun) [] outputs = Unit {0}
 EndedAreWhole (o ∷ begun) (flag ∷ flags) [] = Unit {0}
 EndedAreWhole (o ∷ begun) (flag ∷ flags) (output ∷ outputs) = (flag ≡ true → o.bytes ≡ output.bytes) × EndedAreWhole begun flags outputs
 
--- Each of these outputs, the first of which gets the number n, has a room that takes it and a name of at most 200 bytes.
+-- Each of these outputs, the first of which gets the number n, has a room that takes it and a name that is not too long.
 abbrev pub HaveRooms : List Output → List ℕ → ℕ → Type 0
 HaveRooms [] rooms n = Unit {0}
 HaveRooms (output ∷ outputs) rooms n =
-    (n < length rooms) × (length output.bytes ≤ slice_index rooms n) × (length output.name ≤ 200) × HaveRooms outputs rooms (n + 1)
+    (n < length rooms) × (length output.bytes ≤ slice_index rooms n) × (length output.name ≤ longest_name) × HaveRooms outputs rooms (n + 1)
 
 -- a flag for each of these outputs: it was ended
 abbrev pub all_ended : List Output → List Bool

@@ -34,8 +34,8 @@ ReportsLast a old new = IfTold old.given (λ before. IfTold new.given (λ now. n
     (now.created ≡ before.created ++ outputs_of a) × (new.ended ≡ old.ended ++ all_ended (outputs_of a))))
 
 -- Where the report grew, all outputs that were created before are ended, whether it is told what the answer was or not.
-abbrev pub ReportsBehindEnded : HostState → HostState → Type 0
-ReportsBehindEnded old new = IfTold old.given (λ before. IfTold new.given (λ now. now.report ≢ before.report →
+abbrev pub ReportsAfterEnded : HostState → HostState → Type 0
+ReportsAfterEnded old new = IfTold old.given (λ before. IfTold new.given (λ now. now.report ≢ before.report →
     (outputs : List Output) × (now.created ≡ before.created ++ outputs) × (new.ended ≡ old.ended ++ all_ended outputs)))
 
 -- The complaint grew by a prefix of this line, and by all of it where the count of notes didn't rise.

@@ -7,7 +7,7 @@ use crate::test_support::{
 };
 use crate::{RenderOptions, render};
 use command_tests::{
-    DSP, FIVE, Frames, MEMORY, Outcome, Pieces, ROOM, file_of, host_with, straight_table,
+    DSP, FIVE, Frames, MEMORY, Outcome, Pieces, ROOM, file_of, host_with, straight_table, wave_of,
 };
 use status_lines::Status;
 use std::alloc::Global;
@@ -310,19 +310,27 @@ fn files_and_then_tables_are_refused(rt: HostRuntime) -> Result<(), Fail> {
     Ok(())
 }
 
-/// The first call of a render with these options that leaves what it may not where it fails.
+/// What a render of eight samples reports.
+const EIGHT: &str = "samples 8\nbatches 1 register 0 memory 0 echo 0 full 0 events 0 end 1\n";
+
+/// The first call of a render of eight samples that leaves what it may not where it fails. No call is left that could fail after the
+/// last one, so that then all stands.
 fn first_lawless_call(alloc: Global, options: RenderOptions<'_>) -> Result<Option<u32>, Fail>
     requires { SamplesWithinHour options.samples }
 {
     let file = tune_of(alloc, FIVE, &[])?;
     let table = straight_table(alloc)?;
+    let wave = wave_of(alloc, &[(6, 0), (2, 4000)])?;
     let whole = render_straight(alloc, file.as_slice(), options)?;
-    for call in 0..whole.calls() {
+    for call in 0..=whole.calls() {
         let outcome = render_failing(alloc, file.as_slice(), table.as_slice(), options, &[call])?;
         // The file is opened and read 18 times, the table twice.
-        let holds = match call {
-            0..22 => outcome.is_unread(call),
-            _ => outcome.is_cut_off(&whole),
+        let holds = if call < 22 {
+            outcome.is_unread(call)
+        } else if call < whole.calls() {
+            outcome.is_cut_off(&whole)
+        } else {
+            outcome.is_done(wave.as_slice(), EIGHT)
         };
         if !holds {
             return Ok(Some(call));

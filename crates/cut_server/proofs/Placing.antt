@@ -5,8 +5,8 @@ use Rattle.std.specs.List.{slice_get, count_by}
 use Rattle.std.specs.Str.{bytes_eq}
 use Rattle.std.proofs.lemmas.List.{length-map, length-set, get_or-map, get_or-set_same, get_or-set_other, map_push, take_more, take_more_set, length-take-le, length_push, get_or_append_left, get_or_push}
 use Rattle.std.proofs.lemmas.List.Sums.{sum_by-cons, sum_by_push, sum_by_more, sum_by-take-le, count_by-le-length}
-use Rattle.std.proofs.lemmas.Option.{get_or_from_slice_get, slice_get-get_or}
-use Rattle.std.proofs.lemmas.Bool.{cases_Bool, cases_eq, cases_lt}
+use Rattle.std.proofs.lemmas.Option.{get_or_from_slice_get, slice_get-get_or, same_Some}
+use Rattle.std.proofs.lemmas.Bool.{cases_Bool, cases_eq, cases_lt, true≢false}
 use Rattle.std.proofs.lemmas.Bool.Decides.{nat_tests}
 use Rattle.std.proofs.lemmas.Slice.Eq.{bytes_eq-Decides}
 use Rattle.page_pool.specs.declared.slot.Slot.{Slot}
@@ -147,12 +147,6 @@ placed_none old newest pages = record {
 bytes_same : (xs ys : List ℕ) → bytes_eq xs ys ≡ true → xs ≡ ys
 bytes_same xs ys test = search (rules, bytes_eq-Decides)
 
-some_same : (a b : Bool) → Some a ≡ Some b → a ≡ b
-some_same a b same = cc
-
-true_not_false : true ≡ false → ⊥
-true_not_false same = cc
-
 -- a slot of the newest wasn't placed at an earlier page
 placed_earlier : (old mid : List Slot) (newest : List ℕ) (pages : List (List ℕ)) (placed : List ℕ) (slot : ℕ) → ArePlaced old mid newest pages placed → AreOwned old most_named newest → AreApart newest
     → slot ≡ slice_index newest (length placed) → length placed < length newest → IsNamedAt placed slot → ⊥
@@ -182,7 +176,7 @@ shared_more old mid new newest pages placed slot most are was apart owned within
     let same : slot_at (after_share mid slot) slot ≡ with_owner (slot_at mid slot) = get_or-set_same mid slot (with_owner (slot_at mid slot)) free_slot there in
     let held : get_or (pages_in mid newest) n [] ≡ (slot_at mid slot).bytes = get_or-map (λ k. (slot_at mid k).bytes) newest n 0 [] facts.1 ∙ ap (λ k. (slot_at mid k).bytes) (sym named) in
     let inside : n < length (pages_in mid newest) = omega (arith, length-map newest (λ k. (slot_at mid k).bytes)) in
-    let tested : bytes_eq (get_or pages n []) (get_or (pages_in mid newest) n []) ≡ true = some_same _ _ (sym (slice_get-by_places bytes_eq pages (pages_in mid newest) n [] [] within inside) ∙ is) in
+    let tested : bytes_eq (get_or pages n []) (get_or (pages_in mid newest) n []) ≡ true = same_Some _ _ (sym (slice_get-by_places bytes_eq pages (pages_in mid newest) n [] [] within inside) ∙ is) in
     let equal : get_or pages n [] ≡ (slot_at mid slot).bytes = bytes_same _ _ tested ∙ held in
     let test : nat_eq slot (get_or newest n 0) ≡ true = grind (arith, nat_tests) in
     record {
@@ -233,7 +227,7 @@ taken_more old mid new newest pages placed slot most are owned is placed_here =
 pub shared_within : (pool : List Slot) (newest memory : List ℕ) (page : ℕ) → slice_get (shared_slots pool newest (pages_of memory)) page ≡ Some true → page < 256 → page < length newest
 shared_within pool newest memory page is within = elim (cases_lt page (length newest)) [
   | inl inside ↦ inside
-  | inr past ↦ absurd (true_not_false (some_same true false (sym is ∙ slot_unshared pool newest memory page past within)))
+  | inr past ↦ absurd (true≢false (same_Some true false (sym is ∙ slot_unshared pool newest memory page past within)))
 ]
 
 -- the two ways of placing
@@ -241,13 +235,13 @@ pub is_placed_shared : (old new : List Slot) (newest : List ℕ) (pages : List (
     → IsPlaced old new newest pages page slot
 is_placed_shared old new newest pages page slot is named within shared = record {
   shared = λ same. (named, within, shared);
-  taken = λ other. absurd (true_not_false (some_same true false (sym is ∙ other)));
+  taken = λ other. absurd (true≢false (same_Some true false (sym is ∙ other)));
 }
 
 pub is_placed_taken : (old new : List Slot) (newest : List ℕ) (pages : List (List ℕ)) (page slot : ℕ) → slice_get (shared_slots old newest pages) page ≡ Some false → slot < length old → slot_at old slot ≡ free_slot
     → new ≡ after_take old slot (slice_index_or pages page []) → IsPlaced old new newest pages page slot
 is_placed_taken old new newest pages page slot is within free taken = record {
-  shared = λ same. absurd (true_not_false (some_same true false (sym same ∙ is)));
+  shared = λ same. absurd (true≢false (same_Some true false (sym same ∙ is)));
   taken = λ other. (within, free, taken);
 }
 

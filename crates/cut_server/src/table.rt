@@ -33,13 +33,14 @@ pub(crate) struct Table<S: Copy> {
 
 impl<S: Copy> Model for Table<S> {
     ghost use Rattle.std.specs.Prelude.{◌≤◌, vec_capacity};
+    ghost use Rattle.cut_form.specs.Checkpoints.{most_checkpoints};
     ghost use Rattle.cut_server.specs.Table.{TableState, IsKept};
 
     ghost Value = { TableState S };
 
     ghost view = { λ t. record { pool = t.pool; marks = t.marks.items } };
 
-    ghost invariant = { λ t. (64 ≤ vec_capacity t.marks) × IsKept t.pool t.marks.items };
+    ghost invariant = { λ t. (most_checkpoints ≤ vec_capacity t.marks) × IsKept t.pool t.marks.items };
 }
 
 /// The pages of the newest mark, if there is one.

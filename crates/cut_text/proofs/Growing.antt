@@ -1,5 +1,5 @@
 -- A list that grows by what a line says.
-use Rattle.std.proofs.Common.{◌≡◌, ℕ, ◌+◌, List, [], ◌∷◌, ◌++◌, length, refl, ap, sym, ◌∙◌, arith}
+use Rattle.std.proofs.Common.{◌≡◌, ℕ, ◌+◌, List, [], ◌∷◌, ◌++◌, length, refl, ap, sym, ◌∙◌}
 use Rattle.std.specs.Prelude.{Option, Some, None, Result, Ok, Err}
 use Rattle.std.proofs.lemmas.List.{append_assoc, append-nil}
 use Rattle.cut_form.specs.TextLines.{said_before}
@@ -26,12 +26,6 @@ one_first one (Err wrong) = refl
 pub one_before : {A : Type 0} (old : List A) (one : A) (said : Result (List A) ℕ) → list_before old (list_before (one ∷ []) said) ≡ list_before (old ++ one ∷ []) said
 one_before old one (Ok more) = ap Ok (sym (append_assoc old (one ∷ []) more))
 one_before old one (Err wrong) = refl
-
-pub length_more : {A : Type 0} (list : List A) (one : A) → length (list ++ one ∷ []) ≡ length list + 1
-length_more [] one = refl
-length_more (first ∷ list) one =
-    let rest = length_more list one in
-    omega (arith, rest)
 
 -- what all lines say is what the later ones say after a list that has what the next line says too
 pub said_more : {A : Type 0} (said : Result (List A) ℕ) (said_after : List A → Result (List A) ℕ) (old new : List A) (next : Option A) →

@@ -4,6 +4,7 @@ use Rattle.std.specs.Prelude.{◌==◌, true, Option, Some, None, Result, Err}
 use Rattle.std.specs.List.{slice_split}
 use Rattle.std.proofs.lemmas.Grind.{common_steps}
 use Rattle.std.proofs.lemmas.List.Sums.{sum_by_push}
+use Rattle.std.proofs.lemmas.List.{length_push}
 use Rattle.num_fix.specs.Limits.{most_frames}
 use Rattle.cut_form.specs.declared.cut.Cut.{Cut}
 use Rattle.cut_form.specs.TextLines.{line_words, said_before}
@@ -13,7 +14,7 @@ use Rattle.cut_text.specs.declared.refusal.TextRefusal.{TextRefusal}
 use Rattle.text_parts.specs.Parts.{parts_left}
 use Rattle.cut_text.specs.Cuts.{EndWithinHour, IsListed, fits_after, next_cut}
 use Rattle.cut_text.specs.Reading.{Tells, OneMore, IsWrongAfter}
-use Rattle.cut_text.proofs.Growing.{list_before, one_first, one_before, length_more, said_more, tells_wrong}
+use Rattle.cut_text.proofs.Growing.{list_before, one_first, one_before, said_more, tells_wrong}
 use Rattle.cut_text.proofs.ThirdWord.{third_word}
 
 -- what lines say after a list
@@ -30,7 +31,7 @@ said_cut old line lines cut is =
     ap (list_before old) step
     ∙ ap (list_before old) (one_first cut (cuts_from (length old + 1 + 1) (cut_samples old + cut.count) lines))
     ∙ one_before old cut (cuts_from (length old + 1 + 1) (cut_samples old + cut.count) lines)
-    ∙ ap (λ (n : ℕ). list_before (old ++ cut ∷ []) (cuts_from (n + 1) (cut_samples old + cut.count) lines)) (sym (length_more old cut))
+    ∙ ap (λ (n : ℕ). list_before (old ++ cut ∷ []) (cuts_from (n + 1) (cut_samples old + cut.count) lines)) (sym (length_push old cut))
     ∙ ap (λ (n : ℕ). list_before (old ++ cut ∷ []) (cuts_from (length (old ++ cut ∷ []) + 1) n lines)) (sym (samples_more old cut))
 
 said_wrong : (old : List Cut) (line : List ℕ) (lines : List (List ℕ)) → next_cut old line ≡ None → said_after old (line ∷ lines) ≡ Err (length old + 1)
@@ -63,7 +64,7 @@ listed_pushed : (cuts : List Cut) (total : ℕ) (cut : Cut) → IsListed cuts to
 listed_pushed cuts total cut listed fits = record {
   samples = ap (λ (n : ℕ). n + cut.count) listed.samples ∙ sym (samples_more cuts cut);
   few_samples = omega (arith, listed.samples, fits_together cuts cut fits);
-  few = omega (arith, fits_in_number cuts cut fits, length_more cuts cut);
+  few = omega (arith, fits_in_number cuts cut fits, length_push cuts cut);
   within = within_more cuts cut listed.within (fits_end cuts cut fits);
 }
 

@@ -1,8 +1,8 @@
 -- Rows that a loop fills entry by entry, and the pairs of two rows.
 use Rattle.std.proofs.Common.{◌≡◌, ◌≢◌, ℕ, zero, suc, ◌+◌, ◌<◌, ◌≤◌, ◌==◌, Bool, true, false, List, [], ◌∷◌, ◌++◌, ℤ, length, map, take, drop, get_or, set, slice_set, refl, ap, sym, ◌∙◌, add-one, arith}
 use Rattle.std.proofs.lemmas.Bool.Decides.{nat_tests}
-use Rattle.std.proofs.lemmas.List.{get_or-set_same, get_or-set_other, map-append, drop-append-le, drop-take, drop-map}
-use Rattle.std.proofs.Math.Seq.{take-suc, take-suc-set, take-length}
+use Rattle.std.proofs.lemmas.List.{get_or-set_same, get_or-set_other, map-append, drop-append-le, drop-take, drop-map, take_more_set}
+use Rattle.std.proofs.Math.Seq.{take-suc, take-length}
 use Rattle.num_fix.specs.declared.Frame.{Frame}
 
 -- the entries of a row below a place, and that place
@@ -14,9 +14,6 @@ with_entry f row n x d within before is j below = by (j == n) refl
     by true e = let here : j ≡ n = grind (arith, nat_tests, e) in rw here (get_or-set_same row n x d within ∙ is)
     by false e = let other : j ≢ n = grind (arith, nat_tests, e) in get_or-set_other row n j x d other ∙ before j (omega (arith, below, other))
 
-pub take_more : {X : Type 0} (l : List X) (n : ℕ) (x : X) → n < length l → take (n + 1) (set l n x) ≡ take n l ++ x ∷ []
-take_more l n x within = rw add-one (take-suc-set l n x within)
-
 pub take_all : {X : Type 0} (l : List X) (n : ℕ) → length l ≡ n → take n l ≡ l
 take_all l n long = rw (← long) (take-length l)
 
@@ -24,7 +21,7 @@ take_all l n long = rw (← long) (take-length l)
 pub row_more : (side : Frame → ℤ) (row : List ℤ) (pairs : List Frame) (k : ℕ) (x : ℤ) (pair : Frame) → k < length row → take k row ≡ map side pairs → x ≡ side pair
     → take (k + 1) (set row k x) ≡ map side (pairs ++ pair ∷ [])
 row_more side row pairs k x pair within before is =
-    take_more row k x within ∙ (rw (before, is) (sym (map-append side pairs (pair ∷ []))))
+    take_more_set row k x within ∙ (rw (before, is) (sym (map-append side pairs (pair ∷ []))))
 
 -- of the pairs of a list one more
 pub pairs_more : (side : Frame → ℤ) (row : List ℤ) (pairs : List Frame) (k : ℕ) (x : ℤ) (d : Frame) → k < length row → k < length pairs

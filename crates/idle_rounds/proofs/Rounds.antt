@@ -2,6 +2,7 @@
 use Rattle.std.proofs.Common.{◌≡◌, ℕ, zero, suc, ◌+◌, ◌-◌, ◌*◌, ◌≤◌, Bool, true, false, nat_lt, refl, sym, ap, ◌∙◌, subst, arith, Option, Some, None}
 use Rattle.std.specs.Prelude.{if◌then◌else◌}
 use Rattle.std.proofs.lemmas.Bool.Decides.{nat_tests}
+use Rattle.std.proofs.lemmas.Option.{same_Some}
 use Rattle.spc700_exec.specs.declared.cpu.Cpu.{Cpu}
 use Rattle.spc700_exec.specs.Bus.{BusMeaning, byte_read, after_read}
 use Rattle.spc700_exec.specs.Script.{Script, Read, Write, End, Cycles, ToSample, outcome}
@@ -15,11 +16,8 @@ then_some : {A X : Type 0} (o : Option A) (next : A → Option X) (x : X) → th
 then_some None next x h = absurd (cc)
 then_some (Some a) next x h = (a, refl, h)
 
-same_some : {A : Type 0} (x y : A) → Some x ≡ Some y → x ≡ y
-same_some x y h = cc
-
 same_pair : (v w : Cpu × ℕ) → Some v ≡ Some w → (v.0 ≡ w.0) × (v.1 ≡ w.1)
-same_pair v w h = let e = same_some v w h in (ap (λ (x : Cpu × ℕ). x.0) e, ap (λ (x : Cpu × ℕ). x.1) e)
+same_pair v w h = let e = same_Some v w h in (ap (λ (x : Cpu × ℕ). x.0) e, ap (λ (x : Cpu × ℕ). x.1) e)
 
 look_of_script-least : (sees : ℕ → Option ℕ) (t : Script) (made : ℕ) (cpu : Cpu) (cycles : ℕ) → look_of_script sees made t ≡ Some (cpu, cycles) → made ≤ cycles
 look_of_script-least sees (Read at next) made cpu cycles h =

@@ -1,6 +1,6 @@
 -- What a step tells over a bus that only looks.
 use Rattle.std.proofs.Common.{◌≡◌, ℕ, suc, ◌+◌, ◌-◌, Bool, true, false, ◌&&◌, nat_lt, refl, sym, ap, ◌∙◌, arith, Option, Some, None}
-use Rattle.std.proofs.lemmas.Bool.{and_parts}
+use Rattle.std.proofs.lemmas.Bool.{and_parts, both_ways}
 use Rattle.std.specs.Prelude.{if◌then◌else◌, unwrap_or, is_some}
 use Rattle.std.proofs.lemmas.Bool.Decides.{nat_tests}
 use Rattle.spc700_exec.specs.declared.cpu.Cpu.{Cpu}
@@ -14,9 +14,6 @@ use Rattle.idle_rounds.proofs.Halting.{HaltsToSample-script}
 seen_then : {X : Type 0} (o : Option ℕ) (next : ℕ → Option X) (x : X) → is_some o ≡ true → next (unwrap_or o 0) ≡ Some x → then_if o next ≡ Some x
 seen_then None next x h e = absurd (cc)
 seen_then (Some byte) next x h e = e
-
-differ : (b : Bool) → b ≡ false → b ≡ true → ⊥
-differ b first second = cc
 
 module _ {L : Type 0} (sees : L → ℕ → Option ℕ) where
   idle-rest : (b : Bool) (cycles : ℕ) (s : Look L) → (if b then (look_meaning sees).pass s cycles else s).idle ≡ s.idle
@@ -53,7 +50,7 @@ module _ {L : Type 0} (sees : L → ℕ → Option ℕ) where
       let clock = clock-rest (nat_lt made n) base made n s refl e in
       let cycles : made + (n - made) ≡ (if nat_lt made n then (look_meaning sees).pass s (n - made) else s).clock - base = omega arith in
       λ i. Some (cpu, cycles i)
-  look_of_script-outcome (End cpu ToSample) start base made s halts e idle runs = absurd (differ cpu.halted runs halts)
+  look_of_script-outcome (End cpu ToSample) start base made s halts e idle runs = absurd (both_ways cpu.halted runs halts)
 
   -- a step from clock 0 that only looked, and didn't halt
   pub look_of_script-step : (cpu next : Cpu) (s t : Look L) → (next, t) ≡ step_outcome (look_meaning sees) cpu s → s.clock ≡ 0 → t.idle ≡ true → next.halted ≡ false

@@ -27,8 +27,9 @@ struct Trial<'a, L: Looks> {
 }
 
 impl<'a, L: Looks> Model for Trial<'a, L> {
-    ghost use Rattle.std.specs.Prelude.{◌≤◌, ◌<◌, ◌^◌};
+    ghost use Rattle.std.specs.Prelude.{◌+◌, ◌*◌, ◌≤◌, ◌<◌, ◌^◌};
     ghost use Rattle.std.specs.Coded.{codes};
+    ghost use Rattle.spc700_exec.specs.Bus.{most_samples_of_bus};
     ghost use Rattle.idle_rounds.specs.Looking.{Look};
 
     ghost Value = { Look L };
@@ -37,7 +38,7 @@ impl<'a, L: Looks> Model for Trial<'a, L> {
 
     ghost view = { λ t. record { from = t.looks.now; idle = t.idle; clock = t.clock; calls = t.calls } };
 
-    ghost invariant = { λ t. (t.calls ≤ 64) × (t.clock < 128000000032) };
+    ghost invariant = { λ t. (t.calls ≤ 64) × (t.clock < 32 * (most_samples_of_bus + 1)) };
 }
 
 impl<'a, L: Looks> Bus for Trial<'a, L> {

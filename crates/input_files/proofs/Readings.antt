@@ -1,7 +1,7 @@
 -- What is read of an input, and what commands prepare after it.
-use Rattle.std.proofs.Common.{◌≡◌, ◌⊎◌, inl, inr, ap, sym, subst, ◌∙◌, refl, rules, arith, ℕ, ◌<◌, length, Bool, true, List, Option, Some, None, Result, Ok, Err, IsSome}
-use Rattle.std.specs.Prelude.{IfOk, IfErr, IsSomeAnd, nat_lt, if◌then◌else◌}
-use Rattle.std.proofs.lemmas.Bool.Decides.{nat_tests}
+use Rattle.std.proofs.Common.{◌≡◌, ◌⊎◌, inl, inr, ap, sym, subst, ◌∙◌, refl, rules, ℕ, ◌<◌, length, Bool, List, Option, Some, None, Result, Ok, Err, IsSome}
+use Rattle.std.specs.Prelude.{IfOk, IfErr, IsSomeAnd, if◌then◌else◌}
+use Rattle.std.proofs.lemmas.Bool.{lt-ltb}
 use Rattle.snd_host.specs.Host.{HostState, Files, IfTold, Rose, KeepsRooms}
 use Rattle.snd_host.proofs.WholeInput.{inputs_then}
 use Rattle.command_frame.specs.Answer.{Answer, done, refused}
@@ -169,16 +169,13 @@ reads_accepts {T = T} {U = U} {C = C} given value x y bytes (Err why) r a = reco
     told_of files same (inl is) = inl (same ∙ is)
     told_of files same (inr memory) = inr (inr memory)
 
-lt_true : (a b : ℕ) → a < b → nat_lt a b ≡ true
-lt_true a b h = grind (arith, nat_tests)
-
 abbrev by_test : {C : Type 0} → (is_longer : Bool) → (too_long : C) → (bytes : List ℕ) → Result (List ℕ) (Refusal C)
 by_test is_longer too_long bytes = if is_longer then Err (Input too_long) else Ok bytes
 
 -- an input that has more bytes than it may have
 pub too_long_bytes : {C : Type 0} (limit : ℕ) (too_long : C) (held : Option (List ℕ)) → IsSomeAnd held (λ bytes. limit < length bytes) → bytes_in limit too_long held ≡ Err (Input too_long)
 too_long_bytes limit too_long None long = absurd (search rules)
-too_long_bytes limit too_long (Some bytes) long = ap (λ (b : Bool). by_test b too_long bytes) (lt_true limit (length bytes) long)
+too_long_bytes limit too_long (Some bytes) long = ap (λ (b : Bool). by_test b too_long bytes) (lt-ltb limit (length bytes) long)
 
 -- a reader gave a value
 pub accepts_value : {T E C : Type 0} (refusal : E → Refusal C) (given : Result T E) (value : T) → given ≡ Ok value → Accepts (refused_by refusal given) (Ok value)

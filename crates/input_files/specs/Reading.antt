@@ -1,13 +1,14 @@
 -- What the reading of an input gives, or why it is refused. `C` is why the bytes of an input are refused.
 use Rattle.std.specs.Prelude.{◌≡◌, ◌⊎◌, ℕ, List, length, Option, Some, None, Result, Ok, Err, IfOk, IfErr, IsSome, nat_lt, if◌then◌else◌}
 use Rattle.snd_host.specs.Host.{HostState, Files, IfTold, Rose, ChangesInputs, greatest_limit}
+use Rattle.spc_form.specs.Accepted.{greatest_length}
 use Rattle.command_frame.specs.Answer.{Answer, refused}
 use Rattle.command_frame.specs.declared.refusals.Refusal.{Refusal}
 use Rattle.command_frame.specs.declared.refusals.Refusal.TheVariants.{Usage, ReadFault, WriteFault, OutOfMemory, Input}
 
--- the greatest length of most inputs, and that of a sound file to be encoded
+-- the greatest length of most inputs, that of an SPC file, and the greatest of a sound file to be encoded
 abbrev pub input_limit : ℕ
-input_limit = 1048576
+input_limit = greatest_length
 
 abbrev pub wave_limit : ℕ
 wave_limit = greatest_limit

@@ -1,7 +1,7 @@
 -- What a merge of voice records and events has, and how it grows.
 use Rattle.std.proofs.Common.{◌≡◌, ℕ, suc, ◌+◌, ◌<◌, ◌≤◌, List, [], ◌∷◌, ◌++◌, length, Bool, true, false, nat_le, slice_get, get_or, drop, drop-cons, Some, None, if◌then◌else◌, cond, refl, ap, sym, ◌∙◌, arith, rules, append_assoc, length-append, add-one}
 use Rattle.std.proofs.lemmas.Bool.{le-leb, lt-leb}
-use Rattle.std.proofs.lemmas.List.{append-nil, drop_all}
+use Rattle.std.proofs.lemmas.List.{append-nil}
 use Rattle.std.specs.List.{filter}
 use Rattle.trace_form.specs.declared.record.Record.{Record}
 use Rattle.trace_form.specs.declared.record.Record.TheVariants.{Reg, Port, Voice}
@@ -109,9 +109,6 @@ merge_next v voices events = refl
 pub merge_step : (all : List Record) (i : ℕ) (d : Record) (events : List Record) → i < length all
     → merge (drop i all) events ≡ events_up_to (sample_number (get_or all i d)) events ++ get_or all i d ∷ merge (drop (i + 1) all) (events_after (sample_number (get_or all i d)) events)
 merge_step all i d events h = rw (add-one, drop-cons all i d) (merge_next (get_or all i d) (drop (suc i) all) events)
-
-pub drop_end : {X : Type 0} (xs : List X) (i : ℕ) → length xs ≤ i → drop i xs ≡ []
-drop_end xs i h = drop_all i xs h
 
 -- no event
 pub merge_none : (voices : List Record) → merge voices [] ≡ voices

@@ -2,7 +2,7 @@
 ghost use Rattle.std.specs.Prelude.{◌≡◌, ◌+◌, ◌-◌, ◌*◌, ◌/◌, ◌<◌, ◌≤◌, true, false};
 ghost use Rattle.aram_core.specs.Memory.{byte_at, with_byte};
 ghost use Rattle.dsp_form.specs.Limits.{most_samples_of_batch, most_samples_of_chip};
-ghost use Rattle.spc700_exec.specs.Bus.{most_calls_before_step};
+ghost use Rattle.spc700_exec.specs.Bus.{most_calls, most_calls_before_step};
 ghost use Rattle.spc700_exec.specs.Instruction.{step_outcome};
 ghost use Rattle.lock_step.specs.LockStep.{samples_made};
 ghost use Rattle.lag_bus.specs.Book.{may_be_read, may_be_written};
@@ -76,20 +76,20 @@ pub trait BehindBus {
     /// A read at a later moment. It is asked for where no mark tells that memory alone is at the address.
     fn read_later(&mut self, clock: u64, calls: u8, addr: u16) -> u8
         requires behind { IsBehind clock calls (shows self.old) }
-        requires room { calls < 64 }
+        requires room { calls < most_calls }
         ensures answer { result ≡ ((lagging Self.C.meaning).read (caught_up Self.C.meaning clock calls (shows self.old)) addr).0 }
         ensures next { shows self.new ≡ ((lagging Self.C.meaning).read (caught_up Self.C.meaning clock calls (shows self.old)) addr).1 };
 
     /// A write at a later moment. It is asked for where no mark tells that memory alone is at the address and that no sample reads it.
     fn write_later(&mut self, clock: u64, calls: u8, addr: u16, value: u8)
         requires behind { IsBehind clock calls (shows self.old) }
-        requires room { calls < 64 }
+        requires room { calls < most_calls }
         ensures { shows self.new ≡ (lagging Self.C.meaning).write (caught_up Self.C.meaning clock calls (shows self.old)) addr value };
 
     /// A pass at a later moment.
     fn pass_later(&mut self, clock: u64, calls: u8, cycles: u8)
         requires behind { IsBehind clock calls (shows self.old) }
-        requires room { calls < 64 }
+        requires room { calls < most_calls }
         requires some { 1 ≤ cycles }
         requires few { cycles ≤ 32 }
         requires time { clock / 32 < most_samples_of_chip }

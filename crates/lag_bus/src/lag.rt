@@ -2,6 +2,7 @@
 ghost use Rattle.std.specs.Prelude.{◌≡◌, ◌+◌, ◌*◌, ◌/◌, ◌-◌, ◌<◌, ◌≤◌, ◌%◌, ◌++◌, ◌∷◌, [], ◌==◌, unwrap_or, ◌||◌, not, true, false, length, if◌then◌else◌, IfOk};
 ghost use Rattle.std.proofs.Common.{refl};
 ghost use Rattle.aram_core.specs.Memory.{byte_at, with_byte};
+ghost use Rattle.spc700_exec.specs.Bus.{most_calls};
 ghost use Rattle.dsp_form.specs.Results.{is_result};
 ghost use Rattle.dsp_form.specs.Samples.{next_count, count_after};
 ghost use Rattle.trace_form.specs.Rooms.{record_room, event_room};
@@ -187,7 +188,7 @@ impl<C: Chip> LagBus<C> {
     // Out of line, as what is rarer than an access of memory alone.
     #[inline(never)]
     fn read_register(&mut self) -> u8
-        requires { self.old.machine.calls < 64 }
+        requires { self.old.machine.calls < most_calls }
         ensures answer { result ≡ ((lagging C.meaning).read self.old 0xF3).0 }
         ensures next { self.new ≡ ((lagging C.meaning).read self.old 0xF3).1 }
     {
@@ -207,7 +208,7 @@ impl<C: Chip> LagBus<C> {
     #[inline(never)]
     #[tactic(auto, using(crate::proofs::PassesInHand::plain_apart))]
     fn read_unmarked(&mut self, addr: u16) -> u8
-        requires { self.old.machine.calls < 64 }
+        requires { self.old.machine.calls < most_calls }
         ensures answer { result ≡ ((lagging C.meaning).read self.old addr).0 }
         ensures next { self.new ≡ ((lagging C.meaning).read self.old addr).1 }
     {
@@ -245,7 +246,7 @@ impl<C: Chip> LagBus<C> {
     // Out of line, as what is rarer than an access of memory alone.
     #[inline(never)]
     fn write_port(&mut self, addr: u16, value: u8)
-        requires { self.old.machine.calls < 64 }
+        requires { self.old.machine.calls < most_calls }
         ensures { self.new ≡ (lagging C.meaning).write self.old addr value }
     {
         self.time.count();

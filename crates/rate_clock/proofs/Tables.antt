@@ -3,19 +3,13 @@ use Rattle.std.proofs.Common.{◌≡◌, ℕ, zero, suc, drop, ◌<◌, ◌≤�
 use Rattle.std.specs.List.{list_all}
 use Rattle.std.proofs.lemmas.List.Folds.{list_all_at}
 use Rattle.std.proofs.lemmas.Bool.Decides.{nat_tests}
+use Rattle.std.proofs.lemmas.Bool.{true_from_ne_false, ltb-true}
 use Rattle.rate_clock.specs.Counter.{periods, offsets}
-
-true_from_not_false : (b : Bool) → (b ≡ false → ⊥) → b ≡ true
-true_from_not_false true h = refl
-true_from_not_false false h = absurd (h refl)
 
 -- a test that each entry passes holds at each place
 pub list_all-entry : (p : ℕ → Bool) (xs : List ℕ) (i : ℕ) → i < length xs → list_all p xs ≡ true → p (get_or xs i 0) ≡ true
 list_all-entry p xs i within h =
-    true_from_not_false (p (get_or xs i 0)) (λ e. let fails : list_all p xs ≡ false = list_all_at p xs i 0 within e in cc)
-
-positive_from_test : (x : ℕ) → nat_lt 0 x ≡ true → 0 < x
-positive_from_test x test = grind (arith, nat_tests)
+    true_from_ne_false (p (get_or xs i 0)) (λ e. let fails : list_all p xs ≡ false = list_all_at p xs i 0 within e in cc)
 
 pub offset_bound : (rate : ℕ) → rate < 32 → get_or offsets rate 0 ≤ 1040
 offset_bound rate h = let test : nat_le (get_or offsets rate 0) 1040 ≡ true = list_all-entry (λ x. nat_le x 1040) offsets rate h refl in grind (arith, nat_tests)
@@ -24,4 +18,4 @@ pub period_positive : (rate : ℕ) → 0 < rate → rate < 32 → 0 < get_or per
 period_positive zero positive h = absurd (omega arith)
 period_positive (suc r) positive h =
     let test : nat_lt 0 (get_or (drop 1 periods) r 0) ≡ true = list_all-entry (λ x. nat_lt 0 x) (drop 1 periods) r (omega arith) refl in
-    positive_from_test (get_or (drop 1 periods) r 0) test
+    ltb-true 0 (get_or (drop 1 periods) r 0) test

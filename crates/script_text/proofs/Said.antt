@@ -1,12 +1,13 @@
 -- A list that grows by what a line says.
 use Rattle.std.proofs.Common.{◌≡◌, ℕ, ◌+◌, List, [], ◌∷◌, ◌++◌, length, refl, ap, sym, ◌∙◌}
 use Rattle.std.specs.Prelude.{Some, None, Result, Err}
+use Rattle.std.proofs.lemmas.List.{length_push}
 use Rattle.cut_form.specs.declared.script.ScriptLine.{ScriptLine}
 use Rattle.cut_form.specs.Script.{script_from}
 use Rattle.cut_form.specs.TextLines.{said_before}
 use Rattle.cut_text.specs.declared.refusal.TextRefusal.{TextRefusal}
 use Rattle.cut_text.specs.Reading.{Tells, OneMore, IsWrongAfter}
-use Rattle.cut_text.proofs.Growing.{list_before, one_first, one_before, length_more, said_more, tells_wrong}
+use Rattle.cut_text.proofs.Growing.{list_before, one_first, one_before, said_more, tells_wrong}
 use Rattle.script_text.specs.Lines.{next_line}
 
 -- what a text says after a list
@@ -20,7 +21,7 @@ said_line old line rest said is =
     ap (list_before old) step
     ∙ ap (list_before old) (one_first said (script_from (length old + 1 + 1) rest))
     ∙ one_before old said (script_from (length old + 1 + 1) rest)
-    ∙ ap (λ (n : ℕ). list_before (old ++ said ∷ []) (script_from (n + 1) rest)) (sym (length_more old said))
+    ∙ ap (λ (n : ℕ). list_before (old ++ said ∷ []) (script_from (n + 1) rest)) (sym (length_push old said))
 
 said_wrong : (old : List ScriptLine) (line : List ℕ) (rest : List (List ℕ)) → next_line old line ≡ None → said_after old (line ∷ rest) ≡ Err (length old + 1)
 said_wrong old line rest is =

@@ -2,16 +2,11 @@
 use Rattle.std.proofs.Common.{◌≡◌, ◌≢◌, ℕ, zero, suc, ◌+◌, ◌-◌, ◌<◌, Bool, false, List, [], ◌∷◌, ◌++◌, length, get_or, set, map, Some, refl, sym, ◌∙◌, ap, subst, arith}
 use Rattle.std.specs.Prelude.{slice_get}
 use Rattle.std.proofs.lemmas.List.{length-map, length-append, map-append, append_assoc}
+use Rattle.std.proofs.lemmas.Option.{slice_get_within}
 use Rattle.snd_host.specs.Host.{Output, IsOpen, outputs_with, rooms_less}
 use Rattle.snd_host.specs.Memory.{output_of}
 use Rattle.snd_host.specs.declared.memory.Slot.{Slot}
 use Rattle.snd_host.specs.declared.memory.Spare.{Spare}
-
--- a created output that can be written is there
-is_there : (ended : List Bool) (place : ℕ) (b : Bool) → slice_get ended place ≡ Some b → place < length ended
-is_there [] place b h = absurd (cc)
-is_there (e ∷ ended) zero b h = omega arith
-is_there (e ∷ ended) (suc place) b h = omega (arith, is_there ended place b h)
 
 -- an output that is neither the report nor the complaint was created
 number_is : (n : ℕ) → n ≢ 0 → n ≢ 1 → n ≡ suc (suc (n - 2))
@@ -48,7 +43,7 @@ abbrev pub ended_of : List Slot → List Bool
 ended_of slots = map (λ slot. slot.ended) slots
 
 pub slot_there : (slots : List Slot) (place : ℕ) → slice_get (ended_of slots) place ≡ Some false → place < length slots
-slot_there slots place h = omega (arith, is_there (ended_of slots) place false h, length-map slots (λ slot. slot.ended))
+slot_there slots place h = omega (arith, slice_get_within (ended_of slots) place false h, length-map slots (λ slot. slot.ended))
 
 -- the number of an output that was created: its place among the created ones, after the report and the complaint
 pub record IsCreated (slots : List Slot) (n : ℕ) : Type 0 where

@@ -2,7 +2,7 @@
 use Rattle.std.proofs.Common.{◌≡◌, inl, inr, Ok, Err, ℕ, zero, suc, ◌+◌, ◌-◌, ◌≤◌, List, [], ◌∷◌, ◌++◌, length, take, drop, get_or, Some, refl, sym, ◌∙◌, ap, subst, arith, append_assoc, length-append, length-drop}
 use Rattle.std.proofs.lemmas.List.{append-nil, take-append-drop, length-take, take_rest}
 use Rattle.std.proofs.lemmas.Bool.{cases_eq}
-use Rattle.std.proofs.Math.Seq.{take-nil}
+use Rattle.std.proofs.Math.Seq.{take-add}
 use Rattle.snd_host.specs.Host.{HostState, Given, Output, Faults, CountsWrite, ChangesOutputs, Writes, WritesPart, Rose, given_with, outputs_with, rooms_less}
 
 pub outputs_with-outputs_with : (outputs : List Output) (place : ℕ) (xs ys : List ℕ) → outputs_with (outputs_with outputs place xs) place ys ≡ outputs_with outputs place (xs ++ ys)
@@ -40,11 +40,6 @@ lowered_none [] file = refl
 lowered_none (r ∷ rooms) zero = let same : r - 0 ≡ r = omega arith in ap (λ (n : ℕ). n ∷ rooms) same
 lowered_none (r ∷ rooms) (suc file) = ap (λ (l : List ℕ). r ∷ l) (lowered_none rooms file)
 
-pub take_then : (xs : List ℕ) (i j : ℕ) → take (i + j) xs ≡ take i xs ++ take j (drop i xs)
-take_then xs zero j = let same : zero + j ≡ j = omega arith in ap (λ (n : ℕ). take n xs) same
-take_then [] (suc i) j = let none : take j [] ≡ [] = take-nil j in let same : suc i + j ≡ suc (i + j) = omega arith in ap (λ (n : ℕ). take n []) same ∙ sym none
-take_then (x ∷ xs) (suc i) j = let same : suc i + j ≡ suc (i + j) = omega arith in ap (λ (n : ℕ). take n (x ∷ xs)) same ∙ ap (λ (l : List ℕ). x ∷ l) (take_then xs i j)
-
 pub outputs_then : (a b c : HostState) → ChangesOutputs a b → ChangesOutputs b c → ChangesOutputs a c
 outputs_then a b c first second = record {
   holds = second.holds ∙ first.holds;
@@ -76,7 +71,7 @@ wrote_then file xs ys a b c first second = record {
 
 -- the same for a part of what is left, as the slice `&xs[i..]` shows it
 pub take_then_slice : (xs : List ℕ) (i j : ℕ) → take (i + j) xs ≡ take i xs ++ take j (take (length xs - i) (drop i xs))
-take_then_slice xs i j = take_then xs i j ∙ ap (λ (l : List ℕ). take i xs ++ take j l) (sym (take_rest xs i))
+take_then_slice xs i j = take-add i j xs ∙ ap (λ (l : List ℕ). take i xs ++ take j l) (sym (take_rest xs i))
 
 -- a write that succeeds leaves the counts
 pub counts_ok : {T E : Type 0} (file : ℕ) (old new : Faults) (x : T) → CountsWrite {T = T} {E = E} file old new (Ok x) → (new.notes ≡ old.notes) × (new.outputs ≡ old.outputs)

@@ -51,6 +51,10 @@ greatest_count = 2 ^ 64 - 1
 abbrev pub most_outputs : ℕ
 most_outputs = 4294967000
 
+-- the bytes of the longest name of an output that a steady host takes
+abbrev pub longest_name : ℕ
+longest_name = 200
+
 -- the greatest limit up to which an input is read whole
 abbrev pub greatest_limit : ℕ
 greatest_limit = 16777216

@@ -1,6 +1,6 @@
 // The outside as the program sees it: inputs that are read by name, and outputs that are written in order.
 ghost use Rattle.std.specs.Prelude.{◌≡◌, ◌≢◌, ◌+◌, ◌-◌, ◌<◌, ◌≤◌, ℕ, List, [], ◌∷◌, ◌++◌, length, take, drop, true, false, Option, Some, IsSome, IsOk, IfOk, OnOk, OnErr, slice_get, slice_index, slice_set};
-ghost use Rattle.snd_host.specs.Host.{HostState, Given, IfTold, HasCause, CountsWrite, IsOpen, ChangesInputs, ChangesOutputs, KeepsRooms, Writes, most_outputs};
+ghost use Rattle.snd_host.specs.Host.{HostState, Given, IfTold, HasCause, CountsWrite, IsOpen, ChangesInputs, ChangesOutputs, KeepsRooms, Writes, most_outputs, longest_name};
 
 /// A call of the host that failed.
 #[derive(Clone, Copy, Debug, PartialEq, Eq)]
@@ -65,9 +65,9 @@ pub trait Host {
         ensures others { ChangesOutputs (state self.old) (state self.new) }
         ensures notes { (state self.new).faults.notes ≡ (state self.old).faults.notes }
         ensures cause { HasCause (state self.old).faults.outputs (state self.new).faults.outputs result }
-        // A steady host fails only past its rooms or at a name of more than 200 bytes.
+        // A steady host fails only past its rooms or at a name that is longer than the longest.
         ensures steady { IfTold (state self.old).steady (λ rooms.
-            length (state self.old).ended + 2 < length rooms → length name.now ≤ 200 → IsOk result) }
+            length (state self.old).ended + 2 < length rooms → length name.now ≤ longest_name → IsOk result) }
         ensures rooms { KeepsRooms (state self.old) (state self.new) };
 
     /// Adds the first bytes of the piece to the output, at least one where there is one.

@@ -1,6 +1,7 @@
 // A host in memory, whose calls fail where a test wants it.
 ghost use Rattle.std.specs.Prelude.{◌≡◌, ◌+◌, ◌≤◌, vec_len, vec_capacity, string_bytes, string_capacity, []};
 ghost use Rattle.std.specs.VecDeque.{deque_len};
+ghost use Rattle.snd_host.specs.Host.{longest_name};
 
 use crate::files::{bytes_of, copy_front, count_call, find_file};
 use crate::{Failed, Host, InFile, OutFile, OutOfMemory};
@@ -37,7 +38,7 @@ struct Spare {
     bytes: Vec<u8>,
     room: usize,
     ghost unnamed: { string_bytes name ≡ [] },
-    ghost name_room: { 200 ≤ string_capacity name },
+    ghost name_room: { longest_name ≤ string_capacity name },
     ghost empty: { bytes.items ≡ [] },
     ghost room_reserved: { room ≤ vec_capacity bytes },
 }
@@ -111,7 +112,7 @@ impl Spare {
 
     /// An output of this name, with this room.
     fn into_slot(self, name: &str) -> Slot
-        requires { length name.now ≤ 200 }
+        requires { length name.now ≤ longest_name }
         ensures name { string_bytes result.name ≡ name.now }
         ensures empty { result.sink.bytes.items ≡ [] }
         ensures room { result.sink.room ≡ self.room }
@@ -300,10 +301,10 @@ impl Host for MemHost {
         ensures notes { (memory_state self.new).faults.notes ≡ (memory_state self.old).faults.notes }
         ensures cause { HasCause (memory_state self.old).faults.outputs (memory_state self.new).faults.outputs result }
         ensures steady { IfTold (memory_state self.old).steady (λ rooms.
-            length (memory_state self.old).ended + 2 < length rooms → length name.now ≤ 200 → IsOk result) }
+            length (memory_state self.old).ended + 2 < length rooms → length name.now ≤ longest_name → IsOk result) }
         ensures rooms { KeepsRooms (memory_state self.old) (memory_state self.new) }
-        // It fails exactly where its number is listed, no room is left or the name has more than 200 bytes.
-        ensures fails { is_err result ≡ (is_listed self.old || is_full self.old || nat_lt 200 (length name.now)) }
+        // It fails exactly where its number is listed, no room is left or the name is too long.
+        ensures fails { is_err result ≡ (is_listed self.old || is_full self.old || nat_lt longest_name (length name.now)) }
         ensures counted { CountsCall self.old self.new }
         ensures rooms_kept { rooms_of self.new ≡ rooms_of self.old }
     {

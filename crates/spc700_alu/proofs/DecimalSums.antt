@@ -1,7 +1,6 @@
 -- Decimal sums, by a test of all pairs of numbers below 100 and both carries.
-use Rattle.std.proofs.Common.{◌≡◌, ℕ, ◌+◌, ◌%◌, ◌<◌, Bool, true, false, ◌&&◌, ◌||◌, ◌==◌, nat_le, nat_lt, refl, ◌∙◌, arith, if◌then◌else◌}
-use Rattle.std.proofs.lemmas.Bool.{and_parts}
-use Rattle.std.proofs.lemmas.Bool.Decides.{nat_tests}
+use Rattle.std.proofs.Common.{◌≡◌, ℕ, ◌+◌, ◌%◌, ◌<◌, Bool, true, false, ◌&&◌, ◌||◌, ◌==◌, nat_le, nat_lt, refl, ◌∙◌, if◌then◌else◌}
+use Rattle.std.proofs.lemmas.Bool.{and_parts, eqb-true}
 use Rattle.spc700_alu.specs.Flags.{H, C, flag, carry_in}
 use Rattle.spc700_alu.specs.Bytes.{byte_sum, adc_of}
 use Rattle.spc700_alu.specs.Decimal.{daa_of}
@@ -48,9 +47,6 @@ is_decimal_at : (c : Bool) (x y : ℕ) → x < 100 → y < 100 → is_decimal (c
 is_decimal_at c x y sx sy =
     at_each (is_decimal (carry_number c) x) 100 y (at_each (are_decimal (carry_number c)) 100 x (all_decimal c) sx) sy
 
-equal_from_test : (x y : ℕ) → (x == y) ≡ true → x ≡ y
-equal_from_test x y test = grind (arith, nat_tests)
-
 pub decimal_sum : (x y psw : ℕ) → x < 100 → y < 100 → psw < 256 → IsDecimalSum x y psw
 unfolding byte_sum daa_of
 decimal_sum x y psw sx sy sp =
@@ -58,6 +54,6 @@ decimal_sum x y psw sx sy sp =
     let c : flag C sum.psw ≡ sum_carries x y (carry_in psw) = c_of_five psw _ _ _ _ _ sp in
     let h : flag H sum.psw ≡ sum_carries_half x y (carry_in psw) = h_of_five psw _ _ _ _ _ sp in
     let test : is_decimal (carry_in psw) x y ≡ true = is_decimal_at (flag C psw) x y sx sy in (
-      (λ i. adjusted_value sum.value (c i) (h i)) ∙ equal_from_test _ _ (and_parts _ _ test).0,
+      (λ i. adjusted_value sum.value (c i) (h i)) ∙ eqb-true _ _ (and_parts _ _ test).0,
       c_of_three sum.psw _ _ _ (with_five-small psw _ _ _ _ _ sp) ∙ (λ i. has_tens sum.value (c i)) ∙ from_same _ _ (and_parts _ _ test).1,
     )

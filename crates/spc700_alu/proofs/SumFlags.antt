@@ -1,7 +1,6 @@
 -- The flags of a sum that were set one after another.
-use Rattle.std.proofs.Common.{◌≡◌, ℕ, ◌<◌, Bool, true, false, ◌&&◌, nat_lt, refl, arith}
-use Rattle.std.proofs.lemmas.Bool.{and_parts}
-use Rattle.std.proofs.lemmas.Bool.Decides.{nat_tests}
+use Rattle.std.proofs.Common.{◌≡◌, ℕ, ◌<◌, Bool, true, false, ◌&&◌, nat_lt, refl}
+use Rattle.std.proofs.lemmas.Bool.{and_parts, ltb-true}
 use Rattle.spc700_alu.specs.Flags.{N, V, H, Z, C, flag, with_flag}
 use Rattle.spc700_alu.proofs.Apart.{all_below, at_each, same, from_same}
 
@@ -47,16 +46,13 @@ h_of_five psw n z v h c below = from_same _ _ (and_parts _ _ (and_parts _ _ (thr
 pub c_of_five : (psw : ℕ) (n z v h c : Bool) → psw < 256 → flag C (with_five n z v h c psw) ≡ c
 c_of_five psw n z v h c below = from_same _ _ (and_parts _ _ (and_parts _ _ (and_parts _ _ (three psw n z v h c below)).1).1).0
 
-lt_from_test : (x y : ℕ) → nat_lt x y ≡ true → x < y
-lt_from_test x y test = grind (arith, nat_tests)
-
 pub with_five-small : (psw : ℕ) (n z v h c : Bool) → psw < 256 → with_five n z v h c psw < 256
 with_five-small psw n z v h c below =
     let new = with_five n z v h c psw in
     let fits = nat_lt new 256 in
     let without_v = (and_parts (same (flag V new) v) (same (flag H new) h && (same (flag C new) c && fits)) (three psw n z v h c below)).1 in
     let without_h = (and_parts (same (flag H new) h) (same (flag C new) c && fits) without_v).1 in
-    lt_from_test new 256 (and_parts (same (flag C new) c) fits without_h).1
+    ltb-true new 256 (and_parts (same (flag C new) c) fits without_h).1
 
 -- C in a status with the three flags of an adjustment
 abbrev has_carry : (psw : ℕ) → (n z c : Bool) → Bool

@@ -5,7 +5,7 @@ use Rattle.std.specs.Option.{option_map}
 use Rattle.std.specs.List.{AllByRecursion}
 use Rattle.std.proofs.lemmas.Bool.Decides.{nat_tests}
 use Rattle.std.proofs.lemmas.Bool.{le-ltb, ltb-true, or_from}
-use Rattle.std.proofs.Math.Seq.{take-nil}
+use Rattle.std.proofs.Math.Seq.{take-add}
 use Rattle.spc700_table.specs.declared.Form.{Form}
 use Rattle.spc700_table.specs.declared.OpRow.{OpRow}
 use Rattle.spc700_table.specs.Cycles.{cycle_map, printed_cycles}
@@ -133,18 +133,11 @@ operand_found f next bytes are there =
     let found : P (is_target (pattern_of f).slot) (operand_bytes f) = subst (P (is_target (pattern_of f).slot)) (sym (bytes_by_slot f)) (slot_found (pattern_of f).slot next bytes are (subst Q (bytes_by_slot f) there)) in
     subst (λ (b : Bool). P b (operand_bytes f)) (sym (distance_by_slot f)) found
 
-take_both : (a b : ℕ) (xs : List ℕ) → take a xs ++ take b (drop a xs) ≡ take (a + b) xs
-take_both zero b xs = let same : b ≡ zero + b = omega arith in ap (λ (n : ℕ). take n xs) same
-take_both (suc a) b [] = take-nil b ∙ sym (take-nil (suc a + b))
-take_both (suc a) b (x ∷ xs) =
-    let same : suc (a + b) ≡ suc a + b = omega arith in
-    ap (λ (front : List ℕ). x ∷ front) (take_both a b xs) ∙ ap (λ (n : ℕ). take n (x ∷ xs)) same
-
 joined_again : (b : Bool) (n m : ℕ) (bytes one two : List ℕ) → one ≡ take n (drop (cond b 0 m) bytes) → two ≡ take m (drop (cond b n 0) bytes) → cond b (one ++ two) (two ++ one) ≡ take (n + m) bytes
-joined_again true n m bytes one two x y = ap (λ (t : List ℕ). t ++ two) x ∙ ap (λ (t : List ℕ). take n bytes ++ t) y ∙ take_both n m bytes
+joined_again true n m bytes one two x y = ap (λ (t : List ℕ). t ++ two) x ∙ ap (λ (t : List ℕ). take n bytes ++ t) y ∙ sym (take-add n m bytes)
 joined_again false n m bytes one two x y =
     let same : m + n ≡ n + m = omega arith in
-    ap (λ (t : List ℕ). two ++ t) x ∙ ap (λ (t : List ℕ). t ++ take n (drop m bytes)) y ∙ take_both m n bytes ∙ ap (λ (k : ℕ). take k bytes) same
+    ap (λ (t : List ℕ). two ++ t) x ∙ ap (λ (t : List ℕ). t ++ take n (drop m bytes)) y ∙ sym (take-add m n bytes) ∙ ap (λ (k : ℕ). take k bytes) same
 
 first_there : (b : Bool) (n m : ℕ) (bytes : List ℕ) → n + m ≤ length bytes → n ≤ length (drop (cond b 0 m) bytes)
 first_there true n m bytes there = omega arith

@@ -34,18 +34,18 @@ pub data Operation : Type 0 where
   CountBranch : Operation
   -- a byte moved
   Move : Operation
-  -- a byte combined with another and put in its place, with the status
+  -- the result of a byte and another, put in its place, with the status
   Calculate : (ℕ → ℕ → ℕ → Out8) → Operation
   -- the status of a comparison
   Compare : Operation
   -- a byte read, changed and written, with the status
   Modify : (ℕ → ℕ → Out8) → Operation
-  -- a bit of memory combined with the carry, and put into the carry or into its place
+  -- the result of a bit of memory and the carry, put into the carry or into its place
   BitToCarry : BitKind → Operation
   BitInPlace : BitKind → Operation
   -- a byte of memory changed by A; N and Z of A less the old byte
   BitTest : (ℕ → ℕ → ℕ) → Operation
-  -- a word combined with YA, with the status
+  -- the result of a word and YA, with the status
   WordOnYa : (ℕ → ℕ → ℕ → Out16) → Operation
   -- YA moved to memory
   WordStore : Operation

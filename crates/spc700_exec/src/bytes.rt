@@ -15,7 +15,7 @@ use spc700_alu::flags::put_nz;
 use spc700_alu::{LogicKind, Out8, ShiftKind, adc, bump, cmp, logic, sbc, shift};
 use spc700_table::OpRow;
 
-/// What two bytes are combined by.
+/// What is calculated of two bytes.
 #[derive(Clone, Copy, Debug, PartialEq, Eq)]
 pub enum Calculation {
     /// OR, AND or EOR.
@@ -37,7 +37,7 @@ pub enum Modification {
     Down,
 }
 
-/// The two bytes combined, and the status.
+/// The result of two bytes, and the status.
 #[inline(always)]
 fn byte_result(kind: Calculation, a: u8, b: u8, psw: u8) -> Out8
     ensures { result ≡ calculation kind a b psw }

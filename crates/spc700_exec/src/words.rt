@@ -16,7 +16,7 @@ use spc700_alu::flags::put_nz16;
 use spc700_alu::{Out16, addw, cmpw, subw};
 use spc700_table::OpRow;
 
-/// What YA and a word are combined by.
+/// What is calculated of YA and a word.
 #[derive(Clone, Copy, Debug, PartialEq, Eq)]
 pub enum WordCalculation {
     /// MOVW: the word itself.
@@ -29,7 +29,7 @@ pub enum WordCalculation {
     Compare,
 }
 
-/// YA and the word combined, and the status.
+/// The result of YA and the word, and the status.
 #[inline(always)]
 fn word_result(kind: WordCalculation, ya: u16, w: u16, psw: u8) -> Out16
     ensures { result ≡ word_calculation kind ya w psw }

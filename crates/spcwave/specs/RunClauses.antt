@@ -4,7 +4,7 @@ use Rattle.snd_host.specs.Host.{HostState, IfTold, Rose}
 use Rattle.command_frame.specs.Answer.{outputs_of, report_of}
 use Rattle.command_frame.specs.Conduct.{NoneRose}
 use Rattle.command_frame.specs.Delivery.{HaveRooms}
-use Rattle.command_frame.specs.Leaves.{LeavesNothing, LeavesAll, LeavesPart, ReportsLast, ReportsBehindEnded, Complains}
+use Rattle.command_frame.specs.Leaves.{LeavesNothing, LeavesAll, LeavesPart, ReportsLast, ReportsAfterEnded, Complains}
 use Rattle.status_lines.specs.declared.status.Status.{Status}
 use Rattle.status_lines.specs.declared.status.Status.TheVariants as statuses
 use Rattle.command_line.specs.Command.{Command, usage, names_input}
@@ -89,6 +89,6 @@ pub record Untold (command : Command) (old new : HostState) (status : Status) : 
   -- A refusal other than WriteFault leaves nothing.
   pub refused : status ≢ statuses.Ok → status ≢ statuses.WriteFault → LeavesNothing old new
   -- The report comes last: where it grew, all outputs that were created are ended.
-  pub report_last : ReportsBehindEnded old new
+  pub report_last : ReportsAfterEnded old new
   -- A status without numbers has its line.
   pub complaint : IfTold (plain_end status) (λ end. Complains (end_line end) old new)

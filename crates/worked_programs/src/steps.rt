@@ -117,6 +117,49 @@ fn wraps_at_the_ends_of_memory_and_of_the_direct_page(rt: HostRuntime) -> Result
 }
 
 #[test]
+fn reads_the_direct_page_that_p_says(rt: HostRuntime) -> Result<(), Fail> {
+    // MOV A,12h while P is set: the byte stands at 112h.
+    let mut bus = bus_with(
+        rt.alloc(),
+        &[(0x400, &[0xe4, 0x12]), (0x12, &[0x99]), (0x112, &[0x5a])],
+    )?;
+    let mut cpu = start(0x400, 0);
+    cpu.psw = 0x20;
+    next(&mut cpu, &mut bus);
+    assert_eq!(rt; (cpu.a, cpu.psw, bus.clock()), (0x5a, 0x20, 3));
+    Ok(())
+}
+
+// TCALL 1 goes where the word at FFDCh points, and BRK where that at FFDEh does, which is the entry of TCALL 0.
+#[test]
+fn goes_through_the_table_of_calls(rt: HostRuntime) -> Result<(), Fail> {
+    let mut bus = bus_with(
+        rt.alloc(),
+        &[
+            (0x400, &[0x11]),
+            (0x600, &[0x0f]),
+            (0xffdc, &[0x00, 0x06, 0x00, 0x07]),
+        ],
+    )?;
+    let mut cpu = start(0x400, 0);
+    next(&mut cpu, &mut bus);
+    assert_eq!(rt; (cpu.pc, cpu.sp, bus.clock()), (0x600, 0xed, 8));
+    assert_eq!(rt;
+        (bus.memory().get(0x1ef), bus.memory().get(0x1ee)),
+        (0x04, 0x01)
+    );
+    cpu.psw = 0x04;
+    next(&mut cpu, &mut bus);
+    // B is set and I cleared, once PC and PSW are pushed
+    assert_eq!(rt;
+        (cpu.pc, cpu.sp, cpu.psw, bus.clock()),
+        (0x700, 0xea, 0x10, 16)
+    );
+    assert_eq!(rt; bus.memory().get(0x1eb), 0x04);
+    Ok(())
+}
+
+#[test]
 fn calls_and_returns(rt: HostRuntime) -> Result<(), Fail> {
     let mut bus = bus_with(
         rt.alloc(),

@@ -150,7 +150,7 @@ fn a_key_off_at_the_next_poll_releases(rt: HostRuntime) -> Result<(), Fail> {
     let taken_back: &[(u8, u8)] = &[(0x4c, 0x01), (0x5c, 0x00)];
     for (writes, want) in [(taken_back, SEVEN), (again, [SILENCE; 7])] {
         let made = played(rt.alloc(), &[(keys, 1), (writes, 7)])?;
-        assert!(rt; made.frames.iter().skip(1).eq(want.iter()));
+        assert!(rt; are_silence_then(made.frames.as_slice(), &want));
     }
     Ok(())
 }

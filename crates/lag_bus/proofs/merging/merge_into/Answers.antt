@@ -1,6 +1,7 @@
 use Rattle.std.proofs.Common.{◌+◌, ◌++◌, List, refl, ap, ◌∙◌, arith, append_assoc, length-append, length-drop}
+use Rattle.std.proofs.lemmas.List.{drop_all}
 use Rattle.trace_form.specs.declared.record.Record.{Record}
-use Rattle.lag_bus.proofs.MergedRecords.{merge_step, merge_end, drop_end}
+use Rattle.lag_bus.proofs.MergedRecords.{merge_step, merge_end}
 use Rattle.lag_bus.proofs.merging.merge_into.Goals as goal
 
 pub voices-preserved : goal.voices-preserved
@@ -12,5 +13,5 @@ voices-preserved c =
 
 pub returns-clause-records : goal.returns-clause-records
 returns-clause-records c =
-    let end = drop_end c.as_slice-all.result.now c.voices.voice-index c.voices-test.false in
+    let end = drop_all c.voices.voice-index c.as_slice-all.result.now c.voices-test.false in
     rw (c.move_all.ensures.records, ← c.as_slice-all.ensures, c.voices.invariant.0, end, merge_end) refl

@@ -1,9 +1,8 @@
 use Rattle.std.proofs.Common.{◌≡◌, ◌<◌, ℕ, length, take, refl, sym, ◌∙◌, arith}
-use Rattle.std.proofs.lemmas.List.{length-set}
+use Rattle.std.proofs.lemmas.List.{length-set, take_more_set}
 use Rattle.echo_unit.specs.Echo.{echo_heard, output_frame}
 use Rattle.echo_unit.specs.EchoOverBatch.{EchoRun, echo_run, pair_of}
 use Rattle.echo_unit.proofs.RunByRows.{echo_run-more, same_run}
-use Rattle.echo_unit.proofs.Entries.{take_more}
 use Rattle.echo_unit.proofs.echo.Echo.play_each.Goals as goal
 
 pub loop-j-preserved : goal.loop-j-preserved
@@ -17,7 +16,7 @@ loop-j-preserved c =
     record {
       echo = rw (echo_run-more, c.step.ensures.state, c.loop-j.invariant.echo, c.loop-j.invariant.memory) refl;
       memory = rw (echo_run-more, c.step.ensures.memory, c.frame_at-sent.ensures, place, c.loop-j.invariant.echo, c.loop-j.invariant.memory) refl;
-      frames = rw (place, echo_run-more) (take_more c.loop-j.frames j c.step.result within ∙ (rw (c.loop-j.invariant.frames, frame) refl));
+      frames = rw (place, echo_run-more) (take_more_set c.loop-j.frames j c.step.result within ∙ (rw (c.loop-j.invariant.frames, frame) refl));
       long = length-set c.loop-j.frames c.from-place.result c.step.result ∙ c.loop-j.invariant.long;
     }
 
