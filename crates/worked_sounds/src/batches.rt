@@ -1,6 +1,6 @@
 //! One batch of 64 samples beside 64 batches of one, over the registers and the memory of demo file 7.
 
-use crate::stage::{SILENCE, Stage, have_same_bytes, have_same_registers};
+use crate::stage::{Stage, begin_in_silence, have_same_bytes, have_same_registers};
 use demo_gen::demo;
 use num_fix::Frame;
 use spc_form::{OpenState, SpcFile, opening};
@@ -24,11 +24,6 @@ fn played_one_by_one(alloc: Global, stage: &mut Stage) -> Result<(Vec<Frame>, Ve
         records.extend_from_slice(stage.records.as_slice())?;
     }
     Ok((frames, records))
-}
-
-/// Whether frames begin with six silent ones.
-fn begin_in_silence(frames: &[Frame]) -> bool {
-    frames.iter().take(6).all(|frame| *frame == SILENCE)
 }
 
 /// Whether records begin with those of eight voices that are keyed in sample 0.
@@ -59,7 +54,7 @@ fn a_batch_of_64_has_the_frames_and_records_of_64_batches(rt: HostRuntime) -> Re
     whole.play(64, 0xff);
     let (frames, records) = played_one_by_one(rt.alloc(), &mut split)?;
     assert_eq!(rt; (frames.len(), records.len()), (64, 512));
-    assert!(rt; begin_with_key_ons(records.as_slice()) && begin_in_silence(frames.as_slice()));
+    assert!(rt; begin_with_key_ons(records.as_slice()) && begin_in_silence(frames.as_slice(), 6));
     assert_eq!(rt; whole.frames.as_slice(), frames.as_slice());
     assert_eq!(rt; whole.records.as_slice(), records.as_slice());
     assert!(rt; have_same_registers(&whole.dsp, &split.dsp));

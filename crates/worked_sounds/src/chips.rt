@@ -1,7 +1,7 @@
 //! Worked examples over whole samples: keys, the echo's window, and the reach.
 
 use crate::sources::{memory_of_a_source, put_all};
-use crate::stage::{SILENCE, Stage, have_same_bytes, have_same_registers};
+use crate::stage::{SILENCE, Stage, begin_in_silence, have_same_bytes, have_same_registers};
 use aram_core::{Aram, PageSet};
 use dsp_core::Dsp;
 use num_fix::Frame;
@@ -226,20 +226,21 @@ fn are_made_one_by_one(split: &mut Stage, frames: &[Frame]) -> bool {
     true
 }
 
-// A key on waits in the first batch, a key off holds from the third on, and noise takes the place of voice 0 in the last.
+// A key on waits in the first batch, which is silent for six samples; a key off holds from the third on, and noise takes the place of voice 0 in the last.
 #[test]
 fn a_batch_is_its_samples_one_by_one(rt: HostRuntime) -> Result<(), Fail> {
     let mut whole = two_voices(rt.alloc())?;
     let mut split = two_voices(rt.alloc())?;
-    for (n, register, byte) in [
-        (64, 0x4c, 0x03),
-        (64, 0x4c, 0x01),
-        (63, 0x5c, 0x02),
-        (64, 0x3d, 0x01),
+    for (n, register, byte, silent) in [
+        (64, 0x4c, 0x03, 6),
+        (64, 0x4c, 0x01, 0),
+        (63, 0x5c, 0x02, 0),
+        (64, 0x3d, 0x01, 0),
     ] {
         whole.dsp.reg_write(register, byte);
         split.dsp.reg_write(register, byte);
         whole.play(n, 0);
+        assert!(rt; begin_in_silence(whole.frames.as_slice(), silent));
         assert!(rt; are_made_one_by_one(&mut split, whole.frames.as_slice()));
         assert!(rt; have_same_registers(&whole.dsp, &split.dsp));
     }

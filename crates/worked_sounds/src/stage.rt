@@ -50,6 +50,11 @@ impl Stage {
     }
 }
 
+/// Whether frames begin with so many silent ones.
+pub fn begin_in_silence(frames: &[Frame], count: usize) -> bool {
+    frames.iter().take(count).all(|frame| *frame == SILENCE)
+}
+
 /// Whether two chips have the same registers.
 pub fn have_same_registers(one: &Dsp, other: &Dsp) -> bool {
     for address in 0..128u8 {
