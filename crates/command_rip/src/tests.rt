@@ -96,27 +96,46 @@ fn names_of_outputs(rt: HostRuntime) -> Result<(), Fail> {
 /// Three entries of one block.
 const THREE: Pieces = &[(MEMORY + 0x0204, b"\x00\x05\x00\x05\x00\x05\x00\x05")];
 
+/// Rips them, where the calls of these numbers fail.
+fn rip_three(alloc: Global, failing: &[u32]) -> Result<Outcome, Fail> {
+    rip_file(alloc, (FIVE, THREE), Some((1, 2)), failing, (3, 76))
+}
+
+/// The first call that leaves what it may not where it fails.
+fn first_lawless_call(alloc: Global) -> Result<Option<u32>, Fail> {
+    let whole = rip_three(alloc, &[])?;
+    for call in 0..whole.calls() {
+        let outcome = rip_three(alloc, &[call])?;
+        if !outcome.is_unread(call) && !outcome.is_cut_off(&whole) {
+            return Ok(Some(call));
+        }
+    }
+    Ok(None)
+}
+
 #[test]
 fn each_call_of_the_host_may_fail(rt: HostRuntime) -> Result<(), Fail> {
-    let alloc = rt.alloc();
+    let lawless = first_lawless_call(rt.alloc())?;
+    assert_eq!(rt; lawless, None);
+    Ok(())
+}
+
+/// The call that creates the third output. An output takes as many calls as the next.
+fn third_creation(alloc: Global) -> Result<u32, Fail> {
     let one = rip_file(alloc, (FIVE, THREE), None, &[], (3, 76))?.calls();
-    let whole = rip_file(alloc, (FIVE, THREE), Some((1, 2)), &[], (3, 76))?;
-    assert!(rt; whole.status() == Status::Ok);
-    for call in 0..whole.calls() {
-        let outcome = rip_file(alloc, (FIVE, THREE), Some((1, 2)), &[call], (3, 76))?;
-        assert!(rt;
-            outcome.is_unread(call) || outcome.is_cut_off(&whole),
-            "at {call}"
-        );
-    }
-    // An output takes as many calls as the next, so the third is created by this one.
-    let third = one
-        .wrapping_add(whole.calls().wrapping_sub(one) / 2)
-        .wrapping_sub(1);
-    let outcome = rip_file(alloc, (FIVE, THREE), Some((1, 2)), &[third], (3, 76))?;
-    assert!(rt;
-        outcome.first() == STEADY_WAV.as_slice() && outcome.second() == STEADY_WAV.as_slice()
-    );
+    let three = rip_three(alloc, &[])?.calls();
+    Ok(
+        one.wrapping_add(three.wrapping_sub(one) / 2)
+            .wrapping_sub(1),
+    )
+}
+
+#[test]
+fn outputs_before_one_that_fails_stay(rt: HostRuntime) -> Result<(), Fail> {
+    let third = third_creation(rt.alloc())?;
+    let outcome = rip_three(rt.alloc(), &[third])?;
+    assert!(rt; outcome.first() == STEADY_WAV.as_slice());
+    assert!(rt; outcome.second() == STEADY_WAV.as_slice());
     assert!(rt; outcome.report().is_empty() && outcome.calls() == third.wrapping_add(2));
     Ok(())
 }

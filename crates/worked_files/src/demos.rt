@@ -37,23 +37,24 @@ const PARTS: [(usize, &[u8]); 13] = [
     (0x10170, b"\x40\x40\0\x10\x07\x8F\xE0\x7F\0\0\0\0\0\x04\0\0"),
 ];
 
+/// Whether bytes stand at a place.
+fn stands_at(all: &[u8], place: usize, part: &[u8]) -> bool {
+    match all.get(place..) {
+        Some(rest) => rest.starts_with(part),
+        None => false,
+    }
+}
+
 /// The demo files of two numbers: what depends on no draws, and the title.
 #[test]
 fn the_parts_stand_at_their_places(rt: HostRuntime) -> Result<(), Fail> {
     for (number, title) in [(7, "demo 7"), (4294967295, "demo 4294967295")] {
         let file = demo(rt.alloc(), number)?;
         let bytes = write_spc(rt.alloc(), &file)?;
-        assert_eq!(rt; bytes.len(), 66048);
-        assert_eq!(rt; file.pc(), 0x0400);
+        assert_eq!(rt; (bytes.len(), file.pc()), (66048, 0x0400));
         assert_eq!(rt; file.text(Tag::Title), title.as_bytes());
         for (place, part) in PARTS {
-            for (k, byte) in part.iter().enumerate() {
-                assert_eq!(rt;
-                    bytes.get(place.saturating_add(k)),
-                    Some(byte),
-                    "at {place} + {k}"
-                );
-            }
+            assert!(rt; stands_at(bytes.as_slice(), place, part), "at {place}");
         }
     }
     Ok(())
@@ -82,13 +83,7 @@ fn the_draws_of_seven(rt: HostRuntime) -> Result<(), Fail> {
         (0x22FF, b"\x60\0"),
     ];
     for (address, part) in cells {
-        for (k, byte) in part.iter().enumerate() {
-            assert_eq!(rt;
-                file.memory().get(address.saturating_add(k)),
-                Some(byte),
-                "at {address} + {k}"
-            );
-        }
+        assert!(rt; stands_at(file.memory(), address, part), "at {address}");
     }
     Ok(())
 }

@@ -9,23 +9,30 @@ fn encoded(rt: &HostRuntime, samples: &[i16], looped: bool) -> Result<Encoded, F
 
 #[test]
 fn zeros_are_blocks_of_zeros(rt: HostRuntime) -> Result<(), Fail> {
-    let silent = BlockReport {
-        header: 0x01,
-        worst: 0,
-        squares: 0,
-    };
-    let once = encoded(&rt, &[0; 16], false)?;
-    assert_eq!(rt; once.bytes.as_slice(), b"\x01\0\0\0\0\0\0\0\0".as_slice());
-    assert_eq!(rt; once.reports.as_slice(), [silent].as_slice());
-    let looped = encoded(&rt, &[0; 16], true)?;
-    assert_eq!(rt; looped.bytes.as_slice(), b"\x03\0\0\0\0\0\0\0\0".as_slice());
-    let longer = encoded(&rt, &[0; 17], false)?;
-    assert_eq!(rt;
-        longer.bytes.as_slice(),
-        b"\0\0\0\0\0\0\0\0\0\x01\0\0\0\0\0\0\0\0".as_slice()
-    );
-    assert_eq!(rt; longer.reports.len(), 2);
+    for (samples, looped, blocks) in [
+        (
+            [0; 17].as_slice(),
+            false,
+            b"\0\0\0\0\0\0\0\0\0\x01\0\0\0\0\0\0\0\0".as_slice(),
+        ),
+        (
+            [0; 16].as_slice(),
+            false,
+            b"\x01\0\0\0\0\0\0\0\0".as_slice(),
+        ),
+        ([0; 16].as_slice(), true, b"\x03\0\0\0\0\0\0\0\0".as_slice()),
+    ] {
+        let silence = encoded(&rt, samples, looped)?;
+        assert_eq!(rt; silence.bytes.as_slice(), blocks);
+        assert!(rt; silence.reports.iter().all(is_without_error));
+        assert_eq!(rt; silence.reports.len(), blocks.len() / 9);
+    }
     Ok(())
+}
+
+/// Whether a block misses no sample.
+fn is_without_error(report: &BlockReport) -> bool {
+    (report.worst, report.squares) == (0, 0)
 }
 
 #[test]

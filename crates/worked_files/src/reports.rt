@@ -5,21 +5,22 @@ use report_text::{
 use std::test::Fail;
 
 #[test]
-fn numbers_and_texts_are_printed(rt: HostRuntime) -> Result<(), Fail> {
+fn numbers_are_printed(rt: HostRuntime) -> Result<(), Fail> {
     let mut report = Vec::new(rt.alloc());
     put_number(&mut report, 320000)?;
     put_named(&mut report, b" worst ", 4095)?;
     put_signed(&mut report, b" left ", -17)?;
-    report.extend_from_slice(b" ")?;
+    assert_eq!(rt; report.as_slice(), b"320000 worst 4095 left -17".as_slice());
+    Ok(())
+}
+
+#[test]
+fn digits_and_texts_are_printed(rt: HostRuntime) -> Result<(), Fail> {
+    let mut report = Vec::new(rt.alloc());
     put_two_digits(&mut report, 0x0c)?;
-    report.extend_from_slice(b" ")?;
     put_word(&mut report, 0x04ef)?;
-    report.extend_from_slice(b" ")?;
     put_text(&mut report, b"a\\\x07~")?;
-    assert_eq!(rt;
-        report.as_slice(),
-        b"320000 worst 4095 left -17 0c 04ef a\\x5c\\x07~".as_slice()
-    );
+    assert_eq!(rt; report.as_slice(), b"0c04efa\\x5c\\x07~".as_slice());
     Ok(())
 }
 

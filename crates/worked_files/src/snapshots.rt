@@ -26,8 +26,26 @@ fn file(alloc: Global, bytes: &[(usize, u8)]) -> Result<SpcFile, Fail> {
     Ok(read_spc(alloc, &image)?)
 }
 
+/// How a file is read: as so many bytes that are written of it again, or what it is refused for.
+#[derive(Clone, Copy, PartialEq, Eq)]
+enum Reading {
+    File(usize),
+    Length(usize),
+    Signature(usize),
+    NoMemory,
+}
+
+fn reread(alloc: Global, image: &[u8]) -> Result<Reading, Fail> {
+    match read_spc(alloc, image) {
+        Ok(file) => Ok(Reading::File(write_spc(alloc, &file)?.len())),
+        Err(SpcRefusal::Length(length)) => Ok(Reading::Length(length)),
+        Err(SpcRefusal::Signature(at)) => Ok(Reading::Signature(at)),
+        Err(SpcRefusal::OutOfMemory) => Ok(Reading::NoMemory),
+    }
+}
+
 #[test]
-fn lengths_and_signatures(rt: HostRuntime) -> Result<(), Fail> {
+fn files_of_some_lengths_are_accepted(rt: HostRuntime) -> Result<(), Fail> {
     for (length, accepted) in [
         (100, false),
         (65919, false),
@@ -37,28 +55,42 @@ fn lengths_and_signatures(rt: HostRuntime) -> Result<(), Fail> {
         (1048577, false),
     ] {
         let image = image(rt.alloc(), length, &[])?;
-        match read_spc(rt.alloc(), &image) {
-            Ok(file) => {
-                assert!(rt; accepted, "at {length}");
-                assert_eq!(rt; write_spc(rt.alloc(), &file)?.len(), 66048);
-            }
-            Err(SpcRefusal::Length(refused)) => assert_eq!(rt;
-                (accepted, refused),
-                (false, length)
-            ),
-            Err(_) => panic!(rt; "at {length}"),
-        }
-    }
-    let version = image(rt.alloc(), 66108, &[(31, b'1')])?;
-    let _ = read_spc(rt.alloc(), &version)?;
-    for (first, second) in [(26, 26), (3, 26)] {
-        let changed = image(rt.alloc(), 66048, &[(first, 0), (second, 0)])?;
-        match read_spc(rt.alloc(), &changed) {
-            Err(SpcRefusal::Signature(at)) => assert_eq!(rt; at, first),
-            _ => panic!(rt; "accepted with a changed byte {first}"),
-        }
+        let wanted = if accepted {
+            Reading::File(66048)
+        } else {
+            Reading::Length(length)
+        };
+        assert!(rt; reread(rt.alloc(), image.as_slice())? == wanted, "{length}");
     }
     Ok(())
+}
+
+#[test]
+fn the_first_byte_of_a_signature_that_differs_is_told(rt: HostRuntime) -> Result<(), Fail> {
+    for (first, second) in [(26, 26), (3, 26)] {
+        let changed = image(rt.alloc(), 66048, &[(first, 0), (second, 0)])?;
+        let wanted = Reading::Signature(first);
+        assert!(rt;
+            reread(rt.alloc(), changed.as_slice())? == wanted,
+            "{first}"
+        );
+    }
+    Ok(())
+}
+
+#[test]
+fn another_version_is_accepted(rt: HostRuntime) -> Result<(), Fail> {
+    let version = image(rt.alloc(), 66108, &[(31, b'1')])?;
+    assert!(rt; reread(rt.alloc(), version.as_slice())? == Reading::File(66048));
+    Ok(())
+}
+
+/// PC, and the other registers: A, X, Y, the status and the stack pointer.
+fn registers(file: &SpcFile) -> (u16, [u8; 5]) {
+    (
+        file.pc(),
+        [file.a(), file.x(), file.y(), file.psw(), file.sp()],
+    )
 }
 
 #[test]
@@ -74,8 +106,7 @@ fn fields_and_texts(rt: HostRuntime) -> Result<(), Fail> {
             (0x101C0, 7),
         ],
     )?;
-    assert_eq!(rt; (file.pc(), file.sp(), file.psw()), (0x0400, 0xEF, 4));
-    assert_eq!(rt; (file.a(), file.x(), file.y()), (1, 2, 3));
+    assert_eq!(rt; registers(&file), (0x0400, [1, 2, 3, 4, 0xEF]));
     assert_eq!(rt; (file.tag_mark(), file.minor()), (0x1B, 30));
     assert_eq!(rt;
         (file.memory()[0], file.dsp()[0], file.extra()[0]),

@@ -1,5 +1,6 @@
 // Headers, frames and samples of known files.
 use num_fix::Frame;
+use std::alloc::Global;
 use std::test::Fail;
 use wav_form::{WavRefusal, header, put_frame, read_mono};
 
@@ -35,6 +36,15 @@ fn frames_are_left_then_right_with_low_bytes_first(rt: HostRuntime) {
     for (left, right, wanted) in rows {
         assert_eq!(rt; put_frame(Frame { left, right }), wanted, "{left} {right}");
     }
+}
+
+/// A file of three parts.
+fn joined(alloc: Global, parts: [&[u8]; 3]) -> Result<Vec<u8>, Fail> {
+    let mut file = Vec::new(alloc);
+    for part in parts {
+        file.extend_from_slice(part)?;
+    }
+    Ok(file)
 }
 
 #[test]
@@ -75,10 +85,7 @@ fn samples_of_files_with_one_channel(rt: HostRuntime) -> Result<(), Fail> {
             Some(WavRefusal::NotWave),
         ),
     ] {
-        let mut file = Vec::new(rt.alloc());
-        for part in parts {
-            file.extend_from_slice(part)?;
-        }
+        let file = joined(rt.alloc(), parts)?;
         match read_mono(rt.alloc(), &file) {
             Ok(read) => assert_eq!(rt; (read.as_slice(), wanted), ([1, -1].as_slice(), None)),
             Err(refusal) => assert_eq!(rt; Some(refusal), wanted),

@@ -49,11 +49,13 @@ fn words_products_and_quotients_have_these_results_and_flags(rt: HostRuntime) ->
 fn flags_are_set_and_read_one_by_one(rt: HostRuntime) -> Result<(), Fail> {
     flags_change_alone();
     other_flags_stay();
-    assert_eq!(rt; put(0x40, ZERO, true), 0x42);
-    assert_eq!(rt; put(0x43, ZERO, false), 0x41);
-    assert!(rt; is_set(0x41, CARRY));
-    assert_eq!(rt; carry(0x41), 1);
-    assert_eq!(rt; put_nz(0x01, 0x80), 0x81);
-    assert_eq!(rt; put_nz16(0x81, 0x0080), 0x01);
+    let put = [
+        put(0x40, ZERO, true),
+        put(0x43, ZERO, false),
+        put_nz(0x01, 0x80),
+        put_nz16(0x81, 0x0080),
+    ];
+    assert_eq!(rt; put, [0x42, 0x41, 0x81, 0x01]);
+    assert_eq!(rt; (is_set(0x41, CARRY), carry(0x41)), (true, 1));
     Ok(())
 }

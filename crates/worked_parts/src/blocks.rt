@@ -4,10 +4,13 @@ use std::test::Fail;
 // Shift and filter: the least digit under the shifts 12 and 13, and 4096 falling under filter 1.
 #[test]
 fn shifts_and_filters(rt: HostRuntime) -> Result<(), Fail> {
-    assert_eq!(rt; kept_sample(0xC0, -8, 0, 0), -32768);
-    assert_eq!(rt; decode_group(0xC0, 0x80, 0x00, 0, 0), [-32768, 0, 0, 0]);
-    assert_eq!(rt; decode_group(0xD0, 0xF7, 0x00, 0, 0), [-4096, 0, 0, 0]);
-    assert_eq!(rt; decode_block(b"\xC0\0\0\0\0\0\0\0\x01", 0, 0)[15], 4096);
+    let firsts = [
+        kept_sample(0xC0, -8, 0, 0),
+        decode_group(0xC0, 0x80, 0x00, 0, 0)[0],
+        decode_group(0xD0, 0xF7, 0x00, 0, 0)[0],
+        decode_block(b"\xC0\0\0\0\0\0\0\0\x01", 0, 0)[15],
+    ];
+    assert_eq!(rt; firsts, [-32768, -32768, -4096, 4096]);
     let stream = b"\xC0\0\0\0\0\0\0\0\x01\xC4\0\0\0\0\0\0\0\0";
     let samples = decode_stream(rt.alloc(), stream)?;
     assert_eq!(rt; samples.len(), 32);

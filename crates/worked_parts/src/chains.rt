@@ -13,15 +13,9 @@ fn memory(alloc: Global) -> Result<Aram, Fail> {
     Ok(memory)
 }
 
-/// The numbers of the pages of a set.
-fn numbers(alloc: Global, pages: &PageSet) -> Result<Vec<u8>, Fail> {
-    let mut numbers = Vec::new(alloc);
-    for page in 0..256u16 {
-        if pages.has(page as u8) {
-            numbers.push(page as u8)?;
-        }
-    }
-    Ok(numbers)
+/// Whether a set has exactly the pages of these numbers.
+fn has_exactly(pages: &PageSet, numbers: &[u8]) -> bool {
+    (0..=255u8).all(|page| pages.has(page) == numbers.contains(&page))
 }
 
 /// A window over the end of a page.
@@ -32,67 +26,48 @@ const WINDOW: Window = Window {
 
 #[test]
 fn a_chain_goes_to_its_loop_after_an_end(rt: HostRuntime) -> Result<(), Fail> {
-    let alloc = rt.alloc();
-    let memory = memory(alloc)?;
+    let memory = memory(rt.alloc())?;
     // the blocks are 05F8h to 0600h, 0601h to 0609h, and 16 from 4071h on: the last one is 40F8h to 4100h
     let starts = [ChainStart {
         block: 0x05f8,
         loop_word: 0x4071,
     }];
     let found = reach(&memory, &starts, &[], WINDOW, false);
-    assert_eq!(rt;
-        numbers(alloc, &found.read_pages)?.as_slice(),
-        [0x03, 0x04, 0x05, 0x06, 0x40, 0x41].as_slice()
-    );
-    assert_eq!(rt;
-        numbers(alloc, &found.write_pages)?.as_slice(),
-        [].as_slice()
-    );
+    assert!(rt; has_exactly(&found.read_pages, &[0x03, 0x04, 0x05, 0x06, 0x40, 0x41]));
+    assert!(rt; has_exactly(&found.write_pages, &[]));
     Ok(())
 }
 
 #[test]
 fn a_loop_comes_again_and_again(rt: HostRuntime) -> Result<(), Fail> {
-    let alloc = rt.alloc();
-    let memory = memory(alloc)?;
+    let memory = memory(rt.alloc())?;
     // the blocks are 05F8h to 0600h, and 0601h to 0609h 17 times
     let starts = [ChainStart {
         block: 0x05f8,
         loop_word: 0x0601,
     }];
     let found = reach(&memory, &starts, &[], WINDOW, false);
-    assert_eq!(rt;
-        numbers(alloc, &found.read_pages)?.as_slice(),
-        [0x03, 0x04, 0x05, 0x06].as_slice()
-    );
+    assert!(rt; has_exactly(&found.read_pages, &[0x03, 0x04, 0x05, 0x06]));
     Ok(())
 }
 
 #[test]
 fn entries_and_windows_go_over_ends_of_pages_and_of_memory(rt: HostRuntime) -> Result<(), Fail> {
-    let alloc = rt.alloc();
-    let memory = memory(alloc)?;
+    let memory = memory(rt.alloc())?;
     let window = Window {
         start: 0xff00,
         len: 0x101,
     };
     let found = reach(&memory, &[], &[0x02fe, 0x80fc], window, true);
-    assert_eq!(rt;
-        numbers(alloc, &found.read_pages)?.as_slice(),
-        [0x00, 0x02, 0x03, 0x80, 0xff].as_slice()
-    );
-    assert_eq!(rt;
-        numbers(alloc, &found.write_pages)?.as_slice(),
-        [0x00, 0xff].as_slice()
-    );
+    assert!(rt; has_exactly(&found.read_pages, &[0x00, 0x02, 0x03, 0x80, 0xff]));
+    assert!(rt; has_exactly(&found.write_pages, &[0x00, 0xff]));
     assert_eq!(rt; found.entangled, false);
     Ok(())
 }
 
 #[test]
 fn an_echo_that_writes_what_a_voice_reads_is_entangled(rt: HostRuntime) -> Result<(), Fail> {
-    let alloc = rt.alloc();
-    let memory = memory(alloc)?;
+    let memory = memory(rt.alloc())?;
     for (entry, writes_on, want) in [
         (0x0300, true, true),
         (0x0300, false, false),

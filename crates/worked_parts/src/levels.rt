@@ -15,9 +15,10 @@ fn fast_attack_reaches_sustain_in_three_steps(rt: HostRuntime) {
     ] {
         clock.step();
         envelope.step(0x8f, 0xe0, 0, &clock);
-        assert_eq!(rt; envelope.level(), level);
-        assert_eq!(rt; envelope.mode, mode);
-        assert_eq!(rt; envelope.hidden, hidden);
+        assert_eq!(rt;
+            (envelope.level(), envelope.mode, envelope.hidden),
+            (level, mode, hidden)
+        );
     }
 }
 
@@ -30,11 +31,9 @@ fn keys_change_what_they_name(rt: HostRuntime) {
     envelope.step(0x8f, 0, 0, &clock);
     envelope.release();
     envelope.step(0x8f, 0, 0, &clock);
-    assert_eq!(rt; envelope.level(), 0x3f8);
-    assert_eq!(rt; envelope.hidden, 0x400);
+    assert_eq!(rt; (envelope.level(), envelope.hidden), (0x3f8, 0x400));
     envelope.hold();
-    assert_eq!(rt; envelope.level(), 0);
-    assert_eq!(rt; envelope.hidden, 0);
+    assert_eq!(rt; (envelope.level(), envelope.hidden), (0, 0));
     envelope.key();
     envelope.silence();
     assert_eq!(rt; envelope.mode, Mode::Release);

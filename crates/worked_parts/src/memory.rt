@@ -55,21 +55,18 @@ fn the_page_of_an_address_is_its_high_byte(rt: HostRuntime) {
     );
 }
 
+/// Whether a set has exactly the pages of these numbers.
+fn has_exactly(pages: &PageSet, numbers: &[u8]) -> bool {
+    (0..=255u8).all(|page| pages.has(page) == numbers.contains(&page))
+}
+
 #[test]
 fn sets_of_pages_at_their_ends(rt: HostRuntime) {
     let mut ends = PageSet::empty();
-    ends.add(0x00);
-    ends.add(0x7F);
-    ends.add(0x80);
-    ends.add(0xFF);
-    assert_eq!(rt;
-        (ends.has(0x00), ends.has(0x01), ends.has(0x7F)),
-        (true, false, true)
-    );
-    assert_eq!(rt;
-        (ends.has(0x80), ends.has(0xFE), ends.has(0xFF)),
-        (true, false, true)
-    );
+    for page in [0x00, 0x7F, 0x80, 0xFF] {
+        ends.add(page);
+    }
+    assert!(rt; has_exactly(&ends, &[0x00, 0x7F, 0x80, 0xFF]));
     let mut others = PageSet::empty();
     assert_eq!(rt; ends.meets(&others), false);
     others.add(0x01);
@@ -82,18 +79,7 @@ fn sets_of_pages_at_their_ends(rt: HostRuntime) {
 #[test]
 fn pages_from_one_on_go_on_at_page_0(rt: HostRuntime) {
     let mut pages = PageSet::pages_from(0xFE, 4);
-    assert_eq!(rt;
-        (pages.has(0xFD), pages.has(0xFE), pages.has(0xFF)),
-        (false, true, true)
-    );
-    assert_eq!(rt;
-        (pages.has(0x00), pages.has(0x01), pages.has(0x02)),
-        (true, true, false)
-    );
+    assert!(rt; has_exactly(&pages, &[0xFE, 0xFF, 0x00, 0x01]));
     pages.add_all(&PageSet::pages_from(0x7F, 2));
-    assert_eq!(rt;
-        (pages.has(0x7E), pages.has(0x7F), pages.has(0x80)),
-        (false, true, true)
-    );
-    assert_eq!(rt; (pages.has(0xFF), pages.has(0x81)), (true, false));
+    assert!(rt; has_exactly(&pages, &[0x7F, 0x80, 0xFE, 0xFF, 0x00, 0x01]));
 }

@@ -1,26 +1,26 @@
 use ports_timers::Io;
 
+/// Lets the cycles from one moment to another pass, one by one.
+fn tick_from(io: &mut Io, from: u32, to: u32) {
+    for clock in from..to {
+        io.ticks(u64::from(clock), 1);
+    }
+}
+
 // From zeros with timer 0 enabled: the target 0 means 256 ticks of 128 cycles, and a read clears the output counter.
 // Enabling an enabled timer changes nothing; off and on again clears both counters.
 #[test]
 fn target_0_means_256(rt: HostRuntime) {
     let mut io = Io::from_cells([0; 16], [0; 64]);
     io.write(0xF1, 0x01);
-    for clock in 0..32767u64 {
-        io.ticks(clock, 1);
-    }
+    tick_from(&mut io, 0, 32767);
     assert_eq!(rt; io.read(0xFD), Some(0));
-    io.ticks(32767, 1);
-    assert_eq!(rt; io.read(0xFD), Some(1));
-    assert_eq!(rt; io.read(0xFD), Some(0));
-
-    for clock in 32768..65536u64 {
-        io.ticks(clock, 1);
-    }
+    tick_from(&mut io, 32767, 32768);
+    assert_eq!(rt; (io.read(0xFD), io.read(0xFD)), (Some(1), Some(0)));
+    tick_from(&mut io, 32768, 65536);
     let counted = io;
     io.write(0xF1, 0x01);
-    assert_eq!(rt; io, counted);
-    assert_eq!(rt; io.timer0.output, 1);
+    assert_eq!(rt; (io, io.timer0.output), (counted, 1));
     io.write(0xF1, 0x00);
     io.write(0xF1, 0x01);
     assert_eq!(rt; (io.timer0.inner, io.timer0.output), (0, 0));
@@ -47,41 +47,53 @@ fn the_rom_shows_once_it_is_switched_on(rt: HostRuntime) {
     assert_eq!(rt; io.read(0xFFC0), Some(0xAA));
 }
 
-// Each address has F0h + its own number in its cell, so that a read shows whose value it gives.
-#[test]
-fn reads_at_the_ends_of_each_range(rt: HostRuntime) {
+/// Each address has F0h + its own number in its cell, so that a read shows whose value it gives.
+fn numbered() -> Io {
     let cells = [
         0xF0, 0x00, 0xF2, 0xF3, 0xF4, 0xF5, 0xF6, 0xF7, 0xF8, 0xF9, 0xFA, 0xFB, 0xFC, 0xFD, 0xFE,
         0xFF,
     ];
-    let mut io = Io::from_cells(cells, [0xAA; 64]);
+    Io::from_cells(cells, [0xAA; 64])
+}
+
+/// What is then read while the ROM is hidden, one after another.
+const ANSWERS: [(u16, Option<u8>); 19] = [
+    (0x00EF, None),
+    (0x00F0, Some(0)),
+    (0x00F1, Some(0)),
+    (0x00F2, Some(0xF2)),
+    (0x00F3, None),
+    (0x00F4, Some(0xF4)),
+    (0x00F7, Some(0xF7)),
+    (0x00F8, None),
+    (0x00F9, None),
+    (0x00FA, Some(0)),
+    (0x00FC, Some(0)),
+    (0x00FD, Some(0x0D)),
+    (0x00FE, Some(0x0E)),
+    (0x00FF, Some(0x0F)),
+    (0x00FF, Some(0)),
+    (0x0100, None),
+    (0xFFBF, None),
+    (0xFFC0, None),
+    (0xFFFF, None),
+];
+
+#[test]
+fn reads_at_the_ends_of_each_range(rt: HostRuntime) {
+    let mut io = numbered();
     assert_eq!(rt; io.dsp_address(), 0xF2);
-    for (address, answer) in [
-        (0x00EF, None),
-        (0x00F0, Some(0)),
-        (0x00F1, Some(0)),
-        (0x00F2, Some(0xF2)),
-        (0x00F3, None),
-        (0x00F4, Some(0xF4)),
-        (0x00F7, Some(0xF7)),
-        (0x00F8, None),
-        (0x00F9, None),
-        (0x00FA, Some(0)),
-        (0x00FC, Some(0)),
-        (0x00FD, Some(0x0D)),
-        (0x00FE, Some(0x0E)),
-        (0x00FF, Some(0x0F)),
-        (0x00FF, Some(0)),
-        (0x0100, None),
-        (0xFFBF, None),
-        (0xFFC0, None),
-        (0xFFFF, None),
-    ] {
+    for (address, answer) in ANSWERS {
         assert_eq!(rt; io.read(address), answer, "at {address:04x}");
     }
+}
+
+#[test]
+fn the_rom_is_read_and_not_written(rt: HostRuntime) {
+    let mut io = numbered();
     io.write(0xF1, 0x80);
     for (address, answer) in [(0xFFBF, None), (0xFFC0, Some(0xAA)), (0xFFFF, Some(0xAA))] {
-        assert_eq!(rt; io.read(address), answer, "at {address:04x} of the ROM");
+        assert_eq!(rt; io.read(address), answer, "at {address:04x}");
     }
     let shown = io;
     io.write(0xFFC0, 0x55);

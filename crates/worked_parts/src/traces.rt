@@ -2,9 +2,9 @@ use num_fix::Frame;
 use std::test::Fail;
 use trace_form::{EventRing, Frames, Full, Record, Records, line};
 
-#[test]
-fn the_line_of_each_kind_of_record(rt: HostRuntime) {
-    let voice = |sample: u32, level: u16, out: i16, block: u16, keyed: bool, looped: bool| Record::Voice {
+/// A record of voice 0.
+fn voice(sample: u32, level: u16, out: i16, block: u16, keyed: bool, looped: bool) -> Record {
+    Record::Voice {
         sample,
         voice: 0,
         level,
@@ -12,79 +12,98 @@ fn the_line_of_each_kind_of_record(rt: HostRuntime) {
         block,
         keyed,
         looped,
-    };
+    }
+}
+
+/// A record of a write of port 0.
+fn port(sample: u32, value: u8) -> Record {
+    Record::Port {
+        sample,
+        port: 0,
+        value,
+    }
+}
+
+/// Whether the line of a record is this text.
+fn is_line(record: &Record, text: &str) -> bool {
+    line(record).bytes() == text.as_bytes()
+}
+
+#[test]
+fn the_line_of_each_kind_of_record(rt: HostRuntime) {
     let register = Record::Reg {
         sample: 0,
         addr: 0x6C,
         value: 0x20,
     };
-    let port = Record::Port {
-        sample: 7,
-        port: 0,
-        value: 0x7F,
-    };
-    assert_eq!(rt; line(&register).bytes(), b"R 0 6c 20\n".as_slice());
-    assert_eq!(rt; line(&port).bytes(), b"P 7 0 7f\n".as_slice());
-    assert_eq!(rt;
-        line(&voice(0, 0, 0, 0, true, false)).bytes(),
-        b"V 0 0 0 0 0000 k-\n".as_slice()
-    );
-    assert_eq!(rt;
-        line(&voice(6, 2032, 4064, 0x0500, false, false)).bytes(),
-        b"V 6 0 2032 4064 0500 --\n".as_slice()
-    );
-    let longest = voice(4_000_000_000, 2047, -32768, 0xFFFF, false, true);
-    assert_eq!(rt;
-        line(&longest).bytes(),
-        b"V 4000000000 0 2047 -32768 ffff -l\n".as_slice()
-    );
+    for (record, text) in [
+        (register, "R 0 6c 20\n"),
+        (port(7, 0x7F), "P 7 0 7f\n"),
+        (voice(0, 0, 0, 0, true, false), "V 0 0 0 0 0000 k-\n"),
+        (
+            voice(6, 2032, 4064, 0x0500, false, false),
+            "V 6 0 2032 4064 0500 --\n",
+        ),
+        (
+            voice(4_000_000_000, 2047, -32768, 0xFFFF, false, true),
+            "V 4000000000 0 2047 -32768 ffff -l\n",
+        ),
+    ] {
+        assert!(rt; is_line(&record, text), "{text}");
+    }
 }
 
 #[test]
-fn the_rooms_of_the_lists(rt: HostRuntime) -> Result<(), Fail> {
+fn the_room_of_the_frames(rt: HostRuntime) -> Result<(), Fail> {
+    let frame = Frame { left: 1, right: -1 };
     let mut frames = Frames::new(rt.alloc())?;
     assert_eq!(rt; frames.room(), 128);
-    frames.push(Frame { left: 1, right: -1 });
-    assert_eq!(rt; frames.room(), 127);
+    frames.push(frame);
     assert_eq!(rt;
-        frames.as_slice(),
-        [Frame { left: 1, right: -1 }].as_slice()
+        (frames.room(), frames.as_slice()),
+        (127, [frame].as_slice())
     );
     frames.clear();
     assert_eq!(rt; frames.room(), 128);
+    Ok(())
+}
 
-    let port = Record::Port {
-        sample: 0,
-        port: 3,
-        value: 9,
-    };
+#[test]
+fn the_room_of_the_records(rt: HostRuntime) -> Result<(), Fail> {
     let mut records = Records::new(rt.alloc())?;
     assert_eq!(rt; records.room(), 1344);
-    records.push(port);
-    assert_eq!(rt; records.room(), 1343);
-    assert_eq!(rt; records.as_slice(), [port].as_slice());
+    records.push(port(0, 9));
+    assert_eq!(rt;
+        (records.room(), records.as_slice()),
+        (1343, [port(0, 9)].as_slice())
+    );
     records.clear();
     assert_eq!(rt; records.room(), 1344);
     Ok(())
 }
 
+/// Pushes so many records, as long as there is room.
+fn push_all(ring: &mut EventRing, count: u32) -> bool {
+    for sample in 0..count {
+        if ring.try_push(port(sample, 0)).is_err() {
+            return false;
+        }
+    }
+    true
+}
+
 #[test]
 fn a_ring_of_256_records(rt: HostRuntime) -> Result<(), Fail> {
-    let record = |sample: u32| Record::Port {
-        sample,
-        port: 0,
-        value: 0,
-    };
     let mut ring = EventRing::new(rt.alloc())?;
-    assert!(rt; ring.is_empty());
-    for sample in 0..256u32 {
-        assert_eq!(rt; ring.try_push(record(sample)), Ok(()));
-    }
-    assert_eq!(rt; ring.try_push(record(256)), Err(Full));
-    assert_eq!(rt; ring.len(), 256);
-    assert_eq!(rt; ring.front(), Some(record(0)));
-    assert_eq!(rt; ring.pop_front(), Some(record(0)));
-    assert_eq!(rt; ring.try_push(record(256)), Ok(()));
-    assert_eq!(rt; ring.pop_front(), Some(record(1)));
+    assert!(rt; ring.is_empty() && push_all(&mut ring, 256));
+    assert_eq!(rt; (ring.try_push(port(256, 0)), ring.len()), (Err(Full), 256));
+    assert_eq!(rt;
+        (ring.front(), ring.pop_front()),
+        (Some(port(0, 0)), Some(port(0, 0)))
+    );
+    assert_eq!(rt;
+        (ring.try_push(port(256, 0)), ring.pop_front()),
+        (Ok(()), Some(port(1, 0)))
+    );
     Ok(())
 }

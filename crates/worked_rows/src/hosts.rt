@@ -57,16 +57,21 @@ fn an_input_is_read_up_to_its_limit(rt: HostRuntime) -> Result<(), Fail> {
 fn outputs_take_what_they_have_room_for(rt: HostRuntime) -> Result<(), Fail> {
     let alloc = rt.alloc();
     let mut host = five_bytes(alloc, &[], &[3, 0, 2])?;
-    assert_eq!(rt; write_all(&mut host, REPORT, b"abc"), Ok(()));
-    assert_eq!(rt; write_all(&mut host, REPORT, b"d"), Err(Failed));
-    assert_eq!(rt; write_all(&mut host, COMPLAINT, b""), Ok(()));
-    assert_eq!(rt; write_all(&mut host, COMPLAINT, b"d"), Err(Failed));
+    let notes = [
+        write_all(&mut host, REPORT, b"abc"),
+        write_all(&mut host, REPORT, b"d"),
+        write_all(&mut host, COMPLAINT, b""),
+        write_all(&mut host, COMPLAINT, b"d"),
+    ];
+    assert_eq!(rt; notes, [Ok(()), Err(Failed), Ok(()), Err(Failed)]);
     assert_eq!(rt; host.create("OUT"), Ok(FIRST));
-    assert_eq!(rt; write_all(&mut host, FIRST, b"xy"), Ok(()));
-    assert_eq!(rt; host.finish(FIRST), Ok(()));
+    let bytes = [write_all(&mut host, FIRST, b"xy"), host.finish(FIRST)];
+    assert_eq!(rt; bytes, [Ok(()), Ok(())]);
     assert_eq!(rt; host.create("MORE"), Err(Failed));
-    assert_eq!(rt; host.output(REPORT), b"abc".as_slice());
-    assert_eq!(rt; host.output(FIRST), b"xy".as_slice());
+    assert_eq!(rt;
+        (host.output(REPORT), host.output(FIRST)),
+        (b"abc".as_slice(), b"xy".as_slice())
+    );
     assert_eq!(rt; host.calls(), 7);
     Ok(())
 }
