@@ -105,7 +105,7 @@ impl Emitted {
         self.frames.extend_from_slice(self.last_frames.as_slice())?;
         self.records
             .extend_from_slice(self.last_records.as_slice())?;
-        Ok(self.last_frames.as_slice().len() as u8)
+        Ok(self.last_frames.as_slice().len().min(255) as u8)
     }
 }
 
