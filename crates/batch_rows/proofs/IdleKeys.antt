@@ -6,10 +6,9 @@ use Rattle.rate_clock.specs.Counter.{counter_at, fires, IsQuiet}
 use Rattle.voice_unit.specs.declared.batch.BatchRows.{BatchRows}
 use Rattle.dsp_form.specs.Registers.{noise_rate}
 use Rattle.dsp_form.specs.Results.{without_bits}
-use Rattle.dsp_form.specs.Sample.{after_poll, after_noise}
+use Rattle.dsp_form.specs.Sample.{after_poll, after_noise, before_voices}
 use Rattle.dsp_form.specs.declared.registers.TheConstants.{FLG}
 use Rattle.dsp_form.specs.declared.state.ChipState.{ChipState}
-use Rattle.batch_rows.specs.Apart.{polled}
 use Rattle.batch_rows.specs.KeyRows.{AreKeyRows}
 use Rattle.batch_rows.specs.Rows.{keys_after}
 
@@ -38,7 +37,7 @@ pub keys_idle : (k n : ℕ) (s : ChipState) → s.hidden.waiting ≡ 0 → s.hid
 unfolding keys_after
 keys_idle k n s w t quiet zero few = refl
 keys_idle k n s w t quiet (suc j) few =
-    ap (λ (now : ChipState). polled now (k + j)) (keys_idle k n s w t quiet j (omega (arith, few)))
+    ap (λ (now : ChipState). before_voices now (k + j)) (keys_idle k n s w t quiet j (omega (arith, few)))
     ∙ (ap (λ (now : ChipState). after_noise now (counter_at (k + j))) (poll_idle s (k + j) w t) ∙ noise_idle s (counter_at (k + j)) (quiet j (omega (arith, few))))
 
 -- which samples poll the keys

@@ -8,7 +8,7 @@ use Rattle.echo_unit.specs.Flg.{has_echo_writes}
 use Rattle.dsp_form.specs.Registers.{echo_regs}
 use Rattle.dsp_form.specs.Mix.{sent_frame}
 use Rattle.dsp_form.specs.Volumes.{all_volumes}
-use Rattle.dsp_form.specs.Sample.{SharedInput, VoiceResult, results_from, shared_input, sample}
+use Rattle.dsp_form.specs.Sample.{SharedInput, VoiceResult, results_from, shared_input, sample, before_voices}
 use Rattle.dsp_form.specs.declared.registers.TheConstants.{FLG}
 use Rattle.dsp_reach.proofs.Registers.{same_inputs-samples}
 use Rattle.echo_unit.proofs.OffCell.{echo_memory_still}
@@ -21,7 +21,7 @@ use Rattle.dsp_reach.proofs.ReachOfChip.{voices_unwritten}
 use Rattle.dsp_reach.proofs.Voices.{FindTheSame, results_same}
 use Rattle.dsp_reach.proofs.OneSample.{StaysInReach}
 use Rattle.dsp_reach.proofs.Within.{stays_in_samples}
-use Rattle.batch_rows.specs.Apart.{polled, VoicesReadTheSame}
+use Rattle.batch_rows.specs.Apart.{VoicesReadTheSame}
 
 -- where the reach isn't entangled
 pub reach_keeps_apart : (n k : ℕ) (s : ChipState) (memory : List ℕ) → n ≤ 64 → is_valid s ≡ true → (chip_reach s memory).entangled ≡ false → VoicesReadTheSame n k s memory
@@ -34,14 +34,14 @@ reach_keeps_apart n k s memory few valid clear j below = sym over
     stays = stays_in_samples j k s memory (omega (arith, few, below)) valid
 
     shared : SharedInput
-    shared = shared_input (polled now.state (k + j)) now.memory (k + j)
+    shared = shared_input (before_voices now.state (k + j)) now.memory (k + j)
 
     find : FindTheSame s memory 0 s.hidden.voices shared
     find = record {
       registers = λ address h. ap (λ (registers : List ℕ). slice_index registers address) (registers-before_step now.state (k + j)) ∙ stays.inputs address h;
       bytes = λ at there. stays.bytes at (voices_unwritten s memory (page_of at) clear there);
       keyed = λ v keyed.
-          let both = and_parts ((k + j) % 2 == 0) (has_bit (polled now.state (k + j)).hidden.taken v) keyed in
+          let both = and_parts ((k + j) % 2 == 0) (has_bit (before_voices now.state (k + j)).hidden.taken v) keyed in
           stays.waiting v (taken_waited now.state (k + j) v both.0 both.1);
     }
 
@@ -54,7 +54,7 @@ unfolding samples sample echo_regs
 memory-samples zero k s memory off = refl
 memory-samples (suc n) k s memory off =
     let now : SamplesResult ChipState = samples sample n k s memory in
-    let next : ChipState = polled now.state (k + n) in
+    let next : ChipState = before_voices now.state (k + n) in
     let same : slice_index next.registers FLG ≡ slice_index s.registers FLG =
     ap (λ (registers : List ℕ). slice_index registers FLG) (registers-before_step now.state (k + n)) ∙ same_inputs-samples n k s memory FLG refl in
     let still : has_echo_writes (slice_index next.registers FLG) ≡ false = ap has_echo_writes same ∙ off in
@@ -66,4 +66,4 @@ memory-samples (suc n) k s memory off =
 pub still_keeps_apart : (n k : ℕ) (s : ChipState) (memory : List ℕ) → has_echo_writes (slice_index s.registers FLG) ≡ false → VoicesReadTheSame n k s memory
 still_keeps_apart n k s memory off j below =
     let now : SamplesResult ChipState = samples sample j k s memory in
-    ap (λ (m : List ℕ). results_from (shared_input (polled now.state (k + j)) m (k + j)) 0 (pos 0) now.state.hidden.voices) (memory-samples j k s memory off)
+    ap (λ (m : List ℕ). results_from (shared_input (before_voices now.state (k + j)) m (k + j)) 0 (pos 0) now.state.hidden.voices) (memory-samples j k s memory off)

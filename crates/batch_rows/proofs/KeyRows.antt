@@ -7,11 +7,11 @@ use Rattle.dsp_form.specs.declared.state.ChipState.{ChipState}
 use Rattle.dsp_form.proofs.EightVoices.{voices-before_step}
 use Rattle.dsp_form.proofs.Valid.{echo-before_step}
 use Rattle.echo_unit.proofs.Entries.{with_entry}
-use Rattle.batch_rows.specs.Apart.{polled}
+use Rattle.dsp_form.specs.Sample.{before_voices}
 use Rattle.batch_rows.specs.KeyRows.{AreKeyRows}
 use Rattle.batch_rows.specs.Rows.{keys_after}
 
-pub keys_after-more : (k : ℕ) (s : ChipState) (n : ℕ) → keys_after k s (n + 1) ≡ polled (keys_after k s n) (k + n)
+pub keys_after-more : (k : ℕ) (s : ChipState) (n : ℕ) → keys_after k s (n + 1) ≡ before_voices (keys_after k s n) (k + n)
 unfolding keys_after
 keys_after-more k s n = rw add-one
 
@@ -28,7 +28,7 @@ no_rows k s rows = record {
 
 pub one_more_row_of_keys : (k : ℕ) (s now : ChipState) (n : ℕ) (rows : BatchRows) (is_poll : Bool) → AreKeyRows k n s rows
     → n < length rows.noise → n < length rows.poll → n < length rows.kon
-    → now ≡ polled (keys_after k s n) (k + n) → is_poll ≡ ((k + n) % 2 == 0)
+    → now ≡ before_voices (keys_after k s n) (k + n) → is_poll ≡ ((k + n) % 2 == 0)
     → AreKeyRows k (n + 1) s record { noise = slice_set rows.noise n now.hidden.noise; poll = slice_set rows.poll n is_poll; kon = slice_set rows.kon n now.hidden.taken }
 unfolding keys_after
 one_more_row_of_keys k s now n rows is_poll before noise_long poll_long kon_long is poll_is = record {
@@ -47,7 +47,7 @@ below_bound row n x bound within before small j below = by (j == n) refl
     by false e = let other : j ≢ n = grind (arith, nat_tests, e) in rw (get_or-set_other row n j x 0 other) (before j (omega (arith, below, other)))
 
 -- neither voices nor echo are touched
-untouched : {X : Type 0} (part : ChipState → X) (k : ℕ) (s : ChipState) (n : ℕ) → ((s : ChipState) (k : ℕ) → part (polled s k) ≡ part s) → part (keys_after k s n) ≡ part s
+untouched : {X : Type 0} (part : ChipState → X) (k : ℕ) (s : ChipState) (n : ℕ) → ((s : ChipState) (k : ℕ) → part (before_voices s k) ≡ part s) → part (keys_after k s n) ≡ part s
 unfolding keys_after
 untouched part k s zero same = refl
 untouched part k s (suc n) same = same (keys_after k s n) (k + n) ∙ untouched part k s n same

@@ -7,10 +7,11 @@
 -- KeyRows: one sample more of the rows of keys and noise.
 -- IdleKeys: samples that leave the keys and the noise as they are.
 -- PlayedLane: a voice over the rows of a batch makes the steps of its lane.
+-- VoiceMore: one voice more of a batch, over any row of its outputs.
 -- Remains: the voices of a batch, one more of them played.
 -- Shares: shares at volume 0, at volumes that a factor of 16 bits has, and at those from 64 on.
 -- Keyed: the voices that a sample keys are those whose key-ons its poll took.
--- EchoRun: the echo's run over rows that agree, and one step more of ENDX.
+-- EchoOver: the echo's run over rows that agree, and one step more of ENDX.
 -- MakeBatch: what the voices, the echo and the results leave of a batch by rows.
 -- Afar: the blocks of a chain lie in two runs of bytes.
 pub mod Lanes
@@ -23,10 +24,11 @@ pub mod Afar
 pub mod KeyRows
 pub mod IdleKeys
 pub mod PlayedLane
+pub mod VoiceMore
 pub mod Remains
 pub mod Shares
 pub mod Keyed
-pub mod EchoRun
+pub mod EchoOver
 pub mod MakeBatch
 -- NoRecords: no record of a voice is in the mask 0.
 pub mod NoRecords

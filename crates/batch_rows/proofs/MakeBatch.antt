@@ -3,7 +3,7 @@ use Rattle.std.proofs.Common.{◌≡◌, ℕ, zero, suc, ◌+◌, ◌-◌, ◌<�
 use Rattle.voice_unit.specs.Voice.{VoiceState}
 use Rattle.voice_unit.specs.declared.batch.BatchRows.{BatchRows}
 use Rattle.voice_unit.specs.declared.interface.VoiceOut.{VoiceOut}
-use Rattle.echo_unit.specs.EchoOverBatch.{echo_run}
+use Rattle.echo_unit.specs.EchoOverBatch.{echo_over}
 use Rattle.dsp_form.specs.Mix.{main_frame, sent_frame}
 use Rattle.dsp_form.specs.Registers.{echo_regs}
 use Rattle.dsp_form.specs.Results.{bits_from, with_levels_from}
@@ -18,7 +18,7 @@ use Rattle.batch_rows.specs.PlayedBatch.{answers_from, IsPlayedBatch}
 use Rattle.batch_rows.specs.Rows.{inputs, answers, echo_after, results_after}
 use Rattle.batch_rows.specs.SumRows.{main_of, sent_of}
 use Rattle.batch_rows.specs.declared.sums.SumRows.{SumRows}
-use Rattle.batch_rows.proofs.EchoRun.{echo_run-rows}
+use Rattle.batch_rows.proofs.EchoOver.{echo_over-rows}
 use Rattle.batch_rows.proofs.Keyed.{keyed_bits}
 use Rattle.batch_rows.proofs.Lanes.{results_from-lanes}
 use Rattle.batch_rows.proofs.ResultsOfBatch.{results_once}
@@ -55,10 +55,10 @@ keyed_are k n s memory rows eight are small j few =
 
 module _ (k n : ℕ) (s : ChipState) (memory : List ℕ) (voices : List VoiceState) (last : List VoiceOut) (loops : List ℕ) (sums : SumRows)
     (played : IsPlayedBatch (inputs k s memory) n (all_volumes s.registers) s.hidden.voices voices last loops sums) where
-  pub echo_is : echo_run (echo_regs s.registers) (main_of sums) (sent_of sums) s.hidden.echo memory n ≡ echo_after k s memory n
+  pub echo_is : echo_over (echo_regs s.registers) (main_of sums) (sent_of sums) s.hidden.echo memory n ≡ echo_after k s memory n
   unfolding echo_after answers main_frame sent_frame
   echo_is =
-      echo_run-rows (echo_regs s.registers) (main_of sums) (λ j. main_frame (all_volumes s.registers) (answers k s memory j)) (sent_of sums) (λ j. sent_frame (all_volumes s.registers) (answers k s memory j))
+      echo_over-rows (echo_regs s.registers) (main_of sums) (λ j. main_frame (all_volumes s.registers) (answers k s memory j)) (sent_of sums) (λ j. sent_frame (all_volumes s.registers) (answers k s memory j))
       s.hidden.echo memory n
       (λ j few. rw (played.main_left j few, played.main_right j few) refl)
       (λ j few. rw (played.sent_left j few, played.sent_right j few) refl)

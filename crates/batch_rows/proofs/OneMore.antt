@@ -7,13 +7,12 @@ use Rattle.dsp_form.specs.Registers.{echo_regs}
 use Rattle.dsp_form.specs.Mix.{main_frame, sent_frame}
 use Rattle.dsp_form.specs.Volumes.{all_volumes}
 use Rattle.dsp_form.specs.Results.{without_bits, registers_after}
-use Rattle.dsp_form.specs.Sample.{VoiceResult, results_from, records_from, shared_input, after_poll, after_noise, sample}
+use Rattle.dsp_form.specs.Sample.{VoiceResult, results_from, records_from, shared_input, after_poll, after_noise, sample, before_voices}
 use Rattle.dsp_form.specs.declared.registers.TheConstants.{FLG}
 use Rattle.dsp_form.specs.declared.state.ChipState.{ChipState}
 use Rattle.dsp_form.proofs.EightVoices.{polled_part}
 use Rattle.dsp_form.proofs.Inputs.{SameInputs, registers-before_step}
 use Rattle.batch_rows.specs.Rows.{keys_after, with_parts}
-use Rattle.batch_rows.specs.Apart.{polled}
 use Rattle.batch_rows.proofs.SameInputs.{same_volumes, same_echo_regs}
 
 -- the poll concerns the keys alone
@@ -46,7 +45,7 @@ noise_of_parts s counter registers voices echo same = rw same refl
 
 pub polled_parts : (s : ChipState) (k : ℕ) (registers : List ℕ) (voices : List VoiceState) (echo : EchoState)
     → slice_index registers FLG ≡ slice_index s.registers FLG
-    → polled (with_parts s registers voices echo) k ≡ with_parts (polled s k) registers voices echo
+    → before_voices (with_parts s registers voices echo) k ≡ with_parts (before_voices s k) registers voices echo
 polled_parts s k registers voices echo same =
     ap (λ (t : ChipState). after_noise t (counter_at k)) (poll_of_parts s k registers voices echo)
     ∙ noise_of_parts (after_poll s k) (counter_at k) registers voices echo (rw (registers-after_poll s k) same)
@@ -60,9 +59,9 @@ registers-keys_after k s (suc n) = registers-before_step (keys_after k s n) (k +
 -- one sample of a chip with these parts, where its voices give what is written there
 pub sample_of_parts : (now : ChipState) (k : ℕ) (first registers : List ℕ) (voices : List VoiceState) (echo : EchoState) (memory : List ℕ) (results : List VoiceResult)
     → SameInputs registers first → slice_index registers FLG ≡ slice_index now.registers FLG
-    → results_from (shared_input (polled (with_parts now registers voices echo) k) memory k) 0 (pos 0) voices ≡ results
+    → results_from (shared_input (before_voices (with_parts now registers voices echo) k) memory k) 0 (pos 0) voices ≡ results
     → sample k (with_parts now registers voices echo) memory ≡ record {
-      state = with_parts (polled now k) (registers_after (map (λ (result : VoiceResult). result.answer) results) registers) (map (λ (result : VoiceResult). result.voice) results)
+      state = with_parts (before_voices now k) (registers_after (map (λ (result : VoiceResult). result.answer) results) registers) (map (λ (result : VoiceResult). result.voice) results)
           (next_echo echo (echo_regs first) memory);
       memory = echo_memory echo (echo_regs first) memory (sent_frame (all_volumes first) (map (λ (result : VoiceResult). result.answer) results));
       frame = output_frame (echo_regs first) (main_frame (all_volumes first) (map (λ (result : VoiceResult). result.answer) results)) (echo_heard echo (echo_regs first) memory);
@@ -70,8 +69,8 @@ pub sample_of_parts : (now : ChipState) (k : ℕ) (first registers : List ℕ) (
     }
 unfolding sample
 sample_of_parts now k first registers voices echo memory results same flg gives =
-    let parts : polled (with_parts now registers voices echo) k ≡ with_parts (polled now k) registers voices echo = polled_parts now k registers voices echo flg in
-    let there : results_from (shared_input (with_parts (polled now k) registers voices echo) memory k) 0 (pos 0) voices ≡ results = rw parts at gives in
+    let parts : before_voices (with_parts now registers voices echo) k ≡ with_parts (before_voices now k) registers voices echo = polled_parts now k registers voices echo flg in
+    let there : results_from (shared_input (with_parts (before_voices now k) registers voices echo) memory k) 0 (pos 0) voices ≡ results = rw parts at gives in
     rw (
       parts,
       there,
@@ -80,7 +79,7 @@ sample_of_parts now k first registers voices echo memory results same flg gives 
     ) refl
 
 -- nor do they change the table
-table-before_step : (s : ChipState) (k : ℕ) → (polled s k).table ≡ s.table
+table-before_step : (s : ChipState) (k : ℕ) → (before_voices s k).table ≡ s.table
 unfolding after_poll after_noise
 table-before_step s k = polled_part (λ (t : ChipState). t.table) (k % 2 == 0) s (without_bits s.hidden.waiting s.hidden.taken) refl
 

@@ -1,19 +1,20 @@
 -- The voices of a batch, one more of them played.
-use Rattle.std.proofs.Common.{◌≡◌, ℕ, ◌+◌, ◌-◌, ◌^◌, ◌<◌, List, [], ◌∷◌, ◌++◌, ℤ, pos, ◌+ℤ◌, map, length, take, drop, get_or, slice_index, slice_set, if◌then◌else◌, refl, ap, sym, ◌∙◌, append_assoc, arith}
-use Rattle.std.proofs.lemmas.List.{drop_more, take_more_set, drop-set-lt, drop_all, take_all, append-nil}
+use Rattle.std.proofs.Common.{◌≡◌, ℕ, ◌+◌, ◌-◌, ◌^◌, ◌<◌, List, [], ◌∷◌, ◌++◌, ℤ, pos, ◌+ℤ◌, length, take, drop, get_or, slice_index, slice_set, if◌then◌else◌, refl, ap, sym, ◌∙◌, append_assoc, arith}
+use Rattle.std.proofs.lemmas.List.{drop_more, take_more_set, drop_all, take_all, append-nil}
 use Rattle.num_fix.specs.Arithmetic.{clamp16, scaled}
 use Rattle.num_fix.specs.Words.{number_at}
 use Rattle.voice_unit.specs.Voice.{VoiceState}
 use Rattle.voice_unit.specs.declared.interface.VoiceOut.{VoiceOut}
 use Rattle.dsp_form.specs.Mix.{shares_at, clamped_sum}
 use Rattle.dsp_form.specs.Results.{bits_from}
-use Rattle.dsp_form.specs.Sample.{SharedInput, VoiceResult}
+use Rattle.dsp_form.specs.Sample.{SharedInput}
 use Rattle.dsp_form.specs.declared.volumes.Volumes.{Volumes}
 use Rattle.batch_rows.specs.Lane.{lane, outs, voices_after}
 use Rattle.batch_rows.specs.PlayedBatch.{answers_from, sum_of, IsPlayedBatch}
 use Rattle.batch_rows.specs.PlayedLane.{IsPlayedLane}
 use Rattle.batch_rows.specs.declared.sums.SumRows.{SumRows}
-use Rattle.batch_rows.proofs.Lanes.{lanes-rows, voices_after-rows}
+use Rattle.batch_rows.proofs.Lanes.{voices_after-rows}
+use Rattle.batch_rows.proofs.VoiceMore.{answers_from-rows, rest_same, opened}
 
 -- a sum of each sample, with what remains to be added to it
 abbrev pub SumRemains : (shared : ℕ → SharedInput) → (n : ℕ) → (volume : Volumes → ℤ) → List Volumes → (before : List VoiceState) → (v : ℕ) → (previous : List ℤ) → (voices : List VoiceState) → (sums : List ℤ) → Type 0
@@ -36,51 +37,25 @@ module _ (shared : ℕ → SharedInput) (n : ℕ) (volumes : List Volumes) (befo
   -- one voice more
   module _ (v : ℕ) (previous : List ℤ) (voices : List VoiceState) (within : v < length voices) (d : VoiceState) (now : VoiceState) (row : List ℤ) (loops loops_now : List ℕ) (last : VoiceOut)
       (played : IsPlayedLane shared v n (number_at previous) (get_or voices v d) now row loops loops_now last) where
-    split : drop v voices ≡ get_or voices v d ∷ drop (v + 1) voices
-    split = drop_more voices v d within
-
-    kept : drop (v + 1) (slice_set voices v now) ≡ drop (v + 1) voices
-    kept = drop-set-lt (v + 1) voices v now (omega arith)
-
-    -- the answers of the voices that remain
-    rest_same : (j : ℕ) → j < n → answers_from shared (v + 1) (number_at row) (drop (v + 1) (slice_set voices v now)) j ≡ answers_from shared (v + 1) (outs shared v (number_at previous) (get_or voices v d)) (drop (v + 1) voices) j
-    rest_same j few =
-        ap (λ (vs : List VoiceState). answers_from shared (v + 1) (number_at row) vs j) kept
-        ∙ ap (λ (results : List VoiceResult). map (λ (result : VoiceResult). result.answer) results)
-        (lanes-rows shared (v + 1) (number_at row) (outs shared v (number_at previous) (get_or voices v d)) (drop (v + 1) voices) n j few played.row_is)
-
-    opened : (j : ℕ) → answers_from shared v (number_at previous) (drop v voices) j
-        ≡ (lane shared v (number_at previous) (get_or voices v d) j).answer ∷ answers_from shared (v + 1) (outs shared v (number_at previous) (get_or voices v d)) (drop (v + 1) voices) j
-    opened j = ap (λ (vs : List VoiceState). answers_from shared v (number_at previous) vs j) split
-
-    pub voices_more : voices_after shared 0 (λ j. pos 0) before n ≡ take v voices ++ voices_after shared v (number_at previous) (drop v voices) n
-        → voices_after shared 0 (λ j. pos 0) before n ≡ take (v + 1) (slice_set voices v now) ++ voices_after shared (v + 1) (number_at row) (drop (v + 1) (slice_set voices v now)) n
-    voices_more is =
-        rw (
-          take_more_set voices v now within,
-          kept,
-          append_assoc,
-          played.voice,
-          voices_after-rows shared (v + 1) (number_at row) (outs shared v (number_at previous) (get_or voices v d)) (drop (v + 1) voices) n played.row_is,
-        )
-        (rw split at is)
-
     pub last_more : (answers : List VoiceOut) → v < length answers → 0 < n
         → answers_from shared 0 (λ j. pos 0) before (n - 1) ≡ take v answers ++ answers_from shared v (number_at previous) (drop v voices) (n - 1)
         → answers_from shared 0 (λ j. pos 0) before (n - 1) ≡ take (v + 1) (slice_set answers v last) ++ answers_from shared (v + 1) (number_at row) (drop (v + 1) (slice_set voices v now)) (n - 1)
     last_more answers long some is =
-        rw (take_more_set answers v last long, append_assoc, rest_same (n - 1) (omega (arith, some)), played.last_is) (is ∙ ap (λ (rest : List VoiceOut). take v answers ++ rest) (opened (n - 1)))
+        let rest = rest_same shared n v previous voices within d now row played.row_is (n - 1) (omega (arith, some)) in
+        let these = opened shared n v previous voices within d now row played.row_is (n - 1) in
+        rw (take_more_set answers v last long, append_assoc, rest, played.last_is) (is ∙ ap (λ (rest : List VoiceOut). take v answers ++ rest) these)
 
     pub loops_more : (j : ℕ) → j < n
         → bits_from (λ answer. answer.looped) 0 (answers_from shared 0 (λ j. pos 0) before j) ≡ slice_index loops j + bits_from (λ answer. answer.looped) v (answers_from shared v (number_at previous) (drop v voices) j)
         → bits_from (λ answer. answer.looped) 0 (answers_from shared 0 (λ j. pos 0) before j)
         ≡ slice_index loops_now j + bits_from (λ answer. answer.looped) (v + 1) (answers_from shared (v + 1) (number_at row) (drop (v + 1) (slice_set voices v now)) j)
     loops_more j few is =
-        let there = is ∙ ap (λ (answers : List VoiceOut). slice_index loops j + bits_from (λ answer. answer.looped) v answers) (opened j) in
+        let these = opened shared n v previous voices within d now row played.row_is j in
+        let there = is ∙ ap (λ (answers : List VoiceOut). slice_index loops j + bits_from (λ answer. answer.looped) v answers) these in
         let bit : ℕ = if (lane shared v (number_at previous) (get_or voices v d) j).answer.looped then 2 ^ v else 0 in
         let rest : ℕ = bits_from (λ answer. answer.looped) (v + 1) (answers_from shared (v + 1) (outs shared v (number_at previous) (get_or voices v d)) (drop (v + 1) voices) j) in
         let regroup : slice_index loops j + (bit + rest) ≡ slice_index loops j + bit + rest = omega arith in
-        rw (rest_same j few, played.loops_are j few) (there ∙ regroup)
+        rw (rest_same shared n v previous voices within d now row played.row_is j few, played.loops_are j few) (there ∙ regroup)
 
     pub sum_more : (volume : Volumes → ℤ) (one : Volumes) (sums sums_now : List ℤ) → v < length volumes
         → ((j : ℕ) → j < n → number_at sums_now j ≡ clamp16 (number_at sums j +ℤ scaled (number_at row j) (volume (get_or volumes v one)) 7))
@@ -89,10 +64,10 @@ module _ (shared : ℕ → SharedInput) (n : ℕ) (volumes : List Volumes) (befo
     sum_more volume one sums sums_now long added is j few =
         let opened_volumes : drop v volumes ≡ get_or volumes v one ∷ drop (v + 1) volumes = drop_more volumes v one long in
         let there = is j few
-        ∙ ap (λ (answers : List VoiceOut). clamped_sum (number_at sums j) (shares_at volume (drop v volumes) answers)) (opened j)
+        ∙ ap (λ (answers : List VoiceOut). clamped_sum (number_at sums j) (shares_at volume (drop v volumes) answers)) (opened shared n v previous voices within d now row played.row_is j)
         ∙ ap (λ (vols : List Volumes). clamped_sum (number_at sums j) (shares_at volume vols ((lane shared v (number_at previous) (get_or voices v d) j).answer
         ∷ answers_from shared (v + 1) (outs shared v (number_at previous) (get_or voices v d)) (drop (v + 1) voices) j))) opened_volumes in
-        rw (rest_same j few, added j few, played.row_is j few) there
+        rw (rest_same shared n v previous voices within d now row played.row_is j few, added j few, played.row_is j few) there
 
   -- none of eight voices remains
   pub all_played : (previous : List ℤ) (voices : List VoiceState) (answers : List VoiceOut) (loops : List ℕ) (sums : SumRows)
@@ -133,6 +108,4 @@ module _ (shared : ℕ → SharedInput) (n : ℕ) (volumes : List Volumes) (befo
   }
     where
       same : (j : ℕ) → j < n → answers_from shared 0 (λ j. pos 0) before j ≡ answers_from shared 0 (number_at previous) before j
-      same j few =
-          ap (λ (results : List VoiceResult). map (λ (result : VoiceResult). result.answer) results)
-          (lanes-rows shared 0 (λ j. pos 0) (number_at previous) before n j few quiet)
+      same j few = answers_from-rows shared 0 (λ j. pos 0) (number_at previous) before n j few quiet

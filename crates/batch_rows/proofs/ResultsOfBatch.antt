@@ -8,11 +8,10 @@ use Rattle.std.proofs.lemmas.Nat.{and_le_l}
 use Rattle.rate_clock.proofs.Tables.{list_all-entry}
 use Rattle.voice_unit.specs.declared.interface.VoiceOut.{VoiceOut}
 use Rattle.dsp_form.specs.Results.{without_bits, with_levels_from, next_endx, registers_after}
-use Rattle.dsp_form.specs.Sample.{after_poll, after_noise}
+use Rattle.dsp_form.specs.Sample.{after_poll, after_noise, before_voices}
 use Rattle.dsp_form.specs.declared.registers.TheConstants.{ENVX, OUTX, ENDX}
 use Rattle.dsp_form.specs.declared.state.ChipState.{ChipState}
 use Rattle.batch_rows.specs.Rows.{keys_after, results_after}
-use Rattle.batch_rows.specs.Apart.{polled}
 use Rattle.batch_rows.specs.Once.{endx_after, put_once}
 
 -- a register that is no ENVX or OUTX from voice v on
@@ -100,11 +99,11 @@ none_left byte within =
 
 -- at a poll both waiting and taken key-ons are those that waited and weren't taken; else both stay
 module _ (s : ChipState) (k : ℕ) where
-  at_poll : (k % 2 == 0) ≡ true → ((polled s k).hidden.waiting ≡ without_bits s.hidden.waiting s.hidden.taken) × ((polled s k).hidden.taken ≡ without_bits s.hidden.waiting s.hidden.taken)
+  at_poll : (k % 2 == 0) ≡ true → ((before_voices s k).hidden.waiting ≡ without_bits s.hidden.waiting s.hidden.taken) × ((before_voices s k).hidden.taken ≡ without_bits s.hidden.waiting s.hidden.taken)
   unfolding after_poll after_noise
   at_poll even = (rw even refl, rw even refl)
 
-  between_polls : (k % 2 == 0) ≡ false → ((polled s k).hidden.waiting ≡ s.hidden.waiting) × ((polled s k).hidden.taken ≡ s.hidden.taken)
+  between_polls : (k % 2 == 0) ≡ false → ((before_voices s k).hidden.waiting ≡ s.hidden.waiting) × ((before_voices s k).hidden.taken ≡ s.hidden.taken)
   unfolding after_poll after_noise
   between_polls odd = (rw odd refl, rw odd refl)
 
@@ -117,7 +116,7 @@ small_keys k s (suc n) small = by ((k + n) % 2 == 0) refl (small_keys k s n smal
     now : ChipState
     now = keys_after k s n
 
-    by : (b : Bool) → ((k + n) % 2 == 0) ≡ b → now.hidden.waiting < 0x100 → (polled now (k + n)).hidden.waiting < 0x100
+    by : (b : Bool) → ((k + n) % 2 == 0) ≡ b → now.hidden.waiting < 0x100 → (before_voices now (k + n)).hidden.waiting < 0x100
     by true even before = let same = (at_poll now (k + n) even).0 in omega (arith, same, before, and_le_l now.hidden.waiting (0xff - now.hidden.taken))
     by false odd before = let same = (between_polls now (k + n) odd).0 in omega (arith, same, before)
 
@@ -139,7 +138,7 @@ settled k s i (suc more) even = rw next (by ((k + suc (more + i)) % 2 == 0) refl
     at : ℕ
     at = k + suc (more + i)
 
-    by : (b : Bool) → (at % 2 == 0) ≡ b → now.hidden.waiting ≡ now.hidden.taken → (polled now at).hidden.waiting ≡ (polled now at).hidden.taken
+    by : (b : Bool) → (at % 2 == 0) ≡ b → now.hidden.waiting ≡ now.hidden.taken → (before_voices now at).hidden.waiting ≡ (before_voices now at).hidden.taken
     by true even_too before = let both = at_poll now at even_too in both.0 ∙ sym both.1
     by false odd before = let both = between_polls now at odd in both.0 ∙ before ∙ sym both.1
 

@@ -1,6 +1,6 @@
 -- Voices over a batch, with what they give in each of its samples.
-use Rattle.std.proofs.Common.{◌≡◌, ℕ, ◌+◌, ◌<◌, List, [], ◌∷◌, ◌++◌, ℤ, pos, map, length, take, drop, get_or, slice_set, ap, sym, ◌∙◌, append_assoc, arith}
-use Rattle.std.proofs.lemmas.List.{drop_more, take_more_set, drop-set-lt, drop_all, take_all, append-nil, map-set, length-map}
+use Rattle.std.proofs.Common.{◌≡◌, ℕ, ◌+◌, ◌<◌, List, [], ◌++◌, ℤ, pos, map, length, take, drop, get_or, slice_set, ap, sym, ◌∙◌, append_assoc, arith}
+use Rattle.std.proofs.lemmas.List.{take_more_set, drop_all, take_all, append-nil, map-set, length-map}
 use Rattle.std.proofs.Math.ListN.{get_or-map}
 use Rattle.num_fix.specs.Words.{number_at}
 use Rattle.voice_unit.specs.Play.{lane_of}
@@ -10,14 +10,15 @@ use Rattle.voice_unit.specs.declared.batch.BatchRows.{BatchRows}
 use Rattle.voice_unit.specs.declared.interface.VoiceOut.{VoiceOut}
 use Rattle.voice_unit.specs.declared.run.OutRow.{OutRow}
 use Rattle.dsp_form.specs.Registers.{voice_regs}
-use Rattle.dsp_form.specs.Sample.{SharedInput, VoiceResult}
+use Rattle.dsp_form.specs.Sample.{SharedInput}
 use Rattle.dsp_form.specs.declared.state.ChipState.{ChipState}
 use Rattle.batch_rows.specs.KeyRows.{AreKeyRows}
 use Rattle.batch_rows.specs.Lane.{lane, outs, voices_after}
 use Rattle.batch_rows.specs.PlayedBatch.{answers_from}
 use Rattle.batch_rows.specs.Recorded.{answers_in, IsRunLane, IsRunBatch}
 use Rattle.batch_rows.specs.Rows.{inputs}
-use Rattle.batch_rows.proofs.Lanes.{lanes-rows, voices_after-rows}
+use Rattle.batch_rows.proofs.Lanes.{voices_after-rows}
+use Rattle.batch_rows.proofs.VoiceMore.{answers_from-rows, rest_same, opened, voices_more}
 use Rattle.batch_rows.proofs.PlayedLane.{lane_registers, steps_are, answers_are}
 
 -- a voice that is run over the rows of a batch makes the steps of its lane
@@ -43,55 +44,29 @@ module _ (shared : ℕ → SharedInput) (n : ℕ) (before : List VoiceState) whe
       → RunRemains shared n before v previous voices rows
       → RunRemains shared n before (v + 1) (outs_of row) (slice_set voices v now) (slice_set rows v row)
   one_more_to_run v previous voices rows d now row within within_rows run remains = record {
-    voices_are = rw (
-      take_more_set voices v now within,
-      kept,
-      append_assoc,
-      run.voice_is,
-      voices_after-rows shared (v + 1) (number_at (outs_of row)) (outs shared v (number_at previous) (get_or voices v d)) (drop (v + 1) voices) n row_is,
-    )
-        (rw split at remains.voices_are);
+    voices_are = voices_more shared n v previous voices within d now (outs_of row) row_is before run.voice_is remains.voices_are;
     answers_are = λ j few.
         let long_answers : v < length (answers_in rows j) = rw (length-map rows (λ (row : OutRow). get_or row.items j silent_answer)) within_rows in
         rw (
           map-set (λ (row : OutRow). get_or row.items j silent_answer) rows v row,
           take_more_set (answers_in rows j) v (get_or row.items j silent_answer) long_answers,
           append_assoc,
-          rest_same j few,
+          rest_same shared n v previous voices within d now (outs_of row) row_is j few,
           run.answers_are j few,
         )
-        (remains.answers_are j few ∙ ap (λ (rest : List VoiceOut). take v (answers_in rows j) ++ rest) (opened j));
+        (remains.answers_are j few ∙ ap (λ (rest : List VoiceOut). take v (answers_in rows j) ++ rest) (opened shared n v previous voices within d now (outs_of row) row_is j));
   }
     where
-      split : drop v voices ≡ get_or voices v d ∷ drop (v + 1) voices
-      split = drop_more voices v d within
-
-      kept : drop (v + 1) (slice_set voices v now) ≡ drop (v + 1) voices
-      kept = drop-set-lt (v + 1) voices v now (omega arith)
-
       row_is : (j : ℕ) → j < n → number_at (outs_of row) j ≡ outs shared v (number_at previous) (get_or voices v d) j
       row_is j few =
           get_or-map (λ (answer : VoiceOut). answer.out) row.items j silent_answer
           ∙ ap (λ (answer : VoiceOut). answer.out) (run.answers_are j few)
 
-      rest_same : (j : ℕ) → j < n → answers_from shared (v + 1) (number_at (outs_of row)) (drop (v + 1) (slice_set voices v now)) j
-          ≡ answers_from shared (v + 1) (outs shared v (number_at previous) (get_or voices v d)) (drop (v + 1) voices) j
-      rest_same j few =
-          ap (λ (vs : List VoiceState). answers_from shared (v + 1) (number_at (outs_of row)) vs j) kept
-          ∙ ap (λ (results : List VoiceResult). map (λ (result : VoiceResult). result.answer) results)
-          (lanes-rows shared (v + 1) (number_at (outs_of row)) (outs shared v (number_at previous) (get_or voices v d)) (drop (v + 1) voices) n j few row_is)
-
-      opened : (j : ℕ) → answers_from shared v (number_at previous) (drop v voices) j
-          ≡ (lane shared v (number_at previous) (get_or voices v d) j).answer ∷ answers_from shared (v + 1) (outs shared v (number_at previous) (get_or voices v d)) (drop (v + 1) voices) j
-      opened j = ap (λ (vs : List VoiceState). answers_from shared v (number_at previous) vs j) split
-
   -- all of them remain
   pub all_to_run : (previous : List ℤ) (rows : List OutRow) → ((j : ℕ) → j < n → pos 0 ≡ number_at previous j) → RunRemains shared n before 0 previous before rows
   all_to_run previous rows quiet = record {
     voices_are = voices_after-rows shared 0 (λ j. pos 0) (number_at previous) before n quiet;
-    answers_are = λ j few.
-        ap (λ (results : List VoiceResult). map (λ (result : VoiceResult). result.answer) results)
-        (lanes-rows shared 0 (λ j. pos 0) (number_at previous) before n j few quiet);
+    answers_are = λ j few. answers_from-rows shared 0 (λ j. pos 0) (number_at previous) before n j few quiet;
   }
 
   -- none of eight remains

@@ -1,5 +1,5 @@
 -- The laws of batches by rows.
-use Rattle.std.specs.Prelude.{◌≡◌, ℕ, suc, ◌+◌, ◌%◌, ◌<◌, ◌≤◌, ◌==◌, List, true, false, length, slice_index}
+use Rattle.std.specs.Prelude.{◌≡◌, ℕ, suc, ◌+◌, ◌<◌, ◌≤◌, List, true, false, length, slice_index}
 use Rattle.std.specs.FinSet as set
 use Rattle.aram_core.specs.Pages.{have_common_page}
 use Rattle.voice_unit.specs.declared.interface.VoiceOut.{VoiceOut}
@@ -7,7 +7,7 @@ use Rattle.echo_unit.specs.Flg.{has_echo_writes}
 use Rattle.reach_map.specs.Reach.{window_pages}
 use Rattle.dsp_form.specs.Limits.{most_samples_of_batch}
 use Rattle.dsp_form.specs.Reach.{entries_from, starts_from, chip_window, chip_reach}
-use Rattle.dsp_form.specs.Sample.{sample}
+use Rattle.dsp_form.specs.Sample.{is_polled, sample}
 use Rattle.dsp_form.specs.Samples.{samples}
 use Rattle.dsp_form.specs.Valid.{is_valid}
 use Rattle.dsp_form.specs.declared.registers.TheConstants.{FLG, ENDX}
@@ -49,5 +49,5 @@ ResultsOnce =
 -- a poll after the first of a batch takes no key-ons
 abbrev pub KeysOnce : Type 0
 KeysOnce =
-    (k : ℕ) (s : ChipState) (i more : ℕ) → s.hidden.waiting < 0x100 → ((k + i) % 2 == 0) ≡ true → ((k + suc (more + i)) % 2 == 0) ≡ true
+    (k : ℕ) (s : ChipState) (i more : ℕ) → s.hidden.waiting < 0x100 → is_polled (k + i) ≡ true → is_polled (k + suc (more + i)) ≡ true
     → (keys_after k s (suc (suc (more + i)))).hidden.taken ≡ 0

@@ -1,24 +1,23 @@
 -- A batch by rows: the keys and the noise, then voice by voice, and then the echo over the rows of sums.
 use Rattle.std.specs.Prelude.{ℕ, zero, suc, ◌+◌, List, [], ◌++◌, map, pos}
-use Rattle.rate_clock.specs.Counter.{counter_at}
 use Rattle.voice_unit.specs.Voice.{VoiceState}
 use Rattle.voice_unit.specs.declared.interface.VoiceOut.{VoiceOut}
 use Rattle.echo_unit.specs.Echo.{EchoState}
-use Rattle.echo_unit.specs.EchoOverBatch.{EchoRun, echo_run}
+use Rattle.echo_unit.specs.EchoOverBatch.{EchoOver, echo_over}
 use Rattle.trace_form.specs.declared.record.Record.{Record}
 use Rattle.dsp_form.specs.Registers.{echo_regs}
 use Rattle.dsp_form.specs.Mix.{main_frame, sent_frame}
 use Rattle.dsp_form.specs.Volumes.{all_volumes}
 use Rattle.dsp_form.specs.Results.{registers_after}
 use Rattle.dsp_form.specs.Samples.{SamplesResult}
-use Rattle.dsp_form.specs.Sample.{SharedInput, after_poll, after_noise, shared_input, records_from}
+use Rattle.dsp_form.specs.Sample.{SharedInput, before_voices, shared_input, records_from}
 use Rattle.dsp_form.specs.declared.state.ChipState.{ChipState}
 use Rattle.batch_rows.specs.Lane.{lanes, voices_after}
 
 -- the keys and the noise once so many samples are made, from number k on; all else is as it was
 unfoldable pub keys_after : (k : ℕ) → ChipState → (samples : ℕ) → ChipState
 keys_after k s zero = s
-keys_after k s (suc j) = after_noise (after_poll (keys_after k s j) (k + j)) (counter_at (k + j))
+keys_after k s (suc j) = before_voices (keys_after k s j) (k + j)
 
 -- what all voices read in sample j of the batch: keys, noise and counter by the sample's number, and the memory from before the batch
 unfoldable pub inputs : (k : ℕ) → ChipState → (memory : List ℕ) → (j : ℕ) → SharedInput
@@ -39,9 +38,9 @@ records_after rows k zero = []
 records_after rows k (suc j) = records_after rows k j ++ records_from (k + j) 0 (rows j)
 
 -- the echo of a batch
-unfoldable pub echo_after : (k : ℕ) → ChipState → (memory : List ℕ) → (samples : ℕ) → EchoRun
+unfoldable pub echo_after : (k : ℕ) → ChipState → (memory : List ℕ) → (samples : ℕ) → EchoOver
 echo_after k s memory n =
-    echo_run (echo_regs s.registers) (λ j. main_frame (all_volumes s.registers) (answers k s memory j)) (λ j. sent_frame (all_volumes s.registers) (answers k s memory j)) s.hidden.echo memory n
+    echo_over (echo_regs s.registers) (λ j. main_frame (all_volumes s.registers) (answers k s memory j)) (λ j. sent_frame (all_volumes s.registers) (answers k s memory j)) s.hidden.echo memory n
 
 -- a state with other registers, voices and echo
 abbrev pub with_parts : ChipState → (registers : List ℕ) → (voices : List VoiceState) → EchoState → ChipState

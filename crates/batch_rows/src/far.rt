@@ -11,6 +11,7 @@ ghost use Rattle.batch_rows.specs.Afar.{AreApart, IsVoiceApart, far_pages, windo
 use aram_core::{Aram, page_of};
 use dsp_form::ChipState;
 use dsp_form::registers::{DIR, EDL, ESA, FLG, SRCN, voice_register};
+use echo_unit::has_echo_writes;
 use num_fix::has_bit;
 use voice_unit::{Voice, entry_address, loop_word, start_word};
 
@@ -96,7 +97,7 @@ fn is_apart_from_afar(state: &ChipState, memory: &Aram) -> bool
 fn is_still(state: &ChipState) -> bool
     ensures { result ≡ true → has_echo_writes (slice_index state.now.registers FLG) ≡ false }
 {
-    has_bit(state.registers[FLG], 5)
+    !has_echo_writes(state.registers[FLG])
 }
 
 /// Whether the echo can't write what the voices read in the next 64 samples. Chains are walked only where it can't be told from afar.

@@ -1,12 +1,11 @@
 //! The keys and the noise, of a sample and of a batch.
 
-ghost use Rattle.std.specs.Prelude.{◌≡◌, ◌≤◌, ◌+◌, ◌%◌, ◌==◌, ◌<◌, ℕ, true, false, get_or, slice_index, replicate};
+ghost use Rattle.std.specs.Prelude.{◌≡◌, ◌≤◌, ◌+◌, ◌<◌, ℕ, true, false, get_or, slice_index, replicate};
 ghost use Rattle.rate_clock.specs.Counter.{counter_at, counter_after, IsQuiet};
 ghost use Rattle.dsp_form.specs.Limits.{most_samples_of_chip, most_samples_of_batch};
 ghost use Rattle.dsp_form.specs.Registers.{noise_rate};
-ghost use Rattle.dsp_form.specs.Sample.{after_poll, after_noise};
+ghost use Rattle.dsp_form.specs.Sample.{is_polled, after_poll, after_noise, before_voices};
 ghost use Rattle.dsp_form.specs.declared.registers.TheConstants.{FLG};
-ghost use Rattle.batch_rows.specs.Apart.{polled};
 ghost use Rattle.batch_rows.specs.KeyRows.{AreKeyRows};
 ghost use Rattle.batch_rows.specs.Rows.{keys_after};
 
@@ -16,7 +15,7 @@ use voice_unit::BatchRows;
 
 /// Whether the sample of a number polls the keys, as each even one does.
 pub fn is_polled(number: u32) -> bool
-    ensures { result ≡ (number % 2 == 0) }
+    ensures { result ≡ is_polled number }
 {
     number % 2 == 0
 }
@@ -55,7 +54,7 @@ fn taken_keys(state: &ChipState) -> u8
 fn step_keys_once(state: &mut ChipState, number: u32, rate: u8, clock: &RateClock)
     requires rate { rate ≡ noise_rate (slice_index state.old.registers FLG) }
     requires clock { clock.now ≡ counter_at number }
-    ensures state { state.new ≡ polled state.old number }
+    ensures state { state.new ≡ before_voices state.old number }
     ensures registers { state.new.registers ≡ state.old.registers }
 {
     poll(state, number);
@@ -118,7 +117,7 @@ fn are_keys_idle(state: &ChipState, n: u8, rate: u8, first: &RateClock) -> bool
 
 /// Puts which samples poll the keys, from a number on.
 fn put_polls(polls: &mut [bool; 64], number: u32)
-    ensures { (j : ℕ) → j < most_samples_of_batch → get_or polls.new j false ≡ ((number + j) % 2 == 0) }
+    ensures { (j : ℕ) → j < most_samples_of_batch → get_or polls.new j false ≡ is_polled (number + j) }
 {
     let odd = (number % 2) as u8;
     for j in 0..64u8 {
@@ -130,7 +129,7 @@ fn put_polls(polls: &mut [bool; 64], number: u32)
 fn idle_rows(state: &ChipState, number: u32) -> BatchRows
     ensures noise { result.noise ≡ replicate 64 state.now.hidden.noise }
     ensures kon { result.kon ≡ replicate 64 0 }
-    ensures polls { (j : ℕ) → j < most_samples_of_batch → get_or result.poll j false ≡ ((number + j) % 2 == 0) }
+    ensures polls { (j : ℕ) → j < most_samples_of_batch → get_or result.poll j false ≡ is_polled (number + j) }
     ensures bound { state.now.hidden.noise < 0x8000 }
 {
     let mut poll = [false; 64];

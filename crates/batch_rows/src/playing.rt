@@ -16,9 +16,8 @@ use crate::sums::SumRows;
 use aram_core::Aram;
 use brr_decode::GroupMemory;
 use dsp_form::Volumes;
-use dsp_form::registers::{DIR, FLG, KOFF, NON, PMON, Registers, voice_regs};
+use dsp_form::registers::{DIR, FLG, KOFF, NON, PMON, Registers, is_soft_reset, voice_regs};
 use gauss_table::GaussTable;
-use num_fix::has_bit;
 use rate_clock::RateClock;
 use voice_unit::{BatchLane, BatchRows, Voice, VoiceOut, Workroom};
 
@@ -40,7 +39,7 @@ pub(crate) fn lane_of(registers: &Registers, v: u8) -> BatchLane
         pmon: registers[PMON],
         non: registers[NON],
         koff: registers[KOFF],
-        reset: has_bit(registers[FLG], 7),
+        reset: is_soft_reset(registers[FLG]),
     }
 }
 

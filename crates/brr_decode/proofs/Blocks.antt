@@ -1,14 +1,14 @@
 -- Lists of kept samples, by groups and by blocks.
-use Rattle.std.proofs.Common.{◌≡◌, ◌∙◌, sym, ap, refl, ◌+◌, ◌-◌, ◌*◌, ◌/◌, ◌^◌, ◌<◌, ◌≤◌, ℕ, ℤ, pos, negsuc, unsigned_abs, List, [], ◌∷◌, ◌++◌, length, get_or, take, drop, arith, append_assoc, zero, suc, lit≤}
+use Rattle.std.proofs.Common.{◌≡◌, ◌∙◌, sym, ap, refl, ◌-◌, ◌*◌, ◌/◌, ◌^◌, ◌<◌, ◌≤◌, ℕ, ℤ, pos, negsuc, unsigned_abs, List, [], ◌∷◌, ◌++◌, length, get_or, take, drop, arith, append_assoc, zero, suc, lit≤}
 use Rattle.std.specs.Prelude.{map}
 use Rattle.std.specs.List.{range_with_len}
 use Rattle.std.specs.Int.{w16, cast_signed, cast_unsigned, int_rem_euclid}
 use Rattle.std.proofs.lemmas.Int.{of_z-to_z}
 use Rattle.std.proofs.lemmas.List.Sums.{fold-append}
-use Rattle.std.proofs.lemmas.List.{drop_more, length-take-le, take-append-drop}
-use Rattle.std.proofs.Math.ListN.{drop_of_length-le}
+use Rattle.std.proofs.lemmas.List.{length-take-le, take-append-drop}
 use Rattle.num_fix.specs.Arithmetic.{wrap16}
 use Rattle.num_fix.specs.Words.{number_at}
+use Rattle.num_fix.proofs.Entries.{drop-entries}
 use Rattle.brr_decode.specs.Kept.{kept_sample, Digit, with_kept, with_all_kept, digits_under, digits_of, EndsWith, samples_of}
 use Rattle.brr_decode.proofs.Samples.{kept_after, length-kept_after, with_all_kept-is, EndsWith-append, IsKept-samples_of}
 
@@ -99,14 +99,9 @@ Gives-block h b1 b2 b3 b4 b5 b6 b7 b8 p1 p2 a b c d gives_a gives_b gives_c give
     ∙ after_group h b7 b8 _ _ d to_c gives_d (ends_with_four to_b c)
     ∙ regrouped samples (four a) (four b) (four c) (four d)
 
--- what is left of a list from place i on, n entries, is these entries
-entries_from : (n i : ℕ) (xs : List ℕ) → i + n ≡ length xs → drop i xs ≡ map (λ j. get_or xs j 0) (range_with_len i n)
-entries_from zero i xs is = drop_of_length-le xs (omega arith)
-entries_from (suc n) i xs is = drop_more xs i 0 (omega arith) ∙ ap (λ (l : List ℕ). get_or xs i 0 ∷ l) (entries_from n (i + 1) xs (omega arith))
-
 -- nine bytes, one by one
 pub nine : (bytes : List ℕ) → length bytes ≡ 9 → bytes ≡ map (λ i. get_or bytes i 0) (range_with_len 0 9)
-nine bytes is = entries_from 9 0 bytes (sym is)
+nine bytes is = drop-entries 9 0 bytes 0 (sym is)
 
 -- the digits of nine bytes or more are those of the first block and those of the rest
 digits_of-nine : (rest block tail : List ℕ) → block ≡ take 9 rest → tail ≡ drop 9 rest → 9 ≤ length rest → digits_of rest ≡ digits_of block ++ digits_of tail

@@ -1,7 +1,7 @@
 // The sample that is kept of one digit. It is inlined into the group, where the filter is a constant.
 ghost use Rattle.std.specs.Prelude.{◌≡◌, ◌<◌, ◌≤◌, ◌^◌, ◌+ℤ◌, ◌-ℤ◌, ◌*ℤ◌, neg_ℤ, pos, unsigned_abs};
 ghost use Rattle.num_fix.specs.Arithmetic.{clamp16, scaled, wrap16};
-ghost use Rattle.brr_decode.specs.Header.{filter_of, shift_of};
+ghost use Rattle.brr_decode.specs.Header.{filter_of, has_end, has_loop, shift_of};
 ghost use Rattle.brr_decode.specs.Kept.{shifted_digit, prediction, kept_sample};
 
 use num_fix::{clamp16, half, scaled, wrap16};
@@ -18,6 +18,20 @@ pub fn filter_of(header: u8) -> u8
     ensures { result ≡ filter_of header }
 {
     header / 4 % 4
+}
+
+/// Whether a header has its end bit: its block is the last of its sample.
+pub fn has_end(header: u8) -> bool
+    ensures { result ≡ has_end header }
+{
+    header % 2 == 1
+}
+
+/// Whether a header has its loop bit: its sample goes on at its loop word.
+pub fn has_loop(header: u8) -> bool
+    ensures { result ≡ has_loop header }
+{
+    header / 2 % 2 == 1
 }
 
 /// 2 to the `shift`.

@@ -8,7 +8,7 @@ mod laws;
 mod stream;
 
 pub use block::{decode_block, decode_group};
-pub use digit::kept_sample;
+pub use digit::{has_end, has_loop, kept_sample};
 pub use group_memory::GroupMemory;
 pub use laws::each_sample_is_kept;
 pub use std::alloc::AllocError as OutOfMemory;

@@ -5,7 +5,7 @@ use Rattle.num_fix.specs.Words.{number_at}
 use Rattle.brr_decode.specs.Kept.{Digit, kept_sample, digits_of, digits_under, samples_of}
 use Rattle.brr_decode.proofs.Samples.{kept_after, length-kept_after, samples_of-is}
 use Rattle.brr_encode.specs.Greedy.{nearest_sample, greedy_digits, greedy_samples, squares}
-use Rattle.brr_encode.specs.Encoding.{header_at, best_header, end_bits, digit_bytes, block_of, block_samples, blocks_of, padded, encoding}
+use Rattle.brr_encode.specs.Encoding.{header_at, best_header, end_bits, digit_bytes, block_of, block_samples, blocks_of, padded_samples, encoding}
 use Rattle.brr_encode.specs.Report.{worst, reports_from, reports_of}
 use Rattle.brr_encode.specs.EncoderParts.{after_targets, coder_after, block_report, block_reports, all_reports}
 use Rattle.brr_encode.specs.declared.block.Coder.{Coder}
@@ -154,13 +154,13 @@ reports_of_kept (suc count) first looped p1 p2 targets sized =
     ∙ (λ i. record { header = h + e; worst = worst (sym here i) block; squares = squares (sym here i) block } ∷ reports_from count (sym bytes_after i) (sym after i) (drop 16 targets))
 
 -- the reports that are made are those that are read off the encoding
-pub reports_are_true : (samples : List ℤ) (looped : Bool) → length (padded samples) % 16 ≡ 0 → all_reports samples looped ≡ reports_of (encoding samples looped) (padded samples)
+pub reports_are_true : (samples : List ℤ) (looped : Bool) → length (padded_samples samples) % 16 ≡ 0 → all_reports samples looped ≡ reports_of (encoding samples looped) (padded_samples samples)
 unfolding encoding reports_of
 reports_are_true samples looped whole =
-    let count = length (padded samples) / 16 in
-    let sized : length (padded samples) ≡ 16 * count = omega (arith, whole) in
-    let bytes = blocks_of count true looped (pos 0) (pos 0) (padded samples) in
-    let blocks : length bytes / 9 ≡ count = let l = length-blocks_of count true looped (pos 0) (pos 0) (padded samples) sized in omega (arith, l) in
-    let decoded : samples_of bytes ≡ kept_of count true (pos 0) (pos 0) (padded samples) = samples_of-is bytes ∙ decoded_blocks count true looped (pos 0) (pos 0) (padded samples) sized in
-    reports_of_kept count true looped (pos 0) (pos 0) (padded samples) sized
-    ∙ (λ i. reports_from (sym blocks i) bytes (sym decoded i) (padded samples))
+    let count = length (padded_samples samples) / 16 in
+    let sized : length (padded_samples samples) ≡ 16 * count = omega (arith, whole) in
+    let bytes = blocks_of count true looped (pos 0) (pos 0) (padded_samples samples) in
+    let blocks : length bytes / 9 ≡ count = let l = length-blocks_of count true looped (pos 0) (pos 0) (padded_samples samples) sized in omega (arith, l) in
+    let decoded : samples_of bytes ≡ kept_of count true (pos 0) (pos 0) (padded_samples samples) = samples_of-is bytes ∙ decoded_blocks count true looped (pos 0) (pos 0) (padded_samples samples) sized in
+    reports_of_kept count true looped (pos 0) (pos 0) (padded_samples samples) sized
+    ∙ (λ i. reports_from (sym blocks i) bytes (sym decoded i) (padded_samples samples))

@@ -3,7 +3,7 @@ use Rattle.std.specs.Prelude.{◌≡◌, ℕ, zero, suc, ◌+◌, ◌*◌, ◌<�
 use Rattle.num_fix.specs.Words.{number_at}
 use Rattle.brr_decode.specs.Kept.{kept_sample}
 use Rattle.brr_encode.specs.Greedy.{digit_at, digit_distance, distance, nearest_sample, squares}
-use Rattle.brr_encode.specs.Encoding.{best_header, end_bits, block_samples, padded}
+use Rattle.brr_encode.specs.Encoding.{best_header, end_bits, block_samples, padded_samples}
 use Rattle.brr_encode.specs.Report.{worst}
 use Rattle.brr_encode.specs.Least.{least_place}
 use Rattle.brr_encode.specs.declared.nearest.Choice.{Choice}
@@ -60,4 +60,4 @@ block_reports (suc count) first looped p1 p2 targets =
 
 -- the reports of all blocks of an encoding
 abbrev pub all_reports : (samples : List ℤ) → (looped : Bool) → List BlockReport
-all_reports samples looped = block_reports (length (padded samples) / 16) true looped (pos 0) (pos 0) (padded samples)
+all_reports samples looped = block_reports (length (padded_samples samples) / 16) true looped (pos 0) (pos 0) (padded_samples samples)

@@ -38,8 +38,8 @@ abbrev pub end_bits : (last looped : Bool) → ℕ
 end_bits last looped = if last then (if looped then 3 else 1) else 0
 
 -- samples, and after them as many zeros as make whole blocks
-abbrev pub padded : List ℤ → List ℤ
-padded samples = samples ++ replicate ((16 - length samples % 16) % 16) (pos 0)
+abbrev pub padded_samples : List ℤ → List ℤ
+padded_samples samples = samples ++ replicate ((16 - length samples % 16) % 16) (pos 0)
 
 -- a block of sixteen targets under its best header
 abbrev pub block_of : (first last looped : Bool) → (p1 p2 : ℤ) → (targets : List ℤ) → List ℕ
@@ -61,7 +61,7 @@ blocks_of (suc count) first looped p1 p2 targets =
 
 -- the encoding of samples
 unfoldable pub encoding : (samples : List ℤ) → (looped : Bool) → List ℕ
-encoding samples looped = blocks_of (length (padded samples) / 16) true looped (pos 0) (pos 0) (padded samples)
+encoding samples looped = blocks_of (length (padded_samples samples) / 16) true looped (pos 0) (pos 0) (padded_samples samples)
 
 -- the most blocks of an encoding, and their samples
 abbrev pub most_blocks : ℕ

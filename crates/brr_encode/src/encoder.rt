@@ -1,6 +1,6 @@
 // The blocks of a list of samples.
 ghost use Rattle.std.specs.Prelude.{◌≡◌, ◌+◌, ◌%◌, ◌∷◌, ◌++◌, ◌≤◌, ◌⊎◌, [], All, length, IfOk, IfErr};
-ghost use Rattle.brr_encode.specs.Encoding.{padded, most_samples, most_blocks, encoded_samples, best_header, block_of, end_bits};
+ghost use Rattle.brr_encode.specs.Encoding.{padded_samples, most_samples, most_blocks, encoded_samples, best_header, block_of, end_bits};
 ghost use Rattle.brr_encode.specs.Report.{reports_of, IsWithin};
 ghost use Rattle.brr_encode.specs.EncoderParts.{after_targets, coder_after, block_report};
 ghost use Rattle.brr_encode.specs.declared.encoder.EncodeRefusal.TheVariants.{OutOfMemory as NoMemory};
@@ -84,9 +84,9 @@ fn push_block(
 }
 
 /// The samples, and after them as many zeros as make whole blocks.
-fn padded(alloc: Global, samples: &[i16]) -> Result<Vec<i16>, OutOfMemory>
+fn padded_samples(alloc: Global, samples: &[i16]) -> Result<Vec<i16>, OutOfMemory>
     requires { length samples.now ≤ most_samples }
-    ensures targets { IfOk result (λ targets. targets.items ≡ padded samples.now) }
+    ensures targets { IfOk result (λ targets. targets.items ≡ padded_samples samples.now) }
     ensures whole { IfOk result (λ targets. length targets.items % 16 ≡ 0) }
     ensures few { IfOk result (λ targets. length targets.items ≤ most_samples) }
 {
@@ -102,7 +102,7 @@ fn padded(alloc: Global, samples: &[i16]) -> Result<Vec<i16>, OutOfMemory>
 #[tactic(auto, unfolding(crate::specs::Encoding::encoded_samples))]
 pub fn encode(alloc: Global, samples: &[i16], looped: bool) -> Result<Encoded, EncodeRefusal>
     ensures bytes { IfOk result (λ encoded. encoded_samples samples.now looped ≡ Ok encoded.bytes.items) }
-    ensures reports { IfOk result (λ encoded. encoded.reports.items ≡ reports_of encoded.bytes.items (padded samples.now)) }
+    ensures reports { IfOk result (λ encoded. encoded.reports.items ≡ reports_of encoded.bytes.items (padded_samples samples.now)) }
     ensures within { IfOk result (λ encoded. All IsWithin encoded.reports.items) }
     ensures few { IfOk result (λ encoded. length encoded.reports.items ≤ most_blocks) }
     ensures refused { IfErr (encoded_samples samples.now looped) (λ refusal. result ≡ Err refusal) }
@@ -114,7 +114,7 @@ pub fn encode(alloc: Global, samples: &[i16], looped: bool) -> Result<Encoded, E
     if samples.len() > 116480 {
         return Err(EncodeRefusal::TooLong);
     }
-    let targets = padded(alloc, samples)?;
+    let targets = padded_samples(alloc, samples)?;
     let mut bytes = Vec::with_capacity(alloc, targets.len() / 16 * 9)?;
     let mut reports = Vec::with_capacity(alloc, targets.len() / 16)?;
     let mut coder = Coder::start();

@@ -1,11 +1,8 @@
 -- The sums of a check fit into 64 bits.
-use Rattle.std.proofs.Common.{◌≡◌, ◌+◌, ◌*◌, ◌<◌, ◌≤◌, ◌^◌, ℤ, ◌+ℤ◌, unsigned_abs, FitsSigned, arith, ◌∙◌, to_z, of_z}
+use Rattle.std.proofs.Common.{◌≡◌, ◌+◌, ◌<◌, ◌≤◌, ◌^◌, ℤ, ◌+ℤ◌, unsigned_abs, FitsSigned, arith, ◌∙◌, to_z, of_z}
 use Rattle.std.specs.Int.{w16, w64}
-use Rattle.std.proofs.lemmas.Int.{to_z-of_z, fits_signed_from_abs, ints}
-use Rattle.num_fix.proofs.Bounds.{abs_fits_16}
-
-read_back : (z : ℤ) → unsigned_abs z < 2 ^ 62 → to_z w64 (of_z w64 z) ≡ z
-read_back z h = to_z-of_z w64 z (fits_signed_from_abs w64 z (omega arith))
+use Rattle.std.proofs.lemmas.Int.{ints}
+use Rattle.num_fix.proofs.Bounds.{abs_fits_16, read_back}
 
 sum_bound : (a b : ℤ) → unsigned_abs (a +ℤ b) ≤ unsigned_abs a + unsigned_abs b
 sum_bound a b = omega (arith, ints)

@@ -1,7 +1,7 @@
 -- What `encode` answers.
 use Rattle.std.specs.Prelude.{ℕ, ◌+◌, ℤ, Bool, List, [], ◌∷◌, ◌++◌, length, Option, Result, Ok, Err, codes, decimal}
 use Rattle.number_text.specs.Digits.{two_digits}
-use Rattle.brr_encode.specs.Encoding.{padded, encoded_samples}
+use Rattle.brr_encode.specs.Encoding.{padded_samples, encoded_samples}
 use Rattle.brr_encode.specs.Report.{reports_of}
 use Rattle.brr_encode.specs.declared.encoder.EncodeRefusal.{EncodeRefusal}
 use Rattle.brr_encode.specs.declared.encoder.EncodeRefusal.TheVariants as encoder
@@ -38,7 +38,7 @@ encode_report reports = block_lines 0 reports ++ codes "blocks " ++ decimal (len
 
 -- the output of this name with these blocks, and the report on them
 abbrev pub blocks_answer : (output : List ℕ) → (samples : List ℤ) → (blocks : List ℕ) → Answer Cause
-blocks_answer output samples blocks = done (record { name = output; bytes = blocks } ∷ []) (encode_report (reports_of blocks (padded samples)))
+blocks_answer output samples blocks = done (record { name = output; bytes = blocks } ∷ []) (encode_report (reports_of blocks (padded_samples samples)))
 
 -- what the encoding of samples to this name answers
 abbrev pub encoding_answer : (output : List ℕ) → (looped : Bool) → (samples : List ℤ) → Answer Cause

@@ -172,10 +172,14 @@ module _ {P C : Type 0} (makes : P → Delivery) (answer : Files → Answer C) (
     answered = refused_answer why p;
   }
 
-  pub attempts : (prepared : Result P (Refusal C)) (refusal : Option (Refusal C)) → Prepares makes answer x y prepared → CarriesOut makes prepared y z refusal → Attempts answer true refusal x z
-  attempts (Ok plan) refusal p c = attempts_done plan refusal p c.ok.0 c.ok.1 c.ok.2
-  attempts (Err why) refusal p c =
+  attempts_carried : (prepared : Result P (Refusal C)) (refusal : Option (Refusal C)) → Prepares makes answer x y prepared → CarriesOut makes prepared y z refusal → Attempts answer true refusal x z
+  attempts_carried (Ok plan) refusal p c = attempts_done plan refusal p c.ok.0 c.ok.1 c.ok.2
+  attempts_carried (Err why) refusal p c =
       subst (λ (s : HostState). Attempts answer true refusal x s) (sym c.err.1) (subst (λ (r : Option (Refusal C)). Attempts answer true r x y) (sym c.err.0) (attempts_refused why p))
+
+  -- a command that answers what the frame's call answers
+  pub attempts : (prepared : Result P (Refusal C)) (carried refusal : Option (Refusal C)) → Prepares makes answer x y prepared → CarriesOut makes prepared y z carried → carried ≡ refusal → Attempts answer true refusal x z
+  attempts prepared carried refusal p c is = subst (λ (r : Option (Refusal C)). Attempts answer true r x z) is (attempts_carried prepared carried p c)
 
 -- the attempt, and then its complaint
 pub obeys : {C : Type 0} (line : Refusal C → List ℕ) (answer : Files → Answer C) (names : Bool) (refusal : Option (Refusal C)) (x y z : HostState) → Attempts answer names refusal x y → WritesComplaint (line_of line refusal) y z → (refusal ≡ None → z ≡ y) → Obeys line answer names refusal x z
@@ -238,13 +242,14 @@ obeys {C = C} line answer names refusal x y z t c silent = record {
 pub carried_out : {P C : Type 0} (makes : P → Delivery) (plan : P) (x y : HostState) (outcome : Result (Unit {0}) Failed) → Delivers (makes plan).outputs (makes plan).report x y outcome → CarriesOut {C = C} makes (Ok plan) x y (delivery_refusal outcome)
 carried_out makes plan x y outcome d = record { ok = (outcome, refl, d); err = tt }
 
-pub attempts_no_usage : {P C : Type 0} (makes : P → Delivery) (answer : Files → Answer C) (x y z : HostState) (prepared : Result P (Refusal C)) (refusal : Option (Refusal C)) → Prepares makes answer x y prepared → CarriesOut makes prepared y z refusal → refusal ≡ Some Usage → ⊥
-attempts_no_usage {P = P} {C = C} makes answer x y z (Ok plan) refusal p c is = not_fault c.ok.0 (sym c.ok.1 ∙ is)
+pub attempts_no_usage : {P C : Type 0} (makes : P → Delivery) (answer : Files → Answer C) (x y z : HostState) (prepared : Result P (Refusal C)) (carried refusal : Option (Refusal C))
+    → Prepares makes answer x y prepared → CarriesOut makes prepared y z carried → carried ≡ refusal → refusal ≡ Some Usage → ⊥
+attempts_no_usage {P = P} {C = C} makes answer x y z (Ok plan) carried refusal p c same is = not_fault c.ok.0 (sym c.ok.1 ∙ same ∙ is)
   where
     not_fault : (outcome : Result (Unit {0}) Failed) → delivery_refusal {C = C} outcome ≡ Some Usage → ⊥
     not_fault (Ok t) wrong = cc
     not_fault (Err e) wrong = cc
-attempts_no_usage {P = P} {C = C} makes answer x y z (Err why) refusal p c is = p.no_usage (ap (λ (r : Refusal C). Err r) (inside why (sym c.err.0 ∙ is)))
+attempts_no_usage {P = P} {C = C} makes answer x y z (Err why) carried refusal p c same is = p.no_usage (ap (λ (r : Refusal C). Err r) (inside why (sym c.err.0 ∙ same ∙ is)))
   where
     inside : (r : Refusal C) → Some r ≡ Some Usage → r ≡ Usage
     inside r h = cc

@@ -45,9 +45,10 @@ module _ {P C : Type 0} (makes : P → Delivery) (answer : Answer C) where
   no_read x z (Ok plan) refusal p c is = delivered c.ok.0 (sym c.ok.1 ∙ is)
   no_read x z (Err why) refusal p c is = p.no_read (search rules)
 
-  pub attempts_unread : (x z : HostState) (prepared : Result P (Refusal C)) (refusal : Option (Refusal C)) → Plans makes answer prepared → CarriesOut makes prepared x z refusal → Attempts (λ (files : Files). answer) false refusal x z
-  attempts_unread x z prepared refusal p c =
-      let t = attempts makes (λ (files : Files). answer) x x z prepared refusal (prepares x prepared p) c in
+  pub attempts_unread : (x z : HostState) (prepared : Result P (Refusal C)) (carried refusal : Option (Refusal C)) → Plans makes answer prepared → CarriesOut makes prepared x z carried → carried ≡ refusal
+      → Attempts (λ (files : Files). answer) false refusal x z
+  attempts_unread x z prepared carried refusal p c same =
+      let t = attempts makes (λ (files : Files). answer) x x z prepared carried refusal (prepares x prepared p) c same in
       record {
         report = t.report;
         outputs = t.outputs;
@@ -56,7 +57,7 @@ module _ {P C : Type 0} (makes : P → Delivery) (answer : Answer C) where
         calm_inputs = t.calm_inputs;
         calm_outputs = t.calm_outputs;
         notes = t.notes;
-        read = λ is. absurd (no_read x z prepared refusal p c is);
+        read = λ is. absurd (no_read x z prepared carried p c (same ∙ is));
         write = t.write;
         refused = t.refused;
         report_last = t.report_last;

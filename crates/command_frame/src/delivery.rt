@@ -5,7 +5,7 @@ ghost use Rattle.command_frame.specs.Conduct.{CarriesOut};
 ghost use Rattle.command_frame.specs.Delivery.{CanDeliver, Delivers};
 ghost use Rattle.command_frame.specs.Plan.{planned_outputs, plan_makes, stream_makes};
 
-use crate::sources::NoPieces;
+use crate::pieces::NoPieces;
 use crate::streaming::{REPORT, stream};
 use crate::{Pieces, Refusal};
 use snd_host::{Failed, Host, write_all};

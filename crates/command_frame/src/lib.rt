@@ -6,13 +6,13 @@ mod complaints;
 mod delivery;
 mod lists;
 mod refusals;
-mod sources;
+mod pieces;
 mod streaming;
 
 pub use complaints::{COMPLAINT, Complaint, complain, note_number};
 pub use delivery::{Plan, PlannedOutput, StreamedPlan, carry_out, carry_stream};
 pub use lists::{ListPlan, ListedOutput, carry_all};
 pub use refusals::Refusal;
-pub use sources::Pieces;
+pub use pieces::Pieces;
 pub use std::alloc::AllocError as OutOfMemory;
 pub use streaming::{Targets, stream};

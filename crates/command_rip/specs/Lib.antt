@@ -1,4 +1,4 @@
 -- what `rip` answers
 pub mod Rip
 -- a sample that is written block by block
-pub mod Source
+pub mod Pieces

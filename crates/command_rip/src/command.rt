@@ -8,11 +8,11 @@ ghost use Rattle.command_frame.specs.Answer.{done};
 ghost use Rattle.command_frame.specs.Conduct.{Plans, Attempts};
 ghost use Rattle.command_frame.specs.Delivery.{CanDeliverAll};
 ghost use Rattle.command_frame.specs.Listed.{listed_output, list_makes};
-ghost use Rattle.command_rip.specs.Source.{to_come_of};
+ghost use Rattle.command_rip.specs.Pieces.{to_come_of};
 ghost use Rattle.command_rip.specs.Rip.{wanted_in, directory_page, entry_name, entry_output, entries_answer, file_answer, rip_answer};
 
 use crate::reports::report_on;
-use crate::source::RipSource;
+use crate::pieces::RipPieces;
 use aram_core::Aram;
 use command_frame::{ListPlan, ListedOutput, OutOfMemory, Refusal, carry_all};
 use input_files::read_file;
@@ -58,14 +58,14 @@ fn entry_output<'a>(
     memory: &'a Aram,
     dir: u8,
     entry: u8,
-) -> Result<ListedOutput<RipSource<'a>>, OutOfMemory>
+) -> Result<ListedOutput<RipPieces<'a>>, OutOfMemory>
     ensures { IfOk result (λ output. listed_output to_come_of output ≡ entry_output prefix.now memory.now dir entry) }
 {
     let found = sample_rip::rip(memory, dir, entry);
     Ok(ListedOutput {
         name: entry_name(alloc, prefix, entry)?,
         head: Vec::from_slice(alloc, &header(1, 16 * found.blocks))?,
-        source: RipSource::new(memory, &found),
+        source: RipPieces::new(memory, &found),
     })
 }
 
@@ -76,7 +76,7 @@ fn entry_outputs<'a>(
     memory: &'a Aram,
     dir: u8,
     entries: &[u8],
-) -> Result<Vec<ListedOutput<RipSource<'a>>>, OutOfMemory>
+) -> Result<Vec<ListedOutput<RipPieces<'a>>>, OutOfMemory>
     ensures { IfOk result (λ outputs. map (listed_output to_come_of) outputs.items ≡ map (entry_output prefix.now memory.now dir) entries.now) }
 {
     let mut outputs = Vec::new(alloc);
@@ -93,7 +93,7 @@ fn plan_entries<'a>(
     memory: &'a Aram,
     dir: u8,
     entries: &[u8],
-) -> Result<ListPlan<RipSource<'a>>, OutOfMemory>
+) -> Result<ListPlan<RipPieces<'a>>, OutOfMemory>
     ensures plan { IfOk result (λ plan. entries_answer prefix.now memory.now dir entries.now
         ≡ done (list_makes to_come_of plan).outputs (list_makes to_come_of plan).report) }
     ensures few { IfOk result (λ plan. length plan.outputs.items ≡ length entries.now) }
@@ -110,7 +110,7 @@ fn plan_file<'a>(
     range: Option<(u8, u8)>,
     file: &SpcFile,
     state: &'a OpenState,
-) -> Result<ListPlan<RipSource<'a>>, Refusal<Cause>>
+) -> Result<ListPlan<RipPieces<'a>>, Refusal<Cause>>
     requires memory { state.now.memory ≡ opening_memory file.now }
     requires dsp { state.now.dsp ≡ dsp_of file.now }
     ensures plans { Plans (list_makes to_come_of) (file_answer prefix.now range file.now) result }

@@ -3,7 +3,7 @@
 
 mod command;
 mod reports;
-mod source;
+mod pieces;
 #[cfg(test)]
 mod tests;
 

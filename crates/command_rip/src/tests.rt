@@ -35,7 +35,7 @@ const STEADY_WAV: [u8; 76] =
 const LOOPED: Pieces = &[(MEMORY + 0x0202, b"\x00\x05")];
 
 #[test]
-fn a_block_that_loops_outside_or_to_itself(rt: HostRuntime) -> Result<(), Fail> {
+fn one_entry_that_loops_outside_or_to_itself(rt: HostRuntime) -> Result<(), Fail> {
     for (more, report) in [
         (
             &[] as Pieces,

@@ -1,5 +1,5 @@
 -- Why a script is refused.
-use Rattle.std.proofs.Common.{◌≡◌, ◌∙◌, inl, ap, rules, ℕ, List, Result, Err}
+use Rattle.std.proofs.Common.{◌≡◌, inl, ap, ℕ, List, Result, Err}
 use Rattle.cut_form.specs.declared.script.ScriptLine.{ScriptLine}
 use Rattle.cut_text.specs.declared.refusal.TextRefusal.{TextRefusal}
 use Rattle.cut_text.specs.declared.refusal.TextRefusal.TheVariants.{Wrong}

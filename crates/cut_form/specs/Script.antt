@@ -11,18 +11,18 @@ abbrev pub most_script_lines : ℕ
 most_script_lines = 100000
 
 -- a line with a number, which is an hour of sound at most
-abbrev pub numbered : (ℕ → ScriptLine) → Option ℕ → Option ScriptLine
-numbered line None = None
-numbered line (Some n) = if nat_le n most_frames then Some (line n) else None
+abbrev pub numbered_line : (ℕ → ScriptLine) → Option ℕ → Option ScriptLine
+numbered_line line None = None
+numbered_line line (Some n) = if nat_le n most_frames then Some (line n) else None
 
 -- what the words of a line say
 abbrev pub line_of_words : List (List ℕ) → Option ScriptLine
 line_of_words [] = None
 line_of_words (name ∷ []) = if bytes_eq name (codes "mark") then Some Mark else if bytes_eq name (codes "free") then Some Free else None
 line_of_words (name ∷ (number ∷ [])) =
-    if bytes_eq name (codes "seek") then numbered Seek (number_of_word number)
-    else if bytes_eq name (codes "play") then numbered Play (number_of_word number)
-    else if bytes_eq name (codes "drop") then numbered Drop (number_of_word number)
+    if bytes_eq name (codes "seek") then numbered_line Seek (number_of_word number)
+    else if bytes_eq name (codes "play") then numbered_line Play (number_of_word number)
+    else if bytes_eq name (codes "drop") then numbered_line Drop (number_of_word number)
     else None
 line_of_words (name ∷ (number ∷ (more ∷ rest))) = None
 

@@ -10,7 +10,7 @@ use Rattle.page_pool.specs.declared.slot.Slot.{Slot}
 use Rattle.page_pool.specs.Pool.{free_slot, is_free, slot_at, free_slots, KeepsBytes}
 use Rattle.cut_server.specs.declared.table.Mark.{Mark}
 use Rattle.cut_form.specs.Checkpoints.{Checkpoint, pages_of, by_places, shared_with_newest, own_slots, slots_used, with_checkpoint}
-use Rattle.cut_server.specs.Table.{Saved, saved_mark, saved_marks, memory_in, pages_in, checkpoints_after, times_named, most_named, AreWhole, AreApart, RunsInto, AreRuns, IsKept, newest_from}
+use Rattle.cut_server.specs.Table.{Saved, saved_mark, saved_marks, memory_in, pages_in, checkpoints_after, times_named, most_named, AreWhole, AreApart, LeavesForGood, StandTogether, IsKept, newest_from}
 use Rattle.cut_server.specs.Placing.{shared_slots, AreOwned, ArePlaced}
 use Rattle.cut_server.proofs.Shared.{length-by_places, length-pages_of, memory_of_pages}
 use Rattle.page_pool.proofs.Links.{one_if}
@@ -51,7 +51,7 @@ newest_is_owned {pool = pool} {marks} kept = newest_owned pool most_named [] mar
 pub newest_apart : {S : Type 0} {pool : List Slot} {marks : List (Mark S)} → IsKept pool marks → AreApart (newest_from [] marks)
 newest_apart {S = S} {marks = marks} kept = last_apart [] marks (λ k. omega arith) kept.runs
   where
-    last_apart : (before : List ℕ) (marks : List (Mark S)) → AreApart before → AreRuns marks → AreApart (newest_from before marks)
+    last_apart : (before : List ℕ) (marks : List (Mark S)) → AreApart before → StandTogether marks → AreApart (newest_from before marks)
     last_apart before [] apart runs = apart
     last_apart before (mark ∷ marks) apart runs = last_apart mark.pages marks runs.0 runs.2
 
@@ -143,8 +143,8 @@ newest_named mark [] k p within here = omega (arith, count_named k mark.pages p 
 newest_named mark (next ∷ rest) k p within here = omega (arith, newest_named next rest k p within here, times-cons mark (next ∷ rest) k)
 
 -- the one added goes on where the newest stands
-into_added : {S : Type 0} {old new : List Slot} {pages : List (List ℕ)} (before : List ℕ) (marks : List (Mark S)) (mark : Mark S) → ArePlaced old new (newest_from before marks) pages mark.pages → RunsInto before marks → AreApart before
-    → ((p : ℕ) → p < length before → 0 < (slot_at old (slice_index before p)).owners) → length before ≤ length mark.pages → RunsInto before (marks ++ mark ∷ [])
+into_added : {S : Type 0} {old new : List Slot} {pages : List (List ℕ)} (before : List ℕ) (marks : List (Mark S)) (mark : Mark S) → ArePlaced old new (newest_from before marks) pages mark.pages → LeavesForGood before marks → AreApart before
+    → ((p : ℕ) → p < length before → 0 < (slot_at old (slice_index before p)).owners) → length before ≤ length mark.pages → LeavesForGood before (marks ++ mark ∷ [])
 into_added {old = old} {new} {pages} before [] mark are into apart owned long = λ p inside other.
     let k = slice_index before p in
     elim (cases_lt 0 (count_by (nat_eq k) mark.pages)) [
@@ -165,8 +165,8 @@ into_added {old = old} {new} {pages} before (next ∷ rest) mark are into apart 
       | inr none ↦ omega (arith, into p inside other, none, times-push (next ∷ rest) mark k)
     ]
 
-runs_added : {S : Type 0} {old new : List Slot} {pages : List (List ℕ)} (before : List ℕ) (marks : List (Mark S)) (mark : Mark S) → ArePlaced old new (newest_from before marks) pages mark.pages → AreRuns marks → AreWhole marks
-    → length mark.pages ≡ 256 → ((k : ℕ) → times_named marks k ≤ (slot_at old k).owners) → AreRuns (marks ++ mark ∷ [])
+runs_added : {S : Type 0} {old new : List Slot} {pages : List (List ℕ)} (before : List ℕ) (marks : List (Mark S)) (mark : Mark S) → ArePlaced old new (newest_from before marks) pages mark.pages → StandTogether marks → AreWhole marks
+    → length mark.pages ≡ 256 → ((k : ℕ) → times_named marks k ≤ (slot_at old k).owners) → StandTogether (marks ++ mark ∷ [])
 runs_added before [] mark are runs whole long counted = (are.apart, tt, tt)
 runs_added {old = old} before (x ∷ xs) mark are runs whole long counted = (
   runs.0,

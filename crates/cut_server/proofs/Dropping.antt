@@ -6,7 +6,7 @@ use Rattle.page_pool.specs.declared.slot.Slot.{Slot}
 use Rattle.page_pool.specs.Pool.{slot_at, KeepsBytes}
 use Rattle.cut_form.specs.Checkpoints.{slots_used, without_entry}
 use Rattle.cut_server.specs.declared.table.Mark.{Mark}
-use Rattle.cut_server.specs.Table.{saved_mark, saved_marks, checkpoints_after, times_named, most_named, AreApart, AreRuns, IsKept}
+use Rattle.cut_server.specs.Table.{saved_mark, saved_marks, checkpoints_after, times_named, most_named, AreApart, StandTogether, IsKept}
 use Rattle.cut_server.specs.Placing.{AreGiven}
 use Rattle.cut_server.proofs.Naming.{times-remove}
 use Rattle.cut_server.proofs.Placing.{pages_in-kept}
@@ -19,7 +19,7 @@ checkpoints-same old new a b before [] keeps was is = refl
 checkpoints-same old new a b before (x ∷ xs) keeps was is = rw (pages_in-kept old new a b x.pages keeps was.0 is.0, checkpoints-same old new a b x.pages xs keeps was.1 is.1) refl
 
 -- no slot stands twice in a live checkpoint
-pub apart_read : {S : Type 0} (marks : List (Mark S)) (i : ℕ) (mark : Mark S) → AreRuns marks → i < length marks → mark ≡ get_or marks i mark → AreApart mark.pages
+pub apart_read : {S : Type 0} (marks : List (Mark S)) (i : ℕ) (mark : Mark S) → StandTogether marks → i < length marks → mark ≡ get_or marks i mark → AreApart mark.pages
 apart_read [] i mark runs within read = absurd (omega arith)
 apart_read (x ∷ xs) zero mark runs within read = λ k. omega (arith, ap (λ m. count_by (nat_eq k) m.pages) read, runs.0 k)
 apart_read (x ∷ xs) (suc i) mark runs within read = apart_read xs i mark runs.2 (omega arith) read

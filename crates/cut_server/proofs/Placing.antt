@@ -1,5 +1,5 @@
 -- Pages are placed one after another: in the slot of the newest where the bytes are the same, and else in a free slot.
-use Rattle.std.proofs.Common.{◌≡◌, ◌≢◌, ℕ, zero, suc, ◌+◌, ◌<◌, ◌≤◌, Bool, true, false, not, nat_eq, List, [], ◌∷◌, ◌++◌, length, take, set, get_or, refl, sym, ap, ◌∙◌, arith, rules, inl, inr, Some}
+use Rattle.std.proofs.Common.{◌≡◌, ◌≢◌, ℕ, zero, suc, ◌+◌, ◌<◌, ◌≤◌, Bool, true, false, not, nat_eq, List, [], ◌∷◌, ◌++◌, length, take, set, get_or, refl, sym, ap, ◌∙◌, arith, inl, inr, Some}
 use Rattle.std.specs.Prelude.{slice_index, slice_index_or}
 use Rattle.std.specs.List.{slice_get, count_by}
 use Rattle.std.specs.Str.{bytes_eq}
@@ -144,9 +144,6 @@ placed_none old newest pages = record {
   fresh = λ page within other. absurd (omega arith);
 }
 
-bytes_same : (xs ys : List ℕ) → bytes_eq xs ys ≡ true → xs ≡ ys
-bytes_same xs ys test = search (rules, bytes_eq-Decides)
-
 -- a slot of the newest wasn't placed at an earlier page
 placed_earlier : (old mid : List Slot) (newest : List ℕ) (pages : List (List ℕ)) (placed : List ℕ) (slot : ℕ) → ArePlaced old mid newest pages placed → AreOwned old most_named newest → AreApart newest
     → slot ≡ slice_index newest (length placed) → length placed < length newest → IsNamedAt placed slot → ⊥
@@ -177,7 +174,7 @@ shared_more old mid new newest pages placed slot most are was apart owned within
     let held : get_or (pages_in mid newest) n [] ≡ (slot_at mid slot).bytes = get_or-map (λ k. (slot_at mid k).bytes) newest n 0 [] facts.1 ∙ ap (λ k. (slot_at mid k).bytes) (sym named) in
     let inside : n < length (pages_in mid newest) = omega (arith, length-map newest (λ k. (slot_at mid k).bytes)) in
     let tested : bytes_eq (get_or pages n []) (get_or (pages_in mid newest) n []) ≡ true = same_Some _ _ (sym (slice_get-by_places bytes_eq pages (pages_in mid newest) n [] [] within inside) ∙ is) in
-    let equal : get_or pages n [] ≡ (slot_at mid slot).bytes = bytes_same _ _ tested ∙ held in
+    let equal : get_or pages n [] ≡ (slot_at mid slot).bytes = (bytes_eq-Decides _ _).0 tested ∙ held in
     let test : nat_eq slot (get_or newest n 0) ≡ true = grind (arith, nat_tests) in
     record {
       owners = λ k. ap (λ p. (slot_at p k).owners) new_is ∙ owners-set mid slot (with_owner (slot_at mid slot)) there refl k;

@@ -9,7 +9,7 @@ use Rattle.page_pool.specs.declared.slot.Slot.{Slot}
 use Rattle.page_pool.specs.Pool.{slot_at}
 use Rattle.cut_form.specs.Checkpoints.{Checkpoint, by_places, own_slots, slots_used, without_entry}
 use Rattle.cut_server.specs.declared.table.Mark.{Mark}
-use Rattle.cut_server.specs.Table.{pages_in, checkpoints_after, times_named, AreWhole, AreApart, RunsInto, AreRuns}
+use Rattle.cut_server.specs.Table.{pages_in, checkpoints_after, times_named, AreWhole, AreApart, LeavesForGood, StandTogether}
 use Rattle.cut_server.specs.Placing.{has_one_owner}
 use Rattle.page_pool.proofs.Links.{one_if}
 use Rattle.cut_server.proofs.Naming.{times-cons, IsNamedAt, named_place, count_named, apart_places}
@@ -23,7 +23,7 @@ pub record IsBefore {S : Type 0} (times : ℕ → ℕ) (before : List ℕ) (mark
 pub before_none : {S : Type 0} (marks : List (Mark S)) → IsBefore (λ k. 0) [] marks
 before_none marks = record { again = λ k some again. absurd (omega (arith, some)); counted = λ p within. absurd (omega arith) }
 
-before_next : {S : Type 0} {times : ℕ → ℕ} {before : List ℕ} {mark : Mark S} {marks : List (Mark S)} → IsBefore times before (mark ∷ marks) → RunsInto before (mark ∷ marks) → length before ≤ length mark.pages
+before_next : {S : Type 0} {times : ℕ → ℕ} {before : List ℕ} {mark : Mark S} {marks : List (Mark S)} → IsBefore times before (mark ∷ marks) → LeavesForGood before (mark ∷ marks) → length before ≤ length mark.pages
     → IsBefore (λ k. times k + count_by (nat_eq k) mark.pages) mark.pages marks
 before_next {times = times} {before} {mark} {marks} is runs long = record {
   again = λ k some named. elim (cases_lt 0 (count_by (nat_eq k) mark.pages)) [
@@ -41,7 +41,7 @@ before_next {times = times} {before} {mark} {marks} is runs long = record {
 }
 
 -- a slot that stands elsewhere in the one before isn't named before at all
-shared_before : {S : Type 0} {times : ℕ → ℕ} {before : List ℕ} {mark : Mark S} {marks : List (Mark S)} → IsBefore times before (mark ∷ marks) → RunsInto before (mark ∷ marks) → AreApart mark.pages → length before ≤ length mark.pages
+shared_before : {S : Type 0} {times : ℕ → ℕ} {before : List ℕ} {mark : Mark S} {marks : List (Mark S)} → IsBefore times before (mark ∷ marks) → LeavesForGood before (mark ∷ marks) → AreApart mark.pages → length before ≤ length mark.pages
     → (p : ℕ) → p < length mark.pages → (p < length before → slice_index mark.pages p ≢ slice_index before p) → times (slice_index mark.pages p) ≡ 0
 shared_before {times = times} {before} {mark} {marks} is runs apart long p within other =
     let k = slice_index mark.pages p in
@@ -151,16 +151,16 @@ used-cons checkpoint live = sum_by-cons (λ c. own_slots c.shared) checkpoint li
 -- What is known at one of the checkpoints of a pool: those before it named slots so often, and the others follow.
 pub record IsAmong {S : Type 0} (pool : List Slot) (times : ℕ → ℕ) (before : List ℕ) (marks : List (Mark S)) : Type 0 where
   pub names : IsBefore times before marks
-  pub into : RunsInto before marks
-  pub runs : AreRuns marks
+  pub into : LeavesForGood before marks
+  pub runs : StandTogether marks
   pub whole : AreWhole marks
   pub long : length before ≤ 256
   pub owners : (k : ℕ) → (slot_at pool k).owners ≡ times k + times_named marks k
 
-pub among_all : {S : Type 0} (pool : List Slot) (marks : List (Mark S)) → AreRuns marks → AreWhole marks → ((k : ℕ) → (slot_at pool k).owners ≡ times_named marks k) → IsAmong pool (λ k. 0) [] marks
+pub among_all : {S : Type 0} (pool : List Slot) (marks : List (Mark S)) → StandTogether marks → AreWhole marks → ((k : ℕ) → (slot_at pool k).owners ≡ times_named marks k) → IsAmong pool (λ k. 0) [] marks
 among_all pool marks runs whole owners = record { names = before_none marks; into = into_none marks; runs = runs; whole = whole; long = omega arith; owners = λ k. omega (arith, owners k) }
   where
-    into_none : {S : Type 0} (marks : List (Mark S)) → RunsInto [] marks
+    into_none : {S : Type 0} (marks : List (Mark S)) → LeavesForGood [] marks
     into_none [] = tt
     into_none (mark ∷ marks) = λ p within other. absurd (omega arith)
 
@@ -262,7 +262,7 @@ live_removed {pool = pool} (x ∷ xs) (suc i) {times} {before} is within =
 times-remove-le : {S : Type 0} (mark : Mark S) (marks : List (Mark S)) (i k : ℕ) → i < length marks → times_named (remove marks i) k ≤ times_named marks k
 times-remove-le mark marks i k within = omega (arith, sum_by-remove (λ m. count_by (nat_eq k) m.pages) marks i mark within)
 
-into_removed : {S : Type 0} {pool : List Slot} (marks : List (Mark S)) (i : ℕ) {times : ℕ → ℕ} {before : List ℕ} → IsAmong pool times before marks → i < length marks → RunsInto before (remove marks i)
+into_removed : {S : Type 0} {pool : List Slot} (marks : List (Mark S)) (i : ℕ) {times : ℕ → ℕ} {before : List ℕ} → IsAmong pool times before marks → i < length marks → LeavesForGood before (remove marks i)
 into_removed [] i is within = absurd (omega arith)
 into_removed (x ∷ []) zero is within = tt
 into_removed (x ∷ (next ∷ rest)) zero {times} {before} is within = λ p inside other. elim (cases_eq (slice_index x.pages p) (slice_index before p)) [
@@ -275,7 +275,7 @@ into_removed (x ∷ xs) (suc i) {times} {before} is within = λ p inside other.
     let k = slice_index before p in
     omega (arith, is.into p inside other, times-cons x xs k, times-cons x (remove xs i) k, times-remove-le x xs i k (omega arith))
 
-pub runs_removed : {S : Type 0} {pool : List Slot} (marks : List (Mark S)) (i : ℕ) {times : ℕ → ℕ} {before : List ℕ} → IsAmong pool times before marks → i < length marks → AreRuns (remove marks i)
+pub runs_removed : {S : Type 0} {pool : List Slot} (marks : List (Mark S)) (i : ℕ) {times : ℕ → ℕ} {before : List ℕ} → IsAmong pool times before marks → i < length marks → StandTogether (remove marks i)
 runs_removed [] i is within = absurd (omega arith)
 runs_removed (x ∷ xs) zero is within = is.runs.2
 runs_removed (x ∷ xs) (suc i) is within = (is.runs.0, into_removed xs i (among_next is) (omega arith), runs_removed xs i (among_next is) (omega arith))

@@ -70,22 +70,22 @@ abbrev pub AreApart : (slots : List ℕ) → Type 0
 AreApart slots = (slot : ℕ) → count_by (nat_eq slot) slots ≤ 1
 
 -- where the next one has another slot, no later one has that slot again
-abbrev pub RunsInto : {S : Type 0} → (slots : List ℕ) → List (Mark S) → Type 0
-RunsInto slots [] = Unit {0}
-RunsInto slots (next ∷ rest) =
+abbrev pub LeavesForGood : {S : Type 0} → (slots : List ℕ) → List (Mark S) → Type 0
+LeavesForGood slots [] = Unit {0}
+LeavesForGood slots (next ∷ rest) =
     (page : ℕ) → page < length slots → slice_index next.pages page ≢ slice_index slots page → times_named (next ∷ rest) (slice_index slots page) ≡ 0
 
 -- the checkpoints that have a slot stand side by side, and have it at the same page
-abbrev pub AreRuns : {S : Type 0} → List (Mark S) → Type 0
-AreRuns [] = Unit {0}
-AreRuns (mark ∷ marks) = AreApart mark.pages × RunsInto mark.pages marks × AreRuns marks
+abbrev pub StandTogether : {S : Type 0} → List (Mark S) → Type 0
+StandTogether [] = Unit {0}
+StandTogether (mark ∷ marks) = AreApart mark.pages × LeavesForGood mark.pages marks × StandTogether marks
 
 -- What a table keeps. No contract cites it.
 pub record IsKept {S : Type 0} (pool : List Slot) (marks : List (Mark S)) : Type 0 where
   pub owners : AreOwnersCounted (record { pool = pool; marks = marks })
   pub whole : AreWhole marks
   pub few : length marks ≤ most_checkpoints
-  pub runs : AreRuns marks
+  pub runs : StandTogether marks
   pub used : free_slots pool + slots_used (live_checkpoints (record { pool = pool; marks = marks })) ≡ length pool
 
 -- the slots of the newest of marks that follow one with these slots

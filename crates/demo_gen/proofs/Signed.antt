@@ -1,11 +1,9 @@
 -- The demo file begins with the signature.
-use Rattle.std.proofs.Common.{◌≡◌, ◌∙◌, ℕ, ◌-◌, ◌≤◌, List, [], ◌++◌, length, take, None, Result, Ok, Err, inl, inr, ◌⊎◌, arith, lit≤, length-append, refl}
+use Rattle.std.proofs.Common.{◌≡◌, ◌∙◌, ℕ, ◌-◌, ◌≤◌, List, [], ◌++◌, length, take, None, Ok, arith, lit≤, length-append, refl}
 use Rattle.std.specs.Prelude.{replicate, fold}
 use Rattle.std.proofs.lemmas.List.{length-take}
 use Rattle.std.proofs.Math.ListN.{length-replicate}
 use Rattle.spc_form.specs.Accepted.{signature, first_difference, padded_to, kept_length, spc_file}
-use Rattle.spc_form.specs.declared.reading.SpcRefusal.{SpcRefusal}
-use Rattle.spc_form.specs.declared.reading.SpcRefusal.TheVariants.{OutOfMemory}
 use Rattle.spc_form.proofs.Signatures.{first_difference-append, first_difference-padded_to}
 use Rattle.spc_form.proofs.Padding.{read_again}
 use Rattle.demo_gen.specs.Places.{with_part}
@@ -56,8 +54,3 @@ demo_is_read number = read_again (demo_bytes number) (length-demo_bytes number) 
 
 pub read_as_demo : (bytes : List ℕ) (number : ℕ) → bytes ≡ demo_bytes number → spc_file bytes ≡ Ok (demo_bytes number)
 read_as_demo bytes number is = rw is (demo_is_read number)
-
--- what is read is refused for want of memory alone
-pub never_refused : (answer : Result (List ℕ) SpcRefusal) (file : List ℕ) (why : SpcRefusal) → answer ≡ Ok file → (answer ≡ Err why) ⊎ (why ≡ OutOfMemory) → why ≡ OutOfMemory
-never_refused answer file why read (inl refused) = absurd (cc)
-never_refused answer file why read (inr memory) = memory

@@ -1,8 +1,8 @@
 //! One sample of the chip.
 
-ghost use Rattle.std.specs.Prelude.{◌≡◌, ◌%◌, ◌==◌, length, map, pos, if◌then◌else◌};
+ghost use Rattle.std.specs.Prelude.{◌≡◌, length, map, pos, if◌then◌else◌};
 ghost use Rattle.rate_clock.specs.Counter.{counter_at};
-ghost use Rattle.dsp_form.specs.Sample.{sample, results_from, shared_input, records_from};
+ghost use Rattle.dsp_form.specs.Sample.{is_polled, sample, results_from, shared_input, records_from};
 ghost use Rattle.dsp_form.specs.Settings.{settings_of};
 
 use crate::voices::step_voices;
@@ -15,7 +15,7 @@ use voice_unit::VoiceOut;
 
 /// The voices that the sample of a number keys, once the keys are polled, as bits.
 fn keyed_voices(state: &ChipState, number: u32) -> u8
-    ensures { result ≡ (if number % 2 == 0 then state.now.hidden.taken else 0) }
+    ensures { result ≡ (if is_polled number then state.now.hidden.taken else 0) }
 {
     if is_polled(number) {
         state.hidden.taken

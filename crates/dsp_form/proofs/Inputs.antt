@@ -3,10 +3,9 @@ use Rattle.std.proofs.Common.{◌≡◌, ◌≢◌, ℕ, ◌+◌, ◌*◌, ◌%�
 use Rattle.std.proofs.lemmas.Bool.{or_parts}
 use Rattle.std.proofs.lemmas.Bool.Decides.{nat_tests}
 use Rattle.std.proofs.lemmas.List.{get_or-set_other}
-use Rattle.rate_clock.specs.Counter.{counter_at}
 use Rattle.voice_unit.specs.declared.interface.VoiceOut.{VoiceOut}
 use Rattle.dsp_form.specs.Results.{is_result, with_levels_from, registers_after, next_endx, without_bits}
-use Rattle.dsp_form.specs.Sample.{results_from, shared_input, after_poll, after_noise, sample}
+use Rattle.dsp_form.specs.Sample.{results_from, shared_input, after_poll, after_noise, before_voices, sample}
 use Rattle.dsp_form.specs.declared.registers.TheConstants.{ENVX, OUTX, ENDX}
 use Rattle.dsp_form.specs.declared.state.ChipState.{ChipState}
 use Rattle.dsp_form.proofs.EightVoices.{polled_part}
@@ -55,7 +54,7 @@ same_inputs-registers_after answers registers address h =
     ∙ levels_elsewhere 0 answers registers address input
 
 -- the poll and the noise leave the registers alone
-pub registers-before_step : (s : ChipState) (k : ℕ) → (after_noise (after_poll s k) (counter_at k)).registers ≡ s.registers
+pub registers-before_step : (s : ChipState) (k : ℕ) → (before_voices s k).registers ≡ s.registers
 unfolding after_poll after_noise
 registers-before_step s k = polled_part (λ s. s.registers) (k % 2 == 0) s (without_bits s.hidden.waiting s.hidden.taken) refl
 
@@ -63,7 +62,7 @@ registers-before_step s k = polled_part (λ s. s.registers) (k % 2 == 0) s (with
 pub same_inputs-sample : (k : ℕ) (s : ChipState) (memory : List ℕ) → SameInputs (sample k s memory).state.registers s.registers
 unfolding sample
 same_inputs-sample k s memory address h =
-    let now : ChipState = after_noise (after_poll s k) (counter_at k) in
+    let now : ChipState = before_voices s k in
     let results = results_from (shared_input now memory k) 0 (pos 0) now.hidden.voices in
     same_inputs-registers_after (map (λ result. result.answer) results) now.registers address h
     ∙ ap (λ (registers : List ℕ). slice_index registers address) (registers-before_step s k)

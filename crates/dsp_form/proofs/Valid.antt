@@ -3,14 +3,13 @@ use Rattle.std.proofs.Common.{◌≡◌, ℕ, ◌+◌, ◌%◌, List, [], ◌∷
 use Rattle.std.proofs.lemmas.Bool.{and_parts, and_from}
 use Rattle.std.proofs.lemmas.Bool.Decides.{nat_tests}
 use Rattle.std.specs.List.{list_all}
-use Rattle.rate_clock.specs.Counter.{counter_at}
 use Rattle.voice_unit.specs.Voice.{VoiceState, is_at_group}
 use Rattle.voice_unit.proofs.Groups.{is_at_group-voice_step}
 use Rattle.echo_unit.specs.Echo.{is_at_cell}
 use Rattle.echo_unit.proofs.Cells.{is_at_cell-next_echo}
 use Rattle.dsp_form.specs.Registers.{voice_regs, echo_regs}
 use Rattle.dsp_form.specs.Results.{without_bits}
-use Rattle.dsp_form.specs.Sample.{SharedInput, voice_in, voice_result, results_from, shared_input, after_poll, after_noise, sample}
+use Rattle.dsp_form.specs.Sample.{SharedInput, voice_in, voice_result, results_from, shared_input, after_poll, after_noise, before_voices, sample}
 use Rattle.dsp_form.specs.Outside.{register_write}
 use Rattle.dsp_form.specs.Valid.{is_valid}
 use Rattle.dsp_form.specs.declared.state.ChipState.{ChipState}
@@ -50,7 +49,7 @@ groups-results_from shared v previous (voice ∷ voices) h =
     and_from _ _ (is_at_group-voice_result shared v previous voice parts.0) (groups-results_from shared (v + 1) (voice_result shared v previous voice).answer.out voices parts.1)
 
 -- the poll and the noise leave the echo alone
-pub echo-before_step : (s : ChipState) (k : ℕ) → (after_noise (after_poll s k) (counter_at k)).hidden.echo ≡ s.hidden.echo
+pub echo-before_step : (s : ChipState) (k : ℕ) → (before_voices s k).hidden.echo ≡ s.hidden.echo
 unfolding after_poll after_noise
 echo-before_step s k = polled_part (λ s. s.hidden.echo) (k % 2 == 0) s (without_bits s.hidden.waiting s.hidden.taken) refl
 
@@ -59,7 +58,7 @@ pub is_valid-sample : (k : ℕ) (s : ChipState) (memory : List ℕ) → is_valid
 unfolding sample
 is_valid-sample k s memory h =
     let valid : IsValid s = valid_of s h in
-    let now : ChipState = after_noise (after_poll s k) (counter_at k) in
+    let now : ChipState = before_voices s k in
     valid_from (sample k s memory).state record {
       eight = length-voices-sample k s memory ∙ valid.eight;
       groups = groups-results_from (shared_input now memory k) 0 (pos 0) now.hidden.voices (ap (list_all is_at_group) (voices-before_step s k) ∙ valid.groups);

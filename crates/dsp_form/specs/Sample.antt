@@ -1,5 +1,5 @@
 -- One sample of the S-DSP, part by part and in order.
-use Rattle.std.specs.Prelude.{ℕ, ◌+◌, ◌%◌, ◌==◌, List, [], ◌∷◌, map, slice_index, ℤ, pos, if◌then◌else◌}
+use Rattle.std.specs.Prelude.{ℕ, Bool, ◌+◌, ◌%◌, ◌==◌, List, [], ◌∷◌, map, slice_index, ℤ, pos, if◌then◌else◌}
 use Rattle.num_fix.specs.Arithmetic.{has_bit}
 use Rattle.rate_clock.specs.Counter.{counter_at, fires}
 use Rattle.rate_clock.specs.Noise.{next_noise}
@@ -19,11 +19,15 @@ use Rattle.dsp_form.specs.declared.registers.TheConstants.{DIR, FLG}
 use Rattle.dsp_form.specs.declared.state.ChipState.{ChipState}
 use Rattle.dsp_form.specs.declared.voice_settings.SharedByVoices.{SharedByVoices}
 
--- An even sample polls the keys: the waiting key-ons lose those taken at the last poll, and what remains is taken.
+-- the sample of a number polls the keys, as each even one does
+abbrev pub is_polled : (k : ℕ) → Bool
+is_polled k = k % 2 == 0
+
+-- A sample that polls the keys: the waiting key-ons lose those taken at the last poll, and what remains is taken.
 unfoldable pub after_poll : ChipState → (k : ℕ) → ChipState
 after_poll s k =
     let waiting = without_bits s.hidden.waiting s.hidden.taken in
-    if k % 2 == 0 then record s { hidden = record s.hidden { waiting = waiting; taken = waiting } } else s
+    if is_polled k then record s { hidden = record s.hidden { waiting = waiting; taken = waiting } } else s
 
 -- the noise goes on where its rate fires
 unfoldable pub after_noise : ChipState → (counter : ℕ) → ChipState
@@ -86,7 +90,7 @@ records_from k v (answer ∷ answers) =
 abbrev pub shared_input : ChipState → List ℕ → (k : ℕ) → SharedInput
 shared_input s memory k = record {
   registers = s.registers;
-  common = record { noise = s.hidden.noise; taken = s.hidden.taken; is_poll = k % 2 == 0 };
+  common = record { noise = s.hidden.noise; taken = s.hidden.taken; is_poll = is_polled k };
   memory = memory;
   table = s.table;
   counter = counter_at k;
@@ -110,6 +114,10 @@ rest_of_sample k now memory =
       records = records_from k 0 answers;
     }
 
+-- a state before its voices step: once the keys are polled and the noise has gone on
+abbrev pub before_voices : ChipState → (k : ℕ) → ChipState
+before_voices s k = after_noise (after_poll s k) (counter_at k)
+
 -- one sample, of number k
 unfoldable pub sample : (k : ℕ) → ChipState → List ℕ → SampleResult ChipState
-sample k s memory = rest_of_sample k (after_noise (after_poll s k) (counter_at k)) memory
+sample k s memory = rest_of_sample k (before_voices s k) memory

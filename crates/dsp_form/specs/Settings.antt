@@ -1,8 +1,9 @@
 -- What samples read of the registers: what the voices, the noise, the sums and the echo do until a register is written.
-use Rattle.std.specs.Prelude.{ℕ, ◌+◌, ◌*◌, ◌%◌, ◌<◌, ◌&&◌, nat_lt, List, map, slice_index}
+use Rattle.std.specs.Prelude.{ℕ, ◌+◌, ◌*◌, ◌%◌, ◌<◌, List, map, slice_index}
 use Rattle.std.specs.List.{range_with_len}
 use Rattle.std.proofs.Common.{arith}
 use Rattle.num_fix.specs.Arithmetic.{has_bit}
+use Rattle.voice_unit.specs.Voice.{is_modulated}
 use Rattle.dsp_form.specs.Registers.{voice_register, voice_regs, echo_regs, is_soft_reset, noise_rate}
 use Rattle.dsp_form.specs.Volumes.{all_volumes}
 use Rattle.dsp_form.specs.declared.registers.TheConstants.{PITCHL, PITCHH, DIR, FLG, KOFF, NON, PMON}
@@ -18,7 +19,7 @@ unfoldable pub voice_settings : (registers : List ℕ) → (v : ℕ) → VoiceSe
 unfolding voice_regs
 voice_settings registers v = record {
   regs = voice_regs registers v;
-  modulated = nat_lt 0 v && has_bit (slice_index registers PMON) v;
+  modulated = is_modulated (slice_index registers PMON) v;
   noisy = has_bit (slice_index registers NON) v;
   koff = has_bit (slice_index registers KOFF) v;
   pitch_of_14_bits = pitch_of_14_bits (voice_register registers v PITCHL + 0x100 * voice_register registers v PITCHH);

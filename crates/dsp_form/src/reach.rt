@@ -8,6 +8,7 @@ use crate::registers::{DIR, EDL, ESA, FLG, SRCN, voice_register};
 use crate::state::ChipState;
 use aram_core::Aram;
 use arrayvec::ArrayVec;
+use echo_unit::has_echo_writes;
 use num_fix::has_bit;
 use reach_map::{ChainStart, ReachPages};
 use voice_unit::{Voice, entry_address, loop_word, start_word};
@@ -71,7 +72,7 @@ impl ChipState {
         let entries = self.entries();
         let echo = &self.hidden.echo;
         let window = echo.window(self.registers[ESA], self.registers[EDL]);
-        let writes_on = !has_bit(self.registers[FLG], 5);
+        let writes_on = has_echo_writes(self.registers[FLG]);
         reach_map::reach(memory, starts.as_slice(), &entries, window, writes_on)
     }
 }

@@ -2,9 +2,10 @@
 
 ghost use Rattle.std.specs.Prelude.{◌≡◌, ◌<◌, ◌+◌, ◌*◌, map, slice_index};
 ghost use Rattle.std.specs.List.{range_with_len};
-ghost use Rattle.dsp_form.specs.Registers.{voice_register, voice_regs, echo_regs};
+ghost use Rattle.dsp_form.specs.Registers.{is_soft_reset, voice_register, voice_regs, echo_regs};
 
 use echo_unit::EchoRegs;
+use num_fix::has_bit;
 use voice_unit::VoiceRegs;
 
 // The registers of voice v stand at 16 times v and these.
@@ -91,6 +92,13 @@ pub const EDL: usize = 0x7d;
 
 /// All registers.
 pub type Registers = [u8; 128];
+
+/// Whether FLG holds all voices silent and released: the soft reset.
+pub fn is_soft_reset(flg: u8) -> bool
+    ensures { result ≡ is_soft_reset flg }
+{
+    has_bit(flg, 7)
+}
 
 /// A register of voice `v`.
 pub fn voice_register(registers: &Registers, v: u8, register: usize) -> u8

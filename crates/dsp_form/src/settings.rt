@@ -3,11 +3,12 @@
 ghost use Rattle.std.specs.Prelude.{◌≡◌, ◌<◌};
 ghost use Rattle.dsp_form.specs.Settings.{voice_settings, all_voice_settings, settings_of};
 
-use crate::registers::{DIR, FLG, KOFF, NON, PMON, Registers, echo_regs, voice_regs};
+use crate::registers::{DIR, FLG, KOFF, NON, PMON, Registers, echo_regs, is_soft_reset, voice_regs};
 use crate::voice_settings::VoiceSettings;
 use crate::volumes::{Volumes, all_volumes};
 use echo_unit::EchoRegs;
 use num_fix::has_bit;
+use voice_unit::is_modulated;
 
 /// What a sample reads.
 #[derive(Clone, Copy, Debug)]
@@ -31,7 +32,7 @@ fn voice_settings(registers: &Registers, v: u8) -> VoiceSettings
 {
     VoiceSettings {
         regs: voice_regs(registers, v),
-        modulated: v > 0 && has_bit(registers[PMON], v),
+        modulated: is_modulated(registers[PMON], v),
         noisy: has_bit(registers[NON], v),
         koff: has_bit(registers[KOFF], v),
     }
@@ -66,7 +67,7 @@ pub fn settings_of(registers: &Registers) -> Settings
         voices: all_voice_settings(registers),
         volumes: all_volumes(registers),
         dir: registers[DIR],
-        reset: has_bit(flg, 7),
+        reset: is_soft_reset(flg),
         noise_rate: flg % 32,
         echo: echo_regs(registers),
     }

@@ -4,7 +4,6 @@ use Rattle.std.proofs.lemmas.Bool.{and_parts}
 use Rattle.std.specs.FinSet as set
 use Rattle.num_fix.specs.Arithmetic.{has_bit}
 use Rattle.num_fix.specs.declared.Frame.{Frame}
-use Rattle.rate_clock.specs.Counter.{counter_at}
 use Rattle.aram_core.specs.Memory.{byte_at, with_byte}
 use Rattle.aram_core.specs.Pages.{page_of}
 use Rattle.voice_unit.specs.declared.interface.VoiceOut.{VoiceOut}
@@ -16,7 +15,7 @@ use Rattle.dsp_form.specs.Mix.{sent_frame}
 use Rattle.dsp_form.specs.Volumes.{all_volumes}
 use Rattle.dsp_form.specs.Reach.{chip_reach}
 use Rattle.dsp_form.specs.Registers.{echo_regs}
-use Rattle.dsp_form.specs.Sample.{VoiceResult, rest_of_sample, results_from, shared_input, after_poll, after_noise, sample}
+use Rattle.dsp_form.specs.Sample.{VoiceResult, rest_of_sample, results_from, shared_input, before_voices, sample}
 use Rattle.dsp_form.specs.Valid.{is_valid}
 use Rattle.dsp_form.specs.declared.registers.TheConstants.{FLG, ESA, EDL}
 use Rattle.dsp_form.specs.declared.state.ChipState.{ChipState}
@@ -54,10 +53,6 @@ stays_at_start s memory valid = record {
   bytes = λ at none. refl;
   voices = λ clear. voices_at_start s memory valid;
 }
-
--- the state once the keys are polled and the noise has gone on
-abbrev before_voices : ChipState → (k : ℕ) → ChipState
-before_voices s k = after_noise (after_poll s k) (counter_at k)
 
 sample_is : (k : ℕ) (s : ChipState) (memory : List ℕ) → sample k s memory ≡ rest_of_sample k (before_voices s k) memory
 unfolding sample

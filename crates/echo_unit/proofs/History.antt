@@ -1,10 +1,9 @@
 -- The last eight pairs, in an array that turns.
-use Rattle.std.proofs.Common.{◌≡◌, ◌∙◌, sym, ℕ, ℤ, zero, suc, get_or, ◌+◌, List, [], ◌∷◌, ◌++◌, length, drop, take, set, refl, ap, arith}
+use Rattle.std.proofs.Common.{◌≡◌, sym, ℕ, ℤ, get_or, ◌+◌, List, [], ◌∷◌, ◌++◌, length, drop, take, set, refl, ap, arith}
 use Rattle.std.specs.Prelude.{map}
 use Rattle.std.specs.List.{range_with_len}
-use Rattle.std.proofs.lemmas.List.{drop_more}
-use Rattle.std.proofs.Math.ListN.{drop_of_length-le}
 use Rattle.num_fix.specs.declared.Frame.{Frame}
+use Rattle.num_fix.proofs.Entries.{drop-entries}
 use Rattle.echo_unit.specs.Echo.{with_newest}
 
 set_last : (xs : List Frame) (a z : Frame) → set (xs ++ a ∷ []) (length xs) z ≡ xs ++ z ∷ []
@@ -16,11 +15,6 @@ pub with_newest-turned : (l : List Frame) (n : ℕ) (z : Frame) → length l ≡
 with_newest-turned [] n z e = absurd (omega arith)
 with_newest-turned (x ∷ xs) n z e = let same : n ≡ length xs = omega arith in rw same (set_last xs x z)
 
--- what is left of a list from place i on, n entries, is these entries
-entries_from : (n i : ℕ) (xs : List Frame) (d : Frame) → i + n ≡ length xs → drop i xs ≡ map (λ j. get_or xs j d) (range_with_len i n)
-entries_from zero i xs d is = drop_of_length-le xs (omega arith)
-entries_from (suc n) i xs d is = drop_more xs i d (omega arith) ∙ ap (λ (l : List Frame). get_or xs i d ∷ l) (entries_from n (i + 1) xs d (omega arith))
-
 -- a side of eight pairs, one by one
 pub map-eight : (side : Frame → ℤ) (pairs : List Frame) (d : Frame) → length pairs ≡ 8 → map side pairs ≡ map side (map (λ j. get_or pairs j d) (range_with_len 0 8))
-map-eight side pairs d eight = ap (map side) (entries_from 8 0 pairs d (sym eight))
+map-eight side pairs d eight = ap (map side) (drop-entries 8 0 pairs d (sym eight))

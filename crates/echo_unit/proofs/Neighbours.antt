@@ -31,7 +31,8 @@ along edl cells s near (suc i) below =
     let next = goes_on edl (length_in_force edl s) (s.offset + 4 * i) (after_cells s edl i) before.offset_is before.length_is more in
     record { offset_is = next.0 ∙ omega arith; length_is = next.1; history_is = before.history_is }
 
-same_echo : (a b : EchoState) → a.offset ≡ b.offset → a.length ≡ b.length → a.history ≡ b.history → a ≡ b
+-- an echo by its parts
+pub same_echo : (a b : EchoState) → a.offset ≡ b.offset → a.length ≡ b.length → a.history ≡ b.history → a ≡ b
 same_echo a b offset long history =
     ap (λ (x : ℕ). record { offset = x; length = a.length; history = a.history }) offset
     ∙ ap (λ (x : ℕ). record { offset = b.offset; length = x; history = a.history }) long

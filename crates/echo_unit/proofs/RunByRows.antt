@@ -10,23 +10,24 @@ use Rattle.aram_core.specs.Memory.{byte_at, word_at}
 use Rattle.echo_unit.specs.Echo.{EchoState, is_at_cell, cell_address, halved_word, cell_pair, with_cell, after_reading, at_next_cell, next_echo, filtered_pair, feedback_pair, echo_heard, echo_memory, output_frame}
 use Rattle.echo_unit.specs.Fir.{filtered_sample, eight_from}
 use Rattle.echo_unit.specs.Flg.{has_echo_writes}
-use Rattle.echo_unit.specs.EchoOverBatch.{EchoRun, echo_run, pair_of}
+use Rattle.echo_unit.specs.EchoOverBatch.{EchoOver, echo_over, pair_of}
 use Rattle.echo_unit.specs.Cells.{after_cells, cell_after, pairs_read, with_cells}
 use Rattle.echo_unit.specs.declared.regs.EchoRegs.{EchoRegs}
 use Rattle.echo_unit.proofs.Entries.{take_all, drop_newest, row_more, window_of}
 use Rattle.echo_unit.proofs.Cells.{cell_of}
 use Rattle.echo_unit.proofs.Walk.{cells_apart}
+use Rattle.echo_unit.proofs.Neighbours.{same_echo}
 use Rattle.echo_unit.proofs.OffCell.{IsOffCell, byte_at-echo_memory, echo_memory_still}
 
-pub echo_run-more : (regs : EchoRegs) (main sent : ℕ → Frame) (echo : EchoState) (memory : List ℕ) (j : ℕ)
-    → echo_run regs main sent echo memory (j + 1)
-    ≡ (let now : EchoRun = echo_run regs main sent echo memory j in
+pub echo_over-more : (regs : EchoRegs) (main sent : ℕ → Frame) (echo : EchoState) (memory : List ℕ) (j : ℕ)
+    → echo_over regs main sent echo memory (j + 1)
+    ≡ (let now : EchoOver = echo_over regs main sent echo memory j in
     record {
       echo = next_echo now.echo regs now.memory;
       memory = echo_memory now.echo regs now.memory (sent j);
       frames = now.frames ++ output_frame regs (main j) (echo_heard now.echo regs now.memory) ∷ [];
     })
-echo_run-more regs main sent echo memory j = rw add-one refl
+echo_over-more regs main sent echo memory j = rw add-one refl
 
 pub pairs_read-more : (s : EchoState) (regs : EchoRegs) (memory : List ℕ) (j : ℕ)
     → pairs_read s regs memory (j + 1) ≡ pairs_read s regs memory j ++ cell_pair memory (cell_address regs.esa (after_cells s regs.edl j).offset) ∷ []
@@ -92,41 +93,41 @@ first_pairs s regs memory m (suc n) eight few = by (λ fewer. first_pairs s regs
         take-append-le (8 + m) (pairs_read s regs memory n) (cell_pair memory (cell_after s regs n) ∷ []) (omega (arith, long, fewer)) ∙ before fewer
 
 module _ (regs : EchoRegs) (main sent : ℕ → Frame) (echo : EchoState) (memory : List ℕ) where
-  stands : (j : ℕ) → ((echo_run regs main sent echo memory j).echo.offset ≡ (after_cells echo regs.edl j).offset)
-      × ((echo_run regs main sent echo memory j).echo.length ≡ (after_cells echo regs.edl j).length)
+  stands : (j : ℕ) → ((echo_over regs main sent echo memory j).echo.offset ≡ (after_cells echo regs.edl j).offset)
+      × ((echo_over regs main sent echo memory j).echo.length ≡ (after_cells echo regs.edl j).length)
   unfolding next_echo after_reading at_next_cell
   stands zero = (refl, refl)
   stands (suc j) = let at = stands j in (rw (at.0, at.1) refl, rw (at.0, at.1) refl)
 
-  still : has_echo_writes regs.flg ≡ false → (j : ℕ) → (echo_run regs main sent echo memory j).memory ≡ memory
+  still : has_echo_writes regs.flg ≡ false → (j : ℕ) → (echo_over regs main sent echo memory j).memory ≡ memory
   still off zero = refl
   still off (suc j) =
-      let now : EchoRun = echo_run regs main sent echo memory j in
+      let now : EchoOver = echo_over regs main sent echo memory j in
       echo_memory_still now.echo regs now.memory (sent j) off ∙ still off j
 
   -- bytes off the cells of the samples before are as they were
-  untouched : (j at : ℕ) → ((i : ℕ) → i < j → IsOffCell (cell_after echo regs i) at) → byte_at (echo_run regs main sent echo memory j).memory at ≡ byte_at memory at
+  untouched : (j at : ℕ) → ((i : ℕ) → i < j → IsOffCell (cell_after echo regs i) at) → byte_at (echo_over regs main sent echo memory j).memory at ≡ byte_at memory at
   untouched zero at off = refl
   untouched (suc j) at off =
-      let now : EchoRun = echo_run regs main sent echo memory j in
+      let now : EchoOver = echo_over regs main sent echo memory j in
       let place : now.echo.offset ≡ (after_cells echo regs.edl j).offset = (stands j).0 in
       byte_at-echo_memory now.echo regs now.memory (sent j) at (rw place (off j (omega arith))) ∙ untouched j at (λ i below. off i (omega (arith, below)))
 
   module _ (n : ℕ) (first : ReadsFirst regs echo n) (eight : length echo.history ≡ 8) where
     cell_byte : ((i j byte : ℕ) → i < j → j < n → byte < 4 → IsOffCell (cell_after echo regs i) (cell_after echo regs j + byte))
         → (j byte at : ℕ) → j < n → byte < 4 → at % 0x10000 ≡ (cell_after echo regs j + byte) % 0x10000
-        → byte_at (echo_run regs main sent echo memory j).memory at ≡ byte_at memory at
+        → byte_at (echo_over regs main sent echo memory j).memory at ≡ byte_at memory at
     cell_byte apart j byte at few small same =
         let here : ℕ = cell_after echo regs j + byte in
-        let unchanged : byte_at (echo_run regs main sent echo memory j).memory here ≡ byte_at memory here = untouched j here (λ i below. apart i j byte below few small) in
+        let unchanged : byte_at (echo_over regs main sent echo memory j).memory here ≡ byte_at memory here = untouched j here (λ i below. apart i j byte below few small) in
         rw same unchanged
 
     -- each pair that is read is that of the memory from before
-    pair_before : (j : ℕ) → j < n → cell_pair (echo_run regs main sent echo memory j).memory (cell_after echo regs j) ≡ cell_pair memory (cell_after echo regs j)
+    pair_before : (j : ℕ) → j < n → cell_pair (echo_over regs main sent echo memory j).memory (cell_after echo regs j) ≡ cell_pair memory (cell_after echo regs j)
     unfolding cell_pair halved_word word_at
     pair_before j few = by first
       where
-        by : ReadsFirst regs echo n → cell_pair (echo_run regs main sent echo memory j).memory (cell_after echo regs j) ≡ cell_pair memory (cell_after echo regs j)
+        by : ReadsFirst regs echo n → cell_pair (echo_over regs main sent echo memory j).memory (cell_after echo regs j) ≡ cell_pair memory (cell_after echo regs j)
         by (inl off) = rw (still off j) refl
         by (inr apart) =
             let at : ℕ = cell_after echo regs j in
@@ -138,27 +139,27 @@ module _ (regs : EchoRegs) (main sent : ℕ → Frame) (echo : EchoState) (memor
             ) refl
 
     -- the pairs that the filter meets
-    read_from : (j : ℕ) → j < n → (echo_run regs main sent echo memory j).echo.history ≡ drop j (pairs_read echo regs memory j)
-        → (after_reading (echo_run regs main sent echo memory j).echo regs (echo_run regs main sent echo memory j).memory).history ≡ drop (suc j) (pairs_read echo regs memory (suc j))
+    read_from : (j : ℕ) → j < n → (echo_over regs main sent echo memory j).echo.history ≡ drop j (pairs_read echo regs memory j)
+        → (after_reading (echo_over regs main sent echo memory j).echo regs (echo_over regs main sent echo memory j).memory).history ≡ drop (suc j) (pairs_read echo regs memory (suc j))
     unfolding after_reading
     read_from j few before =
         let long = length-pairs_read echo regs memory j eight in
         rw ((stands j).0, pair_before j few, before)
         (drop_newest (pairs_read echo regs memory j) j (cell_pair memory (cell_after echo regs j)) (omega (arith, long)))
 
-    history_is : (j : ℕ) → j ≤ n → (echo_run regs main sent echo memory j).echo.history ≡ drop j (pairs_read echo regs memory j)
+    history_is : (j : ℕ) → j ≤ n → (echo_over regs main sent echo memory j).echo.history ≡ drop j (pairs_read echo regs memory j)
     unfolding next_echo at_next_cell
     history_is zero few = refl
     history_is (suc j) few = read_from j (omega (arith, few)) (history_is j (omega (arith, few)))
 
     read_is : (j : ℕ) → j < n
-        → (after_reading (echo_run regs main sent echo memory j).echo regs (echo_run regs main sent echo memory j).memory).history ≡ drop (suc j) (pairs_read echo regs memory (suc j))
+        → (after_reading (echo_over regs main sent echo memory j).echo regs (echo_over regs main sent echo memory j).memory).history ≡ drop (suc j) (pairs_read echo regs memory (suc j))
     read_is j few = read_from j few (history_is j (omega (arith, few)))
 
     -- over a row of what is heard, by the pairs that memory has before the batch
     module _ (row : ℕ → Frame) (heard_is : (j : ℕ) → j < n → row j ≡ filtered_pair (drop (suc j) (pairs_read echo regs memory (suc j))) regs.fir) where
       frames_are : (frames : List Frame) (d : Frame) → n ≤ length frames → ((j : ℕ) → j < n → get_or frames j d ≡ output_frame regs (main j) (row j))
-          → (j : ℕ) → j ≤ n → (echo_run regs main sent echo memory j).frames ≡ take j frames
+          → (j : ℕ) → j ≤ n → (echo_over regs main sent echo memory j).frames ≡ take j frames
       frames_are frames d long is zero few = refl
       frames_are frames d long is (suc j) few =
           let this : get_or frames j d ≡ output_frame regs (main j) (filtered_pair (drop (suc j) (pairs_read echo regs memory (suc j))) regs.fir) =
@@ -167,7 +168,7 @@ module _ (regs : EchoRegs) (main sent : ℕ → Frame) (echo : EchoState) (memor
           (ap (λ (frame : Frame). take j frames ++ frame ∷ []) (sym this) ∙ sym (take-suc frames j d (omega (arith, few, long))))
 
       memory_is : has_echo_writes regs.flg ≡ true → (j : ℕ) → j ≤ n
-          → (echo_run regs main sent echo memory j).memory ≡ with_cells echo regs (λ j. feedback_pair (sent j) (row j) regs.efb) memory j
+          → (echo_over regs main sent echo memory j).memory ≡ with_cells echo regs (λ j. feedback_pair (sent j) (row j) regs.efb) memory j
       unfolding echo_memory
       memory_is on zero few = refl
       memory_is on (suc j) few =
@@ -203,10 +204,7 @@ side_window side s regs memory row n j eight few is =
 side_entry : (side : Frame → ℤ) (row : List ℤ) (pairs : List Frame) (n i : ℕ) (d : Frame) → i < n → take n row ≡ map side pairs → get_or row i (side d) ≡ side (get_or pairs i d)
 side_entry side row pairs n i d few is = sym (get_or-take n row i (side d) few) ∙ ap (λ (l : List ℤ). get_or l i (side d)) is ∙ get_or-map side pairs i d
 
-same_echo : (s t : EchoState) → s.offset ≡ t.offset → s.length ≡ t.length → s.history ≡ t.history → s ≡ t
-same_echo s t a b c = λ i. record { offset = a i; length = b i; history = c i }
-
-pub same_run : (run : EchoRun) (echo : EchoState) (memory : List ℕ) (frames : List Frame) → run.echo ≡ echo → run.memory ≡ memory → run.frames ≡ frames
+pub same_run : (run : EchoOver) (echo : EchoState) (memory : List ℕ) (frames : List Frame) → run.echo ≡ echo → run.memory ≡ memory → run.frames ≡ frames
     → run ≡ record { echo = echo; memory = memory; frames = frames }
 same_run run echo memory frames a b c = λ i. record { echo = a i; memory = b i; frames = c i }
 
@@ -225,9 +223,9 @@ heard_of_rows regs main sent echo memory written n left right heard_left heard_r
 -- they are what the steps one after another leave and give
 pub run_by_rows : (regs : EchoRegs) (main sent : ℕ → Frame) (echo : EchoState) (memory written : List ℕ) (n : ℕ) (left right heard_left heard_right : List ℤ) (history frames : List Frame)
     → IsPlayed regs main sent echo memory written n left right heard_left heard_right history frames
-    → echo_run regs main sent echo memory n ≡ record { echo = record (after_cells echo regs.edl n) { history = history }; memory = written; frames = take n frames }
+    → echo_over regs main sent echo memory n ≡ record { echo = record (after_cells echo regs.edl n) { history = history }; memory = written; frames = take n frames }
 run_by_rows regs main sent echo memory written n left right heard_left heard_right history frames p =
-    let run : EchoRun = echo_run regs main sent echo memory n in
+    let run : EchoOver = echo_over regs main sent echo memory n in
     let places = stands regs main sent echo memory n in
     let pairs : List Frame = pairs_read echo regs memory n in
     let long : length pairs ≡ 8 + n = length-pairs_read echo regs memory n p.eight in
@@ -250,6 +248,6 @@ run_by_rows regs main sent echo memory written n left right heard_left heard_rig
         let same : pair_of left right (n + i) ≡ get_or pairs (n + i) d = λ k. record { left = on_left k; right = on_right k } in
         p.history_is i small ∙ same ∙ sym (get_or-drop n pairs i d)
 
-    by : (b : Bool) → has_echo_writes regs.flg ≡ b → (echo_run regs main sent echo memory n).memory ≡ written
+    by : (b : Bool) → has_echo_writes regs.flg ≡ b → (echo_over regs main sent echo memory n).memory ≡ written
     by true e = memory_is regs main sent echo memory n p.first p.eight (pair_of heard_left heard_right) (heard_of_rows regs main sent echo memory written n left right heard_left heard_right history frames p) e n (omega arith) ∙ sym (p.on e)
     by false e = still regs main sent echo memory e n ∙ sym (p.off e)

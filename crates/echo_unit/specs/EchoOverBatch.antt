@@ -5,17 +5,17 @@ use Rattle.num_fix.specs.declared.Frame.{Frame}
 use Rattle.echo_unit.specs.Echo.{EchoState, next_echo, echo_memory, echo_heard, output_frame}
 use Rattle.echo_unit.specs.declared.regs.EchoRegs.{EchoRegs}
 
--- what a run of the echo leaves and gives
-pub record EchoRun : Type 0 where
+-- what the echo leaves and gives
+pub record EchoOver : Type 0 where
   pub echo : EchoState
   pub memory : List ℕ
   pub frames : List Frame
 
 -- the echo over the rows of main sums and of what is sent to it
-abbrev pub echo_run : EchoRegs → (main sent : ℕ → Frame) → EchoState → (memory : List ℕ) → (samples : ℕ) → EchoRun
-echo_run regs main sent echo memory zero = record { echo = echo; memory = memory; frames = [] }
-echo_run regs main sent echo memory (suc j) =
-    let now = echo_run regs main sent echo memory j in
+abbrev pub echo_over : EchoRegs → (main sent : ℕ → Frame) → EchoState → (memory : List ℕ) → (samples : ℕ) → EchoOver
+echo_over regs main sent echo memory zero = record { echo = echo; memory = memory; frames = [] }
+echo_over regs main sent echo memory (suc j) =
+    let now = echo_over regs main sent echo memory j in
     record {
       echo = next_echo now.echo regs now.memory;
       memory = echo_memory now.echo regs now.memory (sent j);

@@ -4,8 +4,9 @@ ghost use Rattle.reach_map.specs.Window.{echo_window};
 ghost use Rattle.echo_unit.specs.Echo.{first_echo, is_at_cell, cell_address, with_newest, after_reading, at_next_cell, echo_heard, next_echo, echo_memory, output_frame, feedback_pair};
 ghost use Rattle.echo_unit.specs.Cells.{AreNeighbours, after_cells, length_in_force, with_cells};
 ghost use Rattle.echo_unit.specs.Flg.{has_echo_writes};
-ghost use Rattle.echo_unit.specs.EchoOverBatch.{echo_run, pair_of};
+ghost use Rattle.echo_unit.specs.EchoOverBatch.{echo_over, pair_of};
 
+use crate::flg::has_echo_writes;
 use crate::cell::{cell_address, cell_pair, put_cell};
 use crate::filter::filtered_pair;
 use crate::rows::{
@@ -14,7 +15,7 @@ use crate::rows::{
 use crate::volume::{feedback_word, output_frame};
 use crate::{EchoRegs, Window};
 use aram_core::Aram;
-use num_fix::{Frame, has_bit};
+use num_fix::Frame;
 use std::marker::Model;
 
 /// The echo between two steps.
@@ -51,7 +52,7 @@ fn push(history: &mut [Frame; 8], pair: Frame)
 fn are_cells_apart(regs: &EchoRegs) -> bool
     ensures { result ≡ true → has_echo_writes regs.now.flg ≡ true → 0 < regs.now.edl % 16 }
 {
-    regs.edl % 16 != 0 || has_bit(regs.flg, 5)
+    regs.edl % 16 != 0 || !has_echo_writes(regs.flg)
 }
 
 impl Echo {
@@ -99,7 +100,7 @@ impl Echo {
         let address = cell_address(regs.esa, self.offset);
         self.read_cell(regs, memory);
         let heard = filtered_pair(&self.history, &regs.fir);
-        if !has_bit(regs.flg, 5) {
+        if has_echo_writes(regs.flg) {
             let left = feedback_word(echo.left, heard.left, regs.efb);
             let right = feedback_word(echo.right, heard.right, regs.efb);
             put_cell(memory, address, left, right);
@@ -215,8 +216,8 @@ impl Echo {
             (λ j. feedback_pair (pair_of sent_left.now sent_right.now j) (pair_of heard_left.now heard_right.now j) regs.now.efb) memory.old n }
         ensures off { has_echo_writes regs.now.flg ≡ false → memory.new ≡ memory.old }
     {
-        let forbidden = has_bit(regs.flg, 5);
-        if !forbidden {
+        let writes_on = has_echo_writes(regs.flg);
+        if writes_on {
             self.put_back(
                 n,
                 regs,
@@ -242,7 +243,7 @@ impl Echo {
     ) -> [Frame; 64]
         requires few { n ≤ 64 }
         requires apart { has_echo_writes regs.now.flg ≡ true → 0 < regs.now.edl % 16 }
-        ensures run { let run = echo_run regs.now (pair_of main_left.now main_right.now) (pair_of sent_left.now sent_right.now) self.old memory.old n in
+        ensures run { let run = echo_over regs.now (pair_of main_left.now main_right.now) (pair_of sent_left.now sent_right.now) self.old memory.old n in
             run ≡ record { echo = self.new; memory = memory.new; frames = take n result } }
     {
         let mut left = [0; 72];
@@ -275,7 +276,7 @@ impl Echo {
         memory: &mut Aram,
     ) -> [Frame; 64]
         requires few { n ≤ 64 }
-        ensures run { let run = echo_run regs.now (pair_of main_left.now main_right.now) (pair_of sent_left.now sent_right.now) self.old memory.old n in
+        ensures run { let run = echo_over regs.now (pair_of main_left.now main_right.now) (pair_of sent_left.now sent_right.now) self.old memory.old n in
             run ≡ record { echo = self.new; memory = memory.new; frames = take n result } }
     {
         let mut frames = [SILENCE; 64];
@@ -301,7 +302,7 @@ impl Echo {
         memory: &mut Aram,
     ) -> [Frame; 64]
         requires few { n ≤ 64 }
-        ensures run { let run = echo_run regs.now (pair_of main_left.now main_right.now) (pair_of sent_left.now sent_right.now) self.old memory.old n in
+        ensures run { let run = echo_over regs.now (pair_of main_left.now main_right.now) (pair_of sent_left.now sent_right.now) self.old memory.old n in
             run ≡ record { echo = self.new; memory = memory.new; frames = take n result } }
     {
         if 16 <= n && are_cells_apart(regs) {

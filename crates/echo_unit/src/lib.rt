@@ -5,6 +5,7 @@ mod buffer;
 mod cell;
 mod echo;
 mod filter;
+mod flg;
 mod page;
 mod regs;
 mod rows;
@@ -12,5 +13,6 @@ mod volume;
 mod wrapped;
 
 pub use echo::Echo;
+pub use flg::has_echo_writes;
 pub use reach_map::Window;
 pub use regs::EchoRegs;

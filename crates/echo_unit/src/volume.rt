@@ -4,7 +4,8 @@ ghost use Rattle.num_fix.specs.Arithmetic.{sign8};
 ghost use Rattle.echo_unit.specs.Echo.{at_volume, side_output, output_frame, feedback_word};
 
 use crate::EchoRegs;
-use num_fix::{Frame, add_clamped, clear_bit0, has_bit, scaled, sign8, wrap16};
+use crate::flg::is_muted;
+use num_fix::{Frame, add_clamped, clear_bit0, scaled, sign8, wrap16};
 
 /// A register, read with a sign.
 pub fn signed(byte: u8) -> i16
@@ -42,7 +43,7 @@ pub fn feedback_word(sent: i16, echo: i16, efb: u8) -> i16
 pub fn output_frame(regs: &EchoRegs, main: Frame, echo: Frame) -> Frame
     ensures { result ≡ output_frame regs.now main echo }
 {
-    if has_bit(regs.flg, 6) {
+    if is_muted(regs.flg) {
         Frame { left: 0, right: 0 }
     } else {
         Frame {

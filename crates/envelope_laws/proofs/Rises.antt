@@ -1,5 +1,5 @@
 -- The levels of rises from 0 and of a release, sample by sample.
-use Rattle.std.proofs.Common.{◌≡◌, ◌≢◌, ℕ, zero, suc, ◌+◌, ◌-◌, ◌*◌, ◌%◌, ◌<◌, ◌≤◌, min, Bool, true, false, nat_lt, ℤ, pos, int_lt, Option, Some, if◌then◌else◌, refl, sym, ap, ◌∙◌, inl, inr, arith}
+use Rattle.std.proofs.Common.{◌≡◌, ◌≢◌, ℕ, zero, suc, ◌+◌, ◌-◌, ◌*◌, ◌%◌, ◌<◌, ◌≤◌, min, Bool, true, false, nat_lt, ℤ, pos, int_lt, Some, if◌then◌else◌, refl, sym, ap, ◌∙◌, inl, inr, arith}
 use Rattle.std.specs.Ordering.{int_eq}
 use Rattle.std.proofs.lemmas.Bool.{cases_lt}
 use Rattle.std.proofs.lemmas.Bool.Decides.{nat_tests}
@@ -8,8 +8,9 @@ use Rattle.envelope.specs.declared.target.Target.{Target}
 use Rattle.envelope.specs.declared.Mode.{Mode}
 use Rattle.envelope.specs.declared.Mode.TheVariants.{Attack, Decay, Sustain, Release}
 use Rattle.envelope.specs.Envelope.{EnvelopeState, attack_target, is_level, slope_value, step_target, sustain_level, next_mode, nearest_level, after_target, envelope_step}
+use Rattle.envelope.proofs.Still.{mode_after, hidden_after, level_after}
 use Rattle.envelope_laws.specs.Course.{envelope_after, ReleaseFalls, ReleaseEnds, FastAttackTime, LinearRiseTime, BentRiseTime}
-use Rattle.envelope_laws.proofs.Targets.{fires-31, attack-aims, slope-aims, bent_value, level-step, fast_attack_rises, gain_rises}
+use Rattle.envelope_laws.proofs.Targets.{fires-31, attack-aims, slope-aims, bent_value, fast_attack_rises, gain_rises}
 
 -- one sample of a release
 release_step : (e : EnvelopeState) (adsr1 adsr2 gain counter : ℕ) → e.mode ≡ Release → envelope_step e adsr1 adsr2 gain counter ≡ record e { level = e.level - 8 }
@@ -34,17 +35,6 @@ release_ends e adsr1 adsr2 gain counter is most =
     let none : e.level - 8 * 256 ≡ 0 = omega (arith, most) in
     ap (λ (s : EnvelopeState). s.level) (release_falls 256 e adsr1 adsr2 gain counter is) ∙ none
 
--- a step keeps what it aims at as the hidden value, and changes its mode by it
-hidden-step : (e : EnvelopeState) (target : Target) (adsr1 adsr2 gain counter : ℕ) → step_target e.mode e.level e.hidden adsr1 adsr2 gain ≡ Some target
-    → (envelope_step e adsr1 adsr2 gain counter).hidden ≡ target.value
-unfolding envelope_step after_target
-hidden-step e target adsr1 adsr2 gain counter aims = ap (λ (t : Option Target). (after_target e t (sustain_level adsr1 adsr2 gain) counter).hidden) aims
-
-mode-step : (e : EnvelopeState) (target : Target) (adsr1 adsr2 gain counter : ℕ) → step_target e.mode e.level e.hidden adsr1 adsr2 gain ≡ Some target
-    → (envelope_step e adsr1 adsr2 gain counter).mode ≡ next_mode e.mode target.value (sustain_level adsr1 adsr2 gain)
-unfolding envelope_step after_target
-mode-step e target adsr1 adsr2 gain counter aims = ap (λ (t : Option Target). (after_target e t (sustain_level adsr1 adsr2 gain) counter).mode) aims
-
 -- only a key off or silence begins a release
 next_mode-sounding : (m : Mode) (value : ℤ) (sustain : ℕ) → m ≢ Release → next_mode m value sustain ≢ Release
 unfolding next_mode
@@ -64,14 +54,14 @@ next_mode-sounding Release value sustain other = other
 sounding-step : (e : EnvelopeState) (target : Target) (adsr1 adsr2 gain counter : ℕ) → step_target e.mode e.level e.hidden adsr1 adsr2 gain ≡ Some target → e.mode ≢ Release
     → (envelope_step e adsr1 adsr2 gain counter).mode ≢ Release
 sounding-step e target adsr1 adsr2 gain counter aims other is =
-    next_mode-sounding e.mode target.value (sustain_level adsr1 adsr2 gain) other (sym (mode-step e target adsr1 adsr2 gain counter aims) ∙ is)
+    next_mode-sounding e.mode target.value (sustain_level adsr1 adsr2 gain) other (sym (mode_after e adsr1 adsr2 gain counter target aims) ∙ is)
 
 -- attack with rate Fh
 attack_goes_on : (e : EnvelopeState) (adsr1 adsr2 gain counter : ℕ) → e.mode ≡ Attack → e.level ≡ 0 → 0x80 ≤ adsr1 → adsr1 % 16 ≡ 15
     → (envelope_step e adsr1 adsr2 gain counter).mode ≡ Attack
 unfolding attack_target next_mode
 attack_goes_on e adsr1 adsr2 gain counter is start h fast =
-    mode-step e (attack_target e.level adsr1) adsr1 adsr2 gain counter (attack-aims e.mode e.level e.hidden adsr1 adsr2 gain is h)
+    mode_after e adsr1 adsr2 gain counter (attack_target e.level adsr1) (attack-aims e.mode e.level e.hidden adsr1 adsr2 gain is h)
     ∙ ap (λ (m : Mode). next_mode m (attack_target e.level adsr1).value (sustain_level adsr1 adsr2 gain)) is
     ∙ rw (start, fast) refl
 
@@ -147,8 +137,8 @@ bent_rise (suc n) e adsr1 adsr2 counter other start value h =
     let aims = slope-aims s.mode s.level s.hidden adsr1 adsr2 0xff 3 before.sounding h refl (omega arith) in
     let aim = bent_aim n s.level s.hidden before.level before.hidden in
     record {
-      level = level-step s target adsr1 adsr2 0xff (counter n) aims (fires-31 (counter n)) ∙ ap nearest_level aim;
-      hidden = hidden-step s target adsr1 adsr2 0xff (counter n) aims ∙ aim;
+      level = level_after s adsr1 adsr2 0xff (counter n) target aims (fires-31 (counter n)) ∙ ap nearest_level aim;
+      hidden = hidden_after s adsr1 adsr2 0xff (counter n) target aims ∙ aim;
       sounding = sounding-step s target adsr1 adsr2 0xff (counter n) aims before.sounding;
     }
 

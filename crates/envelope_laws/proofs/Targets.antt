@@ -9,25 +9,13 @@ use Rattle.envelope.specs.declared.target.Target.{Target}
 use Rattle.envelope.specs.declared.Mode.{Mode}
 use Rattle.envelope.specs.declared.Mode.TheVariants.{Attack, Decay, Sustain, Release}
 use Rattle.envelope.specs.Envelope.{EnvelopeState, exponential_fall, attack_target, decay_target, sustain_target, slope_value, gain_rules, gain_target, step_target, sustain_level, nearest_level, next_level, after_target, envelope_step}
+use Rattle.envelope.proofs.Still.{level_after}
 use Rattle.envelope_laws.specs.OneStep.{fallen_level, FastAttackRises, AttackRises, DecayFalls, SustainFalls, LevelIsSet, GainFalls, GainFallsBent, GainRises, GainRisesBent, GainRisesSlowly, StaysWithin}
 
 -- rate 31 fires always
 pub fires-31 : (counter : ℕ) → fires 31 counter ≡ true
 unfolding fires
 fires-31 counter = let none : (counter + 0) % 1 ≡ 0 = omega arith in rw none refl
-
--- a step takes the level nearest to what it aims at, where its rate fires
-pub level-fired : (e : EnvelopeState) (target : Target) (sustain counter : ℕ) → fires target.rate counter ≡ true
-    → (after_target e (Some target) sustain counter).level ≡ nearest_level target.value
-unfolding after_target next_level
-level-fired e target sustain counter fired = rw fired refl
-
-pub level-step : (e : EnvelopeState) (target : Target) (adsr1 adsr2 gain counter : ℕ) → step_target e.mode e.level e.hidden adsr1 adsr2 gain ≡ Some target → fires target.rate counter ≡ true
-    → (envelope_step e adsr1 adsr2 gain counter).level ≡ nearest_level target.value
-unfolding envelope_step
-level-step e target adsr1 adsr2 gain counter aims fired =
-    ap (λ (t : Option Target). (after_target e t (sustain_level adsr1 adsr2 gain) counter).level) aims
-    ∙ level-fired e target (sustain_level adsr1 adsr2 gain) counter fired
 
 adsr_rules : (adsr1 : ℕ) → 0x80 ≤ adsr1 → gain_rules adsr1 ≡ false
 adsr_rules adsr1 h = grind (arith, nat_tests, h)
@@ -111,7 +99,7 @@ pub fast_attack_rises : FastAttackRises
 unfolding attack_target
 fast_attack_rises e adsr1 adsr2 gain counter is h fast =
     let aims : attack_target e.level adsr1 ≡ record { value = pos (e.level + 0x400); rate = 31 } = rw fast refl in
-    level-step e (record { value = pos (e.level + 0x400); rate = 31 }) adsr1 adsr2 gain counter
+    level_after e adsr1 adsr2 gain counter (record { value = pos (e.level + 0x400); rate = 31 })
     (attack-aims e.mode e.level e.hidden adsr1 adsr2 gain is h ∙ ap (λ (t : Target). Some t) aims) (fires-31 counter)
 
 pub attack_rises : AttackRises
@@ -119,25 +107,25 @@ unfolding attack_target
 attack_rises e adsr1 adsr2 gain counter is h other fired =
     let slow : (2 * (adsr1 % 16) + 1 == 31) ≡ false = let apart : 2 * (adsr1 % 16) + 1 ≢ 31 = λ e. other (omega (arith, e)) in grind (arith, nat_tests, apart) in
     let aims : attack_target e.level adsr1 ≡ record { value = pos (e.level + 0x20); rate = 2 * (adsr1 % 16) + 1 } = rw slow refl in
-    level-step e (record { value = pos (e.level + 0x20); rate = 2 * (adsr1 % 16) + 1 }) adsr1 adsr2 gain counter
+    level_after e adsr1 adsr2 gain counter (record { value = pos (e.level + 0x20); rate = 2 * (adsr1 % 16) + 1 })
     (attack-aims e.mode e.level e.hidden adsr1 adsr2 gain is h ∙ ap (λ (t : Target). Some t) aims) fired
 
 pub decay_falls : DecayFalls
 unfolding decay_target
 decay_falls e adsr1 adsr2 gain counter is h most fired =
-    level-step e (decay_target e.level adsr1) adsr1 adsr2 gain counter (decay-aims e.mode e.level e.hidden adsr1 adsr2 gain is h) fired ∙ nearest_level-fall e.level most
+    level_after e adsr1 adsr2 gain counter (decay_target e.level adsr1) (decay-aims e.mode e.level e.hidden adsr1 adsr2 gain is h) fired ∙ nearest_level-fall e.level most
 
 pub sustain_falls : SustainFalls
 unfolding sustain_target
 sustain_falls e adsr1 adsr2 gain counter is h most fired =
-    level-step e (sustain_target e.level adsr2) adsr1 adsr2 gain counter (sustain-aims e.mode e.level e.hidden adsr1 adsr2 gain is h) fired ∙ nearest_level-fall e.level most
+    level_after e adsr1 adsr2 gain counter (sustain_target e.level adsr2) (sustain-aims e.mode e.level e.hidden adsr1 adsr2 gain is h) fired ∙ nearest_level-fall e.level most
 
 pub level_is_set : LevelIsSet
 unfolding gain_target
 level_is_set e adsr1 adsr2 gain counter other h low =
     let fixed : nat_lt gain 0x80 ≡ true = grind (arith, nat_tests, low) in
     let few : min (16 * gain) 0x7ff ≡ 16 * gain = omega (arith, low) in
-    level-step e (record { value = pos (16 * gain); rate = 31 }) adsr1 adsr2 gain counter
+    level_after e adsr1 adsr2 gain counter (record { value = pos (16 * gain); rate = 31 })
     (gain-aims e.mode e.level e.hidden adsr1 adsr2 gain other h
     ∙ ap (λ (b : Bool). Some (if b then record { value = pos (16 * gain); rate = 31 } else record { value = slope_value (gain / 32 % 4) e.level e.hidden; rate = gain % 32 })) fixed)
     (fires-31 counter)
@@ -146,21 +134,21 @@ level_is_set e adsr1 adsr2 gain counter other h low =
 pub gain_falls : GainFalls
 unfolding slope_value
 gain_falls e adsr1 adsr2 gain counter other h bits most fired =
-    level-step e (record { value = slope_value 0 e.level e.hidden; rate = gain % 32 }) adsr1 adsr2 gain counter
+    level_after e adsr1 adsr2 gain counter (record { value = slope_value 0 e.level e.hidden; rate = gain % 32 })
     (slope-aims e.mode e.level e.hidden adsr1 adsr2 gain 0 other h bits (omega arith)) fired
     ∙ nearest_level-sub e.level 0x20 most
 
 pub gain_falls_bent : GainFallsBent
 unfolding slope_value
 gain_falls_bent e adsr1 adsr2 gain counter other h bits most fired =
-    level-step e (record { value = slope_value 1 e.level e.hidden; rate = gain % 32 }) adsr1 adsr2 gain counter
+    level_after e adsr1 adsr2 gain counter (record { value = slope_value 1 e.level e.hidden; rate = gain % 32 })
     (slope-aims e.mode e.level e.hidden adsr1 adsr2 gain 1 other h bits (omega arith)) fired
     ∙ nearest_level-fall e.level most
 
 pub gain_rises : GainRises
 unfolding slope_value
 gain_rises e adsr1 adsr2 gain counter other h bits fired =
-    level-step e (record { value = slope_value 2 e.level e.hidden; rate = gain % 32 }) adsr1 adsr2 gain counter
+    level_after e adsr1 adsr2 gain counter (record { value = slope_value 2 e.level e.hidden; rate = gain % 32 })
     (slope-aims e.mode e.level e.hidden adsr1 adsr2 gain 2 other h bits (omega arith)) fired
 
 pub bent_value : (level : ℕ) (hidden : ℤ) (b : Bool) → int_lt hidden (pos 0x600) ≡ b → slope_value 3 level hidden ≡ pos (level + (if b then 0x20 else 8))
@@ -169,13 +157,13 @@ bent_value level hidden b is = ap (λ (b : Bool). pos (level + (if b then 0x20 e
 
 pub gain_rises_bent : GainRisesBent
 gain_rises_bent e adsr1 adsr2 gain counter other h bits below fired =
-    level-step e (record { value = slope_value 3 e.level e.hidden; rate = gain % 32 }) adsr1 adsr2 gain counter
+    level_after e adsr1 adsr2 gain counter (record { value = slope_value 3 e.level e.hidden; rate = gain % 32 })
     (slope-aims e.mode e.level e.hidden adsr1 adsr2 gain 3 other h bits (omega arith)) fired
     ∙ ap nearest_level (bent_value e.level e.hidden true below)
 
 pub gain_rises_slowly : GainRisesSlowly
 gain_rises_slowly e adsr1 adsr2 gain counter other h bits above fired =
-    level-step e (record { value = slope_value 3 e.level e.hidden; rate = gain % 32 }) adsr1 adsr2 gain counter
+    level_after e adsr1 adsr2 gain counter (record { value = slope_value 3 e.level e.hidden; rate = gain % 32 })
     (slope-aims e.mode e.level e.hidden adsr1 adsr2 gain 3 other h bits (omega arith)) fired
     ∙ ap nearest_level (bent_value e.level e.hidden false above)
 

@@ -103,8 +103,8 @@ abbrev pub book_after_load : {S : Type 0} → ChipMeaning S → Machine S → Bo
 book_after_load chip machine book = with_reach_of chip machine (record book { pending = 0; events = 0 })
 
 -- the book at the opening of a machine whose chip made so many samples in all
-abbrev pub opened_book : {S : Type 0} → ChipMeaning S → Machine S → (total : ℕ) → Book
-opened_book chip machine total = record {
+abbrev pub opened_lag_book : {S : Type 0} → ChipMeaning S → Machine S → (total : ℕ) → Book
+opened_lag_book chip machine total = record {
   pending = 0;
   events = 0;
   reach = chip.reach machine.chip machine.memory;

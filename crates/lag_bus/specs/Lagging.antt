@@ -5,7 +5,7 @@ use Rattle.lag_bus.specs.declared.cause.Cause.TheVariants.{End}
 use Rattle.lock_step.specs.ChipMeaning.{ChipMeaning}
 use Rattle.lock_step.specs.Machine.{Machine}
 use Rattle.lock_step.specs.LockStep.{samples_made, bus_answer, after_bus_read, after_bus_write, after_bus_pass, crosses_sample}
-use Rattle.lag_bus.specs.Book.{Book, cause_of_read, cause_of_write, after_cause, with_event, with_sample, settled_book, with_reach_of, opened_book}
+use Rattle.lag_bus.specs.Book.{Book, cause_of_read, cause_of_write, after_cause, with_event, with_sample, settled_book, with_reach_of, opened_lag_book}
 
 pub record Lagging (S : Type 0) : Type 0 where
   -- the machine as it is once the pending samples are made
@@ -36,7 +36,7 @@ pub record MatchesBook {S : Type 0} (bus : Lagging S) : Type 0 where
 
 -- at its opening, over a chip that made so many samples in all
 abbrev pub opened_lagging : {S : Type 0} → ChipMeaning S → Machine S → (total : ℕ) → Lagging S
-opened_lagging chip machine total = with_book machine (opened_book chip machine total)
+opened_lagging chip machine total = with_book machine (opened_lag_book chip machine total)
 
 -- the book after each of the calls
 abbrev pub book_after_read : {S : Type 0} → ChipMeaning S → Lagging S → (at : ℕ) → Book

@@ -4,6 +4,7 @@ ghost use Rattle.lag_bus.specs.Book.{may_be_read, may_be_written, cause_of_read,
 
 use aram_core::page_of;
 use dsp_form::is_result;
+use lock_step::{writes_port, writes_register};
 use reach_map::ReachPages;
 
 /// The most events that wait for pending samples.
@@ -65,11 +66,11 @@ pub fn cause_of_write(
 ) -> Option<Cause>
     ensures { result ≡ cause_of_write reach.now dsp_address at pending events }
 {
-    if at == 0xF3 && dsp_address < 0x80 {
+    if writes_register(dsp_address, at) {
         Some(Cause::Register)
     } else if may_be_read(reach, at) {
         Some(Cause::Memory)
-    } else if (0xF4..=0xF7).contains(&at) && pending > 0 && events == EVENT_ROOM {
+    } else if writes_port(at) && pending > 0 && events == EVENT_ROOM {
         Some(Cause::Events)
     } else {
         None

@@ -31,7 +31,7 @@ use crate::saved::BusState;
 use crate::waiting::{counter_is_0, pend_all};
 use aram_core::Aram;
 use idle_rounds::{Looks, try_round};
-use lock_step::{Chip, Counts, DrainedBus};
+use lock_step::{Chip, Counts, DrainedBus, writes_port, writes_register};
 use ports_timers::{Io, cycles_of_zeros};
 use spc_form::OpenState;
 use spc700_exec::{Bus, Cpu, step};
@@ -307,14 +307,14 @@ fn write_now<C: Chip>(late: &mut LateChip<C>, address: u8, at: u16, value: u8, s
     ensures same_reach { writes_register address at ≡ false → may_be_read late.old.reach at ≡ false → late.new.reach ≡ late.old.reach }
     ensures room { late.new.records_used ≤ late.old.records_used + 1 }
 {
-    if at == 0xF3 && address < 0x80 {
+    if writes_register(address, at) {
         late.reg_write(address, value);
         late.emit(Record::Reg {
             sample,
             addr: address,
             value,
         });
-    } else if (0xF4..=0xF7).contains(&at) {
+    } else if writes_port(at) {
         late.emit(Record::Port {
             sample,
             port: (at - 0xF4) as u8,
@@ -339,7 +339,7 @@ fn write_beside_pending<C: Chip>(late: &mut LateChip<C>, at: u16, value: u8, sam
     } }
     ensures room { late.new.records_used ≤ late.old.records_used + 1 }
 {
-    if (0xF4..=0xF7).contains(&at) {
+    if writes_port(at) {
         late.emit(Record::Port {
             sample,
             port: (at - 0xF4) as u8,

@@ -1,20 +1,16 @@
 -- A bus that made no round at once.
-use Rattle.std.proofs.Common.{◌≡◌, ◌<◌, ℕ, refl, ap}
+use Rattle.std.proofs.Common.{◌<◌, ℕ, refl, ap}
 use Rattle.spc700_exec.specs.declared.cpu.Cpu.{Cpu}
 use Rattle.spc700_exec.specs.Bus.{BusMeaning}
 use Rattle.lock_step.specs.Emits.{Emits}
 use Rattle.lock_step.specs.WaitOfRounds.{IsWaitOf}
 use Rattle.lock_step.proofs.ChipCounts.{counts_on_none}
-use Rattle.idle_rounds.specs.Looking.{after_n_steps}
-
-no_round : {X : Type 0} (bus : BusMeaning X) (w : Cpu × X) → after_n_steps bus 0 w ≡ w
-unfolding after_n_steps
-no_round bus w = refl
+use Rattle.lock_step.proofs.StepsTaken.{after_no_steps}
 
 -- a bus that didn't wait
 pub no_wait : {X : Type 0} (bus : BusMeaning X) (emits : Emits X) (samples : ℕ) (cpu : Cpu) (s : X) → bus.made s < samples → IsWaitOf bus emits samples cpu s s
 no_wait {X} bus emits samples cpu s more =
-    let none = no_round bus (cpu, s) in
+    let none = after_no_steps bus (cpu, s) in
     record {
       steps = 0;
       registers = ap (λ (w : Cpu × X). w.0) none;

@@ -9,9 +9,9 @@ use Rattle.lock_step.specs.Emits.{Emits}
 use Rattle.lock_step.specs.StepsOfRun.{AreStepsOf}
 use Rattle.idle_rounds.specs.Looking.{after_n_steps}
 
-after_none : {S : Type 0} (bus : BusMeaning S) (w : Cpu × S) → after_n_steps bus 0 w ≡ w
+pub after_no_steps : {S : Type 0} (bus : BusMeaning S) (w : Cpu × S) → after_n_steps bus 0 w ≡ w
 unfolding after_n_steps
-after_none bus w = refl
+after_no_steps bus w = refl
 
 after_one_more : {S : Type 0} (bus : BusMeaning S) (n : ℕ) (w : Cpu × S)
     → after_n_steps bus (suc n) w ≡ step_outcome bus (after_n_steps bus n w).0 (after_n_steps bus n w).1
@@ -32,7 +32,7 @@ module _ {S : Type 0} (bus : BusMeaning S) (emits : Emits S) (samples : ℕ) (cp
   -- before the first step
   pub no_steps : AreStepsOf bus emits samples cpu old cpu old
   no_steps =
-      let none = after_none bus (cpu, old) in
+      let none = after_no_steps bus (cpu, old) in
       record {
         steps = 0;
         begun = λ k few. absurd (omega arith);

@@ -4,11 +4,10 @@ use Rattle.std.proofs.lemmas.Bool.{eq-eqb}
 use Rattle.std.proofs.lemmas.List.{length-map}
 use Rattle.voice_unit.specs.declared.interface.VoiceOut.{VoiceOut}
 use Rattle.voice_unit.specs.Voice.{VoiceState}
-use Rattle.rate_clock.specs.Counter.{counter_at}
 use Rattle.dsp_form.specs.declared.state.ChipState.{ChipState}
 use Rattle.dsp_form.specs.Outside.{register_write}
 use Rattle.dsp_form.specs.Results.{without_bits}
-use Rattle.dsp_form.specs.Sample.{VoiceResult, results_from, records_from, shared_input, after_poll, after_noise, sample}
+use Rattle.dsp_form.specs.Sample.{VoiceResult, results_from, records_from, shared_input, after_poll, after_noise, before_voices, sample}
 use Rattle.dsp_form.specs.Valid.{is_valid}
 use Rattle.dsp_form.proofs.EightVoices.{polled_part, length-results_from, voices-before_step}
 use Rattle.dsp_form.proofs.Valid.{valid_of, is_valid-sample, is_valid-register_write}
@@ -29,7 +28,7 @@ are_voice_records-records_from k v (answer ∷ answers) full =
 are_voice_records-sample : (k : ℕ) (s : ChipState) (memory : List ℕ) → is_valid s ≡ true → are_voice_records k 0 (sample k s memory).records ≡ true
 unfolding sample
 are_voice_records-sample k s memory valid =
-    let now : ChipState = after_noise (after_poll s k) (counter_at k) in
+    let now : ChipState = before_voices s k in
     let results : List VoiceResult = results_from (shared_input now memory k) 0 (pos 0) now.hidden.voices in
     let answers : List VoiceOut = map (λ (result : VoiceResult). result.answer) results in
     let all : length answers ≡ length s.hidden.voices =

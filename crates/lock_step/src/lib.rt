@@ -7,8 +7,10 @@ mod counts;
 mod drained_bus;
 mod dsp;
 mod numbering;
+mod writes;
 
 pub use chip::Chip;
 pub use counts::Counts;
 pub use drained_bus::DrainedBus;
 pub use numbering::sample_number;
+pub use writes::{writes_port, writes_register};

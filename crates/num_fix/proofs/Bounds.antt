@@ -1,7 +1,7 @@
 -- How large a shifted number and a scaled product get.
-use Rattle.std.proofs.Common.{◌≡◌, ℕ, ◌+◌, ◌-◌, ◌*◌, ◌/◌, ◌^◌, ◌<◌, ◌≤◌, ℤ, pos, negsuc, ◌*ℤ◌, unsigned_abs, FitsSigned, arith, sym, ap, ◌∙◌}
-use Rattle.std.specs.Int.{w16}
-use Rattle.std.proofs.lemmas.Int.{unsigned_abs-mul, ints}
+use Rattle.std.proofs.Common.{◌≡◌, ℕ, ◌+◌, ◌-◌, ◌*◌, ◌/◌, ◌^◌, ◌<◌, ◌≤◌, ℤ, pos, negsuc, ◌*ℤ◌, unsigned_abs, FitsSigned, to_z, of_z, arith, sym, ap, ◌∙◌}
+use Rattle.std.specs.Int.{w16, w64}
+use Rattle.std.proofs.lemmas.Int.{unsigned_abs-mul, to_z-of_z, fits_signed_from_abs, ints}
 use Rattle.std.proofs.lemmas.Nat.{mul-le, div_below, pow_pos, pow-add}
 use Rattle.num_fix.specs.Arithmetic.{floor_shift, scaled}
 
@@ -17,6 +17,10 @@ floor_shift_bound z n m h = quotient_bound z (2 ^ n) m (pow_pos n) h
 -- a number of 16 bits with a sign
 pub abs_fits_16 : (z : ℤ) → FitsSigned w16 z → unsigned_abs z ≤ 32768
 abs_fits_16 z h = omega (arith, ints)
+
+-- a number whose absolute value is below 2 ^ 62 is read as itself from 64 bits
+pub read_back : (z : ℤ) → unsigned_abs z < 2 ^ 62 → to_z w64 (of_z w64 z) ≡ z
+read_back z h = to_z-of_z w64 z (fits_signed_from_abs w64 z (omega arith))
 
 -- the product of two 16-bit numbers, shifted right by n
 pub scaled_bound : (a b : ℤ) (n : ℕ) → FitsSigned w16 a → FitsSigned w16 b → n < 31 → unsigned_abs (scaled a b n) ≤ 2 ^ (30 - n)

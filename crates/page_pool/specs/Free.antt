@@ -1,14 +1,14 @@
 -- The free slots, and how they are linked: each names the next one in its own bytes.
 use Rattle.std.specs.Prelude.{◌≡◌, ◌≢◌, ℕ, zero, suc, ◌+◌, ◌*◌, ◌<◌, ◌≤◌, if◌then◌else◌, List, [], ◌∷◌, length, map, slice_index}
 use Rattle.page_pool.specs.declared.slot.Slot.{Slot}
-use Rattle.page_pool.specs.Pool.{free_slot, slot_at, is_free, free_slots}
+use Rattle.page_pool.specs.Pool.{most_pages, free_slot, slot_at, is_free, free_slots}
 
 -- what contracts see of a slot
-abbrev pub seen : Slot → Slot
-seen slot = if is_free slot then free_slot else slot
+abbrev pub seen_slot : Slot → Slot
+seen_slot slot = if is_free slot then free_slot else slot
 
-abbrev pub all_seen : List Slot → List Slot
-all_seen slots = map seen slots
+abbrev pub seen_slots : List Slot → List Slot
+seen_slots slots = map seen_slot slots
 
 -- the number that a free slot names: its first two bytes, low byte first
 unfoldable pub next_of : Slot → ℕ
@@ -33,6 +33,6 @@ IsChain slots first (suc n) =
 
 -- what a pool keeps of its slots: all free ones stand in one chain
 pub record IsLinked (slots : List Slot) (first free : ℕ) : Type 0 where
-  pub few : length slots ≤ 0x10000
+  pub few : length slots ≤ most_pages
   pub all : free ≡ free_slots slots
   pub chained : IsChain slots first free

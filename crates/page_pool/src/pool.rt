@@ -35,11 +35,11 @@ pub struct PagePool {
 impl Model for PagePool {
     ghost use Rattle.std.specs.Prelude.{List};
     ghost use Rattle.page_pool.specs.declared.slot.Slot.{Slot};
-    ghost use Rattle.page_pool.specs.Free.{all_seen, IsLinked};
+    ghost use Rattle.page_pool.specs.Free.{seen_slots, IsLinked};
 
     ghost Value = { List Slot };
 
-    ghost view = { λ p. all_seen p.slots.items };
+    ghost view = { λ p. seen_slots p.slots.items };
 
     ghost invariant = { λ p. IsLinked p.slots.items p.first p.free };
 }

@@ -7,7 +7,6 @@ use Rattle.std.specs.Cmp.{unsigned_tied}
 use Rattle.std.proofs.lemmas.Bool.{cases_eq, cases_lt, or_parts}
 use Rattle.std.proofs.lemmas.Bool.Decides.{nat_tests}
 use Rattle.std.proofs.lemmas.List.Folds.{list_any-append}
-use Rattle.std.proofs.lemmas.List.FromFn.{map-range_with_len_more}
 use Rattle.aram_core.specs.Pages.{Pages, page_of, pages_from}
 use Rattle.reach_map.specs.Added.{with_pages, pages_of_steps}
 use Rattle.reach_map.specs.Reach.{pages_of_bytes}

@@ -9,6 +9,7 @@ ghost use Rattle.reach_map.specs.BlocksToEnd.{blocks_to_end};
 use crate::ChainStart;
 use crate::pages::add_bytes;
 use aram_core::{Aram, PageSet};
+use brr_decode::has_end;
 
 /// The bytes of a block.
 const BLOCK: u32 = 9;
@@ -28,7 +29,7 @@ fn blocks_to_end(memory: &Aram, start: u16, most: u32) -> u32
     let mut left = most;
     while left > 0 {
         left -= 1;
-        if memory.get(block) % 2 == 1 {
+        if has_end(memory.get(block)) {
             break;
         }
         block = block.wrapping_add(BLOCK as u16);

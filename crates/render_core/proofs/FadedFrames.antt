@@ -1,9 +1,9 @@
 -- How large a faded side gets, and the entries of faded frames.
 use Rattle.std.proofs.Common.{◌≡◌, ℕ, zero, suc, ◌+◌, ◌*◌, ◌/◌, ◌^◌, ◌<◌, ◌≤◌, ℤ, pos, negsuc, neg_ℤ, ◌*ℤ◌, int_div, unsigned_abs, FitsSigned, List, [], ◌∷◌, ◌++◌, length, slice_get, option_map, Some, arith, refl, sym, ap, subst, ◌∙◌}
 use Rattle.std.specs.Int.{w16, w64, cast_signed, cast_unsigned}
-use Rattle.std.proofs.lemmas.Int.{unsigned_abs-mul, to_z-of_z, fits_signed_from_abs, ints}
+use Rattle.std.proofs.lemmas.Int.{unsigned_abs-mul, fits_signed_from_abs}
 use Rattle.std.proofs.lemmas.Nat.{mul-le, div_below}
-use Rattle.num_fix.proofs.Bounds.{abs_fits_16}
+use Rattle.num_fix.proofs.Bounds.{abs_fits_16, read_back}
 use Rattle.num_fix.specs.declared.Frame.{Frame}
 use Rattle.render_core.specs.Fade.{faded_side, faded_frame, faded_from, faded_frames}
 
@@ -45,10 +45,6 @@ faded_from-append (x ∷ xs) ys at frames fade =
     ap (λ (rest : List Frame). faded_frame x at frames fade ∷ rest)
     (faded_from-append xs ys (at + 1) frames fade
     ∙ ap (λ (n : ℕ). faded_from (at + 1) frames fade xs ++ faded_from n frames fade ys) place)
-
--- a number whose absolute value is below 2 ^ 62 is read as itself from 64 bits
-read_back : (z : ℤ) → unsigned_abs z < 2 ^ 62 → cast_signed w64 (cast_unsigned w64 z) ≡ z
-read_back z h = to_z-of_z w64 z (fits_signed_from_abs w64 z (omega arith))
 
 -- what the code computes in 64 bits, of numbers a, b and d that are the side and both counts
 pub computed_side : (a b d side : ℤ) (after fade : ℕ) → a ≡ side → b ≡ pos after → d ≡ pos fade → FitsSigned w16 side → after < fade → fade < 2 ^ 32 →

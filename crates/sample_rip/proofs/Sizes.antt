@@ -1,12 +1,10 @@
 -- How many samples are encoded again.
-use Rattle.std.proofs.Common.{◌≡◌, ◌∙◌, sym, ap, ◌*◌, ◌<◌, ◌≤◌, ◌⊎◌, inl, inr, ℕ, ℤ, List, length, Bool, Result, Ok, Err, arith, refl}
+use Rattle.std.proofs.Common.{◌≡◌, ◌∙◌, sym, ap, ◌*◌, ◌<◌, ◌≤◌, ℕ, ℤ, List, length, Bool, Ok, arith, refl}
 use Rattle.std.specs.Prelude.{◌==◌, nat_lt, false}
 use Rattle.std.proofs.lemmas.Bool.Decides.{nat_tests}
-use Rattle.brr_encode.specs.Encoding.{encoding, encoded_samples, padded, most_blocks, most_samples}
+use Rattle.brr_encode.specs.Encoding.{encoding, encoded_samples, padded_samples, most_blocks, most_samples}
 use Rattle.brr_encode.specs.Report.{reports_of}
 use Rattle.brr_encode.specs.declared.report.BlockReport.{BlockReport}
-use Rattle.brr_encode.specs.declared.encoder.EncodeRefusal.{EncodeRefusal}
-use Rattle.brr_encode.specs.declared.encoder.EncodeRefusal.TheVariants.{OutOfMemory}
 use Rattle.sample_rip.specs.Rip.{rip_samples}
 use Rattle.sample_rip.specs.Reencoded.{is_looped, errors_of, rip_report}
 use Rattle.sample_rip.specs.declared.reencoding.RipReport.{RipReport}
@@ -30,21 +28,16 @@ rip_is_encodable memory found looped some few =
     let sized = length-rip_samples memory found in
     encoded_of_size (rip_samples memory found) looped (omega (arith, sized, some)) (omega (arith, sized, few))
 
--- so that its encoding is refused for want of memory alone
-pub never_refused : (answer : Result (List ℕ) EncodeRefusal) (blocks : List ℕ) (why : EncodeRefusal) → answer ≡ Ok blocks → (answer ≡ Err why) ⊎ (why ≡ OutOfMemory) → why ≡ OutOfMemory
-never_refused answer blocks why read (inl refused) = absurd (cc)
-never_refused answer blocks why read (inr memory) = memory
-
 same_blocks : (samples : List ℤ) (looped : Bool) (blocks : List ℕ) → encoded_samples samples looped ≡ Ok (encoding samples looped) → encoded_samples samples looped ≡ Ok blocks → blocks ≡ encoding samples looped
 same_blocks samples looped blocks is also = cc
 
 -- the errors of its encoding are those of the rip
 pub report_is : (memory : List ℕ) (found : RipFound) (samples : List ℤ) (looped : Bool) (blocks : List ℕ) (reports : List BlockReport) (errors : RipReport)
     → 0 < found.blocks → found.blocks ≤ most_blocks → samples ≡ rip_samples memory found → looped ≡ is_looped found.«end» → encoded_samples samples looped ≡ Ok blocks
-    → reports ≡ reports_of blocks (padded samples) → errors ≡ errors_of reports → errors ≡ rip_report memory found
+    → reports ≡ reports_of blocks (padded_samples samples) → errors ≡ errors_of reports → errors ≡ rip_report memory found
 unfolding rip_report
 report_is memory found samples looped blocks reports errors some few is_samples is_loop encoded are is =
     let encodable = rip_is_encodable memory found looped some few in
     let encoded_rip : encoded_samples (rip_samples memory found) looped ≡ Ok blocks = ap (λ (xs : List ℤ). encoded_samples xs looped) (sym is_samples) ∙ encoded in
     let same : blocks ≡ encoding (rip_samples memory found) looped = same_blocks (rip_samples memory found) looped blocks encodable encoded_rip in
-    is ∙ ap errors_of (are ∙ (λ i. reports_of (same i) (padded (is_samples i)))) ∙ ap (λ (b : Bool). errors_of (reports_of (encoding (rip_samples memory found) b) (padded (rip_samples memory found)))) is_loop
+    is ∙ ap errors_of (are ∙ (λ i. reports_of (same i) (padded_samples (is_samples i)))) ∙ ap (λ (b : Bool). errors_of (reports_of (encoding (rip_samples memory found) b) (padded_samples (rip_samples memory found)))) is_loop

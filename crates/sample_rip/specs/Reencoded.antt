@@ -1,6 +1,6 @@
 -- What a sample comes to when it is encoded again: the greatest and the summed errors of its blocks.
 use Rattle.std.specs.Prelude.{ℕ, ◌+◌, List, max, fold, Bool, true, false, ℤ}
-use Rattle.brr_encode.specs.Encoding.{encoding, padded}
+use Rattle.brr_encode.specs.Encoding.{encoding, padded_samples}
 use Rattle.brr_encode.specs.Report.{reports_of}
 use Rattle.brr_encode.specs.declared.report.BlockReport.{BlockReport}
 use Rattle.sample_rip.specs.Rip.{rip_samples}
@@ -29,7 +29,7 @@ errors_of blocks = fold with_block no_errors blocks
 
 -- the errors of samples that are encoded again
 abbrev pub errors_of_samples : (samples : List ℤ) → (looped : Bool) → RipReport
-errors_of_samples samples looped = errors_of (reports_of (encoding samples looped) (padded samples))
+errors_of_samples samples looped = errors_of (reports_of (encoding samples looped) (padded_samples samples))
 
 unfoldable pub rip_report : (memory : List ℕ) → RipFound → RipReport
 rip_report memory found = errors_of_samples (rip_samples memory found) (is_looped found.«end»)

@@ -4,6 +4,7 @@ ghost use Rattle.brr_encode.specs.Encoding.{most_blocks};
 ghost use Rattle.sample_rip.specs.Blocks.{block_address, block_bytes, ends_at, loops_at};
 
 use aram_core::Aram;
+use brr_decode::{has_end, has_loop};
 
 /// The most blocks that a sample has.
 pub const MOST_BLOCKS: u32 = 7280;
@@ -21,7 +22,7 @@ pub fn ends_at(memory: &Aram, start: u16, block: u32) -> bool
     requires { block ≤ most_blocks }
     ensures { result ≡ ends_at memory.now start block }
 {
-    memory.get(block_address(start, block)) % 2 == 1
+    has_end(memory.get(block_address(start, block)))
 }
 
 /// Whether a block has its loop bit.
@@ -29,7 +30,7 @@ pub fn loops_at(memory: &Aram, start: u16, block: u32) -> bool
     requires { block ≤ most_blocks }
     ensures { result ≡ loops_at memory.now start block }
 {
-    memory.get(block_address(start, block)) / 2 % 2 == 1
+    has_loop(memory.get(block_address(start, block)))
 }
 
 /// The bytes of a block, which may stand round the end of memory.

@@ -12,7 +12,7 @@ ghost use Rattle.lock_step.specs.LockStepLaws.{emits_frames, emits_records, fram
 
 use crate::OutOfMemory;
 use aram_core::Aram;
-use lock_step::{Chip, Counts, DrainedBus};
+use lock_step::{Chip, Counts, DrainedBus, writes_port, writes_register};
 use ports_timers::Io;
 use spc_form::OpenState;
 use spc700_exec::{Bus, Cpu, step};
@@ -146,14 +146,14 @@ impl<C: Chip> Bus for PlainBus<C> {
         self.calls += 1;
         let sample = self.made();
         let address = self.io.dsp_address();
-        if addr == 0xF3 && address < 0x80 {
+        if writes_register(address, addr) {
             self.chip.reg_write(address, value);
             self.records.push(Record::Reg {
                 sample,
                 addr: address,
                 value,
             });
-        } else if (0xF4..=0xF7).contains(&addr) {
+        } else if writes_port(addr) {
             self.records.push(Record::Port {
                 sample,
                 port: (addr - 0xF4) as u8,

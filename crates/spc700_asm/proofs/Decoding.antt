@@ -11,7 +11,8 @@ use Rattle.spc700_asm.specs.declared.pattern.Slot.{Slot}
 use Rattle.spc700_asm.specs.declared.pattern.Slot.TheVariants.{Absent, Register, Byte, Address, Target, MemoryBit, OwnBit, OwnEntry}
 use Rattle.spc700_asm.specs.declared.instruction.Instruction.{Instruction}
 use Rattle.spc700_asm.specs.Patterns.{pattern_of}
-use Rattle.spc700_asm.specs.Instructions.{target_of, distance_ahead, is_near, number_at, bytes_of_number, number_in_line, number_in_bytes, bytes_of_operand, bytes_of_operands, bytes_of, second_place, instruction_in, instruction_at}
+use Rattle.spc700_table.specs.Branches.{branch_target}
+use Rattle.spc700_asm.specs.Instructions.{distance_ahead, is_near, number_at, bytes_of_number, number_in_line, number_in_bytes, bytes_of_operand, bytes_of_operands, bytes_of, second_place, instruction_in, instruction_at}
 use Rattle.spc700_asm.specs.Assembly.{is_far_operand}
 
 -- how many bytes a slot has
@@ -124,7 +125,7 @@ near_byte a small near = by (nat_lt a 0x80) refl near
     by false f n = rw (back_test f n) (back_is f n)
 
 -- a near target is led to
-back_to_target : (next target : ℕ) → target < 0x10000 → is_near next target ≡ true → target_of next (distance_ahead next target % 0x100) ≡ target
+back_to_target : (next target : ℕ) → target < 0x10000 → is_near next target ≡ true → branch_target next (distance_ahead next target % 0x100) ≡ target
 back_to_target next target small near =
     let below : distance_ahead next target < 0x10000 = omega arith in
     ap (λ (a : ℕ). (next + a) % 0x10000) (near_byte (distance_ahead next target) below near) ∙ leads next target (distance_ahead next target) small refl
@@ -136,14 +137,14 @@ word_back : (number : ℕ) → number < 0x10000 → number % 0x100 + 0x100 * (nu
 word_back number small = omega arith
 
 -- the number in the line for the bytes that hold it
-slot_shown : (slot : Slot) (next number : ℕ) (rest : List ℕ) → IsShown slot next number → cond (is_target slot) (target_of next (number_at (slot_bytes slot) (bytes_of_number (slot_bytes slot) (cond (is_target slot) (distance_ahead next number % 0x100) number) ++ rest))) (number_at (slot_bytes slot) (bytes_of_number (slot_bytes slot) (cond (is_target slot) (distance_ahead next number % 0x100) number) ++ rest)) ≡ number
+slot_shown : (slot : Slot) (next number : ℕ) (rest : List ℕ) → IsShown slot next number → cond (is_target slot) (branch_target next (number_at (slot_bytes slot) (bytes_of_number (slot_bytes slot) (cond (is_target slot) (distance_ahead next number % 0x100) number) ++ rest))) (number_at (slot_bytes slot) (bytes_of_number (slot_bytes slot) (cond (is_target slot) (distance_ahead next number % 0x100) number) ++ rest)) ≡ number
 slot_shown Absent next number rest is = sym is
 slot_shown Register next number rest is = sym is
 slot_shown Byte next number rest is = byte_back number is
 slot_shown Address next number rest is = word_back number is
 slot_shown Target next number rest is =
     let twice : distance_ahead next number % 0x100 % 0x100 + 0 ≡ distance_ahead next number % 0x100 = omega arith in
-    ap (target_of next) twice ∙ back_to_target next number is.0 is.1
+    ap (branch_target next) twice ∙ back_to_target next number is.0 is.1
 slot_shown MemoryBit next number rest is = word_back number is
 slot_shown (OwnBit own) next number rest is = byte_back number is
 slot_shown (OwnEntry own) next number rest is = sym is

@@ -14,7 +14,8 @@ use Rattle.spc700_asm.specs.declared.pattern.Slot.{Slot}
 use Rattle.spc700_asm.specs.declared.pattern.Slot.TheVariants.{Absent, Register, Byte, Address, Target, MemoryBit, OwnBit, OwnEntry}
 use Rattle.spc700_asm.specs.declared.instruction.Instruction.{Instruction}
 use Rattle.spc700_asm.specs.Patterns.{Pattern, pattern_of}
-use Rattle.spc700_asm.specs.Instructions.{target_of, distance_ahead, is_near, number_at, bytes_of_number, number_in_line, bytes_of_operand, bytes_of_operands, bytes_of, first_place, second_place, instruction_in}
+use Rattle.spc700_table.specs.Branches.{branch_target}
+use Rattle.spc700_asm.specs.Instructions.{distance_ahead, is_near, number_at, bytes_of_number, number_in_line, bytes_of_operand, bytes_of_operands, bytes_of, first_place, second_place, instruction_in}
 use Rattle.spc700_asm.specs.Operands.{Operand, is_great}
 use Rattle.spc700_asm.specs.Statements.{Code}
 use Rattle.spc700_asm.specs.Labels.{Labels}
@@ -66,15 +67,15 @@ small_signed d small = by (nat_lt d 0x80)
 ahead_of : (next s : ℕ) → s < 0x10000 → ((next + s) % 0x10000 + (0x10000 - next % 0x10000)) % 0x10000 ≡ s
 ahead_of next s small = omega arith
 
-ahead_is : (next d : ℕ) → d < 0x100 → distance_ahead next (target_of next d) ≡ signed d
+ahead_is : (next d : ℕ) → d < 0x100 → distance_ahead next (branch_target next d) ≡ signed d
 ahead_is next d small = ahead_of next (signed d) (small_signed d small)
 
-near_is : (next d : ℕ) → d < 0x100 → is_near next (target_of next d) ≡ true
+near_is : (next d : ℕ) → d < 0x100 → is_near next (branch_target next d) ≡ true
 near_is next d small = ap (λ (a : ℕ). nat_lt a 0x80 || nat_le 0xFF80 a) (ahead_is next d small) ∙ near_signed d small
 
 -- the number of a slot's bytes fills it, and its bytes are those again
 abbrev slot_value : Slot → (next : ℕ) → List ℕ → ℕ
-slot_value slot next bytes = cond (is_target slot) (target_of next (number_at (slot_bytes slot) bytes)) (number_at (slot_bytes slot) bytes)
+slot_value slot next bytes = cond (is_target slot) (branch_target next (number_at (slot_bytes slot) bytes)) (number_at (slot_bytes slot) bytes)
 
 abbrev slot_again : Slot → (next : ℕ) → List ℕ → List ℕ
 slot_again slot next bytes = bytes_of_number (slot_bytes slot) (cond (is_target slot) (distance_ahead next (slot_value slot next bytes) % 0x100) (slot_value slot next bytes))
@@ -94,14 +95,14 @@ two_high b c x y = omega arith
 two_small : (b c : ℕ) → b < 0x100 → c < 0x100 → b + 0x100 * (c + 0x100 * 0) < 0x10000
 two_small b c x y = omega arith
 
-branch_target : (next b : ℕ) → b < 0x100 → (target_of next (b + 0x100 * 0) < 0x10000) × (is_near next (target_of next (b + 0x100 * 0)) ≡ true)
-branch_target next b small = (omega arith, near_is next (b + 0x100 * 0) (one_small b small))
+target_near : (next b : ℕ) → b < 0x100 → (branch_target next (b + 0x100 * 0) < 0x10000) × (is_near next (branch_target next (b + 0x100 * 0)) ≡ true)
+target_near next b small = (omega arith, near_is next (b + 0x100 * 0) (one_small b small))
 
-branch_again : (next b : ℕ) → b < 0x100 → distance_ahead next (target_of next (b + 0x100 * 0)) % 0x100 % 0x100 ≡ b
+branch_again : (next b : ℕ) → b < 0x100 → distance_ahead next (branch_target next (b + 0x100 * 0)) % 0x100 % 0x100 ≡ b
 branch_again next b small =
     let same : b + 0x100 * 0 ≡ b = omega arith in
-    let low : distance_ahead next (target_of next (b + 0x100 * 0)) % 0x100 ≡ b =
-    ap (λ (d : ℕ). distance_ahead next (target_of next d) % 0x100) same ∙ ap (λ (a : ℕ). a % 0x100) (ahead_is next b small) ∙ low_signed b small
+    let low : distance_ahead next (branch_target next (b + 0x100 * 0)) % 0x100 ≡ b =
+    ap (λ (d : ℕ). distance_ahead next (branch_target next d) % 0x100) same ∙ ap (λ (a : ℕ). a % 0x100) (ahead_is next b small) ∙ low_signed b small
     in ap (λ (a : ℕ). a % 0x100) low ∙ below b small
   where
     below : (n : ℕ) → n < 0x100 → n % 0x100 ≡ n
@@ -116,7 +117,7 @@ slot_found Byte next (b ∷ bytes) are there = (one_small b are.0, ap (λ (x : �
 slot_found (OwnBit own) next [] are there = absurd (omega arith)
 slot_found (OwnBit own) next (b ∷ bytes) are there = (one_small b are.0, ap (λ (x : ℕ). x ∷ []) (one_again b are.0))
 slot_found Target next [] are there = absurd (omega arith)
-slot_found Target next (b ∷ bytes) are there = (branch_target next b are.0, ap (λ (x : ℕ). x ∷ []) (branch_again next b are.0))
+slot_found Target next (b ∷ bytes) are there = (target_near next b are.0, ap (λ (x : ℕ). x ∷ []) (branch_again next b are.0))
 slot_found Address next [] are there = absurd (omega arith)
 slot_found Address next (b ∷ []) are there = absurd (omega arith)
 slot_found Address next (b ∷ c ∷ bytes) are there = (two_small b c are.0 are.1.0, ap (λ (x : ℕ). x ∷ ((b + 0x100 * (c + 0x100 * 0)) / 0x100 % 0x100) ∷ []) (two_low b c are.0 are.1.0) ∙ ap (λ (y : ℕ). b ∷ y ∷ []) (two_high b c are.0 are.1.0))
@@ -127,7 +128,7 @@ slot_found MemoryBit next (b ∷ c ∷ bytes) are there = (two_small b c are.0 a
 -- the same of an operand
 operand_found : (f : Form) (next : ℕ) (bytes : List ℕ) → AreBytes bytes → operand_bytes f ≤ length bytes → IsShown (pattern_of f).slot next (number_in_line f next (number_at (operand_bytes f) bytes)) × (bytes_of_operand f next (number_in_line f next (number_at (operand_bytes f) bytes)) ≡ take (operand_bytes f) bytes)
 operand_found f next bytes are there =
-    let value : Bool → ℕ → ℕ = λ b n. cond b (target_of next (number_at n bytes)) (number_at n bytes) in
+    let value : Bool → ℕ → ℕ = λ b n. cond b (branch_target next (number_at n bytes)) (number_at n bytes) in
     let P : Bool → ℕ → Type 0 = λ b n. IsShown (pattern_of f).slot next (value b n) × (bytes_of_number n (cond b (distance_ahead next (value b n) % 0x100) (value b n)) ≡ take n bytes) in
     let Q : ℕ → Type 0 = λ n. n ≤ length bytes in
     let found : P (is_target (pattern_of f).slot) (operand_bytes f) = subst (P (is_target (pattern_of f).slot)) (sym (bytes_by_slot f)) (slot_found (pattern_of f).slot next bytes are (subst Q (bytes_by_slot f) there)) in

@@ -4,6 +4,7 @@ use Rattle.std.specs.Prelude.{ℕ, zero, suc, ◌+◌, ◌-◌, ◌*◌, ◌/◌
 use Rattle.spc700_table.specs.declared.OpRow.{OpRow}
 use Rattle.spc700_table.specs.declared.Form.{Form}
 use Rattle.spc700_table.specs.Opcodes.{row_of, is_distance, operand_bytes, length_of, is_in_text_order}
+use Rattle.spc700_table.specs.Branches.{branch_target}
 use Rattle.spc700_asm.specs.declared.instruction.Instruction.{Instruction}
 
 -- where the bytes of each operand begin, after the opcode
@@ -12,10 +13,6 @@ first_place row = if is_in_text_order row then 0 else operand_bytes row.second
 
 abbrev pub second_place : OpRow → ℕ
 second_place row = if is_in_text_order row then operand_bytes row.first else 0
-
--- the address that a distance leads to from the address after the instruction
-abbrev pub target_of : (next distance : ℕ) → ℕ
-target_of next distance = (next + (if nat_lt distance 0x80 then distance else distance + 0xFF00)) % 0x10000
 
 -- how far a target is ahead, and the distances that a byte has: 80h to FFh lead back
 abbrev pub distance_ahead : (next target : ℕ) → ℕ
@@ -37,7 +34,7 @@ bytes_of_number (suc count) number = number % 0x100 ∷ bytes_of_number count (n
 
 -- the number that stands in the line for an operand whose bytes have this number: for a distance its target
 abbrev pub number_in_line : Form → (next number : ℕ) → ℕ
-number_in_line form next number = if is_distance form then target_of next number else number
+number_in_line form next number = if is_distance form then branch_target next number else number
 
 -- the number of its bytes for one that stands in the line
 abbrev pub number_in_bytes : Form → (next number : ℕ) → ℕ

@@ -1,10 +1,10 @@
 //! An instruction as its line shows it, and its bytes at an address.
-ghost use Rattle.std.specs.Prelude.{◌≡◌, ◌+◌, ◌<◌, ◌≤◌, ◌^◌, length, drop};
-ghost use Rattle.std.specs.Option.{option_map};
+ghost use Rattle.std.specs.Prelude.{◌≡◌, ◌+◌, ◌<◌, ◌≤◌, length};
 ghost use Rattle.spc700_table.specs.Opcodes.{row_of, is_distance, operand_bytes, length_of};
-ghost use Rattle.spc700_asm.specs.Instructions.{first_place, second_place, target_of, number_at, number_in_line, instruction_in, instruction_at};
+ghost use Rattle.spc700_table.specs.Branches.{branch_target};
+ghost use Rattle.spc700_asm.specs.Instructions.{first_place, second_place, number_at, number_in_line, instruction_in, instruction_at};
 
-use spc700_table::{Form, OpRow, byte_count, is_in_text_order, length, row};
+use spc700_table::{Form, OpRow, branch_target, byte_count, is_in_text_order, length, row};
 
 /// An instruction: its opcode, and the number that stands in the line for each operand: the target of a branch, of a bit of
 /// memory the word of address and bit, and 0 where there is no number.
@@ -22,18 +22,12 @@ pub fn is_distance(form: Form) -> bool
     matches!(form, Form::Rel)
 }
 
-/// The address that a distance leads to.
-pub fn target(next: u32, distance: u8) -> u16
+/// The address that a distance leads to from the address after the instruction, which may be past the last one.
+fn target(next: u32, distance: u8) -> u16
     requires { next ≤ 0x1_0000 }
-    ensures { result ≡ target_of next distance }
+    ensures { result ≡ branch_target next distance }
 {
-    let distance = u32::from(distance);
-    let ahead = if distance < 0x80 {
-        distance
-    } else {
-        distance + 0xff00
-    };
-    ((next + ahead) % 0x1_0000) as u16
+    branch_target((next % 0x1_0000) as u16, distance)
 }
 
 /// The number of some bytes at the front, the low byte first.

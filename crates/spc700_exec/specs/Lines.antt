@@ -1,6 +1,6 @@
 -- The instructions once the opcode was read, one line for each operation: its accesses in their order and its results
 -- (Anomie's SPC700 Doc; the order of the accesses is this project's own).
-use Rattle.std.specs.Prelude.{ℕ, ◌+◌, ◌-◌, ◌/◌, ◌%◌, ◌^◌, Bool, true, false, not, nat_lt, ◌==◌, if◌then◌else◌}
+use Rattle.std.specs.Prelude.{ℕ, ◌+◌, ◌-◌, ◌/◌, ◌%◌, ◌^◌, Bool, true, false, not, ◌==◌}
 use Rattle.spc700_alu.specs.declared.Out8.{Out8}
 use Rattle.spc700_alu.specs.declared.Out16.{Out16}
 use Rattle.spc700_alu.specs.declared.bits.BitKind.{BitKind}
@@ -8,6 +8,7 @@ use Rattle.spc700_alu.specs.Flags.{B, I, with_flag, with_nz, with_nz16}
 use Rattle.spc700_alu.specs.Bytes.{cmp_of}
 use Rattle.spc700_alu.specs.Bits.{bitop_of}
 use Rattle.spc700_table.specs.declared.OpRow.{OpRow}
+use Rattle.spc700_table.specs.Branches.{branch_target}
 use Rattle.spc700_exec.specs.declared.cpu.Cpu.{Cpu}
 use Rattle.spc700_exec.specs.declared.operand.Operand.{Operand}
 use Rattle.spc700_exec.specs.declared.operand.Operand.TheVariants.{A, X, Y, At}
@@ -36,10 +37,6 @@ with_ya out cpu = record cpu { y = out.value / 0x100; a = out.value % 0x100; psw
 -- MUL, DIV
 abbrev pub ya_line : (Cpu → Out16) → OpRow → Cpu → Script
 ya_line change row cpu = done row (with_ya (change cpu) cpu)
-
--- the address that a signed distance leads to
-abbrev pub branch_target : (pc r : ℕ) → ℕ
-branch_target pc r = (pc + (if nat_lt r 0x80 then r else 0xff00 + r)) % 0x10000
 
 -- the end of a branch, taken or not
 abbrev pub branched : Bool → (r : ℕ) → OpRow → Cpu → Script

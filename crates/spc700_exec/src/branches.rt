@@ -2,30 +2,17 @@
 //!
 //! Everything here is inlined into the arm of its opcode, where the row is a constant: no form is told apart there at run time.
 
-ghost use Rattle.std.specs.Prelude.{◌≡◌, ℕ, true};
+ghost use Rattle.std.specs.Prelude.{◌≡◌, true};
 ghost use Rattle.spc700_exec.specs.Script.{End, Cycles};
 ghost use Rattle.spc700_exec.specs.Operations.{flag_is};
-ghost use Rattle.spc700_exec.specs.Lines.{branched, branch_target, branch_line, bit_branch_line, compare_branch_line, count_branch_line};
+ghost use Rattle.spc700_exec.specs.Lines.{branched, branch_line, bit_branch_line, compare_branch_line, count_branch_line};
 ghost use Rattle.spc700_exec.specs.Pieces.{HasRoom, IsRow, IsTime, IsInstruction};
 
 use crate::bus::Bus;
 use crate::cpu::Cpu;
 use crate::operand::{address_both, bit_number, fetch, load, store};
 use spc700_alu::flags::is_set;
-use spc700_table::OpRow;
-
-/// The address that a signed distance leads to.
-#[inline(always)]
-fn target(pc: u16, r: u8) -> u16
-    ensures { result ≡ branch_target pc r }
-{
-    let distance = if r < 0x80 {
-        r as u16
-    } else {
-        0xff00 + r as u16
-    };
-    pc.wrapping_add(distance)
-}
+use spc700_table::{OpRow, branch_target};
 
 /// Takes a branch or not, and gives its cycles.
 #[inline(always)]
@@ -35,7 +22,7 @@ fn branch_if(cpu: &mut Cpu, row: OpRow, taken: bool, r: u8) -> u8
     ensures time { IsTime row result }
 {
     if taken {
-        cpu.pc = target(cpu.pc, r);
+        cpu.pc = branch_target(cpu.pc, r);
         row.taken
     } else {
         row.cycles

@@ -6,3 +6,5 @@ pub mod Mnemonics
 pub mod Opcodes
 -- how the rows differ, and the numbers that they have
 pub mod Laws
+-- where a branch leads
+pub mod Branches

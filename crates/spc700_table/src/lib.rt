@@ -1,6 +1,7 @@
 //! The opcodes of the SPC700: what each does, its operands, its length and its cycles.
 #![tactic(auto)]
 
+mod branches;
 mod laws;
 mod mnemonics;
 mod rows;
@@ -8,6 +9,7 @@ mod rows;
 ghost use Rattle.std.specs.Prelude.{◌≡◌, ◌≤◌};
 ghost use Rattle.spc700_table.specs.Opcodes.{row_of, length_of, operand_bytes, is_in_text_order};
 
+pub use branches::branch_target;
 pub use laws::{bits_and_entries_are_in_range, branches_have_text_order, rows_differ};
 pub use mnemonics::mnemonic;
 use rows::ROWS;

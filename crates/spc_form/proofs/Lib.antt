@@ -1,4 +1,6 @@
--- Texts: what stands before the first byte of a kind. Padding: what is kept of a file. Signatures: where bytes differ from those that are wanted.
+-- Texts: the digits at the front of a text. Padding: what is kept of a file. Signatures: where bytes differ from those that are wanted.
+-- Refusals: an answer that is known, and the refusals that it leaves.
 pub mod Texts
 pub mod Padding
 pub mod Signatures
+pub mod Refusals

@@ -1,7 +1,7 @@
 -- What is kept of a file.
 use Rattle.std.proofs.Common.{◌≡◌, ◌∙◌, ℕ, ◌-◌, List, length, take, None, Result, Ok, Err, IfOk, refl, arith}
 use Rattle.std.proofs.lemmas.List.{append-nil, take_all}
-use Rattle.spc_form.specs.Accepted.{signature, first_difference, padded, padded_to, kept_length, spc_file}
+use Rattle.spc_form.specs.Accepted.{signature, first_difference, padded_bytes, padded_to, kept_length, spc_file}
 
 -- as many bytes as are wanted stay as they are
 padded_to-same : (n : ℕ) (bytes : List ℕ) → length bytes ≡ n → padded_to n bytes ≡ bytes
@@ -9,8 +9,8 @@ padded_to-same n bytes sized =
     let none : n - length bytes ≡ 0 = omega arith in
     rw none (append-nil (take n bytes) ∙ take_all n bytes (omega arith))
 
-pub padded-same : (bytes : List ℕ) → length bytes ≡ kept_length → padded bytes ≡ bytes
-unfolding padded
+pub padded-same : (bytes : List ℕ) → length bytes ≡ kept_length → padded_bytes bytes ≡ bytes
+unfolding padded_bytes
 padded-same bytes sized = padded_to-same kept_length bytes sized
 
 -- a file that was written is read again as itself

@@ -1,17 +1,10 @@
--- What stands before the first byte that passes a test.
-use Rattle.std.proofs.Common.{◌≡◌, ℕ, ◌<◌, List, take, get_or, Bool, true, Some, None, arith}
-use Rattle.std.specs.Prelude.{position}
-use Rattle.std.specs.List.{before_first, prefix_len, All}
+-- The digits at the front of a text.
+use Rattle.std.proofs.Common.{◌≡◌, ℕ, ◌<◌, List, take, get_or, true, arith}
+use Rattle.std.specs.List.{prefix_len, All}
 use Rattle.std.specs.Char.{IsAsciiDigit, is_ascii_digit}
 use Rattle.std.proofs.lemmas.List.{length-take, get_or-take}
 use Rattle.std.proofs.lemmas.List.Sums.{prefix_len_passes}
 use Rattle.std.proofs.lemmas.Grind.{common_steps}
-
-pub before_first-at : (p : ℕ → Bool) (xs : List ℕ) (place : ℕ) → position p xs ≡ Some place → take place xs ≡ before_first p xs
-before_first-at p xs place is = grind (arith, common_steps)
-
-pub before_first-none : (p : ℕ → Bool) (xs : List ℕ) → position p xs ≡ None → xs ≡ before_first p xs
-before_first-none p xs is = grind (arith, common_steps)
 
 is_digit : (c : ℕ) → is_ascii_digit c ≡ true → IsAsciiDigit c
 is_digit c passes = grind (arith, common_steps)

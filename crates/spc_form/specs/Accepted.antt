@@ -34,12 +34,12 @@ abbrev pub padded_to : (n : ℕ) → List ℕ → List ℕ
 padded_to n bytes = take n bytes ++ replicate (n - length bytes) 0
 
 -- what is kept of a file
-unfoldable pub padded : List ℕ → List ℕ
-padded bytes = padded_to kept_length bytes
+unfoldable pub padded_bytes : List ℕ → List ℕ
+padded_bytes bytes = padded_to kept_length bytes
 
 -- the file of bytes, by the first place at which they differ from the signature
 abbrev pub signed_file : (bytes : List ℕ) → Option ℕ → Result (List ℕ) SpcRefusal
-signed_file bytes None = Ok (padded bytes)
+signed_file bytes None = Ok (padded_bytes bytes)
 signed_file bytes (Some at) = Err (Signature at)
 
 -- what bytes are, read as an SPC file: what is kept of it, or why they are none

@@ -57,7 +57,7 @@ fn padded_to(alloc: Global, bytes: &[u8], size: usize) -> Result<Vec<u8>, OutOfM
 
 /// Reads a file (SPC file format text v0.30). Nothing but its length and its signature is looked at: the version may be any.
 /// Bytes missing before 66,048 count as 0, and bytes from there on are dropped. No memory is taken for bytes that are refused.
-#[tactic(auto, unfolding(crate::specs::Accepted::spc_file, crate::specs::Accepted::padded))]
+#[tactic(auto, unfolding(crate::specs::Accepted::spc_file, crate::specs::Accepted::padded_bytes))]
 pub fn read_spc(alloc: Global, bytes: &[u8]) -> Result<SpcFile, SpcRefusal>
     ensures file { IfOk result (λ file. spc_file bytes.now ≡ Ok file) }
     ensures refused { IfErr (spc_file bytes.now) (λ refusal. result ≡ Err refusal) }

@@ -1,5 +1,5 @@
 // Tags, and the length that they give.
-ghost use Rattle.std.specs.Prelude.{◌≡◌, ◌+◌, ◌*◌, ◌-◌, ◌^◌, ◌<◌, ◌≤◌, ◌==◌, All, position, length, slice_range, IfSome};
+ghost use Rattle.std.specs.Prelude.{◌≡◌, ◌+◌, ◌*◌, ◌-◌, ◌^◌, ◌<◌, ◌≤◌, ◌==◌, All, length, slice_range, IfSome};
 ghost use Rattle.std.specs.List.{before_first, list_all, prefix_len};
 ghost use Rattle.std.specs.Option.{ForSome};
 ghost use Rattle.std.specs.Char.{IsAsciiDigit, is_ascii_digit};
@@ -8,6 +8,7 @@ ghost use Rattle.spc_form.specs.Tags.{most_told_frames, field_start, field_size,
 use crate::SpcFile;
 use crate::parts::part;
 use number_text::decimal_value;
+use text_parts::place_of;
 
 /// The tags of a file.
 #[derive(Clone, Copy, Debug, PartialEq, Eq)]
@@ -62,20 +63,12 @@ fn field_size(tag: Tag) -> usize
     }
 }
 
-/// The place of the first zero byte.
-fn zero_place(field: &[u8]) -> Option<usize>
-    ensures place { result ≡ position (λ byte. byte == 0) field.now }
-    ensures inside { IfSome result (λ place. place < length field.now) }
-{
-    field.iter().position(|byte| *byte == 0)
-}
-
 /// What stands before the first zero byte.
 fn before_zero(field: &[u8]) -> &[u8]
     ensures text { result.now ≡ before_first (λ byte. byte == 0) field.now }
     ensures len { length result.now ≤ length field.now }
 {
-    match zero_place(field) {
+    match place_of(0, field) {
         Some(end) => &field[..end],
         None => field,
     }

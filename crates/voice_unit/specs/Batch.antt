@@ -1,8 +1,8 @@
 -- A voice over a batch of samples. A row is told by the sample's place in the batch, from 0 on.
-use Rattle.std.specs.Prelude.{ℕ, zero, suc, List, ℤ, false, ◌&&◌, nat_lt, get_or, slice_index}
+use Rattle.std.specs.Prelude.{ℕ, zero, suc, List, ℤ, false, get_or, slice_index}
 use Rattle.num_fix.specs.Arithmetic.{has_bit}
 use Rattle.num_fix.specs.Words.{number_at}
-use Rattle.voice_unit.specs.Voice.{VoiceState, voice_step, voice_answer}
+use Rattle.voice_unit.specs.Voice.{VoiceState, is_modulated, voice_step, voice_answer}
 use Rattle.voice_unit.specs.declared.interface.VoiceRegs.{VoiceRegs}
 use Rattle.voice_unit.specs.declared.interface.VoiceIn.{VoiceIn}
 use Rattle.voice_unit.specs.declared.interface.VoiceOut.{VoiceOut}
@@ -13,7 +13,7 @@ use Rattle.voice_unit.specs.declared.batch.BatchLane.{BatchLane}
 unfoldable pub lane_input : BatchLane → BatchRows → (previous : ℤ) → (j : ℕ) → VoiceIn
 lane_input lane rows previous j = record {
   dir = lane.dir;
-  modulated = nat_lt 0 lane.voice && has_bit lane.pmon lane.voice;
+  modulated = is_modulated lane.pmon lane.voice;
   previous = previous;
   noisy = has_bit lane.non lane.voice;
   noise = slice_index rows.noise j;

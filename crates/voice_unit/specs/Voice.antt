@@ -1,6 +1,6 @@
 -- One step of a voice, as a sequence of changes: each as in Anomie's S-DSP Doc, in an order of this project's own.
 use Rattle.std.specs.Prelude.{ℕ, ◌+◌, ◌-◌, ◌*◌, ◌/◌, ◌%◌, Bool, ◌&&◌, ◌||◌, not, ◌==◌, nat_le, nat_lt, min, List, drop, replicate, ℤ, pos, ◌+ℤ◌, unsigned_abs, if◌then◌else◌}
-use Rattle.num_fix.specs.Arithmetic.{floor_shift, scaled, wrap16, clear_bit0, high_byte}
+use Rattle.num_fix.specs.Arithmetic.{floor_shift, scaled, wrap16, clear_bit0, high_byte, has_bit}
 use Rattle.num_fix.specs.Words.{number_at}
 use Rattle.aram_core.specs.Memory.{byte_at}
 use Rattle.brr_decode.specs.Header.{has_end, has_loop, next_block}
@@ -37,6 +37,10 @@ silent_voice = record {
   delay = 0;
   envelope = record { mode = Release; level = 0; hidden = pos 0 };
 }
+
+-- a voice is modulated by the one before it where its PMON bit is set; voice 0 never is
+abbrev pub is_modulated : (pmon voice : ℕ) → Bool
+is_modulated pmon voice = nat_lt 0 voice && has_bit pmon voice
 
 -- The pitch of the registers, changed by the output of the voice before where it is modulated.
 -- The sum is never negative, as the output's 1024ths of the pitch are at least the pitch's negative; so its absolute value is itself.

@@ -3,7 +3,7 @@
 ghost use Rattle.std.specs.Prelude.{◌≡◌, ◌<◌, slice_index};
 ghost use Rattle.voice_unit.specs.Batch.{lane_input};
 
-use crate::interface::VoiceIn;
+use crate::interface::{VoiceIn, is_modulated};
 use num_fix::has_bit;
 
 /// What all voices read in each sample of a batch beside the registers.
@@ -46,7 +46,7 @@ impl BatchLane {
         let place = usize::from(j);
         VoiceIn {
             dir: self.dir,
-            modulated: self.voice > 0 && has_bit(self.pmon, self.voice),
+            modulated: is_modulated(self.pmon, self.voice),
             previous,
             noisy: has_bit(self.non, self.voice),
             noise: rows.noise[place],

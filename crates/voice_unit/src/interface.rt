@@ -1,7 +1,9 @@
 //! What a step of a voice reads beside the memory and the table, and what it gives.
 
-ghost use Rattle.std.specs.Prelude.{◌≡◌};
-ghost use Rattle.voice_unit.specs.Voice.{is_keyed};
+ghost use Rattle.std.specs.Prelude.{◌≡◌, ◌<◌};
+ghost use Rattle.voice_unit.specs.Voice.{is_keyed, is_modulated};
+
+use num_fix::has_bit;
 
 /// The registers of one voice that its step reads (Anomie's S-DSP Doc, "DSP Voices").
 #[derive(Clone, Copy, Debug)]
@@ -64,6 +66,14 @@ pub const UNHEARD: VoiceOut = VoiceOut {
     looped: false,
     keyed: false,
 };
+
+/// Whether a voice is modulated by the one before it, by its bit of PMON.
+pub fn is_modulated(pmon: u8, voice: u8) -> bool
+    requires { voice < 8 }
+    ensures { result ≡ is_modulated pmon voice }
+{
+    voice > 0 && has_bit(pmon, voice)
+}
 
 /// Whether a voice is keyed in a step.
 pub(crate) fn is_keyed(input: &VoiceIn) -> bool

@@ -19,7 +19,7 @@ mod workroom;
 
 pub use batch::{BatchLane, BatchRows};
 pub use directory::{entry_address, loop_word, start_word};
-pub use interface::{UNHEARD, VoiceIn, VoiceOut, VoiceRegs};
+pub use interface::{UNHEARD, VoiceIn, VoiceOut, VoiceRegs, is_modulated};
 pub use laws::kept_rows;
 pub use run::OutRow;
 pub use voice::Voice;

@@ -14,6 +14,7 @@ use crate::interface::{VoiceIn, VoiceOut, VoiceRegs, is_keyed};
 use crate::level::{high_byte, pitch_of};
 use crate::voice::Voice;
 use aram_core::Aram;
+use brr_decode::{has_end, has_loop};
 use brr_decode::GroupMemory;
 use envelope::{Envelope, Mode};
 use gauss_table::GaussTable;
@@ -42,7 +43,7 @@ struct GoneOn {
 pub(crate) fn is_silencing(reset: bool, header: u8) -> bool
     ensures { result ≡ is_silencing reset header }
 {
-    reset || header & 3 == 1
+    reset || has_end(header) && !has_loop(header)
 }
 
 /// Whether an envelope is released at level 0.

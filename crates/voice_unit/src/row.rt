@@ -6,7 +6,7 @@ ghost use Rattle.brr_decode.specs.Kept.{with_group};
 ghost use Rattle.voice_unit.specs.Row.{next_place, is_end};
 
 use aram_core::Aram;
-use brr_decode::GroupMemory;
+use brr_decode::{GroupMemory, has_end};
 
 /// Where a group stands.
 #[derive(Clone, Copy, Debug)]
@@ -52,7 +52,7 @@ pub(crate) fn read_group(
 pub(crate) fn is_end(at: &Place, memory: &Aram) -> bool
     ensures { result ≡ is_end memory.now at.now }
 {
-    at.offset == 7 && memory.get(at.block) % 2 == 1
+    at.offset == 7 && has_end(memory.get(at.block))
 }
 
 /// The group that follows.
@@ -70,7 +70,7 @@ pub(crate) fn next_place(at: Place, loop_to: u16, memory: &Aram) -> Place
         };
     }
     let header = memory.get(at.block);
-    let block = if header % 2 == 1 {
+    let block = if has_end(header) {
         loop_to
     } else {
         at.block.wrapping_add(9)

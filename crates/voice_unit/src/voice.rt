@@ -13,7 +13,7 @@ use crate::interface::{VoiceIn, VoiceOut, VoiceRegs, is_keyed};
 use crate::level::{at_level, high_byte, pitch_of};
 use crate::row::Place;
 use aram_core::Aram;
-use brr_decode::{GroupMemory, decode_group};
+use brr_decode::{GroupMemory, decode_group, has_end};
 use envelope::Envelope;
 use gauss_table::GaussTable;
 use num_fix::{clear_bit0, wrap16};
@@ -300,7 +300,7 @@ impl Voice {
             return;
         }
         self.offset = 1;
-        if header % 2 == 1 {
+        if has_end(header) {
             self.block = loop_word(dir, srcn, memory);
         } else {
             self.block = self.block.wrapping_add(9);
@@ -318,7 +318,7 @@ impl Voice {
         if !self.needs_group() {
             return false;
         }
-        let looped = self.offset == LAST_GROUP && header % 2 == 1;
+        let looped = self.offset == LAST_GROUP && has_end(header);
         self.decode(memory, header);
         self.go_to_next_group(header, input.dir, regs.srcn, memory);
         looped
@@ -340,7 +340,7 @@ impl Voice {
         ensures voice { self.new ≡ after_reading self.old memory.now header (loop_word dir srcn memory.now) }
         ensures looped { result ≡ is_looped self.old header }
     {
-        let looped = self.offset == LAST_GROUP && header % 2 == 1;
+        let looped = self.offset == LAST_GROUP && has_end(header);
         self.recall(memory, header, groups);
         self.go_to_next_group(header, dir, srcn, memory);
         looped

@@ -2,7 +2,7 @@ use Rattle.std.proofs.Common.{rules, ◌≡◌, ◌+◌, ◌++◌, [], ◌∷◌
 use Rattle.std.proofs.lemmas.List.{append-nil}
 use Rattle.std.proofs.Math.Seq.{take-suc}
 use Rattle.num_fix.specs.declared.Frame.{Frame}
-use Rattle.echo_unit.specs.EchoOverBatch.{EchoRun}
+use Rattle.echo_unit.specs.EchoOverBatch.{EchoOver}
 use Rattle.batch_rows.proofs.echoes.play_echo.Goals as goal
 
 pub loop-j-init : goal.loop-j-init
@@ -20,13 +20,13 @@ loop-j-preserved c =
     }
 
 pub returns-clause-echo : goal.returns-clause-echo
-returns-clause-echo c = sym (ap (λ (run : EchoRun). run.echo) c.play-row.ensures.run)
+returns-clause-echo c = sym (ap (λ (run : EchoOver). run.echo) c.play-row.ensures.run)
 
 pub returns-clause-memory : goal.returns-clause-memory
-returns-clause-memory c = sym (ap (λ (run : EchoRun). run.memory) c.play-row.ensures.run)
+returns-clause-memory c = sym (ap (λ (run : EchoOver). run.memory) c.play-row.ensures.run)
 
 pub returns-clause-frames : goal.returns-clause-frames
 returns-clause-frames c =
     let end : c.loop-j.j ≡ c.args.n = omega arith in
     let all : c.loop-j.frames ≡ c.args.frames.now ++ take c.args.n c.play-row.result = rw end at c.loop-j.invariant.frames in
-    all ∙ ap (λ (frames : List Frame). c.args.frames.now ++ frames) (sym (ap (λ (run : EchoRun). run.frames) c.play-row.ensures.run))
+    all ∙ ap (λ (frames : List Frame). c.args.frames.now ++ frames) (sym (ap (λ (run : EchoOver). run.frames) c.play-row.ensures.run))

@@ -1,7 +1,7 @@
 use Rattle.std.proofs.Common.{rules, ◌≡◌, ◌+◌, ◌<◌, refl, ap, sym, ◌∙◌, arith}
 use Rattle.std.proofs.lemmas.List.{length-set}
 use Rattle.dsp_form.specs.declared.state.ChipState.{ChipState}
-use Rattle.batch_rows.specs.Apart.{polled}
+use Rattle.dsp_form.specs.Sample.{before_voices}
 use Rattle.batch_rows.specs.Rows.{keys_after}
 use Rattle.batch_rows.proofs.KeyRows.{keys_after-none, keys_after-more, no_rows, one_more_row_of_keys, below_bound}
 use Rattle.batch_rows.proofs.keys.step_keys_each.Goals as goal
@@ -23,8 +23,8 @@ loop-j-preserved c =
     let j = c.loop-j.j in
     let place : c.from-place.result ≡ j = c.from-place.ensures in
     let from : c.from.result ≡ j = c.from.ensures in
-    let now : c.step_keys_once.new.state ≡ polled (keys_after c.args.number c.args.state.now j) (c.args.number + j) =
-    rw from at c.step_keys_once.ensures.state ∙ ap (λ (s : ChipState). polled s (c.args.number + j)) c.loop-j.invariant.state in
+    let now : c.step_keys_once.new.state ≡ before_voices (keys_after c.args.number c.args.state.now j) (c.args.number + j) =
+    rw from at c.step_keys_once.ensures.state ∙ ap (λ (s : ChipState). before_voices s (c.args.number + j)) c.loop-j.invariant.state in
     let noise : c.value.result ≡ c.step_keys_once.new.state.hidden.noise = c.value.ensures.value in
     let within : j < 64 = omega (arith, c.requires.few) in
     let taken : c.taken_keys.result ≡ c.step_keys_once.new.state.hidden.taken = c.taken_keys.ensures in

@@ -1,7 +1,8 @@
 use Rattle.std.proofs.Common.{rules, ◌≡◌, ◌<◌, ℕ, pos, replicate, length, sym, ◌∙◌, arith}
 use Rattle.std.proofs.lemmas.List.{length-set, get_or-replicate}
 use Rattle.batch_rows.specs.Rows.{inputs}
-use Rattle.batch_rows.proofs.Remains.{none_played, all_played, voices_more, last_more, loops_more, sum_more}
+use Rattle.batch_rows.proofs.VoiceMore.{voices_more}
+use Rattle.batch_rows.proofs.Remains.{none_played, all_played, last_more, loops_more, sum_more}
 use Rattle.batch_rows.proofs.playing.play_voices.Goals as goal
 
 pub loop-v-init : goal.loop-v-init
@@ -33,8 +34,8 @@ loop-v-preserved c =
           let played = rw place at (c.play_voice-answer.ensures.played k s registers table are counts) in
           let shared = inputs k s c.args.memory.now in
           rw place record {
-            voices_are = voices_more shared c.args.n c.args.volumes.now c.args.voices.now v c.loop-v.previous c.loop-v.voices within _ c.play_voice-answer.new.voice c.play_voice-answer.new.row
-                c.loop-v.loops c.play_voice-answer.new.loops c.play_voice-answer.result played before.voices_are;
+            voices_are = voices_more shared c.args.n v c.loop-v.previous c.loop-v.voices within _ c.play_voice-answer.new.voice c.play_voice-answer.new.row played.row_is
+                c.args.voices.now played.voice before.voices_are;
             last_is = last_more shared c.args.n c.args.volumes.now c.args.voices.now v c.loop-v.previous c.loop-v.voices within _ c.play_voice-answer.new.voice c.play_voice-answer.new.row
                 c.loop-v.loops c.play_voice-answer.new.loops c.play_voice-answer.result played c.loop-v.answers within_answers c.requires.some before.last_is;
             loops_are = λ j few. loops_more shared c.args.n c.args.volumes.now c.args.voices.now v c.loop-v.previous c.loop-v.voices within _ c.play_voice-answer.new.voice c.play_voice-answer.new.row

@@ -3,7 +3,7 @@ use Rattle.std.proofs.lemmas.List.{append-nil}
 use Rattle.std.proofs.lemmas.Bool.Decides.{nat_tests}
 use Rattle.std.proofs.lemmas.List.Elements.{All-nil}
 use Rattle.brr_encode.specs.Report.{IsWithin}
-use Rattle.brr_encode.specs.Encoding.{padded, encoding, blocks_of}
+use Rattle.brr_encode.specs.Encoding.{padded_samples, encoding, blocks_of}
 use Rattle.brr_encode.specs.EncoderParts.{block_reports, all_reports}
 use Rattle.brr_encode.proofs.Streams.{blocks_next, reports_next, reports_are_true}
 use Rattle.brr_encode.proofs.encoder.encode.Goals as goal
@@ -15,7 +15,7 @@ no_block_left n whole = grind (arith, nat_tests, whole)
 pub each-init : goal.each-init
 unfolding encoding
 each-init c =
-    let targets : c.as_slice-rest.result.now ≡ padded c.args.samples.now = search rules in
+    let targets : c.as_slice-rest.result.now ≡ padded_samples c.args.samples.now = search rules in
     record {
       bytes = rw (targets, c.start-coder.ensures, c.in_ok-bytes.ensures.items) refl;
       reports = rw (targets, c.start-coder.ensures, c.in_ok-reports.ensures.items) refl;

@@ -1,4 +1,4 @@
-use Rattle.std.proofs.Common.{◌≡◌, ◌<◌, ◌^◌, ℤ, FitsSigned, unsigned_abs, arith, rules}
+use Rattle.std.proofs.Common.{◌≡◌, ◌<◌, ◌^◌, FitsSigned, unsigned_abs, arith, rules}
 use Rattle.std.specs.Int.{w16}
 use Rattle.command_check.proofs.CheckSums.{side_added}
 use Rattle.command_check.proofs.sums.sums_with.Goals as goal

@@ -1,4 +1,4 @@
-use Rattle.std.proofs.Common.{◌+◌, List, ℕ, subst}
+use Rattle.std.proofs.Common.{List, ℕ, subst}
 use Rattle.snd_host.specs.Host.{Files}
 use Rattle.command_frame.specs.Conduct.{Plans}
 use Rattle.command_frame.specs.Plan.{plan_makes}

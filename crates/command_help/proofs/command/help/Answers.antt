@@ -1,3 +1,4 @@
+use Rattle.std.proofs.Common.{rules}
 use Rattle.command_frame.specs.Plan.{plan_makes}
 use Rattle.command_help.specs.Help.{help_answer}
 use Rattle.command_frame.proofs.Unread.{attempts_unread}
@@ -6,4 +7,4 @@ use Rattle.command_help.proofs.command.help.Goals as goal
 pub returns-clause-attempts : goal.returns-clause-attempts
 returns-clause-attempts g c =
     attempts_unread plan_makes help_answer (g.H.Host.state c.args.host.now) (g.H.Host.state c.carry_out.new.host)
-    c.plan-prepared.result c.carry_out.result c.plan-prepared.ensures c.carry_out.ensures
+    c.plan-prepared.result c.carry_out.result _ c.plan-prepared.ensures c.carry_out.ensures (search rules)

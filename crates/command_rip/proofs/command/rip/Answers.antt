@@ -1,11 +1,11 @@
-use Rattle.std.proofs.Common.{Some, Err}
+use Rattle.std.proofs.Common.{Some, Err, rules, refl}
 use Rattle.snd_host.specs.Host.{Files}
 use Rattle.command_frame.specs.Listed.{list_makes}
 use Rattle.command_frame.specs.declared.refusals.Refusal.TheVariants.{OutOfMemory}
 use Rattle.command_frame.proofs.Obeying.{attempts, attempts_no_usage}
 use Rattle.input_files.specs.Inputs.{file_in}
 use Rattle.input_files.proofs.Readings.{reads_declined, reads_plan}
-use Rattle.command_rip.specs.Source.{to_come_of}
+use Rattle.command_rip.specs.Pieces.{to_come_of}
 use Rattle.command_rip.specs.Rip.{file_answer, rip_answer}
 use Rattle.command_rip.proofs.Planless.{not_carried, plans_nothing}
 use Rattle.command_rip.proofs.command.rip.Goals as goal
@@ -22,22 +22,22 @@ pub returns-in_default-clause-attempts : goal.returns-in_default-clause-attempts
 returns-in_default-clause-attempts g c =
     let x = g.H.Host.state c.args.host.now in
     let y = g.H.Host.state c.read_file.new.host in
-    attempts (list_makes to_come_of) (λ (files : Files). rip_answer c.args.prefix.now c.args.range (files c.args.input.now)) x y y (Err OutOfMemory) (Some OutOfMemory)
+    attempts (list_makes to_come_of) (λ (files : Files). rip_answer c.args.prefix.now c.args.range (files c.args.input.now)) x y y (Err OutOfMemory) (Some OutOfMemory) _
     (reads_plan (list_makes to_come_of) (λ (files : Files). file_in (files c.args.input.now)) (file_answer c.args.prefix.now c.args.range) x y c.in-Ok.file (Err OutOfMemory) c.in-Ok.ensures (plans_nothing (file_answer c.args.prefix.now c.args.range c.in-Ok.file)))
-    (not_carried OutOfMemory y)
+    (not_carried OutOfMemory y) refl
 
 pub returns-clause-attempts : goal.returns-clause-attempts
 returns-clause-attempts g c =
     let x = g.H.Host.state c.args.host.now in
     let y = g.H.Host.state c.read_file.new.host in
-    attempts (list_makes to_come_of) (λ (files : Files). rip_answer c.args.prefix.now c.args.range (files c.args.input.now)) x y (g.H.Host.state c.carry_all.new.host) c.plan_file-planned.result c.carry_all.result
+    attempts (list_makes to_come_of) (λ (files : Files). rip_answer c.args.prefix.now c.args.range (files c.args.input.now)) x y (g.H.Host.state c.carry_all.new.host) c.plan_file-planned.result c.carry_all.result _
     (reads_plan (list_makes to_come_of) (λ (files : Files). file_in (files c.args.input.now)) (file_answer c.args.prefix.now c.args.range) x y c.in-Ok.file c.plan_file-planned.result c.in-Ok.ensures c.plan_file-planned.ensures.plans)
-    c.carry_all.ensures
+    c.carry_all.ensures (search rules)
 
 pub returns-clause-not_usage : goal.returns-clause-not_usage
 returns-clause-not_usage g c =
     let x = g.H.Host.state c.args.host.now in
     let y = g.H.Host.state c.read_file.new.host in
-    attempts_no_usage (list_makes to_come_of) (λ (files : Files). rip_answer c.args.prefix.now c.args.range (files c.args.input.now)) x y (g.H.Host.state c.carry_all.new.host) c.plan_file-planned.result c.carry_all.result
+    attempts_no_usage (list_makes to_come_of) (λ (files : Files). rip_answer c.args.prefix.now c.args.range (files c.args.input.now)) x y (g.H.Host.state c.carry_all.new.host) c.plan_file-planned.result c.carry_all.result _
     (reads_plan (list_makes to_come_of) (λ (files : Files). file_in (files c.args.input.now)) (file_answer c.args.prefix.now c.args.range) x y c.in-Ok.file c.plan_file-planned.result c.in-Ok.ensures c.plan_file-planned.ensures.plans)
-    c.carry_all.ensures
+    c.carry_all.ensures (search rules)

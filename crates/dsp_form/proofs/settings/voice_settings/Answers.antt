@@ -1,10 +1,8 @@
-use Rattle.std.proofs.Common.{◌≡◌, ◌<◌, ◌&&◌, Bool, nat_lt, slice_index, subst, rules}
+use Rattle.std.proofs.Common.{◌≡◌, ◌<◌, Bool, subst}
 use Rattle.std.proofs.Math.Bridge.{le_prop}
-use Rattle.num_fix.specs.Arithmetic.{has_bit}
 use Rattle.voice_unit.specs.declared.interface.VoiceRegs.{VoiceRegs}
 use Rattle.dsp_form.specs.Registers.{voice_regs}
 use Rattle.dsp_form.specs.Settings.{voice_settings}
-use Rattle.dsp_form.specs.declared.registers.TheConstants.{PMON}
 use Rattle.dsp_form.specs.declared.voice_settings.VoiceSettings.{VoiceSettings}
 use Rattle.dsp_form.proofs.settings.voice_settings.Goals as goal
 
@@ -23,6 +21,4 @@ same_settings r s a b c d e f p q regs modulated noisy koff =
 
 pub returns : goal.returns
 unfolding voice_settings voice_regs
-returns c =
-    let modulated : c.if-v-gt0.result ≡ (nat_lt 0 c.args.v && has_bit (slice_index c.args.registers.now PMON) c.args.v) = search rules in
-    same_settings _ _ _ _ _ _ _ _ _ _ c.voice_regs.ensures.value modulated c.has_bit-2.ensures c.has_bit-3.ensures
+returns c = same_settings _ _ _ _ _ _ _ _ _ _ c.voice_regs.ensures.value c.is_modulated.ensures c.has_bit.ensures c.has_bit-2.ensures

@@ -1,6 +1,7 @@
 use Rattle.std.proofs.Common.{◌≡◌, ◌∙◌, sym}
+use Rattle.spc_form.proofs.Refusals.{never_refused}
 use Rattle.sample_rip.specs.Rip.{rip_samples}
-use Rattle.sample_rip.proofs.Sizes.{rip_is_encodable, never_refused, report_is}
+use Rattle.sample_rip.proofs.Sizes.{rip_is_encodable, report_is}
 use Rattle.sample_rip.proofs.reencoding.reencode.Goals as goal
 
 pub returns-in-Ok : goal.returns-in-Ok
@@ -13,7 +14,7 @@ pub unreachable-requires : goal.unreachable-requires
 unreachable-requires c =
     let samples : c.deref.result.now ≡ rip_samples c.args.memory.now c.args.found.now = c.deref.ensures.value ∙ c.in_ok-samples.ensures in
     let read = (rw (sym samples) at (rip_is_encodable c.args.memory.now c.args.found.now c.is_looped.result c.requires.some c.requires.few)) in
-    let memory = never_refused _ _ c.in-Err-Empty.field-0 read (rw c.in-Err-Empty.is at c.encode.ensures.causes) in
+    let memory = never_refused _ _ c.in-Err-Empty.field-0 _ read (rw c.in-Err-Empty.is at c.encode.ensures.causes) in
     let empty = c.in-Err-Empty.field-0-is in
     absurd (cc)
 
@@ -21,6 +22,6 @@ pub unreachable-requires-in-Err-TooLong : goal.unreachable-requires-in-Err-TooLo
 unreachable-requires-in-Err-TooLong c =
     let samples : c.deref.result.now ≡ rip_samples c.args.memory.now c.args.found.now = c.deref.ensures.value ∙ c.in_ok-samples.ensures in
     let read = (rw (sym samples) at (rip_is_encodable c.args.memory.now c.args.found.now c.is_looped.result c.requires.some c.requires.few)) in
-    let memory = never_refused _ _ c.in-Err-TooLong.field-0 read (rw c.in-Err-TooLong.is at c.encode.ensures.causes) in
+    let memory = never_refused _ _ c.in-Err-TooLong.field-0 _ read (rw c.in-Err-TooLong.is at c.encode.ensures.causes) in
     let too_long = c.in-Err-TooLong.field-0-is in
     absurd (cc)

@@ -1,5 +1,5 @@
 use Rattle.std.proofs.Common.{◌≤◌, ◌∙◌, sym, length, arith, lit≤}
-use Rattle.spc_form.specs.Accepted.{signature}
+use Rattle.spc_form.specs.Accepted.{kept_length, signature}
 use Rattle.spc_form.proofs.Signatures.{first_difference-padded_to}
 use Rattle.spc_form.proofs.reading.read_spc.Goals as goal
 
@@ -7,5 +7,5 @@ pub invariant_of-result : goal.invariant_of-result
 invariant_of-result c =
     let long : 27 ≤ length c.args.bytes.now = omega arith in (
       c.in_ok-bytes.ensures.len,
-      rw c.in_ok-bytes.ensures.bytes (first_difference-padded_to 66048 signature c.args.bytes.now (lit≤ tt) long ∙ sym c.in_default.ensures),
+      rw c.in_ok-bytes.ensures.bytes (first_difference-padded_to kept_length signature c.args.bytes.now (lit≤ tt) long ∙ sym c.in_default.ensures),
     )

@@ -5,7 +5,7 @@ use Rattle.wav_form.specs.Wave.{sample_bytes}
 use Rattle.sample_rip.specs.Walk.{WalkState, samples_ahead}
 use Rattle.command_frame.specs.Stream.{Both}
 
-pub record SourceState : Type 0 where
+pub record PiecesState : Type 0 where
   pub memory : List ℕ
   pub walk : WalkState
   -- the bytes of the block that was decoded last, and whether none is left
@@ -17,12 +17,12 @@ abbrev pub wave_bytes : List ℤ → List ℕ
 wave_bytes samples = flat_map sample_bytes samples
 
 -- the piece that was made last, for the only output
-abbrev pub held_of : SourceState → Both
+abbrev pub held_of : PiecesState → Both
 held_of source = record { first = if source.is_done then [] else source.piece; second = [] }
 
-abbrev pub to_come_of : SourceState → Both
+abbrev pub to_come_of : PiecesState → Both
 to_come_of source = record { first = wave_bytes (samples_ahead source.memory source.walk); second = [] }
 
 -- the blocks that are left
-abbrev pub work_of : SourceState → ℕ
+abbrev pub work_of : PiecesState → ℕ
 work_of source = source.walk.blocks - source.walk.passed

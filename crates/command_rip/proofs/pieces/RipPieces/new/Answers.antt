@@ -3,8 +3,8 @@ use Rattle.wav_form.specs.Wave.{header_of}
 use Rattle.sample_rip.specs.Rip.{rip_samples}
 use Rattle.sample_rip.specs.Walk.{WalkState, samples_ahead}
 use Rattle.sample_rip.proofs.Sizes.{length-rip_samples}
-use Rattle.command_rip.specs.Source.{wave_bytes}
-use Rattle.command_rip.proofs.source.RipSource.new.Goals as goal
+use Rattle.command_rip.specs.Pieces.{wave_bytes}
+use Rattle.command_rip.proofs.pieces.RipPieces.new.Goals as goal
 
 pub returns : goal.returns
 unfolding rip_samples

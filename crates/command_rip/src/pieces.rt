@@ -4,7 +4,7 @@ ghost use Rattle.wav_form.specs.Wave.{sample_bytes, header_of, mono_wave};
 ghost use Rattle.brr_encode.specs.Encoding.{most_blocks};
 ghost use Rattle.sample_rip.specs.Rip.{rip_samples};
 ghost use Rattle.sample_rip.specs.Walk.{samples_ahead};
-ghost use Rattle.command_rip.specs.Source.{wave_bytes, held_of, to_come_of, work_of};
+ghost use Rattle.command_rip.specs.Pieces.{wave_bytes, held_of, to_come_of, work_of};
 
 use aram_core::Aram;
 use byteorder::{ByteOrder, LittleEndian};
@@ -17,18 +17,18 @@ const BLOCK_BYTES: usize = 32;
 
 /// The samples of a rip, which are decoded block by block from the memory that it stands in.
 #[derive(Drop)]
-pub struct RipSource<'a> {
+pub struct RipPieces<'a> {
     memory: &'a Aram,
     walk: RipWalk,
     piece: [u8; BLOCK_BYTES],
     is_done: bool,
 }
 
-impl<'a> Model for RipSource<'a> {
+impl<'a> Model for RipPieces<'a> {
     ghost use Rattle.sample_rip.specs.Walk.{IsWalkOver};
-    ghost use Rattle.command_rip.specs.Source.{SourceState};
+    ghost use Rattle.command_rip.specs.Pieces.{PiecesState};
 
-    ghost Value = { SourceState };
+    ghost Value = { PiecesState };
 
     ghost view = { λ s. record { memory = s.memory.now; walk = s.walk; piece = s.piece; is_done = s.is_done } };
 
@@ -44,13 +44,13 @@ fn wave_bytes(block: [i16; 16]) -> [u8; BLOCK_BYTES]
     bytes
 }
 
-impl<'a> RipSource<'a> {
+impl<'a> RipPieces<'a> {
     /// A source of all samples of a rip.
-    pub fn new(memory: &'a Aram, found: &RipFound) -> RipSource<'a>
+    pub fn new(memory: &'a Aram, found: &RipFound) -> RipPieces<'a>
         requires { found.now.blocks ≤ most_blocks }
         ensures { header_of 1 (16 * found.now.blocks) ++ (to_come_of result).first ≡ mono_wave (rip_samples memory.now found.now) }
     {
-        RipSource {
+        RipPieces {
             memory,
             walk: RipWalk::new(found),
             piece: [0; BLOCK_BYTES],
@@ -59,7 +59,7 @@ impl<'a> RipSource<'a> {
     }
 }
 
-impl Pieces for RipSource<'_> {
+impl Pieces for RipPieces<'_> {
     ghost held = { held_of };
 
     ghost to_come = { to_come_of };
