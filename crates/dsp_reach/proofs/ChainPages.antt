@@ -1,5 +1,5 @@
 -- What a voice on its chains reads lies on the pages of its entry of the directory and of its chains.
-use Rattle.std.proofs.Common.{◌≡◌, ◌≢◌, ℕ, zero, suc, ◌+◌, ◌/◌, ◌%◌, ◌<◌, ◌≤◌, List, [], ◌∷◌, ◌++◌, length, flat_map, get_or, true, false, ◌==◌, eq-eqb, if◌then◌else◌, inl, inr, refl, ap, sym, ◌∙◌, arith, rules, get_or-set_other}
+use Rattle.std.proofs.Common.{◌≡◌, ◌≢◌, ℕ, zero, suc, ◌+◌, ◌/◌, ◌%◌, ◌<◌, ◌≤◌, List, [], ◌∷◌, ◌++◌, length, flat_map, get_or, true, false, ◌==◌, eq-eqb, if◌then◌else◌, inl, inr, refl, ap, sym, ◌∙◌, arith, rules}
 use Rattle.std.specs.List.{range_with_len}
 use Rattle.std.proofs.lemmas.Bool.{true≢false}
 use Rattle.std.proofs.lemmas.List.Folds.{list_any_at}
@@ -7,6 +7,7 @@ use Rattle.std.proofs.lemmas.List.FromFn.{get_or-range_with_len, length-map-rang
 use Rattle.std.proofs.Math.ListN.{get_or-map}
 use Rattle.aram_core.specs.Memory.{byte_at, word_at, with_byte}
 use Rattle.aram_core.specs.Pages.{page_of}
+use Rattle.aram_core.proofs.Bytes.{byte_at-with_byte_other}
 use Rattle.voice_unit.specs.declared.interface.VoiceRegs.{VoiceRegs}
 use Rattle.voice_unit.specs.declared.interface.VoiceIn.{VoiceIn}
 use Rattle.voice_unit.specs.Directory.{entry_address, start_word, loop_word}
@@ -88,7 +89,7 @@ AgreeOn pages m n = (at : ℕ) → has_page pages (page_of at) ≡ true → byte
 pub agree_put : (pages memory : List ℕ) (at value : ℕ) → has_page pages (page_of at) ≡ false → AgreeOn pages (with_byte memory at value) memory
 agree_put pages memory at value none a some =
     let apart : a % 0x10000 ≢ at % 0x10000 = λ e. true≢false (sym some ∙ ap (λ (x : ℕ). has_page pages (x / 256)) e ∙ none) in
-    get_or-set_other memory (at % 0x10000) (a % 0x10000) value 0 apart
+    byte_at-with_byte_other memory at a value apart
 
 -- the words of the voice's entry
 pub start_same : (s : ChipState) (memory : List ℕ) (v : ℕ) (old : VoiceState) (m n : List ℕ) → AgreeOn (own_pages s memory v old) m n

@@ -2,10 +2,11 @@
 use Rattle.std.proofs.Common.{◌≡◌, ◌≢◌, ℕ, ◌+◌, ◌*◌, ◌/◌, ◌%◌, ◌≤◌, max, List, length, ℤ, Bool, true, false, if◌then◌else◌, refl, sym, ap, ◌∙◌, arith}
 use Rattle.std.specs.Int.{w16, cast_unsigned}
 use Rattle.std.proofs.lemmas.Bool.{true≢false}
-use Rattle.std.proofs.lemmas.List.{get_or-set_other, set_comm}
+use Rattle.std.proofs.lemmas.List.{set_comm}
 use Rattle.num_fix.specs.declared.Frame.{Frame}
-use Rattle.aram_core.specs.Memory.{byte_at, word_at, with_byte}
+use Rattle.aram_core.specs.Memory.{word_at, with_byte}
 use Rattle.aram_core.specs.Pages.{page_of}
+use Rattle.aram_core.proofs.Bytes.{byte_at-with_byte_other}
 use Rattle.reach_map.specs.Reach.{window_pages}
 use Rattle.reach_map.specs.Window.{echo_window, echo_length}
 use Rattle.echo_unit.specs.Echo.{EchoState, cell_address, halved_word, cell_pair, after_reading, next_echo, with_word, with_cell, echo_memory}
@@ -39,9 +40,6 @@ off_window echo esa edl length at cell most none =
     let there = page_of_cell echo esa edl length cell most in
     off_cell esa echo.offset at cell.cell (λ e. true≢false (sym there ∙ ap (has_page pages) (sym e) ∙ none))
 
-byte_stays : (memory : List ℕ) (address at value : ℕ) → at % 0x10000 ≢ address % 0x10000 → byte_at (with_byte memory at value) address ≡ byte_at memory address
-byte_stays memory address at value other = get_or-set_other memory (at % 0x10000) (address % 0x10000) value 0 (λ e. other (sym e))
-
 put_after : (memory : List ℕ) (address at value byte : ℕ) → at % 0x10000 ≢ address % 0x10000
     → with_byte (with_byte memory at value) address byte ≡ with_byte (with_byte memory address byte) at value
 put_after memory address at value byte other = set_comm memory (at % 0x10000) (address % 0x10000) value byte other
@@ -67,10 +65,10 @@ pair_stays : (memory : List ℕ) (address at value : ℕ) → IsOffCell address 
 unfolding cell_pair halved_word word_at
 pair_stays memory address at value off =
     rw (
-      byte_stays memory address at value off.first,
-      byte_stays memory (address + 1) at value off.second,
-      byte_stays memory ((address + 2) % 0x10000) at value off.third,
-      byte_stays memory ((address + 2) % 0x10000 + 1) at value off.fourth,
+      byte_at-with_byte_other memory at address value (λ e. off.first (sym e)),
+      byte_at-with_byte_other memory at (address + 1) value (λ e. off.second (sym e)),
+      byte_at-with_byte_other memory at ((address + 2) % 0x10000) value (λ e. off.third (sym e)),
+      byte_at-with_byte_other memory at ((address + 2) % 0x10000 + 1) value (λ e. off.fourth (sym e)),
     ) refl
 
 -- a byte put off the cell changes nothing of what is heard, of where the echo goes and of what it writes

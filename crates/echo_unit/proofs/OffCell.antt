@@ -1,9 +1,9 @@
 -- A step of the echo writes one cell.
 use Rattle.std.proofs.Common.{◌≡◌, ◌≢◌, ℕ, ◌+◌, ◌/◌, ◌%◌, ◌<◌, List, ℤ, Bool, true, false, if◌then◌else◌, refl, ◌∙◌, arith}
 use Rattle.std.specs.Int.{w16, cast_unsigned}
-use Rattle.std.proofs.lemmas.List.{get_or-set_other}
 use Rattle.num_fix.specs.declared.Frame.{Frame}
 use Rattle.aram_core.specs.Memory.{byte_at, with_byte}
+use Rattle.aram_core.proofs.Bytes.{byte_at-with_byte_other}
 use Rattle.echo_unit.specs.Echo.{EchoState, cell_address, with_word, with_cell, echo_memory}
 use Rattle.echo_unit.specs.Flg.{has_echo_writes}
 use Rattle.echo_unit.specs.declared.regs.EchoRegs.{EchoRegs}
@@ -25,16 +25,14 @@ off_other esa these those byte whole whole' most most' other small = record {
   fourth = λ e. omega (arith, e, whole, whole', most, most', other, small);
 }
 
-byte_elsewhere : (memory : List ℕ) (address at value : ℕ) → at % 0x10000 ≢ address % 0x10000 → byte_at (with_byte memory address value) at ≡ byte_at memory at
-byte_elsewhere memory address at value other = get_or-set_other memory (address % 0x10000) (at % 0x10000) value 0 other
-
 -- a word put at an address leaves a byte at another
 word_elsewhere : (memory : List ℕ) (address at : ℕ) (word : ℤ) → at % 0x10000 ≢ address % 0x10000 → at % 0x10000 ≢ (address + 1) % 0x10000
     → byte_at (with_word memory address word) at ≡ byte_at memory at
 unfolding with_word
 word_elsewhere memory address at word first second =
     let bits : ℕ = cast_unsigned w16 word in
-    byte_elsewhere (with_byte memory address (bits % 0x100)) (address + 1) at (bits / 0x100) second ∙ byte_elsewhere memory address at (bits % 0x100) first
+    byte_at-with_byte_other (with_byte memory address (bits % 0x100)) (address + 1) at (bits / 0x100) second
+    ∙ byte_at-with_byte_other memory address at (bits % 0x100) first
 
 cell_elsewhere : (memory : List ℕ) (address at : ℕ) (left right : ℤ) → IsOffCell address at → byte_at (with_cell memory address left right) at ≡ byte_at memory at
 unfolding with_cell
