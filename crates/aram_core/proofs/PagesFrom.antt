@@ -1,16 +1,16 @@
 -- The pages from one on, by their numbers.
 use Rattle.std.proofs.Common.{◌≡◌, ◌≢◌, ℕ, zero, suc, ◌+◌, ◌-◌, ◌%◌, ◌<◌, ◌≤◌, map, Bool, true, false, not, ◌&&◌, ◌||◌, nat_lt, nat_eq, refl, sym, ap, ◌∙◌, arith, inl, inr}
-use Rattle.std.specs.List.{range_with_len, list_any}
+use Rattle.std.specs.List.{range_with_len}
 use Rattle.std.specs.Cmp.{nat_cmp_total}
 use Rattle.std.specs.FinSet as set
 use Rattle.std.proofs.lemmas.Bool.{cases_lt, cases_eq}
 use Rattle.std.proofs.lemmas.Bool.Decides.{nat_tests}
-use Rattle.aram_core.specs.Pages.{Pages, pages_from}
+use Rattle.aram_core.specs.Pages.{Pages, has_page, pages_from}
 use Rattle.aram_core.proofs.SetsOfPages.{same_pages}
 
 -- a page is among those from a first one on exactly if it is no further behind it
 has : (first q a n : ℕ) → first < 256 → a + n ≤ 256
-    → list_any (λ y. nat_eq y q) (map (λ i. (first + i) % 256) (range_with_len a n)) ≡ (nat_lt q 256 && (not (nat_lt ((q + 256 - first) % 256) a) && nat_lt ((q + 256 - first) % 256) (a + n)))
+    → has_page (map (λ i. (first + i) % 256) (range_with_len a n)) q ≡ (nat_lt q 256 && (not (nat_lt ((q + 256 - first) % 256) a) && nat_lt ((q + 256 - first) % 256) (a + n)))
 has first q a zero page most = elim (cases_lt ((q + 256 - first) % 256) a) [
   | inl below ↦ let yes : nat_lt ((q + 256 - first) % 256) a ≡ true = grind (arith, nat_tests, below) in rw yes (sym (none (nat_lt q 256)))
   | inr above ↦

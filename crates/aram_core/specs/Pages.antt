@@ -1,12 +1,16 @@
 -- Sets of pages. A page is 256 bytes of memory; page p holds the addresses whose high byte is p.
-use Rattle.std.specs.Prelude.{ℕ, ◌+◌, ◌/◌, ◌%◌, map, Bool, not, ◌==◌}
-use Rattle.std.specs.List.{range_with_len}
+use Rattle.std.specs.Prelude.{ℕ, ◌+◌, ◌/◌, ◌%◌, List, map, Bool, not, ◌==◌}
+use Rattle.std.specs.List.{range_with_len, list_any}
 use Rattle.std.specs.Ordering.{nat_cmp}
 use Rattle.std.specs.FinSet as set
 
 -- the page of an address
 abbrev pub page_of : ℕ → ℕ
 page_of address = address % 0x10000 / 256
+
+-- a list of page numbers has the page
+abbrev pub has_page : (pages : List ℕ) → (page : ℕ) → Bool
+has_page pages page = list_any (λ q. q == page) pages
 
 -- a set of page numbers
 abbrev pub Pages : Type 0

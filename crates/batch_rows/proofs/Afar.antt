@@ -9,7 +9,7 @@ use Rattle.std.proofs.lemmas.Bool.{and_right, cases_Bool}
 use Rattle.std.proofs.lemmas.Grind.{flat_map-append}
 use Rattle.std.proofs.lemmas.Bool.Decides.{nat_tests}
 use Rattle.aram_core.specs.Memory.{byte_at}
-use Rattle.aram_core.specs.Pages.{page_of, have_common_page}
+use Rattle.aram_core.specs.Pages.{page_of, has_page, have_common_page}
 use Rattle.brr_decode.specs.Header.{next_block, has_end}
 use Rattle.voice_unit.specs.Voice.{VoiceState}
 use Rattle.reach_map.specs.declared.ChainStart.{ChainStart}
@@ -18,7 +18,7 @@ use Rattle.echo_unit.specs.Flg.{has_echo_writes}
 use Rattle.dsp_form.specs.Reach.{voice_entry, can_start, own_chain, start_chain, voice_starts, entries_from, starts_from, chip_window, chip_reach}
 use Rattle.dsp_form.specs.declared.registers.TheConstants.{FLG}
 use Rattle.dsp_form.specs.declared.state.ChipState.{ChipState}
-use Rattle.dsp_reach.proofs.PageSets.{contains-pages, apart_right, has_page, at_page, in_left, in_right, in_either}
+use Rattle.dsp_reach.proofs.PageSets.{contains-pages, apart_right, at_page, in_left, in_right, in_either}
 use Rattle.dsp_reach.proofs.ChainPages.{bytes_have}
 use Rattle.batch_rows.specs.Afar.{far_pages, far_voice_pages, window_from, AreApart, IsVoiceApart}
 

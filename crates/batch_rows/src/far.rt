@@ -1,7 +1,7 @@
 //! Whether the echo can write what the voices read, seen from afar: no chain is walked.
 
-ghost use Rattle.std.specs.Prelude.{◌≡◌, ◌<◌, ◌≤◌, ◌==◌, true, false, slice_index};
-ghost use Rattle.std.specs.List.{list_any};
+ghost use Rattle.std.specs.Prelude.{◌≡◌, ◌<◌, ◌≤◌, true, false, slice_index};
+ghost use Rattle.aram_core.specs.Pages.{has_page};
 ghost use Rattle.reach_map.specs.Reach.{pages_of_bytes};
 ghost use Rattle.echo_unit.specs.Flg.{has_echo_writes};
 ghost use Rattle.dsp_form.specs.Reach.{can_start, chip_reach};
@@ -20,7 +20,7 @@ const CHAIN: u16 = 162;
 
 /// Whether a page is none of those of a window of `len` bytes from page `esa` on.
 fn is_page_off(page: u8, esa: u8, len: u32) -> bool
-    ensures { result ≡ true → list_any (λ q. q == page) (window_from esa len) ≡ false }
+    ensures { result ≡ true → has_page (window_from esa len) page ≡ false }
 {
     let way = page.wrapping_sub(esa);
     len <= 256 * u32::from(way)

@@ -6,7 +6,7 @@ use Rattle.std.proofs.lemmas.List.Folds.{list_any_at}
 use Rattle.std.proofs.lemmas.List.FromFn.{get_or-range_with_len, length-map-range_with_len}
 use Rattle.std.proofs.Math.ListN.{get_or-map}
 use Rattle.aram_core.specs.Memory.{byte_at, word_at, with_byte}
-use Rattle.aram_core.specs.Pages.{page_of}
+use Rattle.aram_core.specs.Pages.{page_of, has_page}
 use Rattle.aram_core.proofs.Bytes.{byte_at-with_byte_other}
 use Rattle.voice_unit.specs.declared.interface.VoiceRegs.{VoiceRegs}
 use Rattle.voice_unit.specs.declared.interface.VoiceIn.{VoiceIn}
@@ -19,7 +19,7 @@ use Rattle.dsp_form.specs.Reach.{voice_entry, can_start, own_chain, start_chain,
 use Rattle.voice_unit.proofs.Groups.{group_of}
 use Rattle.reach_map.proofs.ChainEntries.{rest_of, chain_entry-zero, chain_entry-rest}
 use Rattle.dsp_reach.specs.Chain.{IsOnChain, StaysOnChains}
-use Rattle.dsp_reach.proofs.PageSets.{has_page, at_page, in_left, in_right}
+use Rattle.dsp_reach.proofs.PageSets.{at_page, in_left, in_right}
 use Rattle.dsp_reach.proofs.Agree.{AgreeFor}
 use Rattle.dsp_reach.proofs.OnChains.{on_first, index_small, after_delay_same, after_delay_five, SeesTheSame}
 

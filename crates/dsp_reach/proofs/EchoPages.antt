@@ -5,7 +5,7 @@ use Rattle.std.proofs.lemmas.Bool.{true≢false}
 use Rattle.std.proofs.lemmas.List.{set_comm}
 use Rattle.num_fix.specs.declared.Frame.{Frame}
 use Rattle.aram_core.specs.Memory.{word_at, with_byte}
-use Rattle.aram_core.specs.Pages.{page_of}
+use Rattle.aram_core.specs.Pages.{page_of, has_page}
 use Rattle.aram_core.proofs.Bytes.{byte_at-with_byte_other}
 use Rattle.reach_map.specs.Reach.{window_pages}
 use Rattle.reach_map.specs.Window.{echo_window, echo_length}
@@ -14,7 +14,6 @@ use Rattle.echo_unit.specs.Flg.{has_echo_writes}
 use Rattle.echo_unit.specs.declared.regs.EchoRegs.{EchoRegs}
 use Rattle.echo_unit.proofs.Cells.{IsCell}
 use Rattle.echo_unit.proofs.OffCell.{IsOffCell}
-use Rattle.dsp_reach.proofs.PageSets.{has_page}
 use Rattle.dsp_reach.proofs.ChainPages.{bytes_have}
 
 -- the page of the echo's cell is one of its window's

@@ -5,7 +5,7 @@ use Rattle.std.specs.FinSet as set
 use Rattle.num_fix.specs.Arithmetic.{has_bit}
 use Rattle.num_fix.specs.declared.Frame.{Frame}
 use Rattle.aram_core.specs.Memory.{byte_at, with_byte}
-use Rattle.aram_core.specs.Pages.{page_of}
+use Rattle.aram_core.specs.Pages.{page_of, has_page}
 use Rattle.voice_unit.specs.declared.interface.VoiceOut.{VoiceOut}
 use Rattle.reach_map.specs.Window.{echo_length}
 use Rattle.echo_unit.specs.Echo.{EchoState, is_at_cell, cell_address, echo_memory}
@@ -28,7 +28,6 @@ use Rattle.dsp_reach.proofs.Keys.{IsPart, waiting-before_step, taken_waited}
 use Rattle.dsp_reach.proofs.EchoPlace.{length-next_echo}
 use Rattle.echo_unit.proofs.OffCell.{IsOffCell, byte_at-echo_memory, echo_memory_still}
 use Rattle.dsp_reach.proofs.EchoPages.{off_window, after_reading_apart, next_echo_apart, echo_memory_apart}
-use Rattle.dsp_reach.proofs.PageSets.{has_page}
 use Rattle.dsp_reach.proofs.ReachOfChip.{pages_of_echo, writes_echo, unread_by_voices, unread_by_echo, unwritten_by_echo, voices_unwritten}
 use Rattle.dsp_reach.proofs.Voices.{FindTheSame, voices_at_start, voices_stay, voices_apart}
 

@@ -1,16 +1,11 @@
 -- What the set of a list of pages contains, and what two such sets with no page in common mean for their lists.
 use Rattle.std.proofs.Common.{◌≡◌, ℕ, List, ◌++◌, Bool, true, false, ◌||◌, ◌==◌, refl, sym, ap, ◌∙◌, ◌⊎◌, inl, inr}
 use Rattle.std.specs.FinSet as set
-use Rattle.std.specs.List.{list_any}
 use Rattle.std.specs.Ordering.{nat_cmp}
 use Rattle.std.proofs.lemmas.Bool.{cases_Bool, true≢false}
 use Rattle.std.proofs.lemmas.List.Folds.{list_any-append}
-use Rattle.aram_core.specs.Pages.{have_common_page}
+use Rattle.aram_core.specs.Pages.{has_page, have_common_page}
 use Rattle.aram_core.proofs.MarkedPages.{common_page}
-
--- the list has the page
-abbrev pub has_page : (pages : List ℕ) → (p : ℕ) → Bool
-has_page pages p = list_any (λ q. q == p) pages
 
 -- the set of a list has the pages that the list has
 pub contains-pages : (pages : List ℕ) (p : ℕ) → set.contains (set.from_list {R = nat_cmp} pages) p ≡ has_page pages p

@@ -2,13 +2,13 @@
 use Rattle.std.proofs.Common.{◌≡◌, ℕ, ◌++◌, ◌&&◌, List, Bool, true, false, if◌then◌else◌, slice_index, sym, ◌∙◌}
 use Rattle.std.specs.FinSet as set
 use Rattle.std.specs.Ordering.{nat_cmp}
-use Rattle.aram_core.specs.Pages.{have_common_page}
+use Rattle.aram_core.specs.Pages.{has_page, have_common_page}
 use Rattle.reach_map.specs.Reach.{reach, window_pages}
 use Rattle.echo_unit.specs.Flg.{has_echo_writes}
 use Rattle.dsp_form.specs.Reach.{chip_reach, chip_window}
 use Rattle.dsp_form.specs.declared.registers.TheConstants.{FLG}
 use Rattle.dsp_form.specs.declared.state.ChipState.{ChipState}
-use Rattle.dsp_reach.proofs.PageSets.{has_page, contains-pages, apart_right, not_in_left, not_in_right}
+use Rattle.dsp_reach.proofs.PageSets.{contains-pages, apart_right, not_in_left, not_in_right}
 use Rattle.dsp_reach.proofs.Voices.{voice_pages_from}
 
 -- the pages that the voices read, and those of the window

@@ -2,7 +2,7 @@
 use Rattle.std.proofs.Common.{◌≡◌, ℕ, zero, suc, ◌+◌, List, [], ◌∷◌, ◌++◌, flat_map, Bool, true, false, ◌&&◌, if◌then◌else◌, refl, ap, ◌∙◌, arith, slice_index}
 use Rattle.std.specs.FinSet as set
 use Rattle.aram_core.specs.Memory.{byte_at, with_byte}
-use Rattle.aram_core.specs.Pages.{page_of, have_common_page}
+use Rattle.aram_core.specs.Pages.{page_of, has_page, have_common_page}
 use Rattle.brr_decode.specs.Header.{next_block}
 use Rattle.voice_unit.specs.Directory.{start_word, loop_word}
 use Rattle.voice_unit.specs.Voice.{VoiceState}
@@ -13,7 +13,7 @@ use Rattle.reach_map.specs.Reach.{chain, block_pages, chain_pages, entry_pages, 
 use Rattle.dsp_form.specs.declared.registers.TheConstants.{FLG}
 use Rattle.dsp_form.specs.declared.state.ChipState.{ChipState}
 use Rattle.dsp_form.specs.Reach.{entries_from, voice_starts, starts_from, chip_window, chip_reach}
-use Rattle.dsp_reach.proofs.PageSets.{has_page, at_page, in_left, in_right}
+use Rattle.dsp_reach.proofs.PageSets.{at_page, in_left, in_right}
 use Rattle.dsp_reach.proofs.ChainPages.{bytes_have, own_pages, AgreeOn, agree_put, start_same, loop_same}
 use Rattle.dsp_reach.proofs.ReachOfChip.{unread_by_voices}
 use Rattle.dsp_reach.proofs.Voices.{voice_pages_from, first_agree, rest_agree}

@@ -5,7 +5,7 @@ use Rattle.std.proofs.lemmas.Bool.Decides.{nat_tests}
 use Rattle.std.proofs.lemmas.Grind.{flat_map-append}
 use Rattle.num_fix.specs.Arithmetic.{has_bit}
 use Rattle.aram_core.specs.Memory.{with_byte}
-use Rattle.aram_core.specs.Pages.{page_of}
+use Rattle.aram_core.specs.Pages.{page_of, has_page}
 use Rattle.voice_unit.specs.Directory.{entry_address, start_word, loop_word}
 use Rattle.voice_unit.specs.Voice.{VoiceState}
 use Rattle.reach_map.specs.declared.ChainStart.{ChainStart}
@@ -20,7 +20,7 @@ use Rattle.voice_unit.specs.Voice.{is_at_group}
 use Rattle.echo_unit.specs.Echo.{is_at_cell}
 use Rattle.dsp_form.specs.Valid.{is_valid}
 use Rattle.dsp_reach.specs.Chain.{StaysOnChains, AllStayOnChains}
-use Rattle.dsp_reach.proofs.PageSets.{has_page, at_page, in_left, in_right, in_either}
+use Rattle.dsp_reach.proofs.PageSets.{at_page, in_left, in_right, in_either}
 use Rattle.dsp_reach.proofs.Agree.{voice_result_same}
 use Rattle.dsp_reach.proofs.OnChains.{on_first, SeesTheSame, step_on_chains}
 use Rattle.dsp_reach.proofs.ChainPages.{own_pages, block_in, AgreeOn, agree_put, start_same, loop_same, agrees}

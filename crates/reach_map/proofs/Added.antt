@@ -1,54 +1,37 @@
 -- Sets with the pages of lists added, and when two lists add the same.
-use Rattle.std.proofs.Common.{◌≡◌, ℕ, ◌+◌, ◌<◌, List, [], ◌∷◌, ◌++◌, flat_map, take, get_or, length, Bool, true, false, ◌||◌, refl, sym, ap, ◌∙◌}
-use Rattle.std.specs.List.{list_any}
+use Rattle.std.proofs.Common.{◌≡◌, ℕ, ◌+◌, ◌<◌, List, [], ◌∷◌, ◌++◌, flat_map, take, get_or, length, Bool, true, false, ◌||◌, ◌==◌, refl, sym, ap, ◌∙◌}
 use Rattle.std.specs.Ordering.{nat_cmp, eq_by_cmp}
-use Rattle.std.specs.Cmp.{nat_cmp_total}
+use Rattle.std.specs.Cmp.{nat_cmp_total, unsigned_tied}
 use Rattle.std.specs.FinSet as set
+use Rattle.std.proofs.lemmas.Cmp.{nat_eq_equiv}
 use Rattle.std.proofs.lemmas.List.{append-nil, take_more}
 use Rattle.std.proofs.lemmas.Grind.{flat_map-append}
 use Rattle.std.proofs.lemmas.List.Folds.{list_any-append}
-use Rattle.aram_core.specs.Pages.{Pages}
+use Rattle.std.proofs.Math.Bool.{or-false, or_assoc, or_comm}
+use Rattle.aram_core.specs.Pages.{Pages, has_page}
 use Rattle.aram_core.proofs.SetsOfPages.{same_pages}
 use Rattle.reach_map.specs.Added.{with_pages}
 
--- whether a list has a page
-abbrev pub has_page : ℕ → List ℕ → Bool
-has_page page pages = list_any (eq_by_cmp nat_cmp page) pages
-
-pub contains-with_pages : (pages : Pages) (more : List ℕ) (q : ℕ) → set.contains (with_pages pages more) q ≡ (set.contains pages q || has_page q more)
+pub contains-with_pages : (pages : Pages) (more : List ℕ) (q : ℕ) → set.contains (with_pages pages more) q ≡ (set.contains pages q || has_page more q)
 unfolding with_pages
 contains-with_pages pages more q =
-    set.contains-union nat_cmp_total pages (set.from_list more) q ∙ ap (λ b. set.contains pages q || b) (set.contains-from_list nat_cmp_total more q)
-
-or_assoc : (a b c : Bool) → ((a || b) || c) ≡ (a || (b || c))
-or_assoc true b c = refl
-or_assoc false b c = refl
-
-or_false : (a : Bool) → (a || false) ≡ a
-or_false true = refl
-or_false false = refl
-
-or_swap : (a b : Bool) → (a || b) ≡ (b || a)
-or_swap true true = refl
-or_swap true false = refl
-or_swap false true = refl
-or_swap false false = refl
+    set.contains-union nat_cmp_total pages (set.from_list more) q ∙ ap (λ b. set.contains pages q || b) (set.contains-from_list_nat more q)
 
 -- one list after another
 pub with_pages-append : (pages : Pages) (these those : List ℕ) → with_pages (with_pages pages these) those ≡ with_pages pages (these ++ those)
 with_pages-append pages these those = same_pages _ _ (λ q.
     contains-with_pages (with_pages pages these) those q
-    ∙ ap (λ b. b || has_page q those) (contains-with_pages pages these q)
-    ∙ or_assoc (set.contains pages q) (has_page q these) (has_page q those)
-    ∙ ap (λ b. set.contains pages q || b) (sym (list_any-append (eq_by_cmp nat_cmp q) these those))
+    ∙ ap (λ b. b || has_page those q) (contains-with_pages pages these q)
+    ∙ or_assoc (set.contains pages q) (has_page these q) (has_page those q)
+    ∙ ap (λ b. set.contains pages q || b) (sym (list_any-append (λ page. page == q) these those))
     ∙ sym (contains-with_pages pages (these ++ those) q))
 
 pub with_pages-none : (pages : Pages) → with_pages pages [] ≡ pages
-with_pages-none pages = same_pages _ _ (λ q. contains-with_pages pages [] q ∙ or_false (set.contains pages q))
+with_pages-none pages = same_pages _ _ (λ q. contains-with_pages pages [] q ∙ or-false (set.contains pages q))
 
 pub with_pages-empty : (more : List ℕ) → with_pages set.empty more ≡ set.from_list more
 with_pages-empty more = same_pages _ _ (λ q.
-    contains-with_pages set.empty more q ∙ ap (λ b. b || has_page q more) (set.contains-empty nat_cmp q) ∙ sym (set.contains-from_list nat_cmp_total more q))
+    contains-with_pages set.empty more q ∙ ap (λ b. b || has_page more q) (set.contains-empty nat_cmp q) ∙ sym (set.contains-from_list_nat more q))
 
 pub with_pages-from_list : (these those : List ℕ) → with_pages (set.from_list these) those ≡ set.from_list (these ++ those)
 with_pages-from_list these those =
@@ -57,8 +40,8 @@ with_pages-from_list these those =
 pub with_pages-one : (pages : Pages) (page : ℕ) → set.insert pages page ≡ with_pages pages (page ∷ [])
 with_pages-one pages page = same_pages _ _ (λ q.
     set.contains-insert nat_cmp_total pages page q
-    ∙ ap (λ b. b || set.contains pages q) (sym (or_false (eq_by_cmp nat_cmp q page)))
-    ∙ or_swap (has_page q (page ∷ [])) (set.contains pages q)
+    ∙ ap (λ b. b || set.contains pages q) (unsigned_tied q page ∙ nat_eq_equiv.symm q page ∙ sym (or-false (page == q)))
+    ∙ or_comm (has_page (page ∷ []) q) (set.contains pages q)
     ∙ sym (contains-with_pages pages (page ∷ []) q))
 
 -- one page after a list
@@ -66,7 +49,7 @@ pub with_pages-push : (pages : Pages) (more : List ℕ) (page : ℕ) → set.ins
 with_pages-push pages more page = with_pages-one (with_pages pages more) page ∙ with_pages-append pages more (page ∷ [])
 
 -- lists with the same pages
-pub with_pages-same : (pages : Pages) (these those : List ℕ) → ((q : ℕ) → has_page q these ≡ has_page q those) → with_pages pages these ≡ with_pages pages those
+pub with_pages-same : (pages : Pages) (these those : List ℕ) → ((q : ℕ) → has_page these q ≡ has_page those q) → with_pages pages these ≡ with_pages pages those
 with_pages-same pages these those same = same_pages _ _ (λ q.
     contains-with_pages pages these q ∙ ap (λ b. set.contains pages q || b) (same q) ∙ sym (contains-with_pages pages those q))
 

@@ -1,19 +1,18 @@
 -- A chain in two parts: its pages are those of the blocks from its start up to the first end, and those of the blocks from its loop word up to
 -- the first end there.
-use Rattle.std.proofs.Common.{◌≡◌, ℕ, zero, suc, ◌+◌, ◌-◌, ◌*◌, ◌%◌, ◌<◌, ◌≤◌, List, ◌∷◌, ◌++◌, map, flat_map, Bool, true, false, ◌||◌, refl, sym, ap, ◌∙◌, arith, append_assoc}
+use Rattle.std.proofs.Common.{◌≡◌, ℕ, zero, suc, ◌+◌, ◌-◌, ◌*◌, ◌%◌, ◌<◌, ◌≤◌, List, ◌∷◌, ◌++◌, map, flat_map, Bool, true, false, ◌||◌, ◌==◌, refl, sym, ap, ◌∙◌, arith, append_assoc}
 use Rattle.std.specs.Prelude.{if◌then◌else◌}
 use Rattle.std.specs.List.{range_with_len}
-use Rattle.std.specs.Ordering.{nat_cmp, eq_by_cmp}
 use Rattle.std.proofs.lemmas.Bool.{or_parts}
 use Rattle.std.proofs.lemmas.List.{append-nil}
 use Rattle.std.proofs.lemmas.List.Folds.{list_any-append}
 use Rattle.aram_core.specs.Memory.{byte_at}
-use Rattle.aram_core.specs.Pages.{Pages, page_of}
+use Rattle.aram_core.specs.Pages.{Pages, page_of, has_page}
 use Rattle.brr_decode.specs.Header.{has_end}
 use Rattle.reach_map.specs.Added.{with_pages}
 use Rattle.reach_map.specs.Reach.{block_pages, chain, pages_of_bytes}
 use Rattle.reach_map.specs.BlocksToEnd.{blocks_to_end}
-use Rattle.reach_map.proofs.Added.{has_page, with_pages-same, with_pages-append}
+use Rattle.reach_map.proofs.Added.{with_pages-same, with_pages-append}
 use Rattle.reach_map.proofs.EveryPage.{fail_together, has_none, none_of}
 
 -- a list by a function of the index, in two parts
@@ -96,20 +95,20 @@ blocks_grow memory block (suc n) (suc m) grows =
     ]
 
 -- a chain from its loop word on comes to no page but those of the blocks up to the first end there
-comes_again : (memory : List ℕ) (to most q : ℕ) → has_page q (pages_of_bytes to (9 * blocks_to_end memory to most)) ≡ false
-    → (fuel n : ℕ) → n ≤ fuel → n ≤ most → has_page q (flat_map block_pages (chain memory to n to)) ≡ false
+comes_again : (memory : List ℕ) (to most q : ℕ) → has_page (pages_of_bytes to (9 * blocks_to_end memory to most)) q ≡ false
+    → (fuel n : ℕ) → n ≤ fuel → n ≤ most → has_page (flat_map block_pages (chain memory to n to)) q ≡ false
 comes_again memory to most q none fuel zero within few = refl
 comes_again memory to most q none zero (suc n) within few = absurd (omega arith)
 comes_again memory to most q none (suc fuel) (suc n) within few =
     let blocks : ℕ = blocks_to_end memory to (suc n) in
     let some : 0 < blocks = blocks_have_first memory to (suc n) (omega arith) in
     let grows : blocks ≤ blocks_to_end memory to most = blocks_grow memory to (suc n) most few in
-    let first : has_page q (pages_of_bytes to (9 * blocks)) ≡ false =
+    let first : has_page (pages_of_bytes to (9 * blocks)) q ≡ false =
     has_none (λ i. page_of (to + i)) q 0 (9 * blocks) (λ k from below. none_of (λ i. page_of (to + i)) q 0 (9 * blocks_to_end memory to most) none k from (omega arith)) in
-    let rest : has_page q (flat_map block_pages (chain memory to (suc n - blocks) to)) ≡ false =
+    let rest : has_page (flat_map block_pages (chain memory to (suc n - blocks) to)) q ≡ false =
     comes_again memory to most q none fuel (suc n - blocks) (omega arith) (omega arith) in
-    ap (has_page q) (up_to_first_end memory to (suc n) to)
-    ∙ list_any-append (eq_by_cmp nat_cmp q) (pages_of_bytes to (9 * blocks)) (flat_map block_pages (chain memory to (suc n - blocks) to))
+    ap (λ pages. has_page pages q) (up_to_first_end memory to (suc n) to)
+    ∙ list_any-append (λ page. page == q) (pages_of_bytes to (9 * blocks)) (flat_map block_pages (chain memory to (suc n - blocks) to))
     ∙ rw (first, rest) refl
 
 -- a chain from its loop word on has the pages of the blocks up to the first end there
@@ -123,10 +122,10 @@ from_loop_word pages memory to n = with_pages-same pages _ _ (λ q. fail_togethe
     left : List ℕ
     left = flat_map block_pages (chain memory to (n - blocks_to_end memory to n) to)
 
-    there : (q : ℕ) → has_page q (flat_map block_pages (chain memory to n to)) ≡ false → has_page q (pages_of_bytes to (9 * blocks_to_end memory to n)) ≡ false
+    there : (q : ℕ) → has_page (flat_map block_pages (chain memory to n to)) q ≡ false → has_page (pages_of_bytes to (9 * blocks_to_end memory to n)) q ≡ false
     there q none =
-        let parts : (has_page q blocks || has_page q left) ≡ false = sym (list_any-append (eq_by_cmp nat_cmp q) blocks left) ∙ ap (has_page q) (sym (up_to_first_end memory to n to)) ∙ none in
-        (or_parts (has_page q blocks) (has_page q left) parts).0
+        let parts : (has_page blocks q || has_page left q) ≡ false = sym (list_any-append (λ page. page == q) blocks left) ∙ ap (λ pages. has_page pages q) (sym (up_to_first_end memory to n to)) ∙ none in
+        (or_parts (has_page blocks q) (has_page left q) parts).0
 
 -- a chain has the pages of both parts
 pub chain_in_two_parts : (pages : Pages) (memory : List ℕ) (to n block : ℕ)

@@ -1,35 +1,26 @@
 -- The pages of bytes that follow one another are those of each 256th byte and of the last one.
-use Rattle.std.proofs.Common.{◌≡◌, ◌≢◌, ℕ, zero, suc, ◌+◌, ◌-◌, ◌*◌, ◌/◌, ◌%◌, ◌<◌, ◌≤◌, [], ◌∷◌, ◌++◌, map, Bool, true, false, ◌||◌, nat_eq, ◌⊎◌, refl, sym, ap, ◌∙◌, arith, inl, inr}
+use Rattle.std.proofs.Common.{◌≡◌, ◌≢◌, ℕ, zero, suc, ◌+◌, ◌-◌, ◌*◌, ◌/◌, ◌%◌, ◌<◌, ◌≤◌, [], ◌∷◌, ◌++◌, map, Bool, true, false, ◌||◌, ◌==◌, ◌⊎◌, refl, sym, ap, ◌∙◌, arith, inl, inr}
 use Rattle.std.specs.List.{range_with_len}
-use Rattle.std.specs.Ordering.{nat_cmp, eq_by_cmp}
 use Rattle.std.specs.FinSet as set
-use Rattle.std.specs.Cmp.{unsigned_tied}
-use Rattle.std.proofs.lemmas.Bool.{cases_eq, cases_lt, or_parts}
-use Rattle.std.proofs.lemmas.Bool.Decides.{nat_tests}
+use Rattle.std.proofs.lemmas.Bool.{cases_eq, cases_lt, or_parts, eqb-false, ne_eqb}
 use Rattle.std.proofs.lemmas.List.Folds.{list_any-append}
-use Rattle.aram_core.specs.Pages.{Pages, page_of, pages_from}
+use Rattle.aram_core.specs.Pages.{Pages, page_of, has_page, pages_from}
 use Rattle.reach_map.specs.Added.{with_pages, pages_of_steps}
 use Rattle.reach_map.specs.Reach.{pages_of_bytes}
-use Rattle.reach_map.proofs.Added.{has_page, with_pages-same, with_pages-one, with_pages-push, with_pages-empty}
-
-tied_other : (q k : ℕ) → q ≢ k → eq_by_cmp nat_cmp q k ≡ false
-tied_other q k other = let no : nat_eq q k ≡ false = grind (arith, nat_tests, other) in unsigned_tied q k ∙ no
-
-other_tied : (q k : ℕ) → eq_by_cmp nat_cmp q k ≡ false → q ≢ k
-other_tied q k apart = let differs : nat_eq q k ≡ false = sym (unsigned_tied q k) ∙ apart in grind (arith, nat_tests, differs)
+use Rattle.reach_map.proofs.Added.{with_pages-same, with_pages-one, with_pages-push, with_pages-empty}
 
 -- a page that is none of a list's is no entry of it, and the other way round
-pub none_of : (f : ℕ → ℕ) (q a n : ℕ) → has_page q (map f (range_with_len a n)) ≡ false → (k : ℕ) → a ≤ k → k < a + n → q ≢ f k
+pub none_of : (f : ℕ → ℕ) (q a n : ℕ) → has_page (map f (range_with_len a n)) q ≡ false → (k : ℕ) → a ≤ k → k < a + n → q ≢ f k
 none_of f q a zero none k from below = absurd (omega arith)
 none_of f q a (suc n) none k from below = elim (cases_eq k a) [
-  | inl first ↦ λ same. other_tied q (f a) (or_parts _ _ none).0 (same ∙ ap f first)
+  | inl first ↦ λ same. eqb-false (f a) q (or_parts _ _ none).0 (sym (same ∙ ap f first))
   | inr later ↦ none_of f q (a + 1) n (or_parts _ _ none).1 k (omega arith) (omega arith)
 ]
 
-pub has_none : (f : ℕ → ℕ) (q a n : ℕ) → ((k : ℕ) → a ≤ k → k < a + n → q ≢ f k) → has_page q (map f (range_with_len a n)) ≡ false
+pub has_none : (f : ℕ → ℕ) (q a n : ℕ) → ((k : ℕ) → a ≤ k → k < a + n → q ≢ f k) → has_page (map f (range_with_len a n)) q ≡ false
 has_none f q a zero others = refl
 has_none f q a (suc n) others =
-    rw (tied_other q (f a) (others a (omega arith) (omega arith))) (has_none f q (a + 1) n (λ k from below. others k (omega arith) (omega arith)))
+    rw (ne_eqb (f a) q (λ same. others a (omega arith) (omega arith) (sym same))) (has_none f q (a + 1) n (λ k from below. others k (omega arith) (omega arith)))
 
 -- two tests that fail together
 pub fail_together : (a b : Bool) → (a ≡ false → b ≡ false) → (b ≡ false → a ≡ false) → a ≡ b
@@ -67,24 +58,25 @@ pub same_steps : (pages : Pages) (start count steps : ℕ) → 0 < count → cou
     → with_pages pages (pages_of_steps start steps ++ page_of (start + (count - 1)) ∷ []) ≡ with_pages pages (pages_of_bytes start count)
 same_steps pages start count steps some all few = with_pages-same pages _ _ (λ q. fail_together _ _ (there q) (back q))
   where
-    parts : (q : ℕ) → has_page q (pages_of_steps start steps ++ page_of (start + (count - 1)) ∷ []) ≡ (has_page q (pages_of_steps start steps) || (eq_by_cmp nat_cmp q (page_of (start + (count - 1))) || false))
-    parts q = list_any-append (eq_by_cmp nat_cmp q) (pages_of_steps start steps) (page_of (start + (count - 1)) ∷ [])
+    parts : (q : ℕ) → has_page (pages_of_steps start steps ++ page_of (start + (count - 1)) ∷ []) q ≡ (has_page (pages_of_steps start steps) q || ((page_of (start + (count - 1)) == q) || false))
+    parts q = list_any-append (λ page. page == q) (pages_of_steps start steps) (page_of (start + (count - 1)) ∷ [])
 
-    there : (q : ℕ) → has_page q (pages_of_steps start steps ++ page_of (start + (count - 1)) ∷ []) ≡ false → has_page q (pages_of_bytes start count) ≡ false
+    there : (q : ℕ) → has_page (pages_of_steps start steps ++ page_of (start + (count - 1)) ∷ []) q ≡ false → has_page (pages_of_bytes start count) q ≡ false
     there q none =
         let last : ℕ = page_of (start + (count - 1)) in
-        let halves : (has_page q (pages_of_steps start steps) || (eq_by_cmp nat_cmp q last || false)) ≡ false = sym (parts q) ∙ none in
-        let no_step : has_page q (pages_of_steps start steps) ≡ false = (or_parts (has_page q (pages_of_steps start steps)) (eq_by_cmp nat_cmp q last || false) halves).0 in
-        let at_end : (eq_by_cmp nat_cmp q last || false) ≡ false = (or_parts (has_page q (pages_of_steps start steps)) (eq_by_cmp nat_cmp q last || false) halves).1 in
-        let not_last : q ≢ last = other_tied q last (or_parts (eq_by_cmp nat_cmp q last) false at_end).0 in
+        let halves : (has_page (pages_of_steps start steps) q || ((last == q) || false)) ≡ false = sym (parts q) ∙ none in
+        let no_step : has_page (pages_of_steps start steps) q ≡ false = (or_parts (has_page (pages_of_steps start steps) q) ((last == q) || false) halves).0 in
+        let at_end : ((last == q) || false) ≡ false = (or_parts (has_page (pages_of_steps start steps) q) ((last == q) || false) halves).1 in
+        let not_last : q ≢ last = λ same. eqb-false last q (or_parts (last == q) false at_end).0 (sym same) in
         let apart = λ (i : ℕ) (within : i < steps). none_of (λ j. page_of (start + 256 * j)) q 0 steps no_step i (omega arith) (omega arith) in
         has_none (λ i. page_of (start + i)) q 0 count (λ k from below. between start count steps q k (omega arith) all apart not_last)
 
-    back : (q : ℕ) → has_page q (pages_of_bytes start count) ≡ false → has_page q (pages_of_steps start steps ++ page_of (start + (count - 1)) ∷ []) ≡ false
+    back : (q : ℕ) → has_page (pages_of_bytes start count) q ≡ false → has_page (pages_of_steps start steps ++ page_of (start + (count - 1)) ∷ []) q ≡ false
     back q none =
-        let no_step : has_page q (pages_of_steps start steps) ≡ false =
+        let no_step : has_page (pages_of_steps start steps) q ≡ false =
         has_none (λ i. page_of (start + 256 * i)) q 0 steps (λ i from below. none_of (λ k. page_of (start + k)) q 0 count none (256 * i) (omega arith) (omega arith)) in
-        let not_last : eq_by_cmp nat_cmp q (page_of (start + (count - 1))) ≡ false = tied_other q (page_of (start + (count - 1))) (none_of (λ i. page_of (start + i)) q 0 count none (count - 1) (omega arith) (omega arith)) in
+        let not_last : (page_of (start + (count - 1)) == q) ≡ false =
+        ne_eqb (page_of (start + (count - 1))) q (λ same. none_of (λ i. page_of (start + i)) q 0 count none (count - 1) (omega arith) (omega arith) (sym same)) in
         parts q ∙ rw (no_step, not_last) refl
 
 -- at most 256 bytes have the pages of the first and of the last one
