@@ -1,9 +1,9 @@
 -- The pages from one on, by their numbers.
-use Rattle.std.proofs.Common.{◌≡◌, ◌≢◌, ℕ, zero, suc, ◌+◌, ◌-◌, ◌%◌, ◌<◌, ◌≤◌, map, Bool, true, false, not, ◌&&◌, ◌||◌, nat_lt, nat_eq, refl, sym, ap, ◌∙◌, arith, inl, inr}
+use Rattle.std.proofs.Common.{◌≡◌, ◌≢◌, ℕ, zero, suc, ◌+◌, ◌-◌, ◌%◌, ◌<◌, ◌≤◌, map, true, false, not, ◌&&◌, ◌||◌, nat_lt, nat_eq, refl, sym, ap, ◌∙◌, arith, inl, inr}
 use Rattle.std.specs.List.{range_with_len}
 use Rattle.std.specs.Cmp.{nat_cmp_total}
 use Rattle.std.specs.FinSet as set
-use Rattle.std.proofs.lemmas.Bool.{cases_lt, cases_eq}
+use Rattle.std.proofs.lemmas.Bool.{cases_lt, cases_eq, and_right}
 use Rattle.std.proofs.lemmas.Bool.Decides.{nat_tests}
 use Rattle.aram_core.specs.Pages.{Pages, has_page, pages_from}
 use Rattle.aram_core.proofs.SetsOfPages.{same_pages}
@@ -12,16 +12,12 @@ use Rattle.aram_core.proofs.SetsOfPages.{same_pages}
 has : (first q a n : ℕ) → first < 256 → a + n ≤ 256
     → has_page (map (λ i. (first + i) % 256) (range_with_len a n)) q ≡ (nat_lt q 256 && (not (nat_lt ((q + 256 - first) % 256) a) && nat_lt ((q + 256 - first) % 256) (a + n)))
 has first q a zero page most = elim (cases_lt ((q + 256 - first) % 256) a) [
-  | inl below ↦ let yes : nat_lt ((q + 256 - first) % 256) a ≡ true = grind (arith, nat_tests, below) in rw yes (sym (none (nat_lt q 256)))
+  | inl below ↦ let yes : nat_lt ((q + 256 - first) % 256) a ≡ true = grind (arith, nat_tests, below) in rw yes (sym (and_right (nat_lt q 256) false refl))
   | inr above ↦
       let no : nat_lt ((q + 256 - first) % 256) a ≡ false = grind (arith, nat_tests, above) in
       let end : a + 0 ≡ a = omega arith in
-      rw (end, no) (sym (none (nat_lt q 256)))
+      rw (end, no) (sym (and_right (nat_lt q 256) false refl))
 ]
-  where
-    none : (b : Bool) → (b && false) ≡ false
-    none true = refl
-    none false = refl
 has first q a (suc n) page most = elim (cases_eq ((first + a) % 256) q) [
   | inl same ↦
       let is : nat_eq ((first + a) % 256) q ≡ true = grind (arith, nat_tests, same) in
@@ -61,7 +57,7 @@ numbers_to_the_end first count q page straight = elim (cases_lt q first) [
   | inl below ↦
       let before : nat_lt q first ≡ true = grind (arith, nat_tests, below) in
       let far : nat_lt ((q + 256 - first) % 256) count ≡ false = let h : count ≤ (q + 256 - first) % 256 = omega (arith, below, straight, page) in grind (arith, nat_tests, h) in
-      rw (before, far) (neither (nat_lt q (first + count)) (nat_lt q 256))
+      rw (before, far) (and_right (nat_lt q (first + count)) false refl ∙ sym (and_right (nat_lt q 256) false refl))
   | inr above ↦
       let not_before : nat_lt q first ≡ false = grind (arith, nat_tests, above) in
       rw not_before (elim (cases_lt q (first + count)) [
@@ -74,12 +70,6 @@ numbers_to_the_end first count q page straight = elim (cases_lt q first) [
       ])
 ]
   where
-    neither : (a b : Bool) → (a && false) ≡ (b && false)
-    neither true true = refl
-    neither true false = refl
-    neither false true = refl
-    neither false false = refl
-
     outside : first ≤ q → first + count ≤ q → (nat_lt q 256 && nat_lt ((q + 256 - first) % 256) count) ≡ false
     outside above beyond = elim (cases_lt q 256) [
       | inl within ↦

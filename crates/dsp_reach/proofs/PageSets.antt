@@ -1,8 +1,8 @@
 -- What the set of a list of pages contains, and what two such sets with no page in common mean for their lists.
-use Rattle.std.proofs.Common.{◌≡◌, ℕ, List, ◌++◌, Bool, true, false, ◌||◌, ◌==◌, refl, sym, ap, ◌∙◌, ◌⊎◌, inl, inr}
+use Rattle.std.proofs.Common.{◌≡◌, ℕ, List, ◌++◌, true, false, ◌==◌, sym, ap, ◌∙◌, ◌⊎◌, inl, inr}
 use Rattle.std.specs.FinSet as set
 use Rattle.std.specs.Ordering.{nat_cmp}
-use Rattle.std.proofs.lemmas.Bool.{cases_Bool, true≢false}
+use Rattle.std.proofs.lemmas.Bool.{cases_Bool, or_cases, or_left, or_right, or_parts, true≢false}
 use Rattle.std.proofs.lemmas.List.Folds.{list_any-append}
 use Rattle.aram_core.specs.Pages.{has_page, have_common_page}
 use Rattle.aram_core.proofs.MarkedPages.{common_page}
@@ -23,34 +23,18 @@ apart_right xs ys p apart here = elim (cases_Bool (has_page ys p)) [
 
 -- a page that two lists one after the other don't have, neither has
 pub not_in_left : (xs ys : List ℕ) (p : ℕ) → has_page (xs ++ ys) p ≡ false → has_page xs p ≡ false
-not_in_left xs ys p none = left (has_page xs p) (has_page ys p) (sym (list_any-append (λ q. q == p) xs ys) ∙ none)
-  where
-    left : (a b : Bool) → (a || b) ≡ false → a ≡ false
-    left true b h = h
-    left false b h = refl
+not_in_left xs ys p none = (or_parts (has_page xs p) (has_page ys p) (sym (list_any-append (λ q. q == p) xs ys) ∙ none)).0
 
 pub not_in_right : (xs ys : List ℕ) (p : ℕ) → has_page (xs ++ ys) p ≡ false → has_page ys p ≡ false
-not_in_right xs ys p none = right (has_page xs p) (has_page ys p) (sym (list_any-append (λ q. q == p) xs ys) ∙ none)
-  where
-    right : (a b : Bool) → (a || b) ≡ false → b ≡ false
-    right true b h = absurd (true≢false h)
-    right false b h = h
+not_in_right xs ys p none = (or_parts (has_page xs p) (has_page ys p) (sym (list_any-append (λ q. q == p) xs ys) ∙ none)).1
 
 -- a page that one of two lists has, both have one after the other
 pub in_left : (xs ys : List ℕ) (p : ℕ) → has_page xs p ≡ true → has_page (xs ++ ys) p ≡ true
-in_left xs ys p here = list_any-append (λ q. q == p) xs ys ∙ rw here refl
+in_left xs ys p here = list_any-append (λ q. q == p) xs ys ∙ or_left (has_page xs p) (has_page ys p) here
 
 pub in_right : (xs ys : List ℕ) (p : ℕ) → has_page ys p ≡ true → has_page (xs ++ ys) p ≡ true
-in_right xs ys p there = list_any-append (λ q. q == p) xs ys ∙ rw there (or_true (has_page xs p))
-  where
-    or_true : (b : Bool) → (b || true) ≡ true
-    or_true true = refl
-    or_true false = refl
+in_right xs ys p there = list_any-append (λ q. q == p) xs ys ∙ or_right (has_page xs p) (has_page ys p) there
 
 -- a page that both have one after the other, one of them has
 pub in_either : (xs ys : List ℕ) (p : ℕ) → has_page (xs ++ ys) p ≡ true → (has_page xs p ≡ true) ⊎ (has_page ys p ≡ true)
-in_either xs ys p here = one (has_page xs p) (has_page ys p) (sym (list_any-append (λ q. q == p) xs ys) ∙ here)
-  where
-    one : (a b : Bool) → (a || b) ≡ true → (a ≡ true) ⊎ (b ≡ true)
-    one true b h = inl refl
-    one false b h = inr h
+in_either xs ys p here = or_cases (has_page xs p) (has_page ys p) (sym (list_any-append (λ q. q == p) xs ys) ∙ here)

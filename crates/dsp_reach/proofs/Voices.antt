@@ -1,6 +1,7 @@
 -- All voices stay on their chains, and read nothing but the pages of their entries and chains.
-use Rattle.std.proofs.Common.{◌≡◌, ◌≢◌, ℕ, ◌+◌, ◌*◌, ◌%◌, ◌<◌, ◌≤◌, List, [], ◌∷◌, ◌++◌, length, map, flat_map, Bool, true, false, ◌&&◌, ◌||◌, ◌==◌, inl, inr, refl, ap, sym, ◌∙◌, arith, slice_index, ℤ}
+use Rattle.std.proofs.Common.{◌≡◌, ◌≢◌, ℕ, ◌+◌, ◌*◌, ◌%◌, ◌<◌, ◌≤◌, List, [], ◌∷◌, ◌++◌, length, map, flat_map, true, false, ◌&&◌, ◌==◌, inl, inr, refl, ap, sym, ◌∙◌, arith, slice_index, ℤ}
 use Rattle.std.specs.List.{list_all}
+use Rattle.std.proofs.lemmas.Bool.{and_parts, or_right}
 use Rattle.std.proofs.lemmas.Bool.Decides.{nat_tests}
 use Rattle.std.proofs.lemmas.Grind.{flat_map-append}
 use Rattle.num_fix.specs.Arithmetic.{has_bit}
@@ -157,25 +158,14 @@ voices_apart s memory j v previous shared olds news at value find few stay none 
 all_at_start : (s : ChipState) (memory : List ℕ) (v : ℕ) (voices : List VoiceState) → list_all is_at_group voices ≡ true → AllStayOnChains s memory 0 v voices voices
 all_at_start s memory v [] groups = tt
 all_at_start s memory v (voice ∷ voices) groups =
-    let both = and_both (is_at_group voice) (list_all is_at_group voices) groups in
+    let both = and_parts (is_at_group voice) (list_all is_at_group voices) groups in
     (record { on = inl (on_first memory (own_chain s memory v voice) 0 voice refl both.0); waits = waiting }, all_at_start s memory (v + 1) voices both.1)
   where
-    and_both : (a b : Bool) → (a && b) ≡ true → (a ≡ true) × (b ≡ true)
-    and_both true b h = (refl, h)
-    and_both false b h = absurd cc
-
     waiting : voice.delay ≢ 0 → can_start s v voice ≡ true
-    waiting some = let no : (voice.delay == 0) ≡ false = grind (arith, nat_tests, some) in rw no (either (has_bit s.hidden.waiting v))
-      where
-        either : (b : Bool) → (b || true) ≡ true
-        either true = refl
-        either false = refl
+    waiting some = let no : (voice.delay == 0) ≡ false = grind (arith, nat_tests, some) in rw no (or_right (has_bit s.hidden.waiting v) true refl)
 
 pub voices_at_start : (s : ChipState) (memory : List ℕ) → is_valid s ≡ true → AllStayOnChains s memory 0 0 s.hidden.voices s.hidden.voices
 unfolding is_valid
-voices_at_start s memory valid = all_at_start s memory 0 s.hidden.voices (middle (length s.hidden.voices == 8) (list_all is_at_group s.hidden.voices) (is_at_cell s.hidden.echo) valid)
-  where
-    middle : (a b c : Bool) → (a && b && c) ≡ true → b ≡ true
-    middle true true c h = refl
-    middle true false c h = absurd cc
-    middle false b c h = absurd cc
+voices_at_start s memory valid = 
+    let parts = and_parts (length s.hidden.voices == 8 && list_all is_at_group s.hidden.voices) (is_at_cell s.hidden.echo) valid in
+    all_at_start s memory 0 s.hidden.voices (and_parts (length s.hidden.voices == 8) (list_all is_at_group s.hidden.voices) parts.0).1

@@ -1,6 +1,6 @@
 -- The bits of a voice that loops, group by group.
 use Rattle.std.proofs.Common.{◌≡◌, ◌≢◌, ℕ, ◌+◌, ◌^◌, ◌<◌, ◌≤◌, ◌==◌, nat_lt, ◌&&◌, List, Bool, true, false, slice_index, slice_set, length, if◌then◌else◌, refl, ◌∙◌, arith}
-use Rattle.std.proofs.lemmas.Bool.{and_parts}
+use Rattle.std.proofs.lemmas.Bool.{and_parts, and_right}
 use Rattle.std.proofs.lemmas.List.{get_or-set_same, get_or-set_other}
 use Rattle.std.proofs.lemmas.Bool.Decides.{nat_tests}
 use Rattle.voice_unit.specs.Row.{place_after, groups_before, is_end, is_read_in, ends_in, loops_in}
@@ -16,10 +16,6 @@ bit_if b v = if b then 2 ^ v else 0
 pub bit-bound : (b : Bool) (v x : ℕ) → x < 2 ^ v → x + bit_if b v < 2 ^ (v + 1)
 bit-bound true v x below = rw (doubled v) (omega (arith, below))
 bit-bound false v x below = rw (doubled v) (omega (arith, below))
-
-and_false : (b : Bool) → (b && false) ≡ false
-and_false true = refl
-and_false false = refl
 
 -- the bit of a voice in the sample that reads a group which ends a block with its end bit
 pub mark_one : (loops : List ℕ) (at q j v : ℕ) (memory : List ℕ) (place : Place) (position pitch group : ℕ) → Reads position pitch group q → is_end memory place ≡ true → at + q < length loops
@@ -41,7 +37,7 @@ mark_one loops at q j v memory place position pitch group reads ends within = by
 pub no_end : (memory : List ℕ) (place : Place) (position pitch group j v x : ℕ) → place.offset ≢ 7 → x ≡ x + bit_if (ends_in memory place position pitch group j) v
 no_end memory place position pitch group j v x other =
     let test : (place.offset == 7) ≡ false = grind (arith, nat_tests, other) in
-    let none : ends_in memory place position pitch group j ≡ false = rw test (and_false (is_read_in position pitch group j)) in
+    let none : ends_in memory place position pitch group j ≡ false = rw test (and_right (is_read_in position pitch group j) false refl) in
     rw none (omega arith)
 
 module _ (memory : List ℕ) (loop_to : ℕ) (first : Place) (position pitch v : ℕ) where
@@ -102,13 +98,9 @@ module _ (memory : List ℕ) (loop_to : ℕ) (first : Place) (position pitch v :
       g : ℕ
       g = groups_before position pitch j
 
-      none : (b : Bool) → (b && false) ≡ false
-      none true = refl
-      none false = refl
-
       by : (b : Bool) → is_read_in position pitch g j ≡ b
           → (nat_lt g (groups_before position pitch n) && (b && is_end memory (place_after memory loop_to first g))) ≡ (b && is_end memory (place_after memory loop_to first g))
-      by false e = none (nat_lt g (groups_before position pitch n))
+      by false e = and_right (nat_lt g (groups_before position pitch n)) false refl
       by true e =
           let parts = and_parts (g == g) (groups_before position pitch (j + 1) == g + 1) e in
           let after : groups_before position pitch (j + 1) ≡ g + 1 = grind (arith, nat_tests, parts.1) in
