@@ -1,2 +1,0 @@
--- Lists: why a list of cuts is refused.
-pub mod Lists

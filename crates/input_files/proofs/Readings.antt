@@ -194,3 +194,12 @@ declines_error {T = T} {E = E} {C = C} refusal given error none why cause is mem
     told_of : (given ≡ Err error) ⊎ (error ≡ none) → (refused_by refusal given ≡ Err why) ⊎ (why ≡ OutOfMemory)
     told_of (inl same) = inl (ap (λ g. refused_by refusal g) same ∙ ap (λ (r : Refusal C). Err r) is)
     told_of (inr same) = inr (sym is ∙ ap refusal same ∙ memory)
+
+-- a reader's error that is a cause of its own for refusing the input
+pub declines_input : {T E C : Type 0} (cause : E → C) (given : Result T E) (error : E) → given ≡ Err error → Declines (refused_by (λ e. Input (cause e)) given) (Input (cause error))
+declines_input cause given error is = record {
+  told = inl (ap (refused_by (λ e. Input (cause e))) is);
+  no_usage = λ other. absurd cc;
+  no_read = λ other. absurd cc;
+  no_write = λ other. absurd cc;
+}

@@ -1,7 +1,7 @@
 use Rattle.cut_form.specs.CutList.{cut_list}
-use Rattle.input_files.proofs.Readings.{accepts_value}
+use Rattle.status_lines.specs.declared.cause.Cause.TheVariants.{CutList}
+use Rattle.input_files.proofs.Readings.{accepts_value, declines_input}
 use Rattle.command_cuts.specs.Lists.{list_refusal}
-use Rattle.command_cuts.proofs.Lists.{declines_line}
 use Rattle.command_cuts.proofs.list.accept_list.Goals as goal
 
 pub returns-in-Ok : goal.returns-in-Ok
@@ -10,5 +10,5 @@ returns-in-Ok c = accepts_value list_refusal (cut_list c.args.bytes.now) c.in-Ok
 pub returns-in-Err-Wrong : goal.returns-in-Err-Wrong
 returns-in-Err-Wrong c = record {
   ok = tt;
-  err = declines_line (cut_list c.args.bytes.now) c.in-Err-Wrong.field-0 c.in-Err-Wrong.line c.in-Err-Wrong.field-0-is c.in-Err-Wrong.ensures.wrong;
+  err = declines_input CutList (cut_list c.args.bytes.now) c.in-Err-Wrong.line (rw c.in-Err-Wrong.field-0-is at c.in-Err-Wrong.ensures.wrong);
 }
