@@ -2,7 +2,7 @@
 use Rattle.std.proofs.Common.{◌≡◌, ℕ, ◌+◌, ◌-◌, Bool, true, false, nat_lt, refl, ◌∙◌, ap}
 use Rattle.std.specs.Prelude.{if◌then◌else◌, ◌<◌}
 use Rattle.spc700_exec.specs.declared.cpu.Cpu.{Cpu}
-use Rattle.spc700_exec.specs.Bus.{BusMeaning, IsLawful, byte_read, after_read, after_write}
+use Rattle.spc700_exec.specs.Bus.{BusMeaning, byte_read, after_read, after_write}
 use Rattle.spc700_exec.specs.Script.{Script, Read, Write, End, cycles_at, outcome}
 use Rattle.spc700_exec.specs.Instruction.{script, step_outcome}
 use Rattle.lock_step.specs.ChipMeaning.{ChipMeaning}
@@ -10,7 +10,7 @@ use Rattle.lock_step.specs.StepsOfRun.{AreStepsOf}
 use Rattle.lock_step.proofs.StepsTaken.{one_step_more}
 use Rattle.lag_bus.specs.Lagging.{Lagging, lagging}
 use Rattle.lag_bus.specs.LagEmits.{lag_emits}
-use Rattle.lag_bus.specs.LagLaws.{emits_frames, emits_records}
+use Rattle.lag_bus.specs.LagLaws.{lagging-lawful, emits_frames, emits_records}
 use Rattle.lag_bus.specs.Running.{Running, running}
 
 module _ {B : Type 0} (bus : BusMeaning B) where
@@ -44,21 +44,10 @@ module _ {B : Type 0} (bus : BusMeaning B) where
     pub same_run : new.samples ≡ r.samples
     same_run = ap (λ (w : Cpu × Running B). w.1.samples) (does ∙ step_in_hand cpu r)
 
-lawful : {S : Type 0} (chip : ChipMeaning S) → IsLawful (lagging chip)
-lawful chip = record {
-  read_calls = λ _ _. refl;
-  read_clock = λ _ _. refl;
-  write_calls = λ _ _ _. refl;
-  write_clock = λ _ _ _. refl;
-  pass_calls = λ _ _. refl;
-  pass_clock = λ _ _. refl;
-  samples = λ _. refl;
-}
-
 module _ {S : Type 0} (chip : ChipMeaning S) (samples : ℕ) (cpu : Cpu) (old : Lagging S) (here next : Cpu) where
   -- one step more on the bus
   pub one_step_on : (there new : Lagging S)
       → AreStepsOf (lagging chip) (lag_emits chip) samples cpu old here there → (lagging chip).made there < samples
       → (next, new) ≡ step_outcome (lagging chip) here there
       → AreStepsOf (lagging chip) (lag_emits chip) samples cpu old next new
-  one_step_on there new = one_step_more (lagging chip) (lag_emits chip) samples cpu old (lawful chip) (emits_frames chip) (emits_records chip) here there next new
+  one_step_on there new = one_step_more (lagging chip) (lag_emits chip) samples cpu old (lagging-lawful chip) (emits_frames chip) (emits_records chip) here there next new

@@ -1,7 +1,8 @@
--- The machine with the lag book beside it emits as a bus is to emit.
+-- The machine with the lag book beside it is a lawful bus, and emits as a bus is to emit.
 use Rattle.std.proofs.Common.{◌≡◌, ◌≤◌, ◌+◌, ◌/◌, ◌==◌, ℕ, Bool, true, false, refl, arith}
 use Rattle.std.specs.Prelude.{Option, Some, None, if◌then◌else◌}
 use Rattle.std.proofs.lemmas.Bool.Decides.{nat_tests}
+use Rattle.spc700_exec.specs.Bus.{IsLawful}
 use Rattle.spc700_exec.specs.Emitting.{IsEmitting}
 use Rattle.lag_bus.specs.declared.cause.Cause.{Cause}
 use Rattle.lag_bus.specs.declared.cause.Cause.TheVariants.{Full, End}
@@ -18,6 +19,17 @@ use Rattle.lag_bus.specs.Lagging.{Lagging, lagging, with_book, after_settle}
 use Rattle.lag_bus.specs.LagEmits.{without_items, lag_emits}
 
 module _ {S : Type 0} (chip : ChipMeaning S) where
+  pub lagging-lawful : IsLawful (lagging chip)
+  lagging-lawful = record {
+    read_calls = λ _ _. refl;
+    read_clock = λ _ _. refl;
+    write_calls = λ _ _ _. refl;
+    write_clock = λ _ _ _. refl;
+    pass_calls = λ _ _. refl;
+    pass_clock = λ _ _. refl;
+    samples = λ _. refl;
+  }
+
   frames_law : IsEmitting (lock_step chip) drained_machine (λ m. m.frames)
   frames_law = plain.emits_frames chip
 

@@ -1,6 +1,5 @@
 // A bus that makes samples late, many at once.
 ghost use Rattle.std.specs.Prelude.{◌≡◌, ◌+◌, ◌*◌, ◌/◌, ◌-◌, ◌<◌, ◌≤◌, ◌%◌, ◌++◌, ◌∷◌, [], ◌==◌, unwrap_or, ◌||◌, not, true, false, length, if◌then◌else◌, IfOk};
-ghost use Rattle.std.proofs.Common.{refl};
 ghost use Rattle.aram_core.specs.Memory.{byte_at, with_byte};
 ghost use Rattle.spc700_exec.specs.Bus.{most_calls};
 ghost use Rattle.dsp_form.specs.Results.{is_result};
@@ -15,7 +14,7 @@ ghost use Rattle.lag_bus.specs.Book.{counts_with_batch, AddsUp, may_be_read, may
 ghost use Rattle.lag_bus.specs.Lagging.{lagging, opened_lagging, after_settle, MatchesBook};
 ghost use Rattle.lag_bus.specs.Saved.{CanBeLoaded, saved_bus, loaded_lagging};
 ghost use Rattle.lag_bus.specs.LagEmits.{lag_emits, after_drain};
-ghost use Rattle.lag_bus.specs.LagLaws.{emits_frames, emits_records, frame_each, counting, beside};
+ghost use Rattle.lag_bus.specs.LagLaws.{lagging-lawful, emits_frames, emits_records, frame_each, counting, beside};
 ghost use Rattle.ports_timers.specs.Zeros.{zeros_stay, AreTimers};
 ghost use Rattle.lag_bus.specs.Waiting.{byte_seen, samples_in};
 ghost use Rattle.lag_bus.specs.Held.{IsPlain};
@@ -391,15 +390,7 @@ impl<C: Chip> Bus for LagBus<C> {
         (32 - self.time.clock() % 32) as u8
     }
 
-    ghost lawful = { record {
-      read_calls = λ _ _. refl;
-      read_clock = λ _ _. refl;
-      write_calls = λ _ _ _. refl;
-      write_clock = λ _ _ _. refl;
-      pass_calls = λ _ _. refl;
-      pass_clock = λ _ _. refl;
-      samples = λ _. refl;
-    } };
+    ghost lawful = { lagging-lawful C.meaning };
 }
 
 // What each access in hand asks is in line with it.

@@ -1,9 +1,10 @@
--- The machine in lock step emits as a bus is to emit.
+-- The machine in lock step is a lawful bus, and emits as a bus is to emit.
 use Rattle.std.proofs.Common.{◌≡◌, ℕ, ◌+◌, ◌/◌, ◌≤◌, ◌<◌, Bool, true, false, ◌++◌, length, refl, sym, arith, length-append}
 use Rattle.std.specs.Prelude.{if◌then◌else◌}
 use Rattle.std.proofs.lemmas.List.{append-nil}
 use Rattle.std.proofs.lemmas.Bool.Decides.{nat_tests}
 use Rattle.ports_timers.specs.Io.{after_ticks_of}
+use Rattle.spc700_exec.specs.Bus.{IsLawful}
 use Rattle.spc700_exec.specs.Emitting.{IsEmitting}
 use Rattle.lock_step.specs.ChipMeaning.{ChipMeaning}
 use Rattle.lock_step.specs.Machine.{Machine}
@@ -13,6 +14,17 @@ use Rattle.lock_step.specs.Emits.{IsFrameEach, CountsOn, IsCounting, IsBeside}
 use Rattle.lock_step.specs.LockStepEmits.{drained_machine, lock_step_emits}
 
 module _ {S : Type 0} (chip : ChipMeaning S) where
+  pub lock_step-lawful : IsLawful (lock_step chip)
+  lock_step-lawful = record {
+    read_calls = λ _ _. refl;
+    read_clock = λ _ _. refl;
+    write_calls = λ _ _ _. refl;
+    write_clock = λ _ _ _. refl;
+    pass_calls = λ _ _. refl;
+    pass_clock = λ _ _. refl;
+    samples = λ _. refl;
+  }
+
   abbrev machine_after_pass : (m : Machine S) (cycles : ℕ) (made : Machine S) → Machine S
   machine_after_pass m cycles made = record made { io = after_ticks_of m.io m.clock cycles; clock = m.clock + cycles; calls = m.calls + 1 }
 

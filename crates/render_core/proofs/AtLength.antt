@@ -6,13 +6,13 @@ use Rattle.lock_step.specs.ChipMeaning.{ChipMeaning}
 use Rattle.lock_step.specs.Machine.{Machine}
 use Rattle.lock_step.specs.LockStep.{lock_step}
 use Rattle.lock_step.specs.LockStepEmits.{lock_step_emits}
+use Rattle.lock_step.specs.LockStepLaws.{lock_step-lawful}
 use Rattle.lag_bus.specs.Lagging.{Lagging, lagging}
 use Rattle.lag_bus.specs.LagEmits.{lag_emits}
 use Rattle.render_core.specs.BetweenSteps.{IsBetweenSteps}
 use Rattle.render_core.specs.MachineRun.{Whole}
 use Rattle.render_core.specs.Items.{run_frames, whole_at_rest, end_of_run}
 use Rattle.render_core.proofs.RunBySteps.{after_run-reached}
-use Rattle.render_core.proofs.FramesFromOpening.{lock_step-lawful}
 
 module _ {S : Type 0} (chip : ChipMeaning S) (samples : ℕ) (cpu : Cpu) (bus : Lagging S) (between : IsBetweenSteps (lagging chip) (lag_emits chip) samples bus) (made : ℕ)
     (is : made ≡ bus.machine.clock / 32) (there : nat_le samples made ≡ true) where

@@ -1,25 +1,13 @@
 -- From a machine at its opening a run emits as many frames as samples are to be made.
-use Rattle.std.proofs.Common.{◌≡◌, ℕ, ◌/◌, [], length, refl, ap, arith}
+use Rattle.std.proofs.Common.{◌≡◌, ℕ, ◌/◌, [], length, ap, arith}
 use Rattle.num_fix.specs.declared.Frame.{Frame}
 use Rattle.spc700_exec.specs.declared.cpu.Cpu.{Cpu}
-use Rattle.spc700_exec.specs.Bus.{IsLawful}
 use Rattle.lock_step.specs.ChipMeaning.{ChipMeaning}
 use Rattle.lock_step.specs.Machine.{Machine}
 use Rattle.lock_step.specs.LockStep.{lock_step}
-use Rattle.lock_step.specs.LockStepLaws.{frame_each}
+use Rattle.lock_step.specs.LockStepLaws.{lock_step-lawful, frame_each}
 use Rattle.render_core.specs.MachineRun.{after_run}
 use Rattle.render_core.proofs.FrameEachSample.{length-frames-after_run}
-
-pub lock_step-lawful : {S : Type 0} (chip : ChipMeaning S) → IsLawful (lock_step chip)
-lock_step-lawful chip = record {
-  read_calls = λ _ _. refl;
-  read_clock = λ _ _. refl;
-  write_calls = λ _ _ _. refl;
-  write_clock = λ _ _ _. refl;
-  pass_calls = λ _ _. refl;
-  pass_clock = λ _ _. refl;
-  samples = λ _. refl;
-}
 
 pub length-opened : {S : Type 0} (chip : ChipMeaning S) (samples : ℕ) (cpu : Cpu) (m : Machine S) → m.clock ≡ 0 → m.frames ≡ [] → length (after_run (lock_step chip) samples (cpu, m)).1.frames ≡ samples
 length-opened chip samples cpu m clock frames =

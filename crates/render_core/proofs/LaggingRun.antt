@@ -1,7 +1,6 @@
 -- A run of the machine with the lag book beside it is the run of the machine in lock step.
 use Rattle.std.proofs.Common.{◌≡◌, ℕ, refl, ap}
 use Rattle.spc700_exec.specs.declared.cpu.Cpu.{Cpu}
-use Rattle.spc700_exec.specs.Bus.{IsLawful}
 use Rattle.lock_step.specs.ChipMeaning.{ChipMeaning}
 use Rattle.lock_step.specs.Machine.{Machine}
 use Rattle.lock_step.specs.LockStep.{lock_step}
@@ -21,17 +20,6 @@ module _ {S : Type 0} (chip : ChipMeaning S) where
     pass = λ bus cycles. refl;
     clock = λ bus. refl;
     made = λ bus. refl;
-  }
-
-  pub lagging-lawful : IsLawful (lagging chip)
-  lagging-lawful = record {
-    read_calls = λ _ _. refl;
-    read_clock = λ _ _. refl;
-    write_calls = λ _ _ _. refl;
-    write_clock = λ _ _ _. refl;
-    pass_calls = λ _ _. refl;
-    pass_clock = λ _ _. refl;
-    samples = λ _. refl;
   }
 
   pub machine-after_run : (samples : ℕ) (cpu : Cpu) (bus : Lagging S) → after_run (lock_step chip) samples (cpu, bus.machine) ≡ (let w = after_run (lagging chip) samples (cpu, bus) in (w.0, w.1.machine))

@@ -12,13 +12,12 @@ use Rattle.lock_step.specs.SavingLaws.{IsLawfulSaving}
 use Rattle.lock_step.specs.Machine.{Machine}
 use Rattle.lock_step.specs.LockStep.{lock_step, after_sample, crosses_sample, writes_register}
 use Rattle.lock_step.specs.LockStepEmits.{drained_machine}
-use Rattle.lock_step.specs.LockStepLaws.{emits_frames, frame_each}
+use Rattle.lock_step.specs.LockStepLaws.{lock_step-lawful, emits_frames, frame_each}
 use Rattle.render_core.specs.MachineRun.{Whole, after_step, after_steps, after_run}
 use Rattle.render_core.specs.Whole.{with_lists_of, whole_after_run, frames_of_run, IsPlayedLawfully}
 use Rattle.render_core.proofs.RunBySteps.{after_steps-reached, after_run-next, after_run-reached, made-after_run}
 use Rattle.render_core.proofs.ItemsBeforeRun.{items-after_run-drained, end-after_run-drained}
 use Rattle.render_core.proofs.FrameEachSample.{length-frames-after_run}
-use Rattle.render_core.proofs.FramesFromOpening.{lock_step-lawful}
 
 -- a run goes on where another one ended
 module _ {S : Type 0} (bus : BusMeaning S) (lawful : IsLawful bus) (k n : ℕ) (less : k ≤ n) where

@@ -1,14 +1,13 @@
 // A bus that makes each sample at once.
 ghost use Rattle.std.specs.Prelude.{◌≡◌, ◌+◌, ◌*◌, ◌/◌, ◌<◌, ◌≤◌, ◌++◌, ◌∷◌, [], true, length, IfOk};
 ghost use Rattle.std.specs.List.{filter};
-ghost use Rattle.std.proofs.Common.{refl};
 ghost use Rattle.dsp_form.specs.Samples.{in_mask};
 ghost use Rattle.trace_form.specs.Rooms.{frame_room, record_room};
 ghost use Rattle.dsp_form.specs.Limits.{most_samples_of_chip};
 ghost use Rattle.lock_step.specs.Machine.{opened_machine};
 ghost use Rattle.lock_step.specs.LockStep.{bus_answer, after_bus_read, after_bus_write, after_bus_pass, lock_step};
 ghost use Rattle.lock_step.specs.LockStepEmits.{drained_machine, lock_step_emits, lock_step_counts};
-ghost use Rattle.lock_step.specs.LockStepLaws.{emits_frames, emits_records, frame_each, counting, beside};
+ghost use Rattle.lock_step.specs.LockStepLaws.{lock_step-lawful, emits_frames, emits_records, frame_each, counting, beside};
 
 use crate::OutOfMemory;
 use aram_core::Aram;
@@ -183,15 +182,7 @@ impl<C: Chip> Bus for PlainBus<C> {
         (32 - self.clock % 32) as u8
     }
 
-    ghost lawful = { record {
-      read_calls = λ _ _. refl;
-      read_clock = λ _ _. refl;
-      write_calls = λ _ _ _. refl;
-      write_clock = λ _ _ _. refl;
-      pass_calls = λ _ _. refl;
-      pass_clock = λ _ _. refl;
-      samples = λ _. refl;
-    } };
+    ghost lawful = { lock_step-lawful C.meaning };
 }
 
 impl<C: Chip> DrainedBus for PlainBus<C> {

@@ -1,5 +1,5 @@
+use Rattle.lag_bus.specs.LagLaws.{lagging-lawful}
 use Rattle.render_core.proofs.NextPiece.{is_next_piece, made_at_most}
-use Rattle.render_core.proofs.LaggingRun.{lagging-lawful}
 use Rattle.render_core.proofs.render.Render.make_next.Goals as goal
 
 pub invariant_of-self : goal.invariant_of-self
