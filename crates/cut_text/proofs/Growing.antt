@@ -27,14 +27,32 @@ pub one_before : {A : Type 0} (old : List A) (one : A) (said : Result (List A) �
 one_before old one (Ok more) = ap Ok (sym (append_assoc old (one ∷ []) more))
 one_before old one (Err wrong) = refl
 
--- what all lines say is what the later ones say after a list that has what the next line says too
-pub said_more : {A : Type 0} (said : Result (List A) ℕ) (said_after : List A → Result (List A) ℕ) (old new : List A) (next : Option A) →
-    ((one : A) → next ≡ Some one → said ≡ said_after (old ++ one ∷ [])) → OneMore old new next → said ≡ said_after new
-said_more said said_after old new None step grown = absurd grown
-said_more said said_after old new (Some one) step grown = step one refl ∙ ap said_after (sym grown)
+-- A reader says of the lines after a list what the next line says before what it says of the others after both; or that the next line is wrong.
+pub record IsReader {A : Type 0} (reads : List A → List (List ℕ) → Result (List A) ℕ) (next : List A → List ℕ → Option A) : Type 0 where
+  pub goes_on : (old : List A) (line : List ℕ) (lines : List (List ℕ)) (one : A) → next old line ≡ Some one → reads old (line ∷ lines) ≡ said_before one (reads (old ++ one ∷ []) lines)
+  pub stops : (old : List A) (line : List ℕ) (lines : List (List ℕ)) → next old line ≡ None → reads old (line ∷ lines) ≡ Err (length old + 1)
 
--- a refusal of the next line tells what all lines say
-pub tells_wrong : {A : Type 0} (said : Result (List A) ℕ) (old : List A) (next : Option A) (refusal : TextRefusal) →
-    (next ≡ None → said ≡ Err (length old + 1)) → IsWrongAfter old next refusal → Tells refusal said
-tells_wrong said old next (Wrong number) step wrong = step wrong.0 ∙ ap Err (sym wrong.1)
-tells_wrong said old next OutOfMemory step wrong = tt
+-- what a list and the lines after it say
+abbrev pub said_after : {A : Type 0} → (reads : List A → List (List ℕ) → Result (List A) ℕ) → List A → (lines : List (List ℕ)) → Result (List A) ℕ
+said_after reads list lines = list_before list (reads list lines)
+
+module _ {A : Type 0} {reads : List A → List (List ℕ) → Result (List A) ℕ} {next : List A → List ℕ → Option A} (reader : IsReader reads next) where
+  said_one : (old : List A) (line : List ℕ) (lines : List (List ℕ)) (one : A) → next old line ≡ Some one → said_after reads old (line ∷ lines) ≡ said_after reads (old ++ one ∷ []) lines
+  said_one old line lines one is =
+      ap (list_before old) (reader.goes_on old line lines one is)
+      ∙ ap (list_before old) (one_first one (reads (old ++ one ∷ []) lines))
+      ∙ one_before old one (reads (old ++ one ∷ []) lines)
+
+  -- what all lines say is what the later ones say after a list that has what the next line says too
+  pub said_after-more : (old new : List A) (line : List ℕ) (lines : List (List ℕ)) → OneMore old new (next old line) → said_after reads old (line ∷ lines) ≡ said_after reads new lines
+  said_after-more old new line lines grown = by (next old line) refl grown
+    where
+      by : (said : Option A) → next old line ≡ said → OneMore old new said → said_after reads old (line ∷ lines) ≡ said_after reads new lines
+      by None is more = absurd more
+      by (Some one) is more = said_one old line lines one is ∙ ap (λ (list : List A). said_after reads list lines) (sym more)
+
+  -- a refusal of the next line tells what all lines say
+  pub tells_wrong : (old : List A) (line : List ℕ) (lines : List (List ℕ)) (said : Result (List A) ℕ) (refusal : TextRefusal) →
+      said ≡ said_after reads old (line ∷ lines) → IsWrongAfter old (next old line) refusal → Tells refusal said
+  tells_wrong old line lines said (Wrong number) is wrong = is ∙ ap (list_before old) (reader.stops old line lines wrong.0) ∙ ap Err (sym wrong.1)
+  tells_wrong old line lines said OutOfMemory is wrong = tt

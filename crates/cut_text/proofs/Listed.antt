@@ -1,6 +1,6 @@
 -- A list of cuts that grows by the cut of a line.
 use Rattle.std.proofs.Common.{◌≡◌, ℕ, ◌+◌, ◌≤◌, List, [], ◌∷◌, ◌++◌, length, refl, ap, sym, ◌∙◌, arith}
-use Rattle.std.specs.Prelude.{◌==◌, true, Option, Some, None, Result, Err}
+use Rattle.std.specs.Prelude.{◌==◌, true, Option, Some, None, Result}
 use Rattle.std.specs.List.{slice_split}
 use Rattle.std.proofs.lemmas.Grind.{common_steps}
 use Rattle.std.proofs.lemmas.List.Sums.{sum_by_push}
@@ -10,42 +10,23 @@ use Rattle.cut_form.specs.declared.cut.Cut.{Cut}
 use Rattle.cut_form.specs.TextLines.{line_words, said_before}
 use Rattle.cut_form.specs.CutList.{most_cuts, cut_of_words, cuts_from}
 use Rattle.cut_form.specs.Slices.{cut_samples}
-use Rattle.cut_text.specs.declared.refusal.TextRefusal.{TextRefusal}
 use Rattle.text_parts.specs.Parts.{parts_left}
 use Rattle.cut_text.specs.Cuts.{EndWithinHour, IsListed, fits_after, next_cut}
-use Rattle.cut_text.specs.Reading.{Tells, OneMore, IsWrongAfter}
-use Rattle.cut_text.proofs.Growing.{list_before, one_first, one_before, said_more, tells_wrong}
+use Rattle.cut_text.proofs.Growing.{IsReader}
 use Rattle.cut_text.proofs.ThirdWord.{third_word}
 
--- what lines say after a list
-abbrev pub said_after : List Cut → (lines : List (List ℕ)) → Result (List Cut) ℕ
-said_after cuts lines = list_before cuts (cuts_from (length cuts + 1) (cut_samples cuts) lines)
+-- the cuts of the lines after cuts
+abbrev pub cuts_after : List Cut → (lines : List (List ℕ)) → Result (List Cut) ℕ
+cuts_after cuts lines = cuts_from (length cuts + 1) (cut_samples cuts) lines
 
 samples_more : (cuts : List Cut) (cut : Cut) → cut_samples (cuts ++ cut ∷ []) ≡ cut_samples cuts + cut.count
 samples_more cuts cut = sum_by_push (λ (c : Cut). c.count) cuts cut
 
-said_cut : (old : List Cut) (line : List ℕ) (lines : List (List ℕ)) (cut : Cut) → next_cut old line ≡ Some cut →
-    said_after old (line ∷ lines) ≡ said_after (old ++ cut ∷ []) lines
-said_cut old line lines cut is =
-    let step : cuts_from (length old + 1) (cut_samples old) (line ∷ lines) ≡ said_before cut (cuts_from (length old + 1 + 1) (cut_samples old + cut.count) lines) = rw (is, cuts_from) refl in
-    ap (list_before old) step
-    ∙ ap (list_before old) (one_first cut (cuts_from (length old + 1 + 1) (cut_samples old + cut.count) lines))
-    ∙ one_before old cut (cuts_from (length old + 1 + 1) (cut_samples old + cut.count) lines)
-    ∙ ap (λ (n : ℕ). list_before (old ++ cut ∷ []) (cuts_from (n + 1) (cut_samples old + cut.count) lines)) (sym (length_push old cut))
-    ∙ ap (λ (n : ℕ). list_before (old ++ cut ∷ []) (cuts_from (length (old ++ cut ∷ []) + 1) n lines)) (sym (samples_more old cut))
-
-said_wrong : (old : List Cut) (line : List ℕ) (lines : List (List ℕ)) → next_cut old line ≡ None → said_after old (line ∷ lines) ≡ Err (length old + 1)
-said_wrong old line lines is =
-    let step : cuts_from (length old + 1) (cut_samples old) (line ∷ lines) ≡ Err (length old + 1) = rw (is, cuts_from) refl in
-    ap (list_before old) step
-
-pub cuts_more : (old new : List Cut) (line : List ℕ) (lines : List (List ℕ)) → OneMore old new (next_cut old line) → said_after old (line ∷ lines) ≡ said_after new lines
-cuts_more old new line lines grown =
-    said_more (said_after old (line ∷ lines)) (λ (cuts : List Cut). said_after cuts lines) old new (next_cut old line) (said_cut old line lines) grown
-
-pub tells_wrong_cut : (old : List Cut) (line : List ℕ) (lines : List (List ℕ)) (said : Result (List Cut) ℕ) (refusal : TextRefusal) →
-    said ≡ said_after old (line ∷ lines) → IsWrongAfter old (next_cut old line) refusal → Tells refusal said
-tells_wrong_cut old line lines said refusal is wrong = tells_wrong said old (next_cut old line) refusal (λ none. is ∙ said_wrong old line lines none) wrong
+pub cuts_reader : IsReader cuts_after next_cut
+cuts_reader = record { goes_on = goes_on; stops = λ old line lines is. rw (is, cuts_from) refl }
+  where
+    goes_on : (old : List Cut) (line : List ℕ) (lines : List (List ℕ)) (cut : Cut) → next_cut old line ≡ Some cut → cuts_after old (line ∷ lines) ≡ said_before cut (cuts_after (old ++ cut ∷ []) lines)
+    goes_on old line lines cut is = rw (is, cuts_from, length_push old cut, samples_more old cut) refl
 
 within_more : (cuts : List Cut) (cut : Cut) → EndWithinHour cuts → cut.start + cut.count ≤ most_frames → EndWithinHour (cuts ++ cut ∷ [])
 within_more [] cut within here = (here, tt)

@@ -1,2 +1,2 @@
--- Said: a list that grows by what a line says.
+-- Said: what the lines of a text say after a list of lines.
 pub mod Said
