@@ -5,14 +5,14 @@
 mod complaints;
 mod delivery;
 mod lists;
-mod refusals;
 mod pieces;
+mod refusals;
 mod streaming;
 
 pub use complaints::{COMPLAINT, Complaint, complain, note_number};
 pub use delivery::{Plan, PlannedOutput, StreamedPlan, carry_out, carry_stream};
 pub use lists::{ListPlan, ListedOutput, carry_all};
-pub use refusals::Refusal;
 pub use pieces::Pieces;
+pub use refusals::Refusal;
 pub use std::alloc::AllocError as OutOfMemory;
 pub use streaming::{Targets, stream};

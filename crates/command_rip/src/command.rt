@@ -11,8 +11,8 @@ ghost use Rattle.command_frame.specs.Listed.{listed_output, list_makes};
 ghost use Rattle.command_rip.specs.Pieces.{to_come_of};
 ghost use Rattle.command_rip.specs.Rip.{wanted_in, directory_page, entry_name, entry_output, entries_answer, file_answer, rip_answer};
 
-use crate::reports::report_on;
 use crate::pieces::RipPieces;
+use crate::reports::report_on;
 use aram_core::Aram;
 use command_frame::{ListPlan, ListedOutput, OutOfMemory, Refusal, carry_all};
 use input_files::read_file;

@@ -2,8 +2,8 @@
 #![tactic(auto)]
 
 mod command;
-mod reports;
 mod pieces;
+mod reports;
 #[cfg(test)]
 mod tests;
 

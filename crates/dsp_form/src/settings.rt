@@ -3,7 +3,9 @@
 ghost use Rattle.std.specs.Prelude.{◌≡◌, ◌<◌};
 ghost use Rattle.dsp_form.specs.Settings.{voice_settings, all_voice_settings, settings_of};
 
-use crate::registers::{DIR, FLG, KOFF, NON, PMON, Registers, echo_regs, is_soft_reset, voice_regs};
+use crate::registers::{
+    DIR, FLG, KOFF, NON, PMON, Registers, echo_regs, is_soft_reset, voice_regs,
+};
 use crate::voice_settings::VoiceSettings;
 use crate::volumes::{Volumes, all_volumes};
 use echo_unit::EchoRegs;

@@ -6,9 +6,9 @@ ghost use Rattle.echo_unit.specs.Cells.{AreNeighbours, after_cells, length_in_fo
 ghost use Rattle.echo_unit.specs.Flg.{has_echo_writes};
 ghost use Rattle.echo_unit.specs.EchoOverBatch.{echo_over, pair_of};
 
-use crate::flg::has_echo_writes;
 use crate::cell::{cell_address, cell_pair, put_cell};
 use crate::filter::filtered_pair;
+use crate::flg::has_echo_writes;
 use crate::rows::{
     SILENCE, feedback_row, filtered_row, frame_at, last_pairs, output_row, put_history,
 };
