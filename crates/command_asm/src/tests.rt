@@ -15,9 +15,12 @@ fn assembled(alloc: Global, source: &[u8], origin: u16, failing: &[u32]) -> Resu
 /// Three lines with a name, a comment and blanks.
 const LOOP: &[u8] = b"loop: ; x\n mov a , $F3\nBNE loop\n";
 
+/// The code of those lines from 0400h on.
+const LOOP_CODE: &[u8] = b"\xe4\xf3\xd0\xfc";
+
 /// Sources with their origins, their code and the reports.
 const ASSEMBLED: &[(&[u8], u16, &[u8], &str)] = &[
-    (LOOP, 0x0400, b"\xe4\xf3\xd0\xfc", "bytes 4\n"),
+    (LOOP, 0x0400, LOOP_CODE, "bytes 4\n"),
     (b"", 0x0400, b"", "bytes 0\n"),
     (b"NOP\nend:", 0xffff, b"\0", "bytes 1\n"),
 ];
@@ -82,7 +85,7 @@ fn each_call_of_the_host_may_fail(rt: HostRuntime) -> Result<(), Fail> {
         let holds = if call < 3 {
             outcome.is_unread(call)
         } else {
-            outcome.is_cut_off(&whole)
+            outcome.is_cut_off(LOOP_CODE, &[], "bytes 4\n")
         };
         assert!(rt; holds, "at {call}");
     }

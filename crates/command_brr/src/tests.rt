@@ -13,6 +13,9 @@ const BLOCK_WAV: [u8; 76] =
     *b"RIFF\x44\0\0\0WAVEfmt \x10\0\0\0\x01\0\x01\0\0\x7d\0\0\0\xfa\0\0\x02\0\x10\0data\x20\0\0\0\
     \0\x10\0\0\0\0\0\0\0\0\0\0\0\0\0\0\0\0\0\0\0\0\0\0\0\0\0\0\0\0\0\0";
 
+/// What is reported on that block.
+const BLOCK_REPORT: &str = "blocks 1 samples 16\n";
+
 /// Decodes an input, where the calls of these numbers fail.
 fn decode_file(alloc: Global, input: &[u8], failing: &[u32]) -> Result<Outcome, Fail> {
     let mut host = host_with(alloc, &[("IN", input)], failing, ROOM)?;
@@ -23,7 +26,7 @@ fn decode_file(alloc: Global, input: &[u8], failing: &[u32]) -> Result<Outcome, 
 #[test]
 fn one_block_is_decoded(rt: HostRuntime) -> Result<(), Fail> {
     let outcome = decode_file(rt.alloc(), &BLOCK, &[])?;
-    assert!(rt; outcome.is_done(&BLOCK_WAV, "blocks 1 samples 16\n"));
+    assert!(rt; outcome.is_done(&BLOCK_WAV, BLOCK_REPORT));
     Ok(())
 }
 
@@ -89,7 +92,8 @@ fn each_call_of_the_host_may_fail(rt: HostRuntime) -> Result<(), Fail> {
         let holds = if call < 3 {
             outcome.is_unread(call)
         } else {
-            outcome.is_cut_off(&whole) && (outcome.first().len() == 76) == (call > 4)
+            outcome.is_cut_off(&BLOCK_WAV, &[], BLOCK_REPORT)
+                && (outcome.first().len() == 76) == (call > 4)
         };
         assert!(rt; holds, "at {call}");
     }

@@ -15,9 +15,12 @@ fn listed(alloc: Global, code: &[u8], origin: u16, failing: &[u32]) -> Result<Ou
 /// Two instructions.
 const TWO: &[u8] = b"\x8f\x5a\xf4\x2f\xfe";
 
+/// Their listing from 0400h on.
+const TWO_LINES: &[u8] = b"MOV $f4,#$5a\nBRA $0403\n";
+
 /// Code with its origin, the listing and the report.
 const LISTED: &[(&[u8], u16, &[u8], &str)] = &[
-    (TWO, 0x0400, b"MOV $f4,#$5a\nBRA $0403\n", "lines 2\n"),
+    (TWO, 0x0400, TWO_LINES, "lines 2\n"),
     (b"\x8f\x5a", 0x0400, b".byte $8f,$5a\n", "lines 1\n"),
     (b"", 0x0400, b"", "lines 0\n"),
     (b"\0", 0xffff, b"NOP\n", "lines 1\n"),
@@ -93,7 +96,7 @@ fn each_call_of_the_host_may_fail(rt: HostRuntime) -> Result<(), Fail> {
         let holds = if call < 3 {
             outcome.is_unread(call)
         } else {
-            outcome.is_cut_off(&whole)
+            outcome.is_cut_off(TWO_LINES, &[], "lines 2\n")
         };
         assert!(rt; holds, "at {call}");
     }

@@ -44,6 +44,12 @@ struct Encoded {
     report: &'static str,
 }
 
+/// The block of those sixteen samples.
+const STEEP_BLOCK: &[u8] = b"\xc1\x77\x77\x77\x77\x88\x88\x88\x88";
+
+/// What is reported on it.
+const STEEP_REPORT: &str = "block 0 header c1 worst 4095 squares 134152200\nblocks 1\n";
+
 /// Sounds and their blocks.
 const ENCODED: &[Encoded] = &[
     Encoded {
@@ -71,8 +77,8 @@ const ENCODED: &[Encoded] = &[
         looped: false,
         samples: &STEEP,
         length: 76,
-        blocks: b"\xc1\x77\x77\x77\x77\x88\x88\x88\x88",
-        report: "block 0 header c1 worst 4095 squares 134152200\nblocks 1\n",
+        blocks: STEEP_BLOCK,
+        report: STEEP_REPORT,
     },
 ];
 
@@ -137,7 +143,7 @@ fn each_call_of_the_host_may_fail(rt: HostRuntime) -> Result<(), Fail> {
         let holds = if call < 3 {
             outcome.is_unread(call)
         } else {
-            outcome.is_cut_off(&whole)
+            outcome.is_cut_off(STEEP_BLOCK, &[], STEEP_REPORT)
         };
         assert!(rt; holds, "at {call}");
     }

@@ -2,7 +2,7 @@
 ghost use Rattle.command_render.specs.Options.{SamplesWithinHour};
 
 use crate::test_support::{
-    Heard, NO_BATCH, ONE_BATCH, expected_report, has_frames, no_options, render_failing,
+    Heard, LINES, NO_BATCH, ONE_BATCH, expected_report, has_frames, no_options, render_failing,
     render_straight, samples, tune_of, with_trace,
 };
 use crate::{RenderOptions, render};
@@ -313,9 +313,13 @@ fn files_and_then_tables_are_refused(rt: HostRuntime) -> Result<(), Fail> {
 /// What a render of eight samples reports.
 const EIGHT: &str = "samples 8\nbatches 1 register 0 memory 0 echo 0 full 0 events 0 end 1\n";
 
-/// The first call of a render of eight samples that leaves what it may not where it fails. No call is left that could fail after the
-/// last one, so that then all stands.
-fn first_lawless_call(alloc: Global, options: RenderOptions<'_>) -> Result<Option<u32>, Fail>
+/// The first call of a render of eight samples with this trace that leaves what it may not where it fails. No call is left that could
+/// fail after the last one, so that then all stands.
+fn first_lawless_call(
+    alloc: Global,
+    options: RenderOptions<'_>,
+    trace: &[u8],
+) -> Result<Option<u32>, Fail>
     requires { SamplesWithinHour options.samples }
 {
     let file = tune_of(alloc, FIVE, &[])?;
@@ -328,9 +332,9 @@ fn first_lawless_call(alloc: Global, options: RenderOptions<'_>) -> Result<Optio
         let holds = if call < 22 {
             outcome.is_unread(call)
         } else if call < whole.calls() {
-            outcome.is_cut_off(&whole)
+            outcome.is_cut_off(wave.as_slice(), trace, EIGHT)
         } else {
-            outcome.is_done(wave.as_slice(), EIGHT)
+            outcome.is_done(wave.as_slice(), EIGHT) && outcome.second() == trace
         };
         if !holds {
             return Ok(Some(call));
@@ -341,9 +345,10 @@ fn first_lawless_call(alloc: Global, options: RenderOptions<'_>) -> Result<Optio
 
 #[test]
 fn each_call_of_a_render_may_fail(rt: HostRuntime) -> Result<(), Fail> {
-    let traced = first_lawless_call(rt.alloc(), with_trace(Some(8), Some(1)))?;
+    let traced = with_trace(Some(8), Some(1));
+    let traced = first_lawless_call(rt.alloc(), traced, LINES.as_bytes())?;
     assert_eq!(rt; traced, None);
-    let untraced = first_lawless_call(rt.alloc(), samples(8))?;
+    let untraced = first_lawless_call(rt.alloc(), samples(8), &[])?;
     assert_eq!(rt; untraced, None);
     Ok(())
 }

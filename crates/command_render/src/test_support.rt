@@ -95,6 +95,11 @@ pub const NO_BATCH: &str = "batches 0 register 0 memory 0 echo 0 full 0 events 0
 /// All samples are made at the end.
 pub const ONE_BATCH: &str = "batches 1 register 0 memory 0 echo 0 full 0 events 0 end 1\n";
 
+/// The lines of voice 0, which is heard from sample 6 on.
+pub const LINES: &str =
+    "V 0 0 0 0 0000 k-\nV 1 0 0 0 0500 --\nV 2 0 0 0 0500 --\nV 3 0 0 0 0500 --\nV 4 0 0 0 0500 --\n\
+    V 5 0 0 0 0500 --\nV 6 0 2032 4064 0500 --\nV 7 0 2032 4064 0500 --\n";
+
 /// A render, and the frames that it has.
 #[derive(Drop)]
 pub struct Heard {

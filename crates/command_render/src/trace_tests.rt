@@ -1,6 +1,7 @@
 // Traces of renders over a host in memory.
 use crate::test_support::{
-    NO_BATCH, ONE_BATCH, Traced, expected_report, has_frames, render_straight, tune_of, with_trace,
+    LINES, NO_BATCH, ONE_BATCH, Traced, expected_report, has_frames, render_straight, tune_of,
+    with_trace,
 };
 use command_tests::{DSP, FIVE, MEMORY, Pieces};
 use std::alloc::Global;
@@ -21,12 +22,7 @@ const PORT: Pieces = &[(
     b"\0\0\0\0\0\0\0\0\0\0\0\0\0\0\x8f\x5a\xf4\x2f\xfe",
 )];
 
-/// The lines of voice 0, which is heard from sample 6 on.
-const LINES: &str =
-    "V 0 0 0 0 0000 k-\nV 1 0 0 0 0500 --\nV 2 0 0 0 0500 --\nV 3 0 0 0 0500 --\nV 4 0 0 0 0500 --\n\
-    V 5 0 0 0 0500 --\nV 6 0 2032 4064 0500 --\nV 7 0 2032 4064 0500 --\n";
-
-/// The same, on to where its block ends, after 16 samples that are decoded by fours, and it goes to the loop word.
+/// Those lines, on to where its block ends, after 16 samples that are decoded by fours, and it goes to the loop word.
 const LOOPED: &str =
     "V 0 0 0 0 0000 k-\nV 1 0 0 0 0500 --\nV 2 0 0 0 0500 --\nV 3 0 0 0 0500 --\nV 4 0 0 0 0500 --\n\
     V 5 0 0 0 0500 --\nV 6 0 2032 4064 0500 --\nV 7 0 2032 4064 0500 --\nV 8 0 2032 4064 0500 --\n\

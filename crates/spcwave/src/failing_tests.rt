@@ -1,40 +1,117 @@
 // Each call of each command may fail.
 use crate::test_support::{MONO, list_words, run_failing};
-use command_tests::{FIVE, Outcome, file_of, straight_table};
-use status_lines::Status;
+use command_tests::{FIVE, Frames, Outcome, file_of, straight_table, wave_of};
 use std::alloc::Global;
 use std::test::Fail;
 
-/// A command over the inputs of `run_on_all`, how many of its calls are on inputs, and its whole report.
-const COMMANDS: &[(&[&str], u32, &str)] = &[
-    (&["brr", "BRR", "OUT"], 3, "blocks 1 samples 16\n"),
-    (
-        &["info", "SPC"],
-        19,
-        "length 66048\nminor 30\ntags no\npc 0400 a 00 x 00 y 00 psw 00 sp ef\n",
-    ),
-    (
-        &["encode", "WAV", "OUT"],
-        3,
-        "block 0 header 01 worst 0 squares 0\nblocks 1\n",
-    ),
-    (&["asm", "SOURCE", "0400", "OUT"], 3, "bytes 1\n"),
-    (&["dis", "BRR", "0400", "OUT"], 3, "lines 9\n"),
-    (
-        &["rip", "SPC", "OUT"],
-        19,
-        "entry 00 start 0500 blocks 1 loop outside worst 0 squares 0\nentries 1\n",
-    ),
-    (&["demo", "7", "OUT"], 0, "bytes 66048\n"),
-    // what an independent implementation told
-    (
-        &["check", "3456189438"],
-        0,
-        "samples 320000\nleft 49171252\nright -899585932\nmix 1010732692\n\
-        batches 9983 register 4982 memory 4983 echo 0 full 17 events 0 end 1\n",
-    ),
-    (
-        &[
+/// The first output of a command.
+enum First {
+    Bytes(&'static [u8]),
+    /// A sound file of these frames.
+    Wave(Frames),
+    /// So many bytes, which begin with these.
+    Front(usize, &'static [u8]),
+}
+
+/// A command over the inputs of `run_on_all`, and what it comes to.
+struct Command {
+    words: &'static [&'static str],
+    /// How many of its calls are on inputs.
+    reads: u32,
+    first: First,
+    trace: &'static str,
+    report: &'static str,
+}
+
+impl Command {
+    /// Whether all was done, with its outputs and its report.
+    fn is_done(&self, alloc: Global, outcome: &Outcome) -> Result<bool, Fail> {
+        let first = outcome.first();
+        let has_first = match self.first {
+            First::Bytes(bytes) => first == bytes,
+            First::Wave(frames) => first == wave_of(alloc, frames)?.as_slice(),
+            First::Front(length, front) => first.len() == length && first.starts_with(front),
+        };
+        Ok(
+            has_first
+                && outcome.is_done(first, self.report)
+                && outcome.second() == self.trace.as_bytes(),
+        )
+    }
+}
+
+/// Sixteen samples of 0.
+const SILENT_WAV: &[u8] =
+    b"RIFF\x44\0\0\0WAVEfmt \x10\0\0\0\x01\0\x01\0\0\x7d\0\0\0\xfa\0\0\x02\0\x10\0data\x20\0\0\0\
+    \0\0\0\0\0\0\0\0\0\0\0\0\0\0\0\0\0\0\0\0\0\0\0\0\0\0\0\0\0\0\0\0";
+
+/// Sixteen samples of 4096.
+const STEADY_WAV: &[u8] =
+    b"RIFF\x44\0\0\0WAVEfmt \x10\0\0\0\x01\0\x01\0\0\x7d\0\0\0\xfa\0\0\x02\0\x10\0data\x20\0\0\0\
+    \0\x10\0\x10\0\x10\0\x10\0\x10\0\x10\0\x10\0\x10\0\x10\0\x10\0\x10\0\x10\0\x10\0\x10\0\x10\0\x10";
+
+/// The commands, but for those that only tell a text.
+const COMMANDS: &[Command] = &[
+    Command {
+        words: &["brr", "BRR", "OUT"],
+        reads: 3,
+        first: First::Bytes(SILENT_WAV),
+        trace: "",
+        report: "blocks 1 samples 16\n",
+    },
+    Command {
+        words: &["info", "SPC"],
+        reads: 19,
+        first: First::Bytes(b""),
+        trace: "",
+        report: "length 66048\nminor 30\ntags no\npc 0400 a 00 x 00 y 00 psw 00 sp ef\n",
+    },
+    Command {
+        words: &["encode", "WAV", "OUT"],
+        reads: 3,
+        first: First::Bytes(b"\x01\0\0\0\0\0\0\0\0"),
+        trace: "",
+        report: "block 0 header 01 worst 0 squares 0\nblocks 1\n",
+    },
+    Command {
+        words: &["asm", "SOURCE", "0400", "OUT"],
+        reads: 3,
+        first: First::Bytes(b"\0"),
+        trace: "",
+        report: "bytes 1\n",
+    },
+    Command {
+        words: &["dis", "BRR", "0400", "OUT"],
+        reads: 3,
+        first: First::Bytes(b"NOP\nNOP\nNOP\nNOP\nNOP\nNOP\nNOP\nNOP\nNOP\n"),
+        trace: "",
+        report: "lines 9\n",
+    },
+    Command {
+        words: &["rip", "SPC", "OUT"],
+        reads: 19,
+        first: First::Bytes(STEADY_WAV),
+        trace: "",
+        report: "entry 00 start 0500 blocks 1 loop outside worst 0 squares 0\nentries 1\n",
+    },
+    Command {
+        words: &["demo", "7", "OUT"],
+        reads: 0,
+        first: First::Front(66048, b"SNES-SPC700 Sound File Data v0.30\x1a\x1a"),
+        trace: "",
+        report: "bytes 66048\n",
+    },
+    Command {
+        words: &["check", "3456189438"],
+        reads: 0,
+        first: First::Bytes(b""),
+        trace: "",
+        // what an independent implementation told
+        report: "samples 320000\nleft 49171252\nright -899585932\nmix 1010732692\n\
+            batches 9983 register 4982 memory 4983 echo 0 full 17 events 0 end 1\n",
+    },
+    Command {
+        words: &[
             "render",
             "SPC",
             "TABLE",
@@ -43,20 +120,29 @@ const COMMANDS: &[(&[&str], u32, &str)] = &[
             "8",
             "--trace",
             "TRACE",
+            "--voices",
+            "01",
         ],
-        22,
-        "samples 8\nbatches 1 register 0 memory 0 echo 0 full 0 events 0 end 1\n",
-    ),
-    (
-        &["cuts", "SPC", "TABLE", "LIST", "OUT"],
-        25,
-        "cuts 2 samples 4 checkpoints 2 pages 256 made 6\n",
-    ),
-    (
-        &["serve", "SPC", "TABLE", "SCRIPT", "OUT", "--pages", "257"],
-        25,
-        "played 3 at 3\nmark 3 gave 0\nfree 1 marks 2 made 3\n",
-    ),
+        reads: 22,
+        first: First::Wave(&[(6, 0), (2, 4000)]),
+        trace: "V 0 0 0 0 0000 k-\nV 1 0 0 0 0500 --\nV 2 0 0 0 0500 --\nV 3 0 0 0 0500 --\nV 4 0 0 0 0500 --\n\
+            V 5 0 0 0 0500 --\nV 6 0 2032 4064 0500 --\nV 7 0 2032 4064 0500 --\n",
+        report: "samples 8\nbatches 1 register 0 memory 0 echo 0 full 0 events 0 end 1\n",
+    },
+    Command {
+        words: &["cuts", "SPC", "TABLE", "LIST", "OUT"],
+        reads: 25,
+        first: First::Wave(&[(4, 0)]),
+        trace: "",
+        report: "cuts 2 samples 4 checkpoints 2 pages 256 made 6\n",
+    },
+    Command {
+        words: &["serve", "SPC", "TABLE", "SCRIPT", "OUT", "--pages", "257"],
+        reads: 25,
+        first: First::Wave(&[(3, 0)]),
+        trace: "",
+        report: "played 3 at 3\nmark 3 gave 0\nfree 1 marks 2 made 3\n",
+    },
 ];
 
 /// Runs a command over these inputs, where the calls of these numbers fail.
@@ -80,41 +166,29 @@ fn run_on_all(alloc: Global, words: &[&str], failing: &[u32]) -> Result<Outcome,
 }
 
 /// Whether each call of a command may fail: those on inputs, which come first, leave nothing, the others prefixes. Where none of
-/// its calls fails, it ends with this report.
-fn each_call_may_fail(
-    alloc: Global,
-    words: &[&str],
-    reads: u32,
-    report: &str,
-) -> Result<bool, Fail> {
-    let whole = run_on_all(alloc, words, &[])?;
-    let mut holds = is_whole(&whole, report) && whole.calls() > reads;
+/// its calls fails, all is done.
+fn each_call_may_fail(alloc: Global, command: &Command) -> Result<bool, Fail> {
+    let whole = run_on_all(alloc, command.words, &[])?;
+    let mut holds = command.is_done(alloc, &whole)? && whole.calls() > command.reads;
     for call in 0..whole.calls() {
-        let outcome = run_on_all(alloc, words, &[call])?;
+        let outcome = run_on_all(alloc, command.words, &[call])?;
         holds = holds
-            && if call < reads {
+            && if call < command.reads {
                 outcome.is_unread(call)
             } else {
-                outcome.is_cut_off(&whole)
+                outcome.is_cut_off(whole.first(), whole.second(), command.report)
             };
     }
-    let after = run_on_all(alloc, words, &[whole.calls()])?;
-    Ok(holds && is_whole(&after, report))
-}
-
-/// Whether all was done, with this report.
-fn is_whole(outcome: &Outcome, report: &str) -> bool {
-    outcome.status() == Status::Ok
-        && outcome.report() == report.as_bytes()
-        && outcome.complaint().is_empty()
+    let after = run_on_all(alloc, command.words, &[whole.calls()])?;
+    Ok(holds && command.is_done(alloc, &after)?)
 }
 
 /// The one call of `help`, and that of `version`, fails in a test of its crate.
 #[test]
 fn each_call_of_each_command_may_fail(rt: HostRuntime) -> Result<(), Fail> {
-    for (words, reads, report) in COMMANDS {
-        let holds = each_call_may_fail(rt.alloc(), words, *reads, report)?;
-        assert!(rt; holds, "{words:?}");
+    for command in COMMANDS {
+        let holds = each_call_may_fail(rt.alloc(), command)?;
+        assert!(rt; holds, "{:?}", command.words);
     }
     Ok(())
 }

@@ -2,7 +2,7 @@
 // takes one byte at a time.
 use crate::test_support::{MONO, drips_alike, list_words, run_dripping, run_over};
 use command_tests::{
-    DSP, FIVE, Frames, MEMORY, Outcome, Pieces, ROOM, file_of, frame_bytes, straight_table,
+    DSP, FIVE, Frames, MEMORY, Outcome, Pieces, ROOM, file_of, frame_bytes, straight_table, wave_of,
 };
 use status_lines::Status;
 use std::alloc::Global;
@@ -338,10 +338,12 @@ fn fills_drop_by_drop(alloc: Global, wave: &[u8]) -> Result<bool, Fail> {
 
 #[test]
 fn an_output_without_room_is_cut_off(rt: HostRuntime) -> Result<(), Fail> {
+    let wave = wave_of(rt.alloc(), &[(4, 0)])?;
     let whole = render_into(rt.alloc(), ROOM)?;
+    let report = "samples 4\nbatches 1 register 0 memory 0 echo 0 full 0 events 0 end 1\n";
+    assert!(rt; whole.is_done(wave.as_slice(), report));
     let cut = render_into(rt.alloc(), 50)?;
-    assert!(rt; whole.status() == Status::Ok && whole.first().len() == 60);
-    assert!(rt; cut.is_cut_off(&whole) && cut.report().is_empty());
-    assert!(rt; fills_drop_by_drop(rt.alloc(), whole.first())?);
+    assert!(rt; cut.is_cut_off(wave.as_slice(), &[], ""));
+    assert!(rt; fills_drop_by_drop(rt.alloc(), wave.as_slice())?);
     Ok(())
 }

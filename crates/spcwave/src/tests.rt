@@ -184,13 +184,9 @@ fn help_is_told(rt: HostRuntime) -> Result<(), Fail> {
 fn help_and_version_need_a_report(rt: HostRuntime) -> Result<(), Fail> {
     let alloc = rt.alloc();
     for word in ["help", "--help", "version", "--version"] {
-        let whole = run_words(alloc, &[word], &[])?;
         let words = list_words(alloc, &[word])?;
         let failed = run_failing(alloc, words.as_slice(), &[], &[0])?;
-        assert!(rt;
-            failed.is_cut_off(&whole) && failed.report().is_empty(),
-            "{word}"
-        );
+        assert!(rt; failed.is_cut_off(&[], &[], ""), "{word}");
     }
     Ok(())
 }

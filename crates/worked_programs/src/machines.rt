@@ -99,6 +99,11 @@ impl Emitted {
         })
     }
 
+    /// Whether all frames are silence.
+    pub fn is_silent(&self) -> bool {
+        self.frames.iter().all(|frame| *frame == SILENCE)
+    }
+
     /// Drains a bus, and gives the number of frames.
     pub fn drain<B: DrainedBus>(&mut self, bus: &mut B) -> Result<u8, Fail> {
         bus.drain(&mut self.last_frames, &mut self.last_records);

@@ -1,6 +1,6 @@
 //! Runs of the processor over the bus that makes each sample at once.
 
-use crate::machines::{KEYED, SILENCE, SOURCE, opening_of, run_plain};
+use crate::machines::{KEYED, SOURCE, opening_of, run_plain};
 use std::alloc::Global;
 use std::process::Abort;
 use std::test::Fail;
@@ -19,7 +19,7 @@ fn look_at(
     let opening = opening_of(alloc, &[(0x0400, code)], &registers)?;
     let all = run_plain(alloc, opening, samples)?.emitted;
     assert_eq!(rt; all.records.as_slice(), records);
-    assert!(rt; all.frames.iter().all(|frame| *frame == SILENCE));
+    assert!(rt; all.is_silent());
     assert_eq!(rt; all.frames.len(), samples as usize);
     Ok(())
 }

@@ -11,7 +11,7 @@ use trace_form::Record;
 /// Echo writes are off, and no voice is keyed: each reads at block address 0 and is silent.
 pub const QUIET: [(usize, u8); 2] = [(0x6C, 0x60), (0x6D, 0xE0)];
 
-/// All voices are keyed, so that from the first batch on no sample reads page 0.
+/// All voices are keyed at no volume, so that from the first batch on no sample reads page 0.
 const ALL_KEYED: [(usize, u8); 4] = [(0x4C, 0xFF), (0x5D, 0x02), (0x6C, 0x20), (0x6D, 0xE0)];
 
 /// What the source sounds like once it is heard.
@@ -149,6 +149,7 @@ fn poll_counter(rt: &impl Abort, alloc: Global, code: &[u8], samples: &[u32]) ->
     let writes = samples.len() as u64;
     let counts = counts_of(writes.wrapping_add(1), writes, 0, 1);
     look_at(rt, &runs, 100, wanted.as_slice(), counts);
+    assert!(rt; runs.1.emitted.is_silent());
     Ok(())
 }
 
@@ -166,6 +167,7 @@ fn writes_of_a_driver_wait_for_64_samples(rt: HostRuntime) -> Result<(), Fail> {
     let runs = run_both(rt.alloc(), &pieces, &ALL_KEYED, 0, 190)?;
     // 8 samples, 64 and 64 more, and the last 54
     look_at(&rt, &runs, 190, wanted.as_slice(), counts_of(4, 1, 2, 1));
+    assert!(rt; runs.1.emitted.is_silent());
     Ok(())
 }
 
@@ -202,6 +204,7 @@ fn a_counter_leaves_0_in_the_middle_of_a_round(rt: HostRuntime) -> Result<(), Fa
     }
     let runs = run_both(rt.alloc(), &[(0x0400, &TWO_POLLS)], &QUIET, 0, 100)?;
     look_at(&rt, &runs, 100, wanted.as_slice(), counts_of(13, 12, 0, 1));
+    assert!(rt; runs.1.emitted.is_silent());
     Ok(())
 }
 
