@@ -166,6 +166,6 @@ all_at_start s memory v (voice ∷ voices) groups =
 
 pub voices_at_start : (s : ChipState) (memory : List ℕ) → is_valid s ≡ true → AllStayOnChains s memory 0 0 s.hidden.voices s.hidden.voices
 unfolding is_valid
-voices_at_start s memory valid = 
+voices_at_start s memory valid =
     let parts = and_parts (length s.hidden.voices == 8 && list_all is_at_group s.hidden.voices) (is_at_cell s.hidden.echo) valid in
     all_at_start s memory 0 s.hidden.voices (and_parts (length s.hidden.voices == 8) (list_all is_at_group s.hidden.voices) parts.0).1
