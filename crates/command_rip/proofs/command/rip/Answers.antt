@@ -14,9 +14,9 @@ pub returns-in-Err-clause-attempts : goal.returns-in-Err-clause-attempts
 returns-in-Err-clause-attempts g c =
     let x = g.H.Host.state c.args.host.now in
     let y = g.H.Host.state c.read_file.new.host in
-    attempts (list_makes to_come_of) (λ (files : Files). rip_answer c.args.prefix.now c.args.range (files c.args.input.now)) x y y (Err c.in-Err.refusal) (Some c.in-Err.refusal)
+    attempts (list_makes to_come_of) (λ (files : Files). rip_answer c.args.prefix.now c.args.range (files c.args.input.now)) x y y (Err c.in-Err.refusal) (Some c.in-Err.refusal) _
     (reads_declined (list_makes to_come_of) (λ (files : Files). file_in (files c.args.input.now)) (λ (files : Files). file_answer c.args.prefix.now c.args.range) x y c.in-Err.refusal c.in-Err.ensures)
-    (not_carried c.in-Err.refusal y)
+    (not_carried c.in-Err.refusal y) refl
 
 pub returns-in_default-clause-attempts : goal.returns-in_default-clause-attempts
 returns-in_default-clause-attempts g c =
