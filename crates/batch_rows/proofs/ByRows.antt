@@ -6,7 +6,7 @@ use Rattle.dsp_form.specs.Samples.{SamplesResult, samples, one_more}
 use Rattle.dsp_form.specs.Sample.{SharedInput, results_from, shared_input, sample, before_voices}
 use Rattle.dsp_form.specs.declared.registers.TheConstants.{FLG}
 use Rattle.dsp_form.specs.declared.state.ChipState.{ChipState}
-use Rattle.dsp_form.proofs.Inputs.{SameInputs, registers-before_step}
+use Rattle.dsp_form.proofs.Inputs.{SameInputs, registers-before_voices}
 use Rattle.dsp_reach.proofs.Registers.{same_inputs-samples}
 use Rattle.batch_rows.specs.Lane.{lanes, voices_after}
 use Rattle.echo_unit.specs.EchoOverBatch.{EchoOver}
@@ -14,7 +14,7 @@ use Rattle.batch_rows.specs.Rows.{keys_after, inputs, answers, results_after, ec
 use Rattle.batch_rows.specs.Apart.{VoicesReadTheSame}
 use Rattle.batch_rows.proofs.Lanes.{voices_after-zero, voices_after-suc, results_from-lanes}
 use Rattle.batch_rows.proofs.SameInputs.{same_results}
-use Rattle.batch_rows.proofs.OneMore.{polled_parts, registers-keys_after, sample_of_parts}
+use Rattle.batch_rows.proofs.OneMore.{before_voices-with_parts, registers-keys_after, sample_of_parts}
 
 -- what all voices of a batch by rows read in sample n is what the chip's keys and noise make of it
 inputs_are : (k : ℕ) (s : ChipState) (memory : List ℕ) (n : ℕ) → inputs k s memory n ≡ shared_input (before_voices (keys_after k s n) (k + n)) memory (k + n)
@@ -37,10 +37,10 @@ results_of_parts s memory n k registers voices echo same = rw parts whole
     next = before_voices (keys_after k s n) (k + n)
 
     parts : before_voices (with_parts (keys_after k s n) registers voices echo) (k + n) ≡ with_parts next registers voices echo
-    parts = polled_parts (keys_after k s n) (k + n) registers voices echo flg
+    parts = before_voices-with_parts (keys_after k s n) (k + n) registers voices echo flg
 
     registers_same : SameInputs registers next.registers
-    registers_same = λ address h. same address h ∙ ap (λ (rs : List ℕ). slice_index rs address) (sym (registers-before_step (keys_after k s n) (k + n) ∙ own))
+    registers_same = λ address h. same address h ∙ ap (λ (rs : List ℕ). slice_index rs address) (sym (registers-before_voices (keys_after k s n) (k + n) ∙ own))
 
     whole : results_from (shared_input (with_parts next registers voices echo) memory (k + n)) 0 (pos 0) voices ≡ results_from (inputs k s memory n) 0 (pos 0) voices
     whole = same_results registers next.registers registers_same (shared_input next memory (k + n)) 0 (pos 0) voices

@@ -15,7 +15,7 @@ use Rattle.echo_unit.proofs.OffCell.{echo_memory_still}
 use Rattle.dsp_form.specs.Valid.{is_valid}
 use Rattle.dsp_form.specs.Reach.{chip_reach}
 use Rattle.dsp_form.specs.declared.state.ChipState.{ChipState}
-use Rattle.dsp_form.proofs.Inputs.{registers-before_step}
+use Rattle.dsp_form.proofs.Inputs.{registers-before_voices}
 use Rattle.dsp_reach.proofs.Keys.{taken_waited}
 use Rattle.dsp_reach.proofs.ReachOfChip.{voices_unwritten}
 use Rattle.dsp_reach.proofs.Voices.{FindTheSame, results_same}
@@ -38,7 +38,7 @@ reach_keeps_apart n k s memory few valid clear j below = sym over
 
     find : FindTheSame s memory 0 s.hidden.voices shared
     find = record {
-      registers = λ address h. ap (λ (registers : List ℕ). slice_index registers address) (registers-before_step now.state (k + j)) ∙ stays.inputs address h;
+      registers = λ address h. ap (λ (registers : List ℕ). slice_index registers address) (registers-before_voices now.state (k + j)) ∙ stays.inputs address h;
       bytes = λ at there. stays.bytes at (voices_unwritten s memory (page_of at) clear there);
       keyed = λ v keyed.
           let both = and_parts ((k + j) % 2 == 0) (has_bit (before_voices now.state (k + j)).hidden.taken v) keyed in
@@ -56,7 +56,7 @@ memory-samples (suc n) k s memory off =
     let now : SamplesResult ChipState = samples sample n k s memory in
     let next : ChipState = before_voices now.state (k + n) in
     let same : slice_index next.registers FLG ≡ slice_index s.registers FLG =
-    ap (λ (registers : List ℕ). slice_index registers FLG) (registers-before_step now.state (k + n)) ∙ same_inputs-samples n k s memory FLG refl in
+    ap (λ (registers : List ℕ). slice_index registers FLG) (registers-before_voices now.state (k + n)) ∙ same_inputs-samples n k s memory FLG refl in
     let still : has_echo_writes (slice_index next.registers FLG) ≡ false = ap has_echo_writes same ∙ off in
     echo_memory_still next.hidden.echo (echo_regs next.registers) now.memory
     (sent_frame (all_volumes next.registers) (map (λ (result : VoiceResult). result.answer) (results_from (shared_input next now.memory (k + n)) 0 (pos 0) next.hidden.voices))) still

@@ -4,8 +4,8 @@ use Rattle.std.proofs.lemmas.Bool.Decides.{nat_tests}
 use Rattle.std.proofs.lemmas.List.{get_or-set_same, get_or-set_other}
 use Rattle.voice_unit.specs.declared.batch.BatchRows.{BatchRows}
 use Rattle.dsp_form.specs.declared.state.ChipState.{ChipState}
-use Rattle.dsp_form.proofs.EightVoices.{voices-before_step}
-use Rattle.dsp_form.proofs.Valid.{echo-before_step}
+use Rattle.dsp_form.proofs.EightVoices.{voices-before_voices}
+use Rattle.dsp_form.proofs.Valid.{echo-before_voices}
 use Rattle.echo_unit.proofs.Entries.{with_entry}
 use Rattle.dsp_form.specs.Sample.{before_voices}
 use Rattle.batch_rows.specs.KeyRows.{AreKeyRows}
@@ -53,7 +53,7 @@ untouched part k s zero same = refl
 untouched part k s (suc n) same = same (keys_after k s n) (k + n) ∙ untouched part k s n same
 
 pub voices-keys_after : (k : ℕ) (s : ChipState) (n : ℕ) → (keys_after k s n).hidden.voices ≡ s.hidden.voices
-voices-keys_after k s n = untouched (λ (t : ChipState). t.hidden.voices) k s n voices-before_step
+voices-keys_after k s n = untouched (λ (t : ChipState). t.hidden.voices) k s n voices-before_voices
 
 pub echo-keys_after : (k : ℕ) (s : ChipState) (n : ℕ) → (keys_after k s n).hidden.echo ≡ s.hidden.echo
-echo-keys_after k s n = untouched (λ (t : ChipState). t.hidden.echo) k s n echo-before_step
+echo-keys_after k s n = untouched (λ (t : ChipState). t.hidden.echo) k s n echo-before_voices

@@ -11,7 +11,7 @@ use Rattle.dsp_form.specs.Sample.{VoiceResult, results_from, records_from, share
 use Rattle.dsp_form.specs.declared.registers.TheConstants.{FLG}
 use Rattle.dsp_form.specs.declared.state.ChipState.{ChipState}
 use Rattle.dsp_form.proofs.EightVoices.{polled_part}
-use Rattle.dsp_form.proofs.Inputs.{SameInputs, registers-before_step}
+use Rattle.dsp_form.proofs.Inputs.{SameInputs, registers-before_voices}
 use Rattle.batch_rows.specs.Rows.{keys_after, with_parts}
 use Rattle.batch_rows.proofs.SameInputs.{same_volumes, same_echo_regs}
 
@@ -34,7 +34,7 @@ poll_of_parts s k registers voices echo = by (k % 2 == 0)
 
 registers-after_poll : (s : ChipState) (k : ℕ) → (after_poll s k).registers ≡ s.registers
 unfolding after_noise
-registers-after_poll s k = registers-before_step s k
+registers-after_poll s k = registers-before_voices s k
 
 -- the noise concerns itself and its rate
 noise_of_parts : (s : ChipState) (counter : ℕ) (registers : List ℕ) (voices : List VoiceState) (echo : EchoState)
@@ -43,10 +43,10 @@ noise_of_parts : (s : ChipState) (counter : ℕ) (registers : List ℕ) (voices 
 unfolding after_noise
 noise_of_parts s counter registers voices echo same = rw same refl
 
-pub polled_parts : (s : ChipState) (k : ℕ) (registers : List ℕ) (voices : List VoiceState) (echo : EchoState)
+pub before_voices-with_parts : (s : ChipState) (k : ℕ) (registers : List ℕ) (voices : List VoiceState) (echo : EchoState)
     → slice_index registers FLG ≡ slice_index s.registers FLG
     → before_voices (with_parts s registers voices echo) k ≡ with_parts (before_voices s k) registers voices echo
-polled_parts s k registers voices echo same =
+before_voices-with_parts s k registers voices echo same =
     ap (λ (t : ChipState). after_noise t (counter_at k)) (poll_of_parts s k registers voices echo)
     ∙ noise_of_parts (after_poll s k) (counter_at k) registers voices echo (rw (registers-after_poll s k) same)
 
@@ -54,7 +54,7 @@ polled_parts s k registers voices echo same =
 pub registers-keys_after : (k : ℕ) (s : ChipState) (n : ℕ) → (keys_after k s n).registers ≡ s.registers
 unfolding keys_after
 registers-keys_after k s zero = refl
-registers-keys_after k s (suc n) = registers-before_step (keys_after k s n) (k + n) ∙ registers-keys_after k s n
+registers-keys_after k s (suc n) = registers-before_voices (keys_after k s n) (k + n) ∙ registers-keys_after k s n
 
 -- one sample of a chip with these parts, where its voices give what is written there
 pub sample_of_parts : (now : ChipState) (k : ℕ) (first registers : List ℕ) (voices : List VoiceState) (echo : EchoState) (memory : List ℕ) (results : List VoiceResult)
@@ -69,7 +69,7 @@ pub sample_of_parts : (now : ChipState) (k : ℕ) (first registers : List ℕ) (
     }
 unfolding sample
 sample_of_parts now k first registers voices echo memory results same flg gives =
-    let parts : before_voices (with_parts now registers voices echo) k ≡ with_parts (before_voices now k) registers voices echo = polled_parts now k registers voices echo flg in
+    let parts : before_voices (with_parts now registers voices echo) k ≡ with_parts (before_voices now k) registers voices echo = before_voices-with_parts now k registers voices echo flg in
     let there : results_from (shared_input (with_parts (before_voices now k) registers voices echo) memory k) 0 (pos 0) voices ≡ results = rw parts at gives in
     rw (
       parts,
@@ -79,11 +79,11 @@ sample_of_parts now k first registers voices echo memory results same flg gives 
     ) refl
 
 -- nor do they change the table
-table-before_step : (s : ChipState) (k : ℕ) → (before_voices s k).table ≡ s.table
+table-before_voices : (s : ChipState) (k : ℕ) → (before_voices s k).table ≡ s.table
 unfolding after_poll after_noise
-table-before_step s k = polled_part (λ (t : ChipState). t.table) (k % 2 == 0) s (without_bits s.hidden.waiting s.hidden.taken) refl
+table-before_voices s k = polled_part (λ (t : ChipState). t.table) (k % 2 == 0) s (without_bits s.hidden.waiting s.hidden.taken) refl
 
 pub table-keys_after : (k : ℕ) (s : ChipState) (n : ℕ) → (keys_after k s n).table ≡ s.table
 unfolding keys_after
 table-keys_after k s zero = refl
-table-keys_after k s (suc n) = table-before_step (keys_after k s n) (k + n) ∙ table-keys_after k s n
+table-keys_after k s (suc n) = table-before_voices (keys_after k s n) (k + n) ∙ table-keys_after k s n

@@ -1,5 +1,5 @@
 -- Voices over a batch, with what they give in each of its samples.
-use Rattle.std.proofs.Common.{◌≡◌, ℕ, ◌+◌, ◌<◌, List, [], ◌++◌, ℤ, pos, map, length, take, drop, get_or, slice_set, ap, sym, ◌∙◌, append_assoc, arith}
+use Rattle.std.proofs.Common.{◌≡◌, ℕ, ◌+◌, ◌<◌, List, [], ◌++◌, ℤ, pos, length, take, drop, get_or, slice_set, ap, sym, ◌∙◌, append_assoc, arith}
 use Rattle.std.proofs.lemmas.List.{take_more_set, drop_all, take_all, append-nil, map-set, length-map}
 use Rattle.std.proofs.Math.ListN.{get_or-map}
 use Rattle.num_fix.specs.Words.{number_at}
@@ -13,7 +13,7 @@ use Rattle.dsp_form.specs.Registers.{voice_regs}
 use Rattle.dsp_form.specs.Sample.{SharedInput}
 use Rattle.dsp_form.specs.declared.state.ChipState.{ChipState}
 use Rattle.batch_rows.specs.KeyRows.{AreKeyRows}
-use Rattle.batch_rows.specs.Lane.{lane, outs, voices_after}
+use Rattle.batch_rows.specs.Lane.{outs, voices_after}
 use Rattle.batch_rows.specs.PlayedBatch.{answers_from}
 use Rattle.batch_rows.specs.Recorded.{answers_in, IsRunLane, IsRunBatch}
 use Rattle.batch_rows.specs.Rows.{inputs}

@@ -27,7 +27,7 @@ pub fn has_end(header: u8) -> bool
     header % 2 == 1
 }
 
-/// Whether a header has its loop bit: its sample goes on at its loop word.
+/// Whether a header has its loop bit: where its block is the last one, it doesn't silence the voice.
 pub fn has_loop(header: u8) -> bool
     ensures { result ≡ has_loop header }
 {

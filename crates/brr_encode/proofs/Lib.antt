@@ -1,6 +1,6 @@
 -- Leasts: the first place at which a number is least.
 -- Choices: the nearest of the digits so far.
--- Triples: the first of the headers that cost least has the least triple.
+-- Triples: the first of the headers that cost least is allowed, and has the least triple.
 -- Costs: what a header costs, target by target.
 -- Cheapests: the cheapest of the headers that were tried.
 -- Pairs: two targets more of a block.

@@ -44,7 +44,7 @@ struct Encoded {
     report: &'static str,
 }
 
-/// The block of those sixteen samples.
+/// The block of the steep samples.
 const STEEP_BLOCK: &[u8] = b"\xc1\x77\x77\x77\x77\x88\x88\x88\x88";
 
 /// What is reported on it.

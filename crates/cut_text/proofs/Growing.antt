@@ -19,15 +19,16 @@ none_before (Err wrong) = refl
 pub none_after : {A : Type 0} (list : List A) → list_before list (Ok []) ≡ Ok list
 none_after list = ap Ok (append-nil list)
 
-pub one_first : {A : Type 0} (one : A) (said : Result (List A) ℕ) → said_before one said ≡ list_before (one ∷ []) said
+one_first : {A : Type 0} (one : A) (said : Result (List A) ℕ) → said_before one said ≡ list_before (one ∷ []) said
 one_first one (Ok more) = refl
 one_first one (Err wrong) = refl
 
-pub one_before : {A : Type 0} (old : List A) (one : A) (said : Result (List A) ℕ) → list_before old (list_before (one ∷ []) said) ≡ list_before (old ++ one ∷ []) said
+one_before : {A : Type 0} (old : List A) (one : A) (said : Result (List A) ℕ) → list_before old (list_before (one ∷ []) said) ≡ list_before (old ++ one ∷ []) said
 one_before old one (Ok more) = ap Ok (sym (append_assoc old (one ∷ []) more))
 one_before old one (Err wrong) = refl
 
--- A reader says of the lines after a list what the next line says before what it says of the others after both; or that the next line is wrong.
+-- A reader of lines, one after another, with what the lines before them said: where the next line says something, that stands before what the later ones say;
+-- where it says nothing, it is told as wrong.
 pub record IsReader {A : Type 0} (reads : List A → List (List ℕ) → Result (List A) ℕ) (next : List A → List ℕ → Option A) : Type 0 where
   pub goes_on : (old : List A) (line : List ℕ) (lines : List (List ℕ)) (one : A) → next old line ≡ Some one → reads old (line ∷ lines) ≡ said_before one (reads (old ++ one ∷ []) lines)
   pub stops : (old : List A) (line : List ℕ) (lines : List (List ℕ)) → next old line ≡ None → reads old (line ∷ lines) ≡ Err (length old + 1)

@@ -22,13 +22,13 @@ polled_part part true s waiting same = same
 polled_part part false s waiting same = refl
 
 -- the poll and the noise leave the voices alone
-pub voices-before_step : (s : ChipState) (k : ℕ) → (before_voices s k).hidden.voices ≡ s.hidden.voices
+pub voices-before_voices : (s : ChipState) (k : ℕ) → (before_voices s k).hidden.voices ≡ s.hidden.voices
 unfolding after_poll after_noise
-voices-before_step s k = polled_part (λ s. s.hidden.voices) (k % 2 == 0) s (without_bits s.hidden.waiting s.hidden.taken) refl
+voices-before_voices s k = polled_part (λ s. s.hidden.voices) (k % 2 == 0) s (without_bits s.hidden.waiting s.hidden.taken) refl
 
 pub length-voices-sample : (k : ℕ) (s : ChipState) (memory : List ℕ) → length (sample k s memory).state.hidden.voices ≡ length s.hidden.voices
 unfolding sample
 length-voices-sample k s memory =
     let now : ChipState = before_voices s k in
     let results : List VoiceResult = results_from (shared_input now memory k) 0 (pos 0) now.hidden.voices in
-    length-map results ∙ length-results_from (shared_input now memory k) 0 (pos 0) now.hidden.voices ∙ ap (λ (voices : List VoiceState). length voices) (voices-before_step s k)
+    length-map results ∙ length-results_from (shared_input now memory k) 0 (pos 0) now.hidden.voices ∙ ap (λ (voices : List VoiceState). length voices) (voices-before_voices s k)

@@ -54,9 +54,9 @@ same_inputs-registers_after answers registers address h =
     ∙ levels_elsewhere 0 answers registers address input
 
 -- the poll and the noise leave the registers alone
-pub registers-before_step : (s : ChipState) (k : ℕ) → (before_voices s k).registers ≡ s.registers
+pub registers-before_voices : (s : ChipState) (k : ℕ) → (before_voices s k).registers ≡ s.registers
 unfolding after_poll after_noise
-registers-before_step s k = polled_part (λ s. s.registers) (k % 2 == 0) s (without_bits s.hidden.waiting s.hidden.taken) refl
+registers-before_voices s k = polled_part (λ s. s.registers) (k % 2 == 0) s (without_bits s.hidden.waiting s.hidden.taken) refl
 
 -- a sample changes no other register
 pub same_inputs-sample : (k : ℕ) (s : ChipState) (memory : List ℕ) → SameInputs (sample k s memory).state.registers s.registers
@@ -65,7 +65,7 @@ same_inputs-sample k s memory address h =
     let now : ChipState = before_voices s k in
     let results = results_from (shared_input now memory k) 0 (pos 0) now.hidden.voices in
     same_inputs-registers_after (map (λ result. result.answer) results) now.registers address h
-    ∙ ap (λ (registers : List ℕ). slice_index registers address) (registers-before_step s k)
+    ∙ ap (λ (registers : List ℕ). slice_index registers address) (registers-before_voices s k)
 
 -- a register whose place in its row of 16 is no result's is none
 pub input_at : (address : ℕ) → address % 16 ≢ 8 → address % 16 ≢ 9 → address % 16 ≢ 12 → is_result address ≡ false

@@ -13,7 +13,7 @@ use Rattle.dsp_form.specs.Sample.{SharedInput, voice_in, voice_result, results_f
 use Rattle.dsp_form.specs.Outside.{register_write}
 use Rattle.dsp_form.specs.Valid.{is_valid}
 use Rattle.dsp_form.specs.declared.state.ChipState.{ChipState}
-use Rattle.dsp_form.proofs.EightVoices.{polled_part, voices-before_step, length-voices-sample}
+use Rattle.dsp_form.proofs.EightVoices.{polled_part, voices-before_voices, length-voices-sample}
 
 -- the parts of validity
 pub record IsValid (s : ChipState) : Type 0 where
@@ -49,9 +49,9 @@ groups-results_from shared v previous (voice ∷ voices) h =
     and_from _ _ (is_at_group-voice_result shared v previous voice parts.0) (groups-results_from shared (v + 1) (voice_result shared v previous voice).answer.out voices parts.1)
 
 -- the poll and the noise leave the echo alone
-pub echo-before_step : (s : ChipState) (k : ℕ) → (before_voices s k).hidden.echo ≡ s.hidden.echo
+pub echo-before_voices : (s : ChipState) (k : ℕ) → (before_voices s k).hidden.echo ≡ s.hidden.echo
 unfolding after_poll after_noise
-echo-before_step s k = polled_part (λ s. s.hidden.echo) (k % 2 == 0) s (without_bits s.hidden.waiting s.hidden.taken) refl
+echo-before_voices s k = polled_part (λ s. s.hidden.echo) (k % 2 == 0) s (without_bits s.hidden.waiting s.hidden.taken) refl
 
 -- a sample keeps a state valid
 pub is_valid-sample : (k : ℕ) (s : ChipState) (memory : List ℕ) → is_valid s ≡ true → is_valid (sample k s memory).state ≡ true
@@ -61,8 +61,8 @@ is_valid-sample k s memory h =
     let now : ChipState = before_voices s k in
     valid_from (sample k s memory).state record {
       eight = length-voices-sample k s memory ∙ valid.eight;
-      groups = groups-results_from (shared_input now memory k) 0 (pos 0) now.hidden.voices (ap (list_all is_at_group) (voices-before_step s k) ∙ valid.groups);
-      cell = is_at_cell-next_echo now.hidden.echo (echo_regs now.registers) memory (ap is_at_cell (echo-before_step s k) ∙ valid.cell);
+      groups = groups-results_from (shared_input now memory k) 0 (pos 0) now.hidden.voices (ap (list_all is_at_group) (voices-before_voices s k) ∙ valid.groups);
+      cell = is_at_cell-next_echo now.hidden.echo (echo_regs now.registers) memory (ap is_at_cell (echo-before_voices s k) ∙ valid.cell);
     }
 
 -- a write of a register keeps a state valid

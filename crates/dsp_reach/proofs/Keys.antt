@@ -4,9 +4,8 @@ use Rattle.std.proofs.lemmas.Bool.Decides.{nat_tests}
 use Rattle.std.proofs.lemmas.Nat.Bits.{bit_at_and, bit_at-lt}
 use Rattle.std.specs.Int.{bit_at}
 use Rattle.num_fix.specs.Arithmetic.{has_bit}
-use Rattle.rate_clock.specs.Counter.{counter_at}
 use Rattle.dsp_form.specs.Results.{without_bits}
-use Rattle.dsp_form.specs.Sample.{after_poll, after_noise}
+use Rattle.dsp_form.specs.Sample.{after_poll, after_noise, before_voices}
 use Rattle.dsp_form.specs.declared.state.ChipState.{ChipState}
 
 -- every bit of a byte is set in another
@@ -25,9 +24,9 @@ is_part-without_bits : (byte bits : ℕ) → IsPart (without_bits byte bits) byt
 is_part-without_bits byte bits = is_part-bit_and byte (0xff - bits)
 
 -- the poll and the noise let no more key-ons wait
-pub waiting-before_step : (s : ChipState) (k : ℕ) → IsPart (after_noise (after_poll s k) (counter_at k)).hidden.waiting s.hidden.waiting
+pub waiting-before_voices : (s : ChipState) (k : ℕ) → IsPart (before_voices s k).hidden.waiting s.hidden.waiting
 unfolding after_poll after_noise
-waiting-before_step s k = by (k % 2 == 0)
+waiting-before_voices s k = by (k % 2 == 0)
   where
     waiting : ℕ
     waiting = without_bits s.hidden.waiting s.hidden.taken
@@ -37,6 +36,6 @@ waiting-before_step s k = by (k % 2 == 0)
     by false = λ v h. h
 
 -- a key-on that a poll takes has waited
-pub taken_waited : (s : ChipState) (k v : ℕ) → (k % 2 == 0) ≡ true → has_bit (after_noise (after_poll s k) (counter_at k)).hidden.taken v ≡ true → has_bit s.hidden.waiting v ≡ true
+pub taken_waited : (s : ChipState) (k v : ℕ) → (k % 2 == 0) ≡ true → has_bit (before_voices s k).hidden.taken v ≡ true → has_bit s.hidden.waiting v ≡ true
 unfolding after_poll after_noise
 taken_waited s k v even h = is_part-without_bits s.hidden.waiting s.hidden.taken v (rw even at h)

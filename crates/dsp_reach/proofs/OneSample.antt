@@ -19,12 +19,12 @@ use Rattle.dsp_form.specs.Sample.{VoiceResult, rest_of_sample, results_from, sha
 use Rattle.dsp_form.specs.Valid.{is_valid}
 use Rattle.dsp_form.specs.declared.registers.TheConstants.{FLG, ESA, EDL}
 use Rattle.dsp_form.specs.declared.state.ChipState.{ChipState}
-use Rattle.dsp_form.proofs.EightVoices.{voices-before_step}
+use Rattle.dsp_form.proofs.EightVoices.{voices-before_voices}
 use Rattle.echo_unit.proofs.Cells.{cell_of, is_at_cell-next_echo}
-use Rattle.dsp_form.proofs.Valid.{valid_of, echo-before_step}
+use Rattle.dsp_form.proofs.Valid.{valid_of, echo-before_voices}
 use Rattle.dsp_reach.specs.Chain.{AllStayOnChains}
-use Rattle.dsp_form.proofs.Inputs.{SameInputs, same_inputs-registers_after, registers-before_step}
-use Rattle.dsp_reach.proofs.Keys.{IsPart, waiting-before_step, taken_waited}
+use Rattle.dsp_form.proofs.Inputs.{SameInputs, same_inputs-registers_after, registers-before_voices}
+use Rattle.dsp_reach.proofs.Keys.{IsPart, waiting-before_voices, taken_waited}
 use Rattle.dsp_reach.proofs.EchoPlace.{length-next_echo}
 use Rattle.echo_unit.proofs.OffCell.{IsOffCell, byte_at-echo_memory, echo_memory_still}
 use Rattle.dsp_reach.proofs.EchoPages.{off_window, after_reading_apart, next_echo_apart, echo_memory_apart}
@@ -60,12 +60,12 @@ sample_is k s memory = refl
 -- the poll and the noise keep it
 stays_polled : (start : ChipState) (before : List ℕ) (j k : ℕ) (s : ChipState) (memory : List ℕ) → StaysInReach start before j s memory → StaysInReach start before j (before_voices s k) memory
 stays_polled start before j k s memory stays = record {
-  inputs = λ address h. ap (λ (registers : List ℕ). slice_index registers address) (registers-before_step s k) ∙ stays.inputs address h;
-  waiting = λ v h. stays.waiting v (waiting-before_step s k v h);
-  cell = ap is_at_cell (echo-before_step s k) ∙ stays.cell;
-  length = rw (echo-before_step s k) stays.length;
+  inputs = λ address h. ap (λ (registers : List ℕ). slice_index registers address) (registers-before_voices s k) ∙ stays.inputs address h;
+  waiting = λ v h. stays.waiting v (waiting-before_voices s k v h);
+  cell = ap is_at_cell (echo-before_voices s k) ∙ stays.cell;
+  length = rw (echo-before_voices s k) stays.length;
   bytes = stays.bytes;
-  voices = λ clear. rw (voices-before_step s k) (stays.voices clear);
+  voices = λ clear. rw (voices-before_voices s k) (stays.voices clear);
 }
 
 -- what the voices find in the sample that follows

@@ -1,5 +1,5 @@
 -- Over cycles in which nothing comes that is read, the machine with its lag book is a bus that waits.
-use Rattle.std.proofs.Common.{◌≡◌, ℕ, ◌+◌, ◌-◌, ◌*◌, ◌/◌, ◌<◌, ◌≤◌, ◌++◌, Bool, true, false, not, ◌&&◌, ◌==◌, refl, sym, ap, ◌∙◌, arith, Option, Some, None}
+use Rattle.std.proofs.Common.{◌≡◌, ℕ, ◌+◌, ◌-◌, ◌*◌, ◌/◌, ◌<◌, ◌≤◌, ◌++◌, Bool, true, false, not, ◌&&◌, ◌==◌, refl, sym, ap, ◌∙◌, arith, Some, None}
 use Rattle.std.proofs.lemmas.Bool.{and_parts, not-true}
 use Rattle.std.specs.Prelude.{if◌then◌else◌, unwrap_or}
 use Rattle.aram_core.specs.Memory.{byte_at}
@@ -8,18 +8,17 @@ use Rattle.ports_timers.specs.Io.{read_answer, after_ticks_of}
 use Rattle.std.specs.List.{filter}
 use Rattle.dsp_form.specs.Samples.{samples, in_mask}
 use Rattle.spc700_exec.specs.declared.cpu.Cpu.{Cpu}
-use Rattle.lag_bus.specs.declared.cause.Cause.{Cause}
+use Rattle.lag_bus.specs.LagLaws.{next_book}
 use Rattle.lock_step.specs.declared.counts.Counts.{Counts}
 use Rattle.lag_bus.specs.LagEmits.{lag_emits, without_items}
-use Rattle.lag_bus.specs.Late.{Late}
+use Rattle.lag_bus.specs.Late.{Late, late_with_samples}
 use Rattle.lag_bus.specs.IsLagging.{lagging_of}
 use Rattle.lock_step.specs.Emits.{CountsOn}
 use Rattle.lock_step.specs.WaitOfRounds.{IsWaitOf}
-use Rattle.lag_bus.specs.Late.{late_with_samples}
 use Rattle.lock_step.specs.ChipMeaning.{ChipMeaning}
 use Rattle.lock_step.specs.Machine.{Machine}
 use Rattle.lock_step.specs.LockStep.{bus_answer, after_bus_read}
-use Rattle.lag_bus.specs.Book.{Book, may_be_written, cause_of_read, after_cause}
+use Rattle.lag_bus.specs.Book.{may_be_written, cause_of_read, after_cause}
 use Rattle.lag_bus.specs.Lagging.{Lagging, lagging, with_book}
 use Rattle.idle_rounds.specs.Looking.{look_of_steps, after_n_steps, IsWaiting}
 use Rattle.ports_timers.specs.Zeros.{zeros_stay, counter_is_0, AreTimers}
@@ -52,14 +51,10 @@ module _ {S : Type 0} (chip : ChipMeaning S) where
   answer-elsewhere : (m : Machine S) (at : ℕ) → (at == 0xF3) ≡ false → bus_answer chip m at ≡ unwrap_or (read_answer m.io at) (byte_at m.memory at)
   answer-elsewhere m at other = rw other refl
 
-  same_cause : (cause : Option Cause) (m n : Machine S) (book : Book) → m.chip ≡ n.chip → m.memory ≡ n.memory → after_cause chip cause m book ≡ after_cause chip cause n book
-  same_cause None m n book same_chip same_memory = refl
-  same_cause (Some cause) m n book same_chip same_memory = rw (same_chip, same_memory) refl
-
   read-without_calls : (s : Lagging S) (at : ℕ) → without_calls ((lagging chip).read s at).1 ≡ without_calls ((lagging chip).read (without_calls s) at).1
   read-without_calls s at =
       let cause = cause_of_read s.book.reach s.machine.io.dsp_address at in
-      let same = same_cause cause (after_bus_read s.machine at) (after_bus_read (without_calls s).machine at) s.book refl refl in
+      let same = next_book chip cause (after_bus_read s.machine at) (after_bus_read (without_calls s).machine at) s.book refl refl in
       λ i. without_calls (with_book (after_bus_read (without_calls s).machine at) (same i))
 
   module _ (bus : Lagging S) (most : ℕ) (kept : IsKept chip bus) (small : AreTimers bus.machine.io) (stay : zeros_stay bus.machine.io bus.machine.clock most ≡ true)

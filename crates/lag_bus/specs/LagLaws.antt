@@ -42,7 +42,7 @@ module _ {S : Type 0} (chip : ChipMeaning S) where
   pass_next bus cycles true crosses = rw crosses refl
   pass_next bus cycles false crosses = rw crosses refl
 
-  next_book : (cause : Option Cause) (m n : Machine S) (book : Book) → m.chip ≡ n.chip → m.memory ≡ n.memory → after_cause chip cause m book ≡ after_cause chip cause n book
+  pub next_book : (cause : Option Cause) (m n : Machine S) (book : Book) → m.chip ≡ n.chip → m.memory ≡ n.memory → after_cause chip cause m book ≡ after_cause chip cause n book
   next_book None m n book same_chip same_memory = refl
   next_book (Some cause) m n book same_chip same_memory = rw (same_chip, same_memory) refl
 

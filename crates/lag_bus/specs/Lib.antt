@@ -12,7 +12,7 @@ pub mod Saved
 -- lists of calls of a bus
 pub mod Calls
 -- That it keeps its laws; no promise speaks of these words:
--- the machine with the lag book beside it keeps those of a bus that emits
+-- the machine with the lag book beside it keeps those of a bus, and of one that emits
 pub mod LagLaws
 -- And words of the proof that a chip some samples late comes to the same:
 -- such a chip as it is once these samples are made

@@ -9,7 +9,7 @@ use Rattle.dsp_form.specs.Outside.{register_write}
 use Rattle.dsp_form.specs.Results.{without_bits}
 use Rattle.dsp_form.specs.Sample.{VoiceResult, results_from, records_from, shared_input, after_poll, after_noise, before_voices, sample}
 use Rattle.dsp_form.specs.Valid.{is_valid}
-use Rattle.dsp_form.proofs.EightVoices.{polled_part, length-results_from, voices-before_step}
+use Rattle.dsp_form.proofs.EightVoices.{polled_part, length-results_from, voices-before_voices}
 use Rattle.dsp_form.proofs.Valid.{valid_of, is_valid-sample, is_valid-register_write}
 use Rattle.dsp_reach.proofs.Registers.{registers_stay}
 use Rattle.dsp_reach.proofs.Starts.{reach_stays}
@@ -34,7 +34,7 @@ are_voice_records-sample k s memory valid =
     let all : length answers ≡ length s.hidden.voices =
     length-map results (λ (result : VoiceResult). result.answer)
     ∙ length-results_from (shared_input now memory k) 0 (pos 0) now.hidden.voices
-    ∙ ap (λ (voices : List VoiceState). length voices) (voices-before_step s k) in
+    ∙ ap (λ (voices : List VoiceState). length voices) (voices-before_voices s k) in
     let eight : length s.hidden.voices ≡ 8 = (valid_of s valid).eight in
     are_voice_records-records_from k 0 answers (omega arith)
 

@@ -21,7 +21,7 @@ pub mod DspChip
 -- That they keep their laws; no promise speaks of these words:
 -- the S-DSP those of a chip
 pub mod DspLaws
--- the machine in lock step those of a bus that emits
+-- the machine in lock step those of a bus, and of one that emits
 pub mod LockStepLaws
 -- And what a call leaves that makes whole rounds at once, which no promise speaks of:
 pub mod WaitOfRounds

@@ -9,14 +9,14 @@ padded_to-same n bytes sized =
     let none : n - length bytes ≡ 0 = omega arith in
     rw none (append-nil (take n bytes) ∙ take_all n bytes (omega arith))
 
-pub padded-same : (bytes : List ℕ) → length bytes ≡ kept_length → padded_bytes bytes ≡ bytes
+pub padded_bytes-same : (bytes : List ℕ) → length bytes ≡ kept_length → padded_bytes bytes ≡ bytes
 unfolding padded_bytes
-padded-same bytes sized = padded_to-same kept_length bytes sized
+padded_bytes-same bytes sized = padded_to-same kept_length bytes sized
 
 -- a file that was written is read again as itself
 pub read_again : (file : List ℕ) → length file ≡ kept_length → first_difference signature file ≡ None → spc_file file ≡ Ok file
 unfolding spc_file
-read_again file sized signed = rw (sized, signed, padded-same file sized) refl
+read_again file sized signed = rw (sized, signed, padded_bytes-same file sized) refl
 
 pub written_is_read_again : {V E : Type 0} (items : V → List ℕ) (result : Result V E) (file : List ℕ) → length file ≡ kept_length → first_difference signature file ≡ None
     → IfOk result (λ written. items written ≡ file) → IfOk result (λ written. spc_file (items written) ≡ Ok file)

@@ -17,7 +17,7 @@ use std::{env, fs};
 /// writes.
 const TRACE_ROOM: usize = 250000;
 
-/// What is fewer than the bytes of that trace, whose lines have at least 18, and more than the 131,072 of a piece.
+/// The least number of bytes of that trace, whose lines have 18 or more: more than the 131,072 of a piece.
 const TRACE_LEAST: usize = 8000 * 18;
 
 /// The names of real files, which all begin alike.

@@ -11,6 +11,7 @@ ghost use Rattle.voice_unit.specs.Voice.{silent_voice, step_pitch, step_header, 
 use crate::directory::{loop_word, start_word};
 use crate::interface::{VoiceIn, VoiceOut, VoiceRegs, is_keyed};
 use crate::level::{at_level, high_byte, pitch_of};
+use crate::rest::is_silencing;
 use crate::row::Place;
 use aram_core::Aram;
 use brr_decode::{GroupMemory, decode_group, has_end};
@@ -250,8 +251,7 @@ impl Voice {
     fn step_envelope(&mut self, regs: &VoiceRegs, input: &VoiceIn, header: u8, clock: &RateClock)
         ensures { self.new ≡ after_envelope self.old regs.now input.now header clock.now }
     {
-        // the end bit without the loop bit
-        if input.reset || header & 3 == 1 {
+        if is_silencing(input.reset, header) {
             self.envelope.silence();
         }
         if input.poll && input.koff {

@@ -227,7 +227,7 @@ fn are_made_one_by_one(split: &mut Stage, frames: &[Frame]) -> bool {
 }
 
 // A key on waits in the first batch, which is silent for six samples; a key off holds from the third on, and noise takes the place of voice 0 in the last.
-// Beyond those six samples this compares two ways of the same chip: a batch of its samples, and one sample at a time.
+// Beyond those six samples this compares two ways of making the same samples: as a batch, and one by one.
 #[test]
 fn a_batch_is_its_samples_one_by_one(rt: HostRuntime) -> Result<(), Fail> {
     let mut whole = two_voices(rt.alloc())?;

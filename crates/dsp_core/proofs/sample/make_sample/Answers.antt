@@ -1,8 +1,7 @@
 use Rattle.std.proofs.Common.{◌≡◌, ap, refl, rules, ◌<◌, ◌%◌, ◌==◌, if◌then◌else◌, length, map, pos, List, sym, ◌∙◌}
 use Rattle.std.proofs.lemmas.List.{length-map}
 use Rattle.voice_unit.specs.Voice.{VoiceState}
-use Rattle.rate_clock.specs.Counter.{counter_at}
-use Rattle.dsp_form.specs.Sample.{SharedInput, VoiceResult, results_from, sample, after_poll, after_noise, shared_input}
+use Rattle.dsp_form.specs.Sample.{SharedInput, VoiceResult, results_from, sample, before_voices, shared_input}
 use Rattle.dsp_form.specs.Registers.{echo_regs}
 use Rattle.dsp_form.specs.Settings.{settings_of}
 use Rattle.dsp_form.specs.Volumes.{all_volumes}
@@ -26,7 +25,7 @@ finish_sample-requires c =
 pub returns-clause-state : goal.returns-clause-state
 unfolding sample settings_of
 returns-clause-state c =
-    let now : c.step_noise.new.state ≡ after_noise (after_poll c.args.state.now c.args.number) (counter_at c.args.number) = rw (← c.poll.ensures.state, ← c.requires.clock) c.step_noise.ensures.state in
+    let now : c.step_noise.new.state ≡ before_voices c.args.state.now c.args.number = rw (← c.poll.ensures.state, ← c.requires.clock) c.step_noise.ensures.state in
     let is : c.args.settings.now ≡ settings_of c.step_noise.new.state.registers = search rules in
     let regs : c.args.settings.now.echo ≡ echo_regs c.step_noise.new.state.registers = ap (λ (s : Settings). s.echo) is in
     rw (← now, c.finish_sample.ensures.state, c.step_chip_voices.ensures.voices c.requires.clock, c.step_chip_voices.ensures.answers c.requires.clock, regs) refl
@@ -34,7 +33,7 @@ returns-clause-state c =
 pub returns-clause-memory : goal.returns-clause-memory
 unfolding sample settings_of
 returns-clause-memory c =
-    let now : c.step_noise.new.state ≡ after_noise (after_poll c.args.state.now c.args.number) (counter_at c.args.number) = rw (← c.poll.ensures.state, ← c.requires.clock) c.step_noise.ensures.state in
+    let now : c.step_noise.new.state ≡ before_voices c.args.state.now c.args.number = rw (← c.poll.ensures.state, ← c.requires.clock) c.step_noise.ensures.state in
     let is : c.args.settings.now ≡ settings_of c.step_noise.new.state.registers = search rules in
     let regs : c.args.settings.now.echo ≡ echo_regs c.step_noise.new.state.registers = ap (λ (s : Settings). s.echo) is in
     let volumes : c.args.settings.now.volumes ≡ all_volumes c.step_noise.new.state.registers = ap (λ (s : Settings). s.volumes) is in
@@ -43,7 +42,7 @@ returns-clause-memory c =
 pub returns-clause-frame : goal.returns-clause-frame
 unfolding sample settings_of
 returns-clause-frame c =
-    let now : c.step_noise.new.state ≡ after_noise (after_poll c.args.state.now c.args.number) (counter_at c.args.number) = rw (← c.poll.ensures.state, ← c.requires.clock) c.step_noise.ensures.state in
+    let now : c.step_noise.new.state ≡ before_voices c.args.state.now c.args.number = rw (← c.poll.ensures.state, ← c.requires.clock) c.step_noise.ensures.state in
     let is : c.args.settings.now ≡ settings_of c.step_noise.new.state.registers = search rules in
     let regs : c.args.settings.now.echo ≡ echo_regs c.step_noise.new.state.registers = ap (λ (s : Settings). s.echo) is in
     let volumes : c.args.settings.now.volumes ≡ all_volumes c.step_noise.new.state.registers = ap (λ (s : Settings). s.volumes) is in
