@@ -43,6 +43,16 @@ struct Spare {
     ghost room_reserved: { room ≤ vec_capacity bytes },
 }
 
+/// The places that a host begins to write in: those of the report and of the complaint, and those of outputs still to be created.
+#[derive(Drop)]
+struct Places {
+    report: Sink,
+    complaint: Sink,
+    created: Vec<Slot>,
+    spare: VecDeque<Spare>,
+    ghost created_reserved: { vec_len created + deque_len spare ≤ vec_capacity created },
+}
+
 /// A host whose inputs and outputs are in memory.
 #[derive(Drop)]
 pub struct MemHost {
@@ -132,6 +142,38 @@ impl Spare {
     }
 }
 
+impl Places {
+    ghost use Rattle.std.specs.Prelude.{drop, map, slice_index, IfOk};
+
+    /// The rooms of outputs that can be created.
+    fn rooms_to_create(rooms: &[usize]) -> &[usize]
+        ensures { result.now ≡ drop 2 rooms.now }
+    {
+        rooms.get(2..).unwrap_or(&[])
+    }
+
+    /// Empty places with these rooms.
+    fn reserve(alloc: Global, rooms: &[usize]) -> Result<Places, OutOfMemory>
+        ensures report { IfOk result (λ places. places.report.bytes.items ≡ []) }
+        ensures report_room { IfOk result (λ places. places.report.room ≡ slice_index rooms.now 0) }
+        ensures complaint { IfOk result (λ places. places.complaint.bytes.items ≡ []) }
+        ensures complaint_room { IfOk result (λ places. places.complaint.room ≡ slice_index rooms.now 1) }
+        ensures created { IfOk result (λ places. places.created.items ≡ []) }
+        ensures spare { IfOk result (λ places. map (λ spare. spare.room) places.spare.items ≡ drop 2 rooms.now) }
+    {
+        let report = Sink::reserve(alloc, rooms.get(0).copied().unwrap_or(0))?;
+        let complaint = Sink::reserve(alloc, rooms.get(1).copied().unwrap_or(0))?;
+        let spare = Spare::reserve_all(alloc, Places::rooms_to_create(rooms))?;
+        let created = Vec::with_capacity(alloc, spare.len())?;
+        Ok(Places {
+            report,
+            complaint,
+            created,
+            spare,
+        })
+    }
+}
+
 impl MemHost {
     ghost use Rattle.std.specs.Prelude.{List, ℕ, length, slice_get, slice_index, Some, None, false, IfOk};
     ghost use Rattle.snd_host.specs.Memory.{memory_state, rooms_of, calls_of, failing_of, bytes_given, opening_state, opening_rooms};
@@ -149,10 +191,12 @@ impl MemHost {
         ensures failing { IfOk result (λ host. failing_of host ≡ failing.items) }
         ensures rooms { IfOk result (λ host. rooms_of host ≡ opening_rooms rooms.items) }
     {
-        let report = Sink::reserve(alloc, rooms.get(0).copied().unwrap_or(0))?;
-        let complaint = Sink::reserve(alloc, rooms.get(1).copied().unwrap_or(0))?;
-        let spare = Spare::reserve_all(alloc, rooms.get(2..).unwrap_or(&[]))?;
-        let created = Vec::with_capacity(alloc, spare.len())?;
+        let Places {
+            report,
+            complaint,
+            created,
+            spare,
+        } = Places::reserve(alloc, rooms.as_slice())?;
         Ok(MemHost {
             files,
             failing,
