@@ -79,7 +79,7 @@ fn an_input_above_the_limit_is_too_long(rt: HostRuntime) -> Result<(), Fail> {
 fn each_call_of_the_host_may_fail(rt: HostRuntime) -> Result<(), Fail> {
     // The input is opened and read twice; then the output is created, written and ended, and the report is written.
     let whole = assembled(rt.alloc(), LOOP, 0x0400, &[])?;
-    assert_eq!(rt; whole.calls(), 7);
+    assert!(rt; whole.calls() == 7);
     for call in 0..7 {
         let outcome = assembled(rt.alloc(), LOOP, 0x0400, &[call])?;
         let holds = if call < 3 {

@@ -86,7 +86,7 @@ fn other_lengths_are_refused(rt: HostRuntime) -> Result<(), Fail> {
 fn each_call_of_the_host_may_fail(rt: HostRuntime) -> Result<(), Fail> {
     // The input is opened and read twice; then the output is created, written and ended, and the report is written.
     let whole = decode_file(rt.alloc(), &BLOCK, &[])?;
-    assert_eq!(rt; whole.calls(), 7);
+    assert!(rt; whole.calls() == 7);
     for call in 0..7 {
         let outcome = decode_file(rt.alloc(), &BLOCK, &[call])?;
         let holds = if call < 3 {

@@ -90,7 +90,7 @@ fn the_whole_memory_is_listed(rt: HostRuntime) -> Result<(), Fail> {
 fn each_call_of_the_host_may_fail(rt: HostRuntime) -> Result<(), Fail> {
     // The input is opened and read twice; then the output is created, written and ended, and the report is written.
     let whole = listed(rt.alloc(), TWO, 0x0400, &[])?;
-    assert_eq!(rt; whole.calls(), 7);
+    assert!(rt; whole.calls() == 7);
     for call in 0..7 {
         let outcome = listed(rt.alloc(), TWO, 0x0400, &[call])?;
         let holds = if call < 3 {

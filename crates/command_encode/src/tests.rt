@@ -17,6 +17,14 @@ const STEREO: [u8; 44] =
 const STEEP: [u8; 32] =
     *b"\xff\x7f\xff\x7f\xff\x7f\xff\x7f\xff\x7f\xff\x7f\xff\x7f\xff\x7f\0\x80\0\x80\0\x80\0\x80\0\x80\0\x80\0\x80\0\x80";
 
+/// A file of this front, these samples, and zeros up to this length.
+fn sound_of(alloc: Global, front: &[u8], samples: &[u8], length: usize) -> Result<Vec<u8>, Fail> {
+    let mut bytes = Vec::from_slice(alloc, front)?;
+    bytes.extend_from_slice(samples)?;
+    bytes.resize(length, 0)?;
+    Ok(bytes)
+}
+
 /// Encodes a file of this front, these samples, and zeros up to this length, where the calls of these numbers fail.
 fn encode_file(
     alloc: Global,
@@ -26,9 +34,7 @@ fn encode_file(
     length: usize,
     failing: &[u32],
 ) -> Result<Outcome, Fail> {
-    let mut bytes = Vec::from_slice(alloc, front)?;
-    bytes.extend_from_slice(samples)?;
-    bytes.resize(length, 0)?;
+    let bytes = sound_of(alloc, front, samples, length)?;
     let mut host = host_with(alloc, &[("IN", bytes.as_slice())], failing, ROOM)?;
     let refusal = encode(alloc, &mut host, "IN", "OUT", looped);
     Ok(Outcome::of(refusal, host))
@@ -134,18 +140,22 @@ fn other_sounds_are_refused(rt: HostRuntime) -> Result<(), Fail> {
     Ok(())
 }
 
+/// Whether the steep samples may end so where this call fails.
+fn may_end_so(outcome: &Outcome, call: u32) -> bool {
+    // The input is opened and read twice.
+    if call < 3 {
+        outcome.is_unread(call)
+    } else {
+        outcome.is_cut_off(STEEP_BLOCK, &[], STEEP_REPORT)
+    }
+}
+
 #[test]
 fn each_call_of_the_host_may_fail(rt: HostRuntime) -> Result<(), Fail> {
-    // The input is opened and read twice.
-    let whole = encode_file(rt.alloc(), false, &MONO, &STEEP, 76, &[])?;
-    for call in 0..whole.calls() {
+    let calls = encode_file(rt.alloc(), false, &MONO, &STEEP, 76, &[])?.calls();
+    for call in 0..calls {
         let outcome = encode_file(rt.alloc(), false, &MONO, &STEEP, 76, &[call])?;
-        let holds = if call < 3 {
-            outcome.is_unread(call)
-        } else {
-            outcome.is_cut_off(STEEP_BLOCK, &[], STEEP_REPORT)
-        };
-        assert!(rt; holds, "at {call}");
+        assert!(rt; may_end_so(&outcome, call), "at {call}");
     }
     Ok(())
 }

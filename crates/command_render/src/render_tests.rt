@@ -2,8 +2,8 @@
 ghost use Rattle.command_render.specs.Options.{SamplesWithinHour};
 
 use crate::test_support::{
-    Heard, LINES, NO_BATCH, ONE_BATCH, expected_report, has_frames, no_options, render_failing,
-    render_straight, samples, tune_of, with_trace,
+    Heard, LINES, NO_BATCH, ONE_BATCH, is_rendered, no_options, render_failing, render_tune,
+    samples, tune_of, with_trace,
 };
 use crate::{RenderOptions, render};
 use command_tests::{
@@ -171,13 +171,17 @@ fn files_have_their_frames_and_their_batches(rt: HostRuntime) -> Result<(), Fail
     Ok(())
 }
 
-/// Whether the voice has these samples over a table whose entries are all the same.
-fn is_weighed(alloc: Global, weight: i16, frames: Frames) -> Result<bool, Fail> {
+/// Renders eight samples of the voice over a table whose entries are all the same.
+fn render_flat(alloc: Global, weight: i16) -> Result<Outcome, Fail> {
     let file = tune_of(alloc, FIVE, &[])?;
     let table = flat_table(alloc, weight)?;
-    let outcome = render_failing(alloc, file.as_slice(), table.as_slice(), samples(8), &[])?;
-    let report = expected_report(alloc, 8, ONE_BATCH)?;
-    has_frames(alloc, &outcome, frames, report.as_str())
+    render_failing(alloc, file.as_slice(), table.as_slice(), samples(8), &[])
+}
+
+/// Whether the voice has these samples over a table whose entries are all the same.
+fn is_weighed(alloc: Global, weight: i16, frames: Frames) -> Result<bool, Fail> {
+    let outcome = render_flat(alloc, weight)?;
+    is_rendered(alloc, &outcome, 8, frames, ONE_BATCH)
 }
 
 #[test]
@@ -227,11 +231,9 @@ const FADED: Frames = &[
 
 #[test]
 fn tags_give_the_length_and_the_fade(rt: HostRuntime) -> Result<(), Fail> {
-    let file = tune_of(rt.alloc(), FIVE, TAGS)?;
-    let outcome = render_straight(rt.alloc(), file.as_slice(), no_options())?;
+    let outcome = render_tune(rt.alloc(), FIVE, TAGS, no_options())?;
     let line = "batches 501 register 0 memory 0 echo 0 full 500 events 0 end 1\n";
-    let report = expected_report(rt.alloc(), 32032, line)?;
-    assert!(rt; has_frames(rt.alloc(), &outcome, FADED, report.as_str())?);
+    assert!(rt; is_rendered(rt.alloc(), &outcome, 32032, FADED, line)?);
     Ok(())
 }
 
@@ -291,15 +293,20 @@ const REFUSED: &[Refused] = &[
     },
 ];
 
+/// Whether it is refused so over these inputs.
+fn is_refused_over(alloc: Global, row: &Refused, inputs: &[(&str, &[u8])]) -> Result<bool, Fail> {
+    let mut host = host_with(alloc, inputs, &[], ROOM)?;
+    let options = with_trace(None, None);
+    let refusal = render(alloc, &mut host, "SPC", row.name, "OUT", options);
+    Ok(Outcome::of(refusal, host).is_refused(row.status, row.line))
+}
+
 /// Whether it is refused so.
 fn is_refused(alloc: Global, row: &Refused) -> Result<bool, Fail> {
     let file = file_of(alloc, row.length, &[], row.more)?;
     let table = vec![in alloc; 0u8; row.zeros]?;
     let inputs = [("SPC", file.as_slice()), ("TABLE", table.as_slice())];
-    let mut host = host_with(alloc, &inputs, &[], ROOM)?;
-    let options = with_trace(None, None);
-    let refusal = render(alloc, &mut host, "SPC", row.name, "OUT", options);
-    Ok(Outcome::of(refusal, host).is_refused(row.status, row.line))
+    is_refused_over(alloc, row, &inputs)
 }
 
 #[test]
@@ -313,6 +320,59 @@ fn files_and_then_tables_are_refused(rt: HostRuntime) -> Result<(), Fail> {
 /// What a render of eight samples reports.
 const EIGHT: &str = "samples 8\nbatches 1 register 0 memory 0 echo 0 full 0 events 0 end 1\n";
 
+/// The inputs and the sound file of a render of eight samples, and its trace.
+#[derive(Clone, Copy)]
+struct Eight<'a> {
+    file: &'a [u8],
+    table: &'a [u8],
+    wave: &'a [u8],
+    trace: &'a [u8],
+}
+
+impl Eight<'_> {
+    /// Whether it may end so where this call fails, of so many.
+    fn may_end_so(&self, outcome: &Outcome, call: u32, calls: u32) -> bool {
+        // The file is opened and read 18 times, the table twice.
+        if call < 22 {
+            outcome.is_unread(call)
+        } else if call < calls {
+            outcome.is_cut_off(self.wave, self.trace, EIGHT)
+        } else {
+            outcome.is_done(self.wave, EIGHT) && outcome.second() == self.trace
+        }
+    }
+
+    /// Renders it, where the calls of these numbers fail.
+    fn render(
+        &self,
+        alloc: Global,
+        options: RenderOptions<'_>,
+        failing: &[u32],
+    ) -> Result<Outcome, Fail>
+        requires { SamplesWithinHour options.samples }
+    {
+        render_failing(alloc, self.file, self.table, options, failing)
+    }
+
+    /// The first of the calls that leaves what it may not where it fails.
+    fn first_lawless_call(
+        &self,
+        alloc: Global,
+        options: RenderOptions<'_>,
+    ) -> Result<Option<u32>, Fail>
+        requires { SamplesWithinHour options.samples }
+    {
+        let calls = self.render(alloc, options, &[])?.calls();
+        for call in 0..=calls {
+            let outcome = self.render(alloc, options, &[call])?;
+            if !self.may_end_so(&outcome, call, calls) {
+                return Ok(Some(call));
+            }
+        }
+        Ok(None)
+    }
+}
+
 /// The first call of a render of eight samples with this trace that leaves what it may not where it fails. No call is left that could
 /// fail after the last one, so that then all stands.
 fn first_lawless_call(
@@ -325,30 +385,21 @@ fn first_lawless_call(
     let file = tune_of(alloc, FIVE, &[])?;
     let table = straight_table(alloc)?;
     let wave = wave_of(alloc, &[(6, 0), (2, 4000)])?;
-    let whole = render_straight(alloc, file.as_slice(), options)?;
-    for call in 0..=whole.calls() {
-        let outcome = render_failing(alloc, file.as_slice(), table.as_slice(), options, &[call])?;
-        // The file is opened and read 18 times, the table twice.
-        let holds = if call < 22 {
-            outcome.is_unread(call)
-        } else if call < whole.calls() {
-            outcome.is_cut_off(wave.as_slice(), trace, EIGHT)
-        } else {
-            outcome.is_done(wave.as_slice(), EIGHT) && outcome.second() == trace
-        };
-        if !holds {
-            return Ok(Some(call));
-        }
-    }
-    Ok(None)
+    let eight = Eight {
+        file: file.as_slice(),
+        table: table.as_slice(),
+        wave: wave.as_slice(),
+        trace,
+    };
+    eight.first_lawless_call(alloc, options)
 }
 
 #[test]
 fn each_call_of_a_render_may_fail(rt: HostRuntime) -> Result<(), Fail> {
     let traced = with_trace(Some(8), Some(1));
     let traced = first_lawless_call(rt.alloc(), traced, LINES.as_bytes())?;
-    assert_eq!(rt; traced, None);
+    assert!(rt; traced == None);
     let untraced = first_lawless_call(rt.alloc(), samples(8), &[])?;
-    assert_eq!(rt; untraced, None);
+    assert!(rt; untraced == None);
     Ok(())
 }

@@ -74,7 +74,7 @@ pub fn tune_of(alloc: Global, pieces: Pieces, more: Pieces) -> Result<Vec<u8>, F
 }
 
 /// Whether all was done, with the sound file of these frames and this report.
-pub fn has_frames(
+fn has_frames(
     alloc: Global,
     outcome: &Outcome,
     frames: Frames,
@@ -84,8 +84,33 @@ pub fn has_frames(
     Ok(outcome.is_done(wave.as_slice(), report))
 }
 
+/// Renders a file of these pieces over the table of straight lines.
+pub fn render_tune(
+    alloc: Global,
+    pieces: Pieces,
+    more: Pieces,
+    options: RenderOptions<'_>,
+) -> Result<Outcome, Fail>
+    requires { SamplesWithinHour options.samples }
+{
+    let file = tune_of(alloc, pieces, more)?;
+    render_straight(alloc, file.as_slice(), options)
+}
+
+/// Whether all was done, with the sound file of these frames and a report of so many samples and these batches.
+pub fn is_rendered(
+    alloc: Global,
+    outcome: &Outcome,
+    samples: u32,
+    frames: Frames,
+    batches: &str,
+) -> Result<bool, Fail> {
+    let report = expected_report(alloc, samples, batches)?;
+    has_frames(alloc, outcome, frames, report.as_str())
+}
+
 /// What a render of so many samples reports, with the line of its batches.
-pub fn expected_report(alloc: Global, samples: u32, batches: &str) -> Result<String, Fail> {
+fn expected_report(alloc: Global, samples: u32, batches: &str) -> Result<String, Fail> {
     Ok(format!(in alloc; "samples {samples}\n{batches}")?)
 }
 
@@ -115,11 +140,9 @@ pub struct Heard {
 impl Heard {
     /// Whether the render has its frames and its report.
     pub fn holds(&self, alloc: Global) -> Result<bool, Fail> {
-        let file = tune_of(alloc, self.sound, self.more)?;
         let count = u32::from(self.samples);
-        let outcome = render_straight(alloc, file.as_slice(), samples(count))?;
-        let report = expected_report(alloc, count, self.batches)?;
-        has_frames(alloc, &outcome, self.frames, report.as_str())
+        let outcome = render_tune(alloc, self.sound, self.more, samples(count))?;
+        is_rendered(alloc, &outcome, count, self.frames, self.batches)
     }
 }
 
@@ -137,17 +160,26 @@ pub struct Traced {
 }
 
 impl Traced {
+    /// Whether the render without the trace has its frames and its report.
+    fn is_plain(&self, alloc: Global) -> Result<bool, Fail> {
+        let count = u32::from(self.samples);
+        let outcome = render_tune(alloc, self.sound, self.more, samples(count))?;
+        is_rendered(alloc, &outcome, count, self.frames, self.batches)
+    }
+
+    /// Whether the render has its frames, its trace and its report.
+    fn is_traced(&self, alloc: Global) -> Result<bool, Fail> {
+        let count = u32::from(self.samples);
+        let options = with_trace(Some(count), self.voices);
+        let outcome = render_tune(alloc, self.sound, self.more, options)?;
+        Ok(
+            outcome.second() == self.trace.as_bytes()
+                && is_rendered(alloc, &outcome, count, self.frames, self.batches)?,
+        )
+    }
+
     /// Whether the render has its frames, its trace and its report, and the same without the trace.
     pub fn holds(&self, alloc: Global) -> Result<bool, Fail> {
-        let count = u32::from(self.samples);
-        let file = tune_of(alloc, self.sound, self.more)?;
-        let plain = render_straight(alloc, file.as_slice(), samples(count))?;
-        let second = render_straight(alloc, file.as_slice(), with_trace(Some(count), self.voices))?;
-        let report = expected_report(alloc, count, self.batches)?;
-        Ok(
-            has_frames(alloc, &plain, self.frames, report.as_str())?
-                && has_frames(alloc, &second, self.frames, report.as_str())?
-                && second.second() == self.trace.as_bytes(),
-        )
+        Ok(self.is_plain(alloc)? && self.is_traced(alloc)?)
     }
 }

@@ -1,9 +1,8 @@
 // Traces of renders over a host in memory.
 use crate::test_support::{
-    LINES, NO_BATCH, ONE_BATCH, Traced, expected_report, has_frames, render_straight, tune_of,
-    with_trace,
+    LINES, NO_BATCH, ONE_BATCH, Traced, is_rendered, render_tune, with_trace,
 };
-use command_tests::{DSP, FIVE, MEMORY, Pieces};
+use command_tests::{DSP, FIVE, MEMORY, Outcome, Pieces};
 use std::alloc::Global;
 use std::test::Fail;
 
@@ -158,26 +157,40 @@ const FLOOD: Pieces = &[
     ),
 ];
 
+/// Adds a line seven times.
+fn add_seven(lines: &mut String, line: &str) -> Result<(), Fail> {
+    for _ in 0..7 {
+        lines.push_str(line)?;
+    }
+    Ok(())
+}
+
 /// Seven writes of 0 to port 0 in each of so many samples.
 fn flood_lines(alloc: Global, samples: u32) -> Result<String, Fail> {
     let mut lines = String::new(alloc);
     for sample in 0..samples {
         let line = format!(in alloc; "P {sample} 0 00\n")?;
-        for _ in 0..7 {
-            lines.push_str(line.as_str())?;
-        }
+        add_seven(&mut lines, line.as_str())?;
     }
     Ok(lines)
 }
 
+/// Whether the trace has the writes of so many samples.
+fn has_flood(alloc: Global, outcome: &Outcome, samples: u32) -> Result<bool, Fail> {
+    let lines = flood_lines(alloc, samples)?;
+    Ok(outcome.second() == lines.as_bytes())
+}
+
+/// Whether all was done, with the sound and the batches of eighty samples.
+fn has_sound_of_flood(alloc: Global, outcome: &Outcome) -> Result<bool, Fail> {
+    let line = "batches 5 register 0 memory 2 echo 0 full 0 events 2 end 1\n";
+    is_rendered(alloc, outcome, 80, &[(6, 0), (74, 4000)], line)
+}
+
 #[test]
 fn port_writes_past_the_room_of_the_ring_settle(rt: HostRuntime) -> Result<(), Fail> {
-    let file = tune_of(rt.alloc(), FIVE, FLOOD)?;
-    let outcome = render_straight(rt.alloc(), file.as_slice(), with_trace(Some(80), None))?;
-    let line = "batches 5 register 0 memory 2 echo 0 full 0 events 2 end 1\n";
-    let report = expected_report(rt.alloc(), 80, line)?;
-    assert!(rt; has_frames(rt.alloc(), &outcome, &[(6, 0), (74, 4000)], report.as_str())?);
-    let lines = flood_lines(rt.alloc(), 80)?;
-    assert!(rt; outcome.second() == lines.as_bytes());
+    let outcome = render_tune(rt.alloc(), FIVE, FLOOD, with_trace(Some(80), None))?;
+    assert!(rt; has_sound_of_flood(rt.alloc(), &outcome)?);
+    assert!(rt; has_flood(rt.alloc(), &outcome, 80)?);
     Ok(())
 }

@@ -5,7 +5,24 @@ use command_tests::{DSP, FIVE, MEMORY, Outcome, Pieces, file_of};
 use snd_host::MemHost;
 use status_lines::Status;
 use std::alloc::Global;
+use std::process::Abort;
 use std::test::Fail;
+
+/// A file of the base file and these pieces.
+fn files_of(alloc: Global, pieces: (Pieces, Pieces)) -> Result<Vec<(String, Vec<u8>)>, Fail> {
+    let file = file_of(alloc, 66048, pieces.0, pieces.1)?;
+    let name = String::from_str(alloc, "SPC")?;
+    Ok(vec![in alloc; (name, file)]?)
+}
+
+/// The room for the report and the complaint, and for so many outputs of this room.
+fn rooms_of(alloc: Global, outputs: (usize, usize)) -> Result<Vec<usize>, Fail> {
+    let mut rooms = vec![in alloc; 20000, 100]?;
+    for _ in 0..outputs.0 {
+        rooms.push(outputs.1)?;
+    }
+    Ok(rooms)
+}
 
 /// Rips a file of the base file and these pieces, where the calls of these numbers fail and so many outputs have this room.
 fn rip_file(
@@ -15,12 +32,8 @@ fn rip_file(
     failing: &[u32],
     outputs: (usize, usize),
 ) -> Result<Outcome, Fail> {
-    let file = file_of(alloc, 66048, pieces.0, pieces.1)?;
-    let files = vec![in alloc; (String::from_str(alloc, "SPC")?, file)]?;
-    let mut rooms = vec![in alloc; 20000, 100]?;
-    for _ in 0..outputs.0 {
-        rooms.push(outputs.1)?;
-    }
+    let files = files_of(alloc, pieces)?;
+    let rooms = rooms_of(alloc, outputs)?;
     let mut host = MemHost::new(alloc, files, failing.to_vec(alloc)?, rooms)?;
     let refusal = rip(alloc, &mut host, "SPC", "S", range);
     Ok(Outcome::of(refusal, host))
@@ -52,17 +65,23 @@ fn one_entry_that_loops_outside_or_to_itself(rt: HostRuntime) -> Result<(), Fail
     Ok(())
 }
 
+/// Looks at a report, and at how many bytes the first output has.
+fn look_at(rt: &impl Abort, outcome: &Outcome, report: &[u8], length: usize) {
+    assert!(rt; outcome.report() == report && outcome.first().len() == length);
+}
+
+/// Looks at the four last samples of block 113, which holds the two bytes of the program: they are 2, -2, -2 and -2.
+fn look_at_program(rt: &impl Abort, wave: &[u8]) {
+    let at = 44 + 2 * (16 * 113 + 12);
+    assert!(rt; wave.get(at..at + 8) == Some(b"\x02\0\xfe\xff\xfe\xff\xfe\xff".as_slice()));
+}
+
 #[test]
 fn a_sample_without_an_end(rt: HostRuntime) -> Result<(), Fail> {
     let outcome = rip_file(rt.alloc(), (&[], &[]), None, &[], (1, 233004))?;
     let line = b"entry 00 start 0000 blocks 7280 loop open worst 0 squares 0\nentries 1\n";
-    assert!(rt; outcome.report() == line.as_slice() && outcome.first().len() == 233004);
-    // Block 113 holds the two bytes of the program: its last four samples are 2, -2, -2 and -2.
-    let at = 44 + 2 * (16 * 113 + 12);
-    assert_eq!(rt;
-        outcome.first().get(at..at + 8),
-        Some(b"\x02\0\xfe\xff\xfe\xff\xfe\xff".as_slice())
-    );
+    look_at(&rt, &outcome, line, 233004);
+    look_at_program(&rt, outcome.first());
     Ok(())
 }
 
@@ -80,7 +99,7 @@ const CHANGED: Pieces = &[
 fn a_sample_that_is_encoded_again_with_errors(rt: HostRuntime) -> Result<(), Fail> {
     let outcome = rip_file(rt.alloc(), (CHANGED, &[]), None, &[], (1, 108))?;
     let report = b"entry 00 start 0500 blocks 2 loop 16 worst 438 squares 1236604\nentries 1\n";
-    assert!(rt; outcome.report() == report.as_slice() && outcome.first().len() == 108);
+    look_at(&rt, &outcome, report, 108);
     Ok(())
 }
 
@@ -118,13 +137,18 @@ fn first_lawless_call(alloc: Global, calls: u32) -> Result<Option<u32>, Fail> {
     Ok(None)
 }
 
+/// Looks at all three, where no call fails.
+fn look_at_whole(rt: &impl Abort, whole: &Outcome) {
+    assert!(rt; whole.is_done(&STEADY_WAV, THREE_REPORT));
+    assert!(rt; whole.second() == STEADY_WAV.as_slice());
+}
+
 #[test]
 fn each_call_of_the_host_may_fail(rt: HostRuntime) -> Result<(), Fail> {
     let whole = rip_three(rt.alloc(), &[])?;
-    assert!(rt; whole.is_done(&STEADY_WAV, THREE_REPORT));
-    assert!(rt; whole.second() == STEADY_WAV.as_slice());
+    look_at_whole(&rt, &whole);
     let lawless = first_lawless_call(rt.alloc(), whole.calls())?;
-    assert_eq!(rt; lawless, None);
+    assert!(rt; lawless == None);
     Ok(())
 }
 
@@ -138,24 +162,34 @@ fn third_creation(alloc: Global) -> Result<u32, Fail> {
     )
 }
 
+/// Looks at the outputs before the third one, whose creation fails in the call of this number.
+fn look_at_two(rt: &impl Abort, outcome: &Outcome, third: u32) {
+    assert!(rt; outcome.first() == STEADY_WAV.as_slice());
+    assert!(rt; outcome.second() == STEADY_WAV.as_slice());
+    assert!(rt; outcome.report().is_empty() && outcome.calls() == third.wrapping_add(2));
+}
+
 #[test]
 fn outputs_before_one_that_fails_stay(rt: HostRuntime) -> Result<(), Fail> {
     let third = third_creation(rt.alloc())?;
     let outcome = rip_three(rt.alloc(), &[third])?;
-    assert!(rt; outcome.first() == STEADY_WAV.as_slice());
-    assert!(rt; outcome.second() == STEADY_WAV.as_slice());
-    assert!(rt; outcome.report().is_empty() && outcome.calls() == third.wrapping_add(2));
+    look_at_two(&rt, &outcome, third);
     Ok(())
 }
 
 /// All entries of the directory start at a block with its end bit alone.
 const SHORT: Pieces = &[(MEMORY, b"\x01"), (DSP + 0x5d, b"\x10")];
 
-#[test]
-fn all_entries_of_the_directory(rt: HostRuntime) -> Result<(), Fail> {
-    let outcome = rip_file(rt.alloc(), (SHORT, &[]), Some((0, 255)), &[], (256, 76))?;
+/// Looks at the first output of all, and at the last lines of the report.
+fn look_at_all(rt: &impl Abort, outcome: &Outcome) {
     assert!(rt; outcome.status() == Status::Ok && outcome.first().len() == 76);
     let last = b"\nentry ff start 0000 blocks 1 loop - worst 0 squares 0\nentries 256\n";
     assert!(rt; outcome.report().ends_with(last.as_slice()));
+}
+
+#[test]
+fn all_entries_of_the_directory(rt: HostRuntime) -> Result<(), Fail> {
+    let outcome = rip_file(rt.alloc(), (SHORT, &[]), Some((0, 255)), &[], (256, 76))?;
+    look_at_all(&rt, &outcome);
     Ok(())
 }

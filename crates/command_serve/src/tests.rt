@@ -20,6 +20,16 @@ const ENDS_THE_BLOCK: Pieces = &[(
 /// A program that counts at 0700h, 224 times in 70 samples.
 const COUNTS: Pieces = &[(MEMORY + 0x0400, b"\xac\x00\x07\x2f\xfb")];
 
+/// Runs a script over these inputs, with so many pages.
+fn serve_over(alloc: Global, inputs: &[(&str, &[u8])], pages: u32) -> Result<Outcome, Fail>
+    requires enough { fewest_pages ≤ pages }
+    requires few { pages ≤ most_pages }
+{
+    let mut host = host_with(alloc, inputs, &[], ROOM)?;
+    let refusal = serve(alloc, &mut host, "SPC", ("TABLE", "SCRIPT"), "OUT", pages);
+    Ok(Outcome::of(refusal, host))
+}
+
 /// Runs a script over file five with these pieces more, with so many pages.
 fn served(alloc: Global, more: Pieces, script: &[u8], pages: u32) -> Result<Outcome, Fail>
     requires enough { fewest_pages ≤ pages }
@@ -27,15 +37,39 @@ fn served(alloc: Global, more: Pieces, script: &[u8], pages: u32) -> Result<Outc
 {
     let file = file_of(alloc, 66048, FIVE, more)?;
     let table = straight_table(alloc)?;
-    let script = Vec::from_slice(alloc, script)?;
     let inputs = [
         ("SPC", file.as_slice()),
         ("TABLE", table.as_slice()),
-        ("SCRIPT", script.as_slice()),
+        ("SCRIPT", script),
     ];
-    let mut host = host_with(alloc, &inputs, &[], ROOM)?;
-    let refusal = serve(alloc, &mut host, "SPC", ("TABLE", "SCRIPT"), "OUT", pages);
-    Ok(Outcome::of(refusal, host))
+    serve_over(alloc, &inputs, pages)
+}
+
+/// Whether all was done, with the sound file of these frames and this report.
+fn has_frames(
+    alloc: Global,
+    outcome: &Outcome,
+    frames: &[(u32, i16)],
+    report: &str,
+) -> Result<bool, Fail> {
+    let wave = wave_of(alloc, frames)?;
+    Ok(outcome.is_done(wave.as_slice(), report))
+}
+
+/// Whether a script plays so many frames of silence, of 4000 and of silence again, and has this report.
+fn plays(
+    alloc: Global,
+    script: &str,
+    pages: u32,
+    report: &str,
+    counts: [u32; 3],
+) -> Result<bool, Fail>
+    requires enough { fewest_pages ≤ pages }
+    requires few { pages ≤ most_pages }
+{
+    let outcome = served(alloc, ENDS_THE_BLOCK, script.as_bytes(), pages)?;
+    let frames = [(counts[0], 0i16), (counts[1], 4000), (counts[2], 0)];
+    has_frames(alloc, &outcome, &frames, report)
 }
 
 #[test]
@@ -67,10 +101,10 @@ fn sessions_with_few_pages(rt: HostRuntime) -> Result<(), Fail> {
         ),
         ("", 4096, "", [0, 0, 0]),
     ] {
-        let outcome = served(rt.alloc(), ENDS_THE_BLOCK, script.as_bytes(), pages)?;
-        let frames = [(counts[0], 0i16), (counts[1], 4000), (counts[2], 0)];
-        let wave = wave_of(rt.alloc(), &frames)?;
-        assert!(rt; outcome.is_done(wave.as_slice(), report), "{script}");
+        assert!(rt;
+            plays(rt.alloc(), script, pages, report, counts)?,
+            "{script}"
+        );
     }
     Ok(())
 }
@@ -83,8 +117,7 @@ fn the_oldest_mark_is_given_up(rt: HostRuntime) -> Result<(), Fail> {
         "at 70\nmark 70 gave 0\nat 140\nmark 140 gave 0\nat 210\nmark 210 gave 1\nnone 70\ndropped 140\n\
         free 1 marks 2 made 210\n";
     let outcome = served(rt.alloc(), COUNTS, script.as_slice(), 258)?;
-    let wave = wave_of(rt.alloc(), &[])?;
-    assert!(rt; outcome.is_done(wave.as_slice(), report));
+    assert!(rt; has_frames(rt.alloc(), &outcome, &[], report)?);
     Ok(())
 }
 

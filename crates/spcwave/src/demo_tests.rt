@@ -1,8 +1,9 @@
 // Demo files, made and checked by the program over a host in memory.
 use crate::test_support::{render_straight, run_words};
-use command_tests::ROOM;
+use command_tests::{Outcome, ROOM};
 use status_lines::Status;
 use std::alloc::Global;
+use std::process::Abort;
 use std::test::Fail;
 
 /// Sums over the frames of a sound file.
@@ -32,14 +33,24 @@ fn sums_of_wave(wave: &[u8]) -> Summed {
     sums
 }
 
-/// The demo file of 7 has tags, but no seconds among them, so it lasts three minutes.
-#[test]
-fn the_demo_file_of_seven_is_rendered_whole(rt: HostRuntime) -> Result<(), Fail> {
-    let made = run_words(rt.alloc(), &["demo", "7", "OUT"], &[])?;
-    let played = render_straight(rt.alloc(), made.first(), &[], 23040044)?;
+/// Renders the demo file of 7 to an output of this room, with these words more.
+fn render_seven(alloc: Global, words: &[&str], room: usize) -> Result<Outcome, Fail> {
+    let made = run_words(alloc, &["demo", "7", "OUT"], &[])?;
+    render_straight(alloc, made.first(), words, room)
+}
+
+/// Looks at a render of three minutes.
+fn look_at_whole(rt: &impl Abort, played: &Outcome) {
     assert!(rt; played.status() == Status::Ok && played.complaint().is_empty());
     assert!(rt; played.report().starts_with(b"samples 5760000\n"));
     assert!(rt; played.first().len() == 23040044);
+}
+
+/// The demo file of 7 has tags, but no seconds among them, so it lasts three minutes.
+#[test]
+fn the_demo_file_of_seven_is_rendered_whole(rt: HostRuntime) -> Result<(), Fail> {
+    let played = render_seven(rt.alloc(), &[], 23040044)?;
+    look_at_whole(&rt, &played);
     Ok(())
 }
 
@@ -47,6 +58,11 @@ fn the_demo_file_of_seven_is_rendered_whole(rt: HostRuntime) -> Result<(), Fail>
 fn lines_of(alloc: Global, sums: Summed) -> Result<String, Fail> {
     let Summed { left, right, mix } = sums;
     Ok(format!(in alloc; "left {left}\nright {right}\nmix {mix}\n")?)
+}
+
+/// How a report on the sums of a sound file begins.
+fn lines_of_wave(alloc: Global, wave: &[u8]) -> Result<String, Fail> {
+    lines_of(alloc, sums_of_wave(wave.get(44..).unwrap_or(&[])))
 }
 
 /// Whether a check tells these sums, and then the batches that a render of as many samples tells.
@@ -58,17 +74,19 @@ fn tells(checked: &[u8], lines: &[u8], played: &[u8]) -> bool {
     }
 }
 
+/// Looks at a render of ten seconds, and at a check, which tells these sums.
+fn look_at_check(rt: &impl Abort, played: &Outcome, checked: &Outcome, lines: &[u8]) {
+    assert!(rt; played.status() == Status::Ok && played.first().len() == 1280044);
+    assert!(rt; checked.status() == Status::Ok);
+    assert!(rt; tells(checked.report(), lines, played.report()));
+}
+
 /// The demo file of 7, rendered for ten seconds, has the sums that the check tells, and is made in the same batches.
 #[test]
 fn the_check_of_seven_is_that_of_its_frames(rt: HostRuntime) -> Result<(), Fail> {
-    let alloc = rt.alloc();
-    let made = run_words(alloc, &["demo", "7", "OUT"], &[])?;
-    let played = render_straight(alloc, made.first(), &["--samples", "320000"], ROOM)?;
-    assert!(rt; played.status() == Status::Ok && played.first().len() == 1280044);
-    let sums = sums_of_wave(played.first().get(44..).unwrap_or(&[]));
-    let lines = lines_of(alloc, sums)?;
-    let checked = run_words(alloc, &["check", "7"], &[])?;
-    assert!(rt; checked.status() == Status::Ok);
-    assert!(rt; tells(checked.report(), lines.as_bytes(), played.report()));
+    let played = render_seven(rt.alloc(), &["--samples", "320000"], ROOM)?;
+    let lines = lines_of_wave(rt.alloc(), played.first())?;
+    let checked = run_words(rt.alloc(), &["check", "7"], &[])?;
+    look_at_check(&rt, &played, &checked, lines.as_bytes());
     Ok(())
 }

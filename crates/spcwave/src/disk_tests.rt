@@ -9,6 +9,7 @@ use disk_host::DiskHost;
 use snd_host::MemHost;
 use status_lines::Status;
 use std::alloc::Global;
+use std::process::Abort;
 use std::rt::{Env, Files};
 use std::test::Fail;
 use std::{env, fs};
@@ -87,6 +88,25 @@ fn run_on_disk<R: Files>(
     Ok(run(alloc, words, &mut host))
 }
 
+/// Writes the table of straight lines.
+fn write_table<R: Files>(alloc: Global, files: &R, names: &Names) -> Result<(), Fail> {
+    let table = straight_table(alloc)?;
+    fs::write(files, names.table.as_str(), table.as_slice())?;
+    Ok(())
+}
+
+/// Has the program write the demo file of 7.
+fn write_tune<R: Files>(alloc: Global, files: &R, names: &Names) -> Result<Status, Fail> {
+    let words = list_words(alloc, &["demo", "7", names.tune.as_str()])?;
+    run_on_disk(alloc, files, names, words.as_slice())
+}
+
+/// Has it render that file.
+fn render_on_disk<R: Files>(alloc: Global, files: &R, names: &Names) -> Result<Status, Fail> {
+    let words = render_words(alloc, names)?;
+    run_on_disk(alloc, files, names, words.as_slice())
+}
+
 /// What the files hold.
 #[derive(Drop)]
 struct Held {
@@ -150,23 +170,26 @@ fn is_alike(held: &Held, inside: &Outcome) -> bool {
         && held.complaint.as_slice() == inside.complaint()
 }
 
+/// Looks at how the runs ended, at what real files hold, and at the outputs in memory.
+fn look_at(rt: &impl Abort, made: Status, ended: Status, held: &Held, inside: &Outcome) {
+    assert!(rt; made == Status::Ok && ended == Status::Ok && inside.status() == Status::Ok);
+    assert!(rt; held.wave.len() == 44 + 4 * 1000 && held.trace.len() >= TRACE_LEAST);
+    assert!(rt; held.trace.starts_with(KEYED) && held.report.starts_with(b"samples 1000\n"));
+    assert!(rt; is_alike(held, inside));
+}
+
 /// From a file that was written over real files too.
 #[test]
 fn a_render_over_real_files_is_that_in_memory(rt: HostRuntime) -> Result<(), Fail> {
     let alloc = rt.alloc();
     let front = front_of(alloc, &rt, std::process::id(rt.process()))?;
     let names = names_of(alloc, front.as_str())?;
-    fs::write(&rt, names.table.as_str(), straight_table(alloc)?.as_slice())?;
-    let demo = list_words(alloc, &["demo", "7", names.tune.as_str()])?;
-    let made = run_on_disk(alloc, &rt, &names, demo.as_slice())?;
-    let words = render_words(alloc, &names)?;
-    let ended = run_on_disk(alloc, &rt, &names, words.as_slice())?;
+    write_table(alloc, &rt, &names)?;
+    let made = write_tune(alloc, &rt, &names)?;
+    let ended = render_on_disk(alloc, &rt, &names)?;
     let held = read_all(&rt, &names)?;
     remove_all(&rt, &names)?;
     let inside = render_inside(alloc, &names, &held)?;
-    assert!(rt; made == Status::Ok && ended == Status::Ok && inside.status() == Status::Ok);
-    assert!(rt; held.wave.len() == 44 + 4 * 1000 && held.trace.len() >= TRACE_LEAST);
-    assert!(rt; held.trace.starts_with(KEYED) && held.report.starts_with(b"samples 1000\n"));
-    assert!(rt; is_alike(&held, &inside));
+    look_at(&rt, made, ended, &held, &inside);
     Ok(())
 }

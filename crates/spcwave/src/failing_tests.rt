@@ -13,7 +13,7 @@ enum First {
     Front(usize, &'static [u8]),
 }
 
-/// A command over the inputs of `run_on_all`, and what it comes to.
+/// A command over the inputs of `Inputs::run_on_all`, and what it comes to.
 struct Command {
     words: &'static [&'static str],
     /// How many of its calls are on inputs.
@@ -24,6 +24,15 @@ struct Command {
 }
 
 impl Command {
+    /// Whether it may end so where this call fails, beside a whole run.
+    fn may_end_so(&self, outcome: &Outcome, whole: &Outcome, call: u32) -> bool {
+        if call < self.reads {
+            outcome.is_unread(call)
+        } else {
+            outcome.is_cut_off(whole.first(), whole.second(), self.report)
+        }
+    }
+
     /// Whether all was done, with its outputs and its report.
     fn is_done(&self, alloc: Global, outcome: &Outcome) -> Result<bool, Fail> {
         let first = outcome.first();
@@ -145,49 +154,85 @@ const COMMANDS: &[Command] = &[
     },
 ];
 
-/// Runs a command over these inputs, where the calls of these numbers fail.
-fn run_on_all(alloc: Global, words: &[&str], failing: &[u32]) -> Result<Outcome, Fail> {
-    let words = list_words(alloc, words)?;
-    let file = file_of(alloc, 66048, FIVE, &[])?;
-    let table = straight_table(alloc)?;
+/// A sound file of sixteen zeros.
+fn zero_sound(alloc: Global) -> Result<Vec<u8>, Fail> {
     let mut sound = Vec::from_slice(alloc, MONO)?;
     sound.resize(76, 0)?;
-    let blocks = vec![in alloc; 0u8; 9]?;
-    let inputs = [
-        ("SPC", file.as_slice()),
-        ("TABLE", table.as_slice()),
-        ("WAV", sound.as_slice()),
-        ("BRR", blocks.as_slice()),
-        ("SOURCE", b"NOP\n".as_slice()),
-        ("LIST", b"2 3\n0 1\n".as_slice()),
-        ("SCRIPT", b"play 3\nmark\nfree\n".as_slice()),
-    ];
-    run_failing(alloc, words.as_slice(), &inputs, failing)
+    Ok(sound)
 }
 
-/// Whether each call of a command may fail: those on inputs, which come first, leave nothing, the others prefixes. Where none of
-/// its calls fails, all is done.
-fn each_call_may_fail(alloc: Global, command: &Command) -> Result<bool, Fail> {
-    let whole = run_on_all(alloc, command.words, &[])?;
-    let mut holds = command.is_done(alloc, &whole)? && whole.calls() > command.reads;
-    for call in 0..whole.calls() {
-        let outcome = run_on_all(alloc, command.words, &[call])?;
-        holds = holds
-            && if call < command.reads {
-                outcome.is_unread(call)
-            } else {
-                outcome.is_cut_off(whole.first(), whole.second(), command.report)
-            };
+/// The inputs that are made.
+#[derive(Drop)]
+struct Inputs {
+    file: Vec<u8>,
+    table: Vec<u8>,
+    sound: Vec<u8>,
+}
+
+impl Inputs {
+    fn open(alloc: Global) -> Result<Inputs, Fail> {
+        Ok(Inputs {
+            file: file_of(alloc, 66048, FIVE, &[])?,
+            table: straight_table(alloc)?,
+            sound: zero_sound(alloc)?,
+        })
     }
-    let after = run_on_all(alloc, command.words, &[whole.calls()])?;
-    Ok(holds && command.is_done(alloc, &after)?)
+
+    /// Runs a command over all inputs, where the calls of these numbers fail.
+    fn run_on_all(&self, alloc: Global, words: &[&str], failing: &[u32]) -> Result<Outcome, Fail> {
+        let words = list_words(alloc, words)?;
+        let inputs = [
+            ("SPC", self.file.as_slice()),
+            ("TABLE", self.table.as_slice()),
+            ("WAV", self.sound.as_slice()),
+            ("BRR", b"\0\0\0\0\0\0\0\0\0".as_slice()),
+            ("SOURCE", b"NOP\n".as_slice()),
+            ("LIST", b"2 3\n0 1\n".as_slice()),
+            ("SCRIPT", b"play 3\nmark\nfree\n".as_slice()),
+        ];
+        run_failing(alloc, words.as_slice(), &inputs, failing)
+    }
+
+    /// Whether each of the calls of a whole run may fail.
+    fn each_call_may_fail(
+        &self,
+        alloc: Global,
+        command: &Command,
+        whole: &Outcome,
+    ) -> Result<bool, Fail> {
+        let mut holds = true;
+        for call in 0..whole.calls() {
+            let outcome = self.run_on_all(alloc, command.words, &[call])?;
+            holds = holds && command.may_end_so(&outcome, whole, call);
+        }
+        Ok(holds)
+    }
+
+    /// Whether all is done where the call of this number fails.
+    fn is_done_without(&self, alloc: Global, command: &Command, call: u32) -> Result<bool, Fail> {
+        let outcome = self.run_on_all(alloc, command.words, &[call])?;
+        command.is_done(alloc, &outcome)
+    }
+
+    /// Whether each call of a command may fail: those on inputs, which come first, leave nothing, the others prefixes. Where none of
+    /// its calls fails, all is done.
+    fn holds(&self, alloc: Global, command: &Command) -> Result<bool, Fail> {
+        let whole = self.run_on_all(alloc, command.words, &[])?;
+        Ok(
+            command.is_done(alloc, &whole)?
+                && whole.calls() > command.reads
+                && self.each_call_may_fail(alloc, command, &whole)?
+                && self.is_done_without(alloc, command, whole.calls())?,
+        )
+    }
 }
 
 /// The one call of `help`, and that of `version`, fails in a test of its crate.
 #[test]
 fn each_call_of_each_command_may_fail(rt: HostRuntime) -> Result<(), Fail> {
+    let inputs = Inputs::open(rt.alloc())?;
     for command in COMMANDS {
-        let holds = each_call_may_fail(rt.alloc(), command)?;
+        let holds = inputs.holds(rt.alloc(), command)?;
         assert!(rt; holds, "{:?}", command.words);
     }
     Ok(())

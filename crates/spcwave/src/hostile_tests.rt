@@ -1,11 +1,14 @@
 // Damaged files, awkward programs and outputs without room: each run over a host in memory, and over one that gives and
 // takes one byte at a time.
-use crate::test_support::{MONO, drips_alike, list_words, run_dripping, run_over};
+use crate::test_support::{
+    Dripped, MONO, drips_alike, list_words, render_straight, run_dripping, run_over,
+};
 use command_tests::{
     DSP, FIVE, Frames, MEMORY, Outcome, Pieces, ROOM, file_of, frame_bytes, straight_table, wave_of,
 };
 use status_lines::Status;
 use std::alloc::Global;
+use std::process::Abort;
 use std::test::Fail;
 
 /// A run over an SPC file `SPC` and a table `TABLE`, and how it ends.
@@ -44,17 +47,29 @@ impl Hostile {
             && outcome.second() == self.trace.as_bytes()
     }
 
+    /// Whether a run ended as this row says, with its frames.
+    fn is_ended(&self, alloc: Global, outcome: &Outcome) -> Result<bool, Fail> {
+        let frames = frame_bytes(alloc, self.frames)?;
+        Ok(self.is_ended_so(outcome, frames.as_slice()))
+    }
+
+    /// Whether it ends so over both hosts with these inputs.
+    fn holds_over(&self, alloc: Global, inputs: &[(&str, &[u8])]) -> Result<bool, Fail> {
+        let words = list_words(alloc, self.words)?;
+        let outcome = run_over(alloc, words.as_slice(), inputs, ROOM)?;
+        Ok(
+            self.is_ended(alloc, &outcome)?
+                && drips_alike(alloc, words.as_slice(), inputs, &outcome)?,
+        )
+    }
+
     /// Whether it ends so over both hosts.
     fn holds(&self, alloc: Global) -> Result<bool, Fail> {
-        let words = list_words(alloc, self.words)?;
         let file = file_of(alloc, self.length, self.sound, self.more)?;
         let table = self.table(alloc)?;
-        let inputs = [("SPC", file.as_slice()), ("TABLE", table.as_slice())];
-        let outcome = run_over(alloc, words.as_slice(), &inputs, ROOM)?;
-        let frames = frame_bytes(alloc, self.frames)?;
-        Ok(
-            self.is_ended_so(&outcome, frames.as_slice())
-                && drips_alike(alloc, words.as_slice(), &inputs, &outcome)?,
+        self.holds_over(
+            alloc,
+            &[("SPC", file.as_slice()), ("TABLE", table.as_slice())],
         )
     }
 }
@@ -286,6 +301,17 @@ fn programs_that_meet_their_own_sound_are_heard_in_time(rt: HostRuntime) -> Resu
     Ok(())
 }
 
+/// Whether the sound file with these bytes is refused so, over both hosts.
+fn is_refused(alloc: Global, bytes: &[u8], status: Status, complaint: &str) -> Result<bool, Fail> {
+    let words = list_words(alloc, &["encode", "IN", "OUT"])?;
+    let inputs = [("IN", bytes)];
+    let outcome = run_over(alloc, words.as_slice(), &inputs, ROOM)?;
+    Ok(
+        outcome.is_refused(status, complaint)
+            && drips_alike(alloc, words.as_slice(), &inputs, &outcome)?,
+    )
+}
+
 /// Whether a sound file of this front and of zeros up to this length is refused so, over both hosts.
 fn sound_is_refused(
     alloc: Global,
@@ -293,15 +319,9 @@ fn sound_is_refused(
     status: Status,
     complaint: &str,
 ) -> Result<bool, Fail> {
-    let words = list_words(alloc, &["encode", "IN", "OUT"])?;
     let mut bytes = Vec::from_slice(alloc, MONO)?;
     bytes.resize(length, 0)?;
-    let inputs = [("IN", bytes.as_slice())];
-    let outcome = run_over(alloc, words.as_slice(), &inputs, ROOM)?;
-    Ok(
-        outcome.is_refused(status, complaint)
-            && drips_alike(alloc, words.as_slice(), &inputs, &outcome)?,
-    )
+    is_refused(alloc, bytes.as_slice(), status, complaint)
 }
 
 #[test]
@@ -319,31 +339,47 @@ const SILENCE: &[&str] = &["render", "SPC", "TABLE", "OUT", "--samples", "4"];
 
 /// Renders silence to an output of this room, over the host in memory.
 fn render_into(alloc: Global, room: usize) -> Result<Outcome, Fail> {
-    let words = list_words(alloc, SILENCE)?;
     let file = file_of(alloc, 66048, &[], &[])?;
-    let table = straight_table(alloc)?;
-    let inputs = [("SPC", file.as_slice()), ("TABLE", table.as_slice())];
-    run_over(alloc, words.as_slice(), &inputs, room)
+    render_straight(alloc, file.as_slice(), &["--samples", "4"], room)
+}
+
+/// Renders silence from a file over a table to an output of 50 bytes, one byte at a time.
+fn drip_silence(alloc: Global, file: &[u8], table: &[u8]) -> Result<Dripped, Fail> {
+    let words = list_words(alloc, SILENCE)?;
+    run_dripping(
+        alloc,
+        words.as_slice(),
+        &[("SPC", file), ("TABLE", table)],
+        50,
+    )
+}
+
+/// Whether an output of 50 bytes was filled with the beginning of this sound file.
+fn is_filled(dripped: &Dripped, wave: &[u8]) -> bool {
+    dripped.status == Status::WriteFault && wave.get(..50) == Some(dripped.output(2))
 }
 
 /// Whether the same to an output of 50 bytes, one byte at a time, fills it with the beginning of this sound file.
 fn fills_drop_by_drop(alloc: Global, wave: &[u8]) -> Result<bool, Fail> {
-    let words = list_words(alloc, SILENCE)?;
     let file = file_of(alloc, 66048, &[], &[])?;
     let table = straight_table(alloc)?;
-    let inputs = [("SPC", file.as_slice()), ("TABLE", table.as_slice())];
-    let dripped = run_dripping(alloc, words.as_slice(), &inputs, 50)?;
-    Ok(dripped.status == Status::WriteFault && wave.get(..50) == Some(dripped.output(2)))
+    let dripped = drip_silence(alloc, file.as_slice(), table.as_slice())?;
+    Ok(is_filled(&dripped, wave))
+}
+
+/// Looks at a render of silence with room, and at one to an output of 50 bytes.
+fn look_at_rooms(rt: &impl Abort, whole: &Outcome, cut: &Outcome, wave: &[u8]) {
+    let report = "samples 4\nbatches 1 register 0 memory 0 echo 0 full 0 events 0 end 1\n";
+    assert!(rt; whole.is_done(wave, report));
+    assert!(rt; cut.is_cut_off(wave, &[], ""));
 }
 
 #[test]
 fn an_output_without_room_is_cut_off(rt: HostRuntime) -> Result<(), Fail> {
     let wave = wave_of(rt.alloc(), &[(4, 0)])?;
     let whole = render_into(rt.alloc(), ROOM)?;
-    let report = "samples 4\nbatches 1 register 0 memory 0 echo 0 full 0 events 0 end 1\n";
-    assert!(rt; whole.is_done(wave.as_slice(), report));
     let cut = render_into(rt.alloc(), 50)?;
-    assert!(rt; cut.is_cut_off(wave.as_slice(), &[], ""));
+    look_at_rooms(&rt, &whole, &cut, wave.as_slice());
     assert!(rt; fills_drop_by_drop(rt.alloc(), wave.as_slice())?);
     Ok(())
 }

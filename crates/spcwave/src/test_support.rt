@@ -26,6 +26,13 @@ pub fn list_words(alloc: Global, words: &[&str]) -> Result<Vec<String>, Fail> {
     Ok(given)
 }
 
+/// These words, and these ones more.
+fn extend_words(alloc: Global, words: &[&str], more: &[&str]) -> Result<Vec<String>, Fail> {
+    let mut given = list_words(alloc, words)?;
+    add_words(alloc, &mut given, more)?;
+    Ok(given)
+}
+
 /// Runs these words over a host with these inputs, whose calls of these numbers fail and whose first output has this
 /// room. Its contract says nothing, so that each test is proved without the promises of a run.
 fn run_with(
@@ -72,6 +79,15 @@ impl Dripped {
     pub fn output(&self, number: u32) -> &[u8] {
         self.host.inner().output(OutFile(number))
     }
+
+    /// Whether it ended as the run over the host in memory did.
+    fn is_like(&self, outcome: &Outcome) -> bool {
+        self.status == outcome.status()
+            && self.output(0) == outcome.report()
+            && self.output(1) == outcome.complaint()
+            && self.output(2) == outcome.first()
+            && self.output(3) == outcome.second()
+    }
 }
 
 /// Runs these words over such a host with these inputs, whose first output has this room.
@@ -94,13 +110,7 @@ pub fn drips_alike(
     outcome: &Outcome,
 ) -> Result<bool, Fail> {
     let dripped = run_dripping(alloc, words, inputs, ROOM)?;
-    Ok(
-        dripped.status == outcome.status()
-            && dripped.output(0) == outcome.report()
-            && dripped.output(1) == outcome.complaint()
-            && dripped.output(2) == outcome.first()
-            && dripped.output(3) == outcome.second(),
-    )
+    Ok(dripped.is_like(outcome))
 }
 
 /// Runs these words over a host that has the input `IN`.
@@ -109,23 +119,20 @@ pub fn run_words(alloc: Global, words: &[&str], input: &[u8]) -> Result<Outcome,
     run_over(alloc, given.as_slice(), &[("IN", input)], ROOM)
 }
 
+/// Runs a script that asks what is free over a file and a table, with these words more.
+fn serve_over(alloc: Global, file: &[u8], table: &[u8], words: &[&str]) -> Result<Outcome, Fail> {
+    let serve = ["serve", "SPC", "TABLE", "SCRIPT", "OUT"];
+    let given = extend_words(alloc, &serve, words)?;
+    let script = b"free".as_slice();
+    let inputs = [("SPC", file), ("TABLE", table), ("SCRIPT", script)];
+    run_over(alloc, given.as_slice(), &inputs, ROOM)
+}
+
 /// Runs a script that asks what is free, with these words more.
 pub fn serve_free(alloc: Global, words: &[&str]) -> Result<Outcome, Fail> {
     let file = file_of(alloc, 66048, &[], &[])?;
     let table = straight_table(alloc)?;
-    let mut given = Vec::new(alloc);
-    add_words(
-        alloc,
-        &mut given,
-        &["serve", "SPC", "TABLE", "SCRIPT", "OUT"],
-    )?;
-    add_words(alloc, &mut given, words)?;
-    let inputs = [
-        ("SPC", file.as_slice()),
-        ("TABLE", table.as_slice()),
-        ("SCRIPT", b"free".as_slice()),
-    ];
-    run_over(alloc, given.as_slice(), &inputs, ROOM)
+    serve_over(alloc, file.as_slice(), table.as_slice(), words)
 }
 
 /// The number that the process exits with for what the command line gives, and the complaint.
@@ -143,9 +150,7 @@ fn render_over(
     words: &[&str],
     room: usize,
 ) -> Result<Outcome, Fail> {
-    let mut given = Vec::new(alloc);
-    add_words(alloc, &mut given, &["render", "SPC", "TABLE", "OUT"])?;
-    add_words(alloc, &mut given, words)?;
+    let given = extend_words(alloc, &["render", "SPC", "TABLE", "OUT"], words)?;
     let inputs = [("SPC", file), ("TABLE", table)];
     run_over(alloc, given.as_slice(), &inputs, room)
 }

@@ -3,6 +3,8 @@ use crate::given::Given;
 use crate::test_support::{give, list_words, run_failing, run_words, serve_free};
 use command_tests::Outcome;
 use status_lines::Status;
+use std::alloc::Global;
+use std::process::Abort;
 use std::test::Fail;
 
 /// One block: its first digit is 1 at shift 12, the others are 0.
@@ -127,14 +129,19 @@ const COMMANDS: &[(&[&str], Status, &str)] = &[
     ),
 ];
 
+/// Looks at how these words ended, and at their report.
+fn look_at(rt: &impl Abort, outcome: &Outcome, words: &[&str], status: Status, report: &str) {
+    assert!(rt;
+        outcome.status() == status && outcome.report() == report.as_bytes(),
+        "{words:?}"
+    );
+}
+
 #[test]
 fn each_word_says_its_command(rt: HostRuntime) -> Result<(), Fail> {
     for (words, wanted, report) in COMMANDS {
         let outcome = run_words(rt.alloc(), words, &BLOCK)?;
-        assert!(rt;
-            outcome.status() == *wanted && outcome.report() == report.as_bytes(),
-            "{words:?}"
-        );
+        look_at(&rt, &outcome, words, *wanted, report);
     }
     Ok(())
 }
@@ -148,9 +155,15 @@ fn a_session_has_so_many_pages(rt: HostRuntime) -> Result<(), Fail> {
         (&[], "free 3840 marks 1 made 0\n"),
     ] {
         let outcome = serve_free(rt.alloc(), option)?;
-        assert!(rt; outcome.status() == Status::Ok && outcome.report() == report.as_bytes());
+        look_at(&rt, &outcome, option, Status::Ok, report);
     }
     Ok(())
+}
+
+/// Looks at the number that the process exits with, and at the complaint.
+fn look_at_exit(rt: &impl Abort, ended: u8, told: &[u8], code: u8, complaint: &str) {
+    assert!(rt; ended == code);
+    assert!(rt; told == complaint.as_bytes());
 }
 
 /// What is no text says no command, and with no memory for the words only its line is written.
@@ -161,10 +174,17 @@ fn what_is_given_instead_of_words(rt: HostRuntime) -> Result<(), Fail> {
         (Given::NoMemory, 7, "spcwave: out of memory\n"),
     ] {
         let (ended, told) = give(rt.alloc(), &given)?;
-        assert_eq!(rt; ended, code);
-        assert_eq!(rt; told.as_slice(), complaint.as_bytes());
+        look_at_exit(&rt, ended, told.as_slice(), code, complaint);
     }
     Ok(())
+}
+
+/// Looks at what the word that asks for help tells.
+fn look_at_help(rt: &impl Abort, outcome: &Outcome, word: &str) {
+    let begins = outcome.report().starts_with(
+        b"spcwave renders SPC music, as the Super Nintendo plays it",
+    );
+    assert!(rt; outcome.status() == Status::Ok && begins, "{word}");
 }
 
 /// The whole text stands in the tests of its command.
@@ -172,20 +192,21 @@ fn what_is_given_instead_of_words(rt: HostRuntime) -> Result<(), Fail> {
 fn help_is_told(rt: HostRuntime) -> Result<(), Fail> {
     for word in ["help", "--help"] {
         let outcome = run_words(rt.alloc(), &[word], &[])?;
-        let begins = outcome.report().starts_with(
-            b"spcwave renders SPC music, as the Super Nintendo plays it",
-        );
-        assert!(rt; outcome.status() == Status::Ok && begins, "{word}");
+        look_at_help(&rt, &outcome, word);
     }
     Ok(())
 }
 
+/// Runs a word whose first call fails.
+fn run_without_report(alloc: Global, word: &str) -> Result<Outcome, Fail> {
+    let words = list_words(alloc, &[word])?;
+    run_failing(alloc, words.as_slice(), &[], &[0])
+}
+
 #[test]
 fn help_and_version_need_a_report(rt: HostRuntime) -> Result<(), Fail> {
-    let alloc = rt.alloc();
     for word in ["help", "--help", "version", "--version"] {
-        let words = list_words(alloc, &[word])?;
-        let failed = run_failing(alloc, words.as_slice(), &[], &[0])?;
+        let failed = run_without_report(rt.alloc(), word)?;
         assert!(rt; failed.is_cut_off(&[], &[], ""), "{word}");
     }
     Ok(())

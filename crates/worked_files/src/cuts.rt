@@ -25,7 +25,7 @@ fn lists_and_first_wrong_lines(rt: HostRuntime) {
         ("0 1\n1 0000000001", Err(TextRefusal::Wrong(2))),
         ("1 115199999\n0 1\n0 1", Err(TextRefusal::Wrong(3))),
     ] {
-        assert_eq!(rt; listed(rt.alloc(), text.as_bytes()), is);
+        assert!(rt; listed(rt.alloc(), text.as_bytes()) == is);
     }
 }
 
@@ -35,8 +35,8 @@ fn a_thousand_lines_and_one_more(rt: HostRuntime) -> Result<(), Fail> {
     for _ in 0..1000 {
         text.extend_from_slice(b"0 1\n")?;
     }
-    assert_eq!(rt; listed(rt.alloc(), &text), Ok((1000, 1000)));
+    assert!(rt; listed(rt.alloc(), &text) == Ok((1000, 1000)));
     text.extend_from_slice(b"0 0")?;
-    assert_eq!(rt; listed(rt.alloc(), &text), Err(TextRefusal::Wrong(1001)));
+    assert!(rt; listed(rt.alloc(), &text) == Err(TextRefusal::Wrong(1001)));
     Ok(())
 }

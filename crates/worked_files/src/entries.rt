@@ -58,17 +58,14 @@ fn a_block_that_loops_outside_or_to_itself(rt: HostRuntime) -> Result<(), Fail> 
             blocks: 1,
             end,
         };
-        assert_eq!(rt; found, wanted);
+        assert!(rt; found == wanted);
         let mut walk = RipWalk::new(&found);
-        assert_eq!(rt;
-            (walk.next(&memory), walk.next(&memory)),
-            (Some([4096; 16]), None)
-        );
+        assert!(rt; (walk.next(&memory), walk.next(&memory)) == (Some([4096; 16]), None));
         let exact = RipReport {
             worst: 0,
             squares: 0,
         };
-        assert_eq!(rt; reencode(alloc, &memory, &found)?, exact);
+        assert!(rt; reencode(alloc, &memory, &found)? == exact);
     }
     Ok(())
 }
@@ -91,19 +88,16 @@ fn blocks_round_the_end_of_memory(rt: HostRuntime) -> Result<(), Fail> {
             ],
         )?;
         let found = rip(&memory, 2, 0);
-        assert_eq!(rt;
-            found,
-            RipFound {
-                start: 0xFFFA,
-                blocks: 2,
-                end
-            }
+        assert!(rt;
+            found
+                == RipFound {
+                    start: 0xFFFA,
+                    blocks: 2,
+                    end
+                }
         );
         let first = RipWalk::new(&found).next(&memory);
-        assert_eq!(rt;
-            first,
-            Some([0, 0, 0, 0, 0, 0, 0, 0, 4096, 4096, 4096, 4096, 0, 0, 0, 0])
-        );
+        assert!(rt; first == Some([0, 0, 0, 0, 0, 0, 0, 0, 4096, 4096, 4096, 4096, 0, 0, 0, 0]));
     }
     Ok(())
 }
@@ -114,15 +108,15 @@ fn as_many_blocks_as_a_sample_can_have(rt: HostRuntime) -> Result<(), Fail> {
     for (last, end) in [(0x00, RipEnd::Open), (0x01, RipEnd::NoLoop)] {
         let memory = memory(rt.alloc(), &[(0xFFE7, last)])?;
         let found = rip(&memory, 1, 0);
-        assert_eq!(rt;
-            found,
-            RipFound {
-                start: 0,
-                blocks: 7280,
-                end
-            }
+        assert!(rt;
+            found
+                == RipFound {
+                    start: 0,
+                    blocks: 7280,
+                    end
+                }
         );
-        assert_eq!(rt; walked_blocks(&memory), 7280);
+        assert!(rt; walked_blocks(&memory) == 7280);
     }
     Ok(())
 }
@@ -148,10 +142,7 @@ fn entries_of_the_voices_and_of_a_range(rt: HostRuntime) -> Result<(), Fail> {
         (Some((0, 255)), [true, true, true, true, true]),
     ] {
         let entries = wanted(&file, range);
-        assert_eq!(rt;
-            [entries[0], entries[1], entries[3], entries[9], entries[255]],
-            those
-        );
+        assert!(rt; [entries[0], entries[1], entries[3], entries[9], entries[255]] == those);
     }
     Ok(())
 }

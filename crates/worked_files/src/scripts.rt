@@ -31,7 +31,7 @@ fn scripts_and_first_wrong_lines(rt: HostRuntime) {
         ("Play 1", Err(TextRefusal::Wrong(1))),
         ("play 0000000001", Err(TextRefusal::Wrong(1))),
     ] {
-        assert_eq!(rt; read(rt.alloc(), text.as_bytes()), is, "{text}");
+        assert!(rt; read(rt.alloc(), text.as_bytes()) == is, "{text}");
     }
 }
 
@@ -41,8 +41,8 @@ fn a_hundred_thousand_lines_and_one_more(rt: HostRuntime) -> Result<(), Fail> {
     for _ in 0..100_000 {
         text.extend_from_slice(b"play 1\n")?;
     }
-    assert_eq!(rt; read(rt.alloc(), &text), Ok((100_000, 100_000)));
+    assert!(rt; read(rt.alloc(), &text) == Ok((100_000, 100_000)));
     text.extend_from_slice(b"free")?;
-    assert_eq!(rt; read(rt.alloc(), &text), Err(TextRefusal::Wrong(100_001)));
+    assert!(rt; read(rt.alloc(), &text) == Err(TextRefusal::Wrong(100_001)));
     Ok(())
 }

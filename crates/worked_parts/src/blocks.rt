@@ -10,11 +10,11 @@ fn shifts_and_filters(rt: HostRuntime) -> Result<(), Fail> {
         decode_group(0xD0, 0xF7, 0x00, 0, 0)[0],
         decode_block(b"\xC0\0\0\0\0\0\0\0\x01", 0, 0)[15],
     ];
-    assert_eq!(rt; firsts, [-32768, -32768, -4096, 4096]);
+    assert!(rt; firsts == [-32768, -32768, -4096, 4096]);
     let stream = b"\xC0\0\0\0\0\0\0\0\x01\xC4\0\0\0\0\0\0\0\0";
     let samples = decode_stream(rt.alloc(), stream)?;
-    assert_eq!(rt; samples.len(), 32);
-    assert_eq!(rt; &samples[14..19], [0, 4096, 3840, 3600, 3374].as_slice());
+    assert!(rt; samples.len() == 32);
+    assert!(rt; &samples[14..19] == [0, 4096, 3840, 3600, 3374].as_slice());
     Ok(())
 }
 
@@ -23,12 +23,9 @@ fn shifts_and_filters(rt: HostRuntime) -> Result<(), Fail> {
 fn remembered_groups(rt: HostRuntime) -> Result<(), Fail> {
     let mut groups = GroupMemory::new(rt.alloc())?;
     for _ in 0..2 {
-        assert_eq!(rt;
-            groups.decode(0xC4, 0, 0, 4096, 0),
-            [3840, 3600, 3374, 3162]
-        );
-        assert_eq!(rt; groups.decode(0xC4, 0, 0, 0, 4096), [0, 0, 0, 0]);
-        assert_eq!(rt; groups.decode(0xC0, 0x80, 0x00, 0, 0), [-32768, 0, 0, 0]);
+        assert!(rt; groups.decode(0xC4, 0, 0, 4096, 0) == [3840, 3600, 3374, 3162]);
+        assert!(rt; groups.decode(0xC4, 0, 0, 0, 4096) == [0, 0, 0, 0]);
+        assert!(rt; groups.decode(0xC0, 0x80, 0x00, 0, 0) == [-32768, 0, 0, 0]);
     }
     Ok(())
 }
@@ -38,8 +35,8 @@ fn remembered_groups(rt: HostRuntime) -> Result<(), Fail> {
 fn a_sum_is_limited_and_its_double_wraps(rt: HostRuntime) -> Result<(), Fail> {
     let stream = b"\xC0\0\0\0\0\0\0\0\x87\xC8\x70\0\0\0\0\0\0\0";
     let samples = decode_stream(rt.alloc(), stream)?;
-    assert_eq!(rt; samples.len(), 32);
-    assert_eq!(rt; &samples[14..18], [-32768, 28672, -2, -26884].as_slice());
+    assert!(rt; samples.len() == 32);
+    assert!(rt; &samples[14..18] == [-32768, 28672, -2, -26884].as_slice());
     Ok(())
 }
 
@@ -56,11 +53,8 @@ fn lengths_that_are_no_blocks(rt: HostRuntime) -> Result<(), Fail> {
     ] {
         assert!(rt; length <= bytes.len());
         match decode_stream(rt.alloc(), &bytes[..length]) {
-            Ok(samples) => assert_eq!(rt; (accepted, samples.len()), (true, length / 9 * 16)),
-            Err(BrrRefusal::Length(refused)) => assert_eq!(rt;
-                (accepted, refused),
-                (false, length)
-            ),
+            Ok(samples) => assert!(rt; (accepted, samples.len()) == (true, length / 9 * 16)),
+            Err(BrrRefusal::Length(refused)) => assert!(rt; (accepted, refused) == (false, length)),
             Err(BrrRefusal::OutOfMemory) => panic!(rt; "out of memory at {length}"),
         }
     }

@@ -15,10 +15,7 @@ fn fast_attack_reaches_sustain_in_three_steps(rt: HostRuntime) {
     ] {
         clock.step();
         envelope.step(0x8f, 0xe0, 0, &clock);
-        assert_eq!(rt;
-            (envelope.level(), envelope.mode, envelope.hidden),
-            (level, mode, hidden)
-        );
+        assert!(rt; (envelope.level(), envelope.mode, envelope.hidden) == (level, mode, hidden));
     }
 }
 
@@ -31,12 +28,12 @@ fn keys_change_what_they_name(rt: HostRuntime) {
     envelope.step(0x8f, 0, 0, &clock);
     envelope.release();
     envelope.step(0x8f, 0, 0, &clock);
-    assert_eq!(rt; (envelope.level(), envelope.hidden), (0x3f8, 0x400));
+    assert!(rt; (envelope.level(), envelope.hidden) == (0x3f8, 0x400));
     envelope.hold();
-    assert_eq!(rt; (envelope.level(), envelope.hidden), (0, 0));
+    assert!(rt; (envelope.level(), envelope.hidden) == (0, 0));
     envelope.key();
     envelope.silence();
-    assert_eq!(rt; envelope.mode, Mode::Release);
+    assert!(rt; envelope.mode == Mode::Release);
 }
 
 #[test]
@@ -58,9 +55,8 @@ fn each_gain_sets_or_slopes_the_level(rt: HostRuntime) {
         for level in want {
             clock.step();
             envelope.step(0, 0, gain, &clock);
-            assert_eq!(rt;
-                envelope.level(),
-                level,
+            assert!(rt;
+                envelope.level() == level,
                 "at gain {gain:02x} from {start:02x}"
             );
         }

@@ -13,9 +13,9 @@ fn a_word_wraps_from_the_last_address_to_the_first(rt: HostRuntime) -> Result<()
     let mut memory = filled(rt.alloc(), 0)?;
     memory.put(0xFFFF, 0x34);
     memory.put(0x0000, 0x12);
-    assert_eq!(rt; memory.get(0xFFFF), 0x34);
-    assert_eq!(rt; memory.word(0xFFFF), 0x1234);
-    assert_eq!(rt; memory.word(0x0000), 0x0012);
+    assert!(rt; memory.get(0xFFFF) == 0x34);
+    assert!(rt; memory.word(0xFFFF) == 0x1234);
+    assert!(rt; memory.word(0x0000) == 0x0012);
     Ok(())
 }
 
@@ -24,18 +24,17 @@ fn a_page_is_put_and_read_alone(rt: HostRuntime) -> Result<(), Fail> {
     let mut memory = filled(rt.alloc(), 0x11)?;
     memory.set_page(0xFF, &[0x22; 256]);
     memory.put(0xFF00, 0x33);
-    assert_eq!(rt;
+    assert!(rt;
         (
             memory.get(0xFEFF),
             memory.get(0xFF00),
             memory.get(0xFFFF),
             memory.get(0x0000)
-        ),
-        (0x11, 0x33, 0x22, 0x11)
+        ) == (0x11, 0x33, 0x22, 0x11)
     );
     let page = memory.page(0xFF);
-    assert_eq!(rt; (page.len(), page[0], page[255]), (256, 0x33, 0x22));
-    assert_eq!(rt; memory.page(0xFE), [0x11; 256].as_slice());
+    assert!(rt; (page.len(), page[0], page[255]) == (256, 0x33, 0x22));
+    assert!(rt; memory.page(0xFE) == [0x11; 256].as_slice());
     Ok(())
 }
 
@@ -43,20 +42,17 @@ fn a_page_is_put_and_read_alone(rt: HostRuntime) -> Result<(), Fail> {
 fn a_memory_takes_over_another(rt: HostRuntime) -> Result<(), Fail> {
     let mut memory = filled(rt.alloc(), 0x11)?;
     memory.copy_from(&filled(rt.alloc(), 0x22)?);
-    assert_eq!(rt; (memory.get(0x0000), memory.get(0xFFFF)), (0x22, 0x22));
+    assert!(rt; (memory.get(0x0000), memory.get(0xFFFF)) == (0x22, 0x22));
     Ok(())
 }
 
 #[test]
 fn the_page_of_an_address_is_its_high_byte(rt: HostRuntime) {
-    assert_eq!(rt;
-        (page_of(0x00FF), page_of(0x0100), page_of(0xFFFF)),
-        (0x00, 0x01, 0xFF)
-    );
+    assert!(rt; (page_of(0x00FF), page_of(0x0100), page_of(0xFFFF)) == (0x00, 0x01, 0xFF));
 }
 
 /// Whether a set has exactly the pages of these numbers.
-fn has_exactly(pages: &PageSet, numbers: &[u8]) -> bool {
+pub fn has_exactly(pages: &PageSet, numbers: &[u8]) -> bool {
     (0..=255u8).all(|page| pages.has(page) == numbers.contains(&page))
 }
 
@@ -68,12 +64,12 @@ fn sets_of_pages_at_their_ends(rt: HostRuntime) {
     }
     assert!(rt; has_exactly(&ends, &[0x00, 0x7F, 0x80, 0xFF]));
     let mut others = PageSet::empty();
-    assert_eq!(rt; ends.meets(&others), false);
+    assert!(rt; ends.meets(&others) == false);
     others.add(0x01);
     others.add(0xFE);
-    assert_eq!(rt; ends.meets(&others), false);
+    assert!(rt; ends.meets(&others) == false);
     others.add(0xFF);
-    assert_eq!(rt; ends.meets(&others), true);
+    assert!(rt; ends.meets(&others) == true);
 }
 
 #[test]

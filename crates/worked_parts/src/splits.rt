@@ -9,7 +9,7 @@ fn parts_before_and_after_a_character(rt: HostRuntime) {
         (b"one,two,", Some(3), b"one", Some(b"two,")),
     ];
     for (text, place, part, after) in rows {
-        assert_eq!(rt; place_of(b',', text), place);
-        assert_eq!(rt; first_part(b',', text), (part, after));
+        assert!(rt; place_of(b',', text) == place);
+        assert!(rt; first_part(b',', text) == (part, after));
     }
 }

@@ -15,7 +15,7 @@ fn straight_lines_weigh_the_middle_two(rt: HostRuntime) -> Result<(), Fail> {
         (128, (2048, 0, 0, 2048), 0),
     ] {
         let (x0, x1, x2, x3) = samples;
-        assert_eq!(rt; table.mix(i, x0, x1, x2, x3), want, "at {i}");
+        assert!(rt; table.mix(i, x0, x1, x2, x3) == want, "at {i}");
     }
     Ok(())
 }
@@ -25,7 +25,7 @@ fn a_table_has_1024_bytes(rt: HostRuntime) -> Result<(), Fail> {
     for length in [1023, 1025] {
         let bytes = vec![in rt.alloc(); 0x80u8; length]?;
         let refused = GaussTable::read(rt.alloc(), &bytes).err();
-        assert_eq!(rt; refused, Some(TableRefusal::Length(length)));
+        assert!(rt; refused == Some(TableRefusal::Length(length)));
     }
     // each weight is 8001h, -32,767
     let mut bytes = vec![in rt.alloc(); 0x80u8; 1024]?;
@@ -33,6 +33,6 @@ fn a_table_has_1024_bytes(rt: HostRuntime) -> Result<(), Fail> {
         *low = 0x01;
     }
     let table = GaussTable::read(rt.alloc(), &bytes)?;
-    assert_eq!(rt; table.mix(0, 0, 0, 0, 2048), -32768);
+    assert!(rt; table.mix(0, 0, 0, 0, 2048) == -32768);
     Ok(())
 }

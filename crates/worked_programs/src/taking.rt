@@ -68,10 +68,10 @@ fn look_at(
 ) -> Result<(), Fail> {
     let plain = take_plain(alloc, code)?;
     let late = take_late(alloc, code)?;
-    assert_eq!(rt; plain.emitted.records.as_slice(), records);
-    assert_eq!(rt; late.emitted.records.as_slice(), records);
-    assert_eq!(rt; (plain.counts, plain.made), (counts_of(100, 0, 0, 0), 100));
-    assert_eq!(rt; (late.counts, late.made), (counts, 100));
+    assert!(rt; plain.emitted.records.as_slice() == records);
+    assert!(rt; late.emitted.records.as_slice() == records);
+    assert!(rt; (plain.counts, plain.made) == (counts_of(100, 0, 0, 0), 100));
+    assert!(rt; (late.counts, late.made) == (counts, 100));
     assert!(rt; are_100_of_silence(&plain.emitted) && are_100_of_silence(&late.emitted));
     Ok(())
 }

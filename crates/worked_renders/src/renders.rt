@@ -9,6 +9,7 @@ use num_fix::Frame;
 use render_core::{Render, faded};
 use spc_form::SpcFile;
 use std::alloc::Global;
+use std::process::Abort;
 use std::test::Fail;
 use trace_form::Record;
 
@@ -44,17 +45,16 @@ fn render_over<C: Chip>(alloc: Global, file: &SpcFile, chip: C, samples: u32) ->
     requires batches { C.batches chip ≡ 0 }
 {
     let mut render = Render::open(alloc, file, chip, samples, 0x01)?;
-    let mut frames = Vec::new(alloc);
-    let mut records = Vec::new(alloc);
-    give_all(&mut render, &mut frames, &mut records)?;
-    let batches = render.counts().batches;
-    let made = render.chip().sample();
-    Ok(Given {
-        frames,
-        records,
-        batches,
-        made,
-    })
+    let mut given = Given {
+        frames: Vec::new(alloc),
+        records: Vec::new(alloc),
+        batches: 0,
+        made: 0,
+    };
+    give_all(&mut render, &mut given.frames, &mut given.records)?;
+    given.batches = render.counts().batches;
+    given.made = render.chip().sample();
+    Ok(given)
 }
 
 /// Renders so many samples of a file of these pieces, with the records of voice 0.
@@ -100,12 +100,12 @@ const KEYED: Record = Record::Voice {
     looped: false,
 };
 
-#[test]
-fn a_voice_is_heard_from_sample_six_on(rt: HostRuntime) -> Result<(), Fail> {
-    let eight = rendered(rt.alloc(), &SOUND, &[], 8)?;
-    let frames = [SILENT, SILENT, SILENT, SILENT, SILENT, SILENT, LOUD, LOUD];
-    assert_eq!(rt; eight.frames.as_slice(), frames.as_slice());
-    let records = [
+/// The first frames of the voice.
+const EIGHT: [Frame; 8] = [SILENT, SILENT, SILENT, SILENT, SILENT, SILENT, LOUD, LOUD];
+
+/// The records of the voice in eight samples.
+fn records_of_eight() -> [Record; 8] {
+    [
         KEYED,
         voice(1, 0, 0),
         voice(2, 0, 0),
@@ -114,18 +114,34 @@ fn a_voice_is_heard_from_sample_six_on(rt: HostRuntime) -> Result<(), Fail> {
         voice(5, 0, 0),
         voice(6, 2032, 4064),
         voice(7, 2032, 4064),
-    ];
-    assert_eq!(rt; eight.records.as_slice(), records.as_slice());
-    assert_eq!(rt; (eight.batches, eight.made), (1, 8));
+    ]
+}
+
+/// Looks at a render of eight samples, which its chip made as one batch.
+fn look_at_eight(rt: &impl Abort, eight: &Given) {
+    assert!(rt; eight.frames.as_slice() == EIGHT.as_slice());
+    assert!(rt; eight.records.as_slice() == records_of_eight().as_slice());
+    assert!(rt; (eight.batches, eight.made) == (1, 8));
+}
+
+#[test]
+fn a_voice_is_heard_from_sample_six_on(rt: HostRuntime) -> Result<(), Fail> {
+    let eight = rendered(rt.alloc(), &SOUND, &[], 8)?;
+    look_at_eight(&rt, &eight);
     Ok(())
+}
+
+/// Looks at 200 frames that are silent up to sample 6, made in four batches.
+fn look_at_200(rt: &impl Abort, long: &Given) {
+    assert!(rt; (long.frames.len(), long.batches) == (200, 4));
+    assert!(rt; long.frames.iter().take(6).all(|frame| *frame == SILENT));
+    assert!(rt; long.frames.iter().skip(6).all(|frame| *frame == LOUD));
 }
 
 #[test]
 fn a_voice_is_heard_on_where_the_program_stops(rt: HostRuntime) -> Result<(), Fail> {
     let long = rendered(rt.alloc(), &SOUND, &[0xFF], 200)?;
-    assert_eq!(rt; (long.frames.len(), long.batches), (200, 4));
-    assert!(rt; long.frames.iter().take(6).all(|frame| *frame == SILENT));
-    assert!(rt; long.frames.iter().skip(6).all(|frame| *frame == LOUD));
+    look_at_200(&rt, &long);
     Ok(())
 }
 
@@ -207,14 +223,15 @@ fn a_render_is_saved_loaded_and_sent_on(rt: HostRuntime) -> Result<(), Fail> {
     let playing = file(rt.alloc(), &SOUND, &[])?;
     let chip = chip_of(rt.alloc(), &playing)?;
     let (frames, told) = go_back_and_on(rt.alloc(), &playing, chip)?;
-    assert_eq!(rt; told, [(true, 3, 3), (true, 8, 8), (true, 8, 13)]);
-    let wanted = [
-        SILENT, SILENT, SILENT, SILENT, SILENT, SILENT, LOUD, LOUD, SILENT, SILENT, SILENT, LOUD,
-        LOUD,
-    ];
-    assert_eq!(rt; frames.as_slice(), wanted.as_slice());
+    assert!(rt; told == [(true, 3, 3), (true, 8, 8), (true, 8, 13)]);
+    assert!(rt; frames.as_slice() == WANTED.as_slice());
     Ok(())
 }
+
+/// The first three frames, the next five, and those once more.
+const WANTED: [Frame; 13] = [
+    SILENT, SILENT, SILENT, SILENT, SILENT, SILENT, LOUD, LOUD, SILENT, SILENT, SILENT, LOUD, LOUD,
+];
 
 #[test]
 fn a_fade_of_32_frames(rt: HostRuntime) {
@@ -234,6 +251,6 @@ fn a_fade_of_32_frames(rt: HostRuntime) {
             left: wanted_left,
             right: wanted_right,
         };
-        assert_eq!(rt; frame, wanted, "at {at}");
+        assert!(rt; frame == wanted, "at {at}");
     }
 }

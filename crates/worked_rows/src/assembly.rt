@@ -22,7 +22,7 @@ fn listings(rt: HostRuntime) -> Result<(), Fail> {
     ];
     for (origin, bytes, text) in rows {
         let listing = disassemble(rt.alloc(), bytes, origin)?;
-        assert_eq!(rt; listing.as_slice(), text);
+        assert!(rt; listing.as_slice() == text);
     }
     Ok(())
 }
@@ -45,7 +45,7 @@ fn sources_that_are_assembled(rt: HostRuntime) -> Result<(), Fail> {
     ];
     for (origin, source, bytes) in rows {
         let assembled = assemble(rt.alloc(), source, origin);
-        assert_eq!(rt; assembled.as_ref().map(|made| made.as_slice()), Ok(bytes));
+        assert!(rt; assembled.as_ref().map(|made| made.as_slice()) == Ok(bytes));
     }
     Ok(())
 }
@@ -78,7 +78,7 @@ fn sources_that_are_refused(rt: HostRuntime) -> Result<(), Fail> {
     ];
     for (origin, source, number, fault) in rows {
         let assembled = assemble(rt.alloc(), source, origin);
-        assert_eq!(rt; assembled.err(), Some(AsmRefusal::Line { number, fault }));
+        assert!(rt; assembled.err() == Some(AsmRefusal::Line { number, fault }));
     }
     Ok(())
 }
@@ -91,7 +91,7 @@ fn every_opcode_is_listed_and_assembled_again(rt: HostRuntime) -> Result<(), Fai
         let text = disassemble(rt.alloc(), whole, 0x0400)?;
         assert!(rt; text.len() < 100 && !text.as_slice().starts_with(b".byte"));
         let again = assemble(rt.alloc(), text.as_slice(), 0x0400);
-        assert_eq!(rt; again.as_ref().map(|made| made.as_slice()), Ok(whole));
+        assert!(rt; again.as_ref().map(|made| made.as_slice()) == Ok(whole));
     }
     Ok(())
 }

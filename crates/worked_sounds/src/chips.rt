@@ -1,11 +1,14 @@
 //! Worked examples over whole samples: keys, the echo's window, and the reach.
 
+ghost use Rattle.std.specs.Prelude.{◌≤◌};
+
 use crate::sources::{memory_of_a_source, put_all};
 use crate::stage::{SILENCE, Stage, begin_in_silence, have_same_bytes, have_same_registers};
 use aram_core::{Aram, PageSet};
 use dsp_core::Dsp;
 use num_fix::Frame;
 use std::alloc::Global;
+use std::process::Abort;
 use std::test::Fail;
 use trace_form::Record;
 
@@ -81,23 +84,44 @@ fn take_step(stage: &mut Stage, writes: &[(u8, u8)], n: u8) {
     }
 }
 
-/// Makes samples in steps: writes of registers, and then so many samples as one batch.
+impl Made {
+    /// Nothing so far.
+    fn none(alloc: Global) -> Made {
+        Made {
+            frames: Vec::new(alloc),
+            records: Vec::new(alloc),
+            results: (0, 0),
+            sample: 0,
+            batches: 0,
+        }
+    }
+
+    /// Adds the last batch of a chip, and what that tells.
+    fn add(&mut self, stage: &Stage) -> Result<(), Fail> {
+        self.frames.extend_from_slice(stage.frames.as_slice())?;
+        self.records.extend_from_slice(stage.records.as_slice())?;
+        self.results = (stage.dsp.reg_read(0x08), stage.dsp.reg_read(0x89));
+        self.sample = stage.dsp.sample();
+        self.batches = stage.dsp.batches();
+        Ok(())
+    }
+
+    /// Makes samples in steps: writes of registers, and then so many samples as one batch.
+    fn take_all(&mut self, stage: &mut Stage, steps: &[(&[(u8, u8)], u8)]) -> Result<(), Fail> {
+        for (writes, n) in steps {
+            take_step(stage, *writes, *n);
+            self.add(stage)?;
+        }
+        Ok(())
+    }
+}
+
+/// What the chip whose voice 0 waits for a key on makes in steps.
 fn played(alloc: Global, steps: &[(&[(u8, u8)], u8)]) -> Result<Made, Fail> {
     let mut stage = one_voice(alloc)?;
-    let mut frames = Vec::new(alloc);
-    let mut records = Vec::new(alloc);
-    for (writes, n) in steps {
-        take_step(&mut stage, *writes, *n);
-        frames.extend_from_slice(stage.frames.as_slice())?;
-        records.extend_from_slice(stage.records.as_slice())?;
-    }
-    Ok(Made {
-        frames,
-        records,
-        results: (stage.dsp.reg_read(0x08), stage.dsp.reg_read(0x89)),
-        sample: stage.dsp.sample(),
-        batches: stage.dsp.batches(),
-    })
+    let mut made = Made::none(alloc);
+    made.take_all(&mut stage, steps)?;
+    Ok(made)
 }
 
 /// Whether frames are silence and then these.
@@ -124,22 +148,22 @@ fn a_key_on_after_a_poll_is_lost_at_the_next(rt: HostRuntime) -> Result<(), Fail
     let made = played(rt.alloc(), &[(&[(0x4c, 0x01)], 1), (&[(0x4c, 0x01)], 7)])?;
     assert!(rt; are_silence_then(made.frames.as_slice(), &SEVEN));
     assert!(rt; are_of_one_key_on(made.records.as_slice()));
-    assert_eq!(rt;
-        (made.results, made.sample, made.batches),
-        ((127, 15), 8, 2)
-    );
+    assert!(rt; made.results == (127, 15) && (made.sample, made.batches) == (8, 2));
     Ok(())
+}
+
+/// Makes a batch, and looks at its frames and at what the chip then tells of voice 0.
+fn play_once(rt: &impl Abort, stage: &mut Stage, n: u8, frames: &[Frame], told: (u8, u8)) {
+    take_step(stage, &[], n);
+    assert!(rt; stage.frames.as_slice() == frames);
+    assert!(rt; results(&stage.dsp) == told);
 }
 
 #[test]
 fn the_first_sound_is_told_in_the_results(rt: HostRuntime) -> Result<(), Fail> {
     let mut stage = keyed_voice(rt.alloc(), 0x01)?;
-    stage.play(6, 0x01);
-    assert_eq!(rt; stage.frames.as_slice(), [SILENCE; 6].as_slice());
-    assert_eq!(rt; results(&stage.dsp), (0, 0));
-    stage.play(1, 0x01);
-    assert_eq!(rt; stage.frames.as_slice(), [SOUND].as_slice());
-    assert_eq!(rt; results(&stage.dsp), (127, 15));
+    play_once(&rt, &mut stage, 6, &[SILENCE; 6], (0, 0));
+    play_once(&rt, &mut stage, 1, &[SOUND], (127, 15));
     Ok(())
 }
 
@@ -167,9 +191,9 @@ fn the_soft_reset_silences_from_the_next_sample_on(rt: HostRuntime) -> Result<()
     Ok(())
 }
 
-/// The samples, the batches, and the samples that were made in all.
-fn numbers(dsp: &Dsp) -> (u32, u64, u64) {
-    (dsp.sample(), dsp.batches(), dsp.total())
+/// Looks at the samples, the batches, and the samples that were made in all.
+fn look_at_numbers(rt: &impl Abort, dsp: &Dsp, sample: u32, batches: u64, total: u64) {
+    assert!(rt; (dsp.sample(), dsp.batches(), dsp.total()) == (sample, batches, total));
 }
 
 #[test]
@@ -178,14 +202,12 @@ fn what_was_saved_plays_again(rt: HostRuntime) -> Result<(), Fail> {
     let mut stage = one_voice(rt.alloc())?;
     take_step(&mut stage, &[(0x4c, 0x01)], 3);
     let third = stage.dsp.save();
-    stage.play(5, 0x01);
-    assert_eq!(rt; stage.frames.as_slice(), rest.as_slice());
+    play_once(&rt, &mut stage, 5, &rest, (127, 15));
     stage.dsp.load(&third);
     // neither the batches nor the total go back
-    assert_eq!(rt; numbers(&stage.dsp), (3, 2, 8));
-    stage.play(5, 0x01);
-    assert_eq!(rt; stage.frames.as_slice(), rest.as_slice());
-    assert_eq!(rt; numbers(&stage.dsp), (8, 3, 13));
+    look_at_numbers(&rt, &stage.dsp, 3, 2, 8);
+    play_once(&rt, &mut stage, 5, &rest, (127, 15));
+    look_at_numbers(&rt, &stage.dsp, 8, 3, 13);
     Ok(())
 }
 
@@ -232,22 +254,41 @@ fn are_made_one_by_one(split: &mut Stage, frames: &[Frame]) -> bool {
 fn a_batch_is_its_samples_one_by_one(rt: HostRuntime) -> Result<(), Fail> {
     let mut whole = two_voices(rt.alloc())?;
     let mut split = two_voices(rt.alloc())?;
-    for (n, register, byte, silent) in [
-        (64, 0x4c, 0x03, 6),
-        (64, 0x4c, 0x01, 0),
-        (63, 0x5c, 0x02, 0),
-        (64, 0x3d, 0x01, 0),
+    for (n, write, silent) in [
+        (64, (0x4c, 0x03), 6),
+        (64, (0x4c, 0x01), 0),
+        (63, (0x5c, 0x02), 0),
+        (64, (0x3d, 0x01), 0),
     ] {
-        whole.dsp.reg_write(register, byte);
-        split.dsp.reg_write(register, byte);
-        whole.play(n, 0);
-        assert!(rt; begin_in_silence(whole.frames.as_slice(), silent));
-        assert!(rt; are_made_one_by_one(&mut split, whole.frames.as_slice()));
-        assert!(rt; have_same_registers(&whole.dsp, &split.dsp));
+        play_beside(&rt, &mut whole, &mut split, n, write, silent);
     }
-    assert_eq!(rt; (whole.dsp.batches(), split.dsp.batches()), (4, 255));
-    assert!(rt; have_same_bytes(&whole.memory, &split.memory));
+    look_beside(&rt, &whole, &split);
     Ok(())
+}
+
+/// Writes a register of both chips and plays so many samples, of which the first ones are silent: as a batch, and one by one.
+fn play_beside(
+    rt: &impl Abort,
+    whole: &mut Stage,
+    split: &mut Stage,
+    n: u8,
+    write: (u8, u8),
+    silent: usize,
+)
+    requires { n ≤ 64 }
+{
+    write_all(&mut whole.dsp, &[write]);
+    write_all(&mut split.dsp, &[write]);
+    whole.play(n, 0);
+    assert!(rt; begin_in_silence(whole.frames.as_slice(), silent));
+    assert!(rt; are_made_one_by_one(split, whole.frames.as_slice()));
+    assert!(rt; have_same_registers(&whole.dsp, &split.dsp));
+}
+
+/// Looks at both chips at the end: one played 4 batches, the other 255.
+fn look_beside(rt: &impl Abort, whole: &Stage, split: &Stage) {
+    assert!(rt; (whole.dsp.batches(), split.dsp.batches()) == (4, 255));
+    assert!(rt; have_same_bytes(&whole.memory, &split.memory));
 }
 
 /// How many bytes from an address on are 0.
@@ -279,34 +320,25 @@ fn echo_round_the_end(alloc: Global) -> Result<Stage, Fail> {
     Stage::open(alloc, &registers, Aram::from_image(alloc, &ones)?)
 }
 
-/// Makes samples in batches.
-fn play_all(stage: &mut Stage, batches: &[u8]) {
+/// Makes samples in batches up to one of such a number, and looks at how many zeros then stand from FF00h on.
+fn play_to(rt: &impl Abort, stage: &mut Stage, batches: &[u8], sample: u32, zeros: u32) {
     for n in batches {
         take_step(stage, &[], *n);
     }
+    assert!(rt; (stage.dsp.sample(), zeros_from(&stage.memory, 0xff00)) == (sample, zeros));
 }
 
 #[test]
 fn the_echo_goes_round_its_window(rt: HostRuntime) -> Result<(), Fail> {
     let mut stage = echo_round_the_end(rt.alloc())?;
-    play_all(&mut stage, &[64, 1]);
-    assert_eq!(rt; zeros_from(&stage.memory, 0xff00), 0x104);
+    play_to(&rt, &mut stage, &[64, 1], 65, 0x104);
     assert!(rt; are_all(&stage.memory, 0x0004, 0xfeff, 0x11));
     stage.dsp.reg_write(0x7d, 0x02);
-    play_all(&mut stage, &[64, 64, 64, 64, 64, 64, 63]);
     // the 512 cells of the first length are done, and the next is the first one again
-    assert_eq!(rt;
-        (stage.dsp.sample(), zeros_from(&stage.memory, 0xff00)),
-        (512, 0x800)
-    );
+    play_to(&rt, &mut stage, &[64, 64, 64, 64, 64, 64, 63], 512, 0x800);
     put_all(&mut stage.memory, 0xff00, &[0x11, 0x11, 0x11, 0x11]);
-    play_all(&mut stage, &[1]);
-    assert_eq!(rt; zeros_from(&stage.memory, 0xff00), 0x800);
-    play_all(&mut stage, &[64, 64, 64, 64, 64, 64, 64, 64]);
-    assert_eq!(rt;
-        (stage.dsp.sample(), zeros_from(&stage.memory, 0xff00)),
-        (1025, 0x804)
-    );
+    play_to(&rt, &mut stage, &[1], 513, 0x800);
+    play_to(&rt, &mut stage, &[64; 8], 1025, 0x804);
     Ok(())
 }
 
@@ -315,21 +347,21 @@ fn has_exactly(pages: &PageSet, numbers: &[u8]) -> bool {
     (0..=255u8).all(|page| pages.has(page) == numbers.contains(&page))
 }
 
-/// Whether the samples to come read exactly these pages and write exactly those.
-fn reaches_exactly(stage: &Stage, read: &[u8], written: &[u8]) -> bool {
+/// Looks at the pages that the samples to come read and write, and at whether the echo can write what they read.
+fn look_at_reach(rt: &impl Abort, stage: &Stage, read: &[u8], written: &[u8], entangled: bool) {
     let reach = stage.dsp.reach(&stage.memory);
-    has_exactly(&reach.read_pages, read) && has_exactly(&reach.write_pages, written)
+    assert!(rt; has_exactly(&reach.read_pages, read));
+    assert!(rt; has_exactly(&reach.write_pages, written));
+    assert!(rt; reach.entangled == entangled);
 }
 
 #[test]
 fn the_reach_has_the_start_of_a_voice_whose_key_on_waits(rt: HostRuntime) -> Result<(), Fail> {
     let mut stage = one_voice(rt.alloc())?;
     // the block at 0000h of all voices, the directory's entry at 0200h, and the echo's cell at E000h
-    assert!(rt; reaches_exactly(&stage, &[0x00, 0x02, 0xe0], &[]));
-    assert_eq!(rt; stage.dsp.reach(&stage.memory).entangled, false);
+    look_at_reach(&rt, &stage, &[0x00, 0x02, 0xe0], &[], false);
     // with the first block of voice 0 and the one to which it loops; and an echo that writes where that one is
     write_all(&mut stage.dsp, &[(0x4c, 0x01), (0x6c, 0x00), (0x6d, 0x06)]);
-    assert!(rt; reaches_exactly(&stage, &[0x00, 0x02, 0x05, 0x06], &[0x06]));
-    assert_eq!(rt; stage.dsp.reach(&stage.memory).entangled, true);
+    look_at_reach(&rt, &stage, &[0x00, 0x02, 0x05, 0x06], &[0x06], true);
     Ok(())
 }

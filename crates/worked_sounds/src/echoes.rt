@@ -35,16 +35,13 @@ fn feedback_mute_and_writes_off(rt: HostRuntime) -> Result<(), Fail> {
         (0x20, 7968, 4032),
     ] {
         regs.flg = flg;
-        assert_eq!(rt;
-            echo.step(&mut memory, &regs, both(4032), both(4032)),
-            both(frame)
-        );
-        assert_eq!(rt; memory.word(0xE000), word);
-        assert_eq!(rt; memory.word(0xE002), word);
+        assert!(rt; echo.step(&mut memory, &regs, both(4032), both(4032)) == both(frame));
+        assert!(rt; memory.word(0xE000) == word);
+        assert!(rt; memory.word(0xE002) == word);
     }
     regs.flg = 0x20;
     let _ = echo.step(&mut memory, &regs, both(0), both(0));
-    assert_eq!(rt; memory.word(0xE000), 4032);
+    assert!(rt; memory.word(0xE000) == 4032);
     Ok(())
 }
 
@@ -66,7 +63,7 @@ fn the_window_goes_round_and_the_length_waits(rt: HostRuntime) -> Result<(), Fai
         fir: [0; 8],
     };
     let window = |len: u32| Window { start: 0xFF00, len };
-    assert_eq!(rt; echo.window(0xFF, 0), window(4));
+    assert!(rt; echo.window(0xFF, 0) == window(4));
     for _ in 0..65 {
         let _ = echo.step(&mut memory, &regs, both(0), both(0));
     }
@@ -78,18 +75,18 @@ fn the_window_goes_round_and_the_length_waits(rt: HostRuntime) -> Result<(), Fai
         (0x0003, 0),
         (0x0004, 0x11),
     ] {
-        assert_eq!(rt; memory.get(address), byte, "at {address:04x}");
+        assert!(rt; memory.get(address) == byte, "at {address:04x}");
     }
     regs.edl = 2;
-    assert_eq!(rt; echo.window(0xFF, 2), window(4096));
+    assert!(rt; echo.window(0xFF, 2) == window(4096));
     for _ in 65..512 {
         let _ = echo.step(&mut memory, &regs, both(0), both(0));
     }
-    assert_eq!(rt; echo.window(0xFF, 0), window(2048));
+    assert!(rt; echo.window(0xFF, 0) == window(2048));
     memory.put(0xFF00, 0x11);
     let _ = echo.step(&mut memory, &regs, both(0), both(0));
-    assert_eq!(rt; memory.get(0xFF00), 0);
-    assert_eq!(rt; echo.window(0xFF, 0), window(4096));
+    assert!(rt; memory.get(0xFF00) == 0);
+    assert!(rt; echo.window(0xFF, 0) == window(4096));
     Ok(())
 }
 
@@ -128,12 +125,12 @@ fn each_of_eight_taps_meets_its_coefficient(rt: HostRuntime) -> Result<(), Fail>
         memory.put(0x2003, right_high);
         frame = echo.step(&mut memory, &regs, both(0), both(0));
     }
-    assert_eq!(rt;
-        frame,
-        Frame {
-            left: 1770,
-            right: -1773
-        }
+    assert!(rt;
+        frame
+            == Frame {
+                left: 1770,
+                right: -1773
+            }
     );
     Ok(())
 }
@@ -178,12 +175,12 @@ fn a_batch_goes_from_cell_to_cell(rt: HostRuntime) -> Result<(), Fail> {
     }
     let none = [0; 64];
     let frames = echo.play(16, &regs, &none, &none, &none, &none, &mut memory);
-    assert_eq!(rt;
-        frames[7],
-        Frame {
-            left: 1770,
-            right: -1773
-        }
+    assert!(rt;
+        frames[7]
+            == Frame {
+                left: 1770,
+                right: -1773
+            }
     );
     Ok(())
 }

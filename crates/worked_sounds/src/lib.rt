@@ -3,11 +3,11 @@
 #![tactic(auto)]
 
 #[cfg(test)]
-mod batches;
-#[cfg(test)]
 mod chips;
 #[cfg(test)]
 mod echoes;
+#[cfg(test)]
+mod one_by_one;
 #[cfg(test)]
 mod sources;
 #[cfg(test)]

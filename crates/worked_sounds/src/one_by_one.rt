@@ -5,6 +5,7 @@ use demo_gen::demo;
 use num_fix::Frame;
 use spc_form::{OpenState, SpcFile, opening};
 use std::alloc::Global;
+use std::process::Abort;
 use std::test::Fail;
 use trace_form::Record;
 
@@ -45,20 +46,28 @@ fn begin_with_key_ons(records: &[Record]) -> bool {
     true
 }
 
-// All eight voices of the file are keyed at its first poll, in sample 0, and silent for six samples.
-#[test]
-fn a_batch_of_64_has_the_frames_and_records_of_64_batches(rt: HostRuntime) -> Result<(), Fail> {
-    let file = demo(rt.alloc(), 7)?;
-    let mut whole = opened(rt.alloc(), &file)?;
-    let mut split = opened(rt.alloc(), &file)?;
-    whole.play(64, 0xff);
-    let (frames, records) = played_one_by_one(rt.alloc(), &mut split)?;
-    assert_eq!(rt; (frames.len(), records.len()), (64, 512));
-    assert!(rt; begin_with_key_ons(records.as_slice()) && begin_in_silence(frames.as_slice(), 6));
-    assert_eq!(rt; whole.frames.as_slice(), frames.as_slice());
-    assert_eq!(rt; whole.records.as_slice(), records.as_slice());
+/// Two chips that open as demo file 7 has it.
+fn two_of_demo_7(alloc: Global) -> Result<(Stage, Stage), Fail> {
+    let file = demo(alloc, 7)?;
+    Ok((opened(alloc, &file)?, opened(alloc, &file)?))
+}
+
+/// Looks at a chip after a batch of 64, and at another one after 64 batches, which gave these frames and records. All eight voices are
+/// keyed at the first poll, in sample 0, and silent for six samples.
+fn look_at(rt: &impl Abort, whole: &Stage, split: &Stage, frames: &[Frame], records: &[Record]) {
+    assert!(rt; (frames.len(), records.len()) == (64, 512));
+    assert!(rt; begin_with_key_ons(records) && begin_in_silence(frames, 6));
+    assert!(rt; whole.frames.as_slice() == frames && whole.records.as_slice() == records);
     assert!(rt; have_same_registers(&whole.dsp, &split.dsp));
     assert!(rt; have_same_bytes(&whole.memory, &split.memory));
-    assert_eq!(rt; (whole.dsp.batches(), split.dsp.batches()), (1, 64));
+    assert!(rt; (whole.dsp.batches(), split.dsp.batches()) == (1, 64));
+}
+
+#[test]
+fn a_batch_of_64_has_the_frames_and_records_of_64_batches(rt: HostRuntime) -> Result<(), Fail> {
+    let (mut whole, mut split) = two_of_demo_7(rt.alloc())?;
+    whole.play(64, 0xff);
+    let (frames, records) = played_one_by_one(rt.alloc(), &mut split)?;
+    look_at(&rt, &whole, &split, frames.as_slice(), records.as_slice());
     Ok(())
 }
