@@ -20,7 +20,7 @@ use Rattle.dsp_form.specs.declared.registers.TheConstants.{FLG}
 use Rattle.dsp_form.specs.declared.state.ChipState.{ChipState}
 use Rattle.dsp_reach.proofs.PageSets.{contains-pages, apart_right, at_page, in_left, in_right, in_either}
 use Rattle.dsp_reach.proofs.ChainPages.{bytes_have}
-use Rattle.batch_rows.specs.Afar.{far_pages, far_voice_pages, window_from, AreApart, IsVoiceApart}
+use Rattle.batch_rows.specs.Afar.{far_pages, far_voice_pages, far_pages_of_chip, window_from, AreApart, IsVoiceApart}
 
 none_has : (p : ℕ) → has_page [] p ≡ true → ⊥
 none_has p h = cc
@@ -105,7 +105,7 @@ none_common these those apart =
 
 -- where the echo's window has no page of what voices can read from afar, the reach isn't entangled
 pub far_apart : (s : ChipState) (memory : List ℕ)
-    → have_common_page (set.from_list (far_voice_pages (starts_from s memory 0 s.hidden.voices) (entries_from s.registers 0 s.hidden.voices))) (set.from_list (window_pages (chip_window s))) ≡ false
+    → have_common_page (set.from_list (far_pages_of_chip s memory)) (set.from_list (window_pages (chip_window s))) ≡ false
     → (chip_reach s memory).entangled ≡ false
 unfolding chip_reach reach
 far_apart s memory apart =
@@ -187,7 +187,7 @@ voices_apart s memory v voice rest esa len this others page h =
     ]
 
 pub apart_from_afar : (s : ChipState) (memory : List ℕ)
-    → AreApart (far_voice_pages (starts_from s memory 0 s.hidden.voices) (entries_from s.registers 0 s.hidden.voices)) (window_pages (chip_window s))
+    → AreApart (far_pages_of_chip s memory) (window_pages (chip_window s))
     → (chip_reach s memory).entangled ≡ false
 apart_from_afar s memory apart = far_apart s memory (none_common _ _ apart)
 

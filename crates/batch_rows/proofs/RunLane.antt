@@ -2,13 +2,13 @@
 use Rattle.std.proofs.Common.{◌≡◌, ℕ, ◌+◌, ◌<◌, List, [], ◌++◌, ℤ, pos, length, take, drop, get_or, slice_set, ap, sym, ◌∙◌, append_assoc, arith}
 use Rattle.std.proofs.lemmas.List.{take_more_set, drop_all, take_all, append-nil, map-set, length-map}
 use Rattle.std.proofs.Math.ListN.{get_or-map}
-use Rattle.num_fix.specs.Words.{number_at}
+use Rattle.num_fix.specs.SignedWords.{number_at}
 use Rattle.voice_unit.specs.Play.{lane_of}
 use Rattle.voice_unit.specs.RunOfVoice.{silent_answer, outs_of, IsRun}
 use Rattle.voice_unit.specs.Voice.{VoiceState}
 use Rattle.voice_unit.specs.declared.batch.BatchRows.{BatchRows}
 use Rattle.voice_unit.specs.declared.interface.VoiceOut.{VoiceOut}
-use Rattle.voice_unit.specs.declared.run.OutRow.{OutRow}
+use Rattle.voice_unit.specs.declared.out_row.OutRow.{OutRow}
 use Rattle.dsp_form.specs.Registers.{voice_regs}
 use Rattle.dsp_form.specs.Sample.{SharedInput}
 use Rattle.dsp_form.specs.declared.state.ChipState.{ChipState}

@@ -1,7 +1,7 @@
 -- One voice more of a batch, over any row of its outputs.
 use Rattle.std.proofs.Common.{◌≡◌, ℕ, ◌+◌, ◌<◌, List, ◌∷◌, ◌++◌, ℤ, pos, map, length, take, drop, get_or, slice_set, ap, ◌∙◌, append_assoc, arith}
 use Rattle.std.proofs.lemmas.List.{drop_more, take_more_set, drop-set-lt}
-use Rattle.num_fix.specs.Words.{number_at}
+use Rattle.num_fix.specs.SignedWords.{number_at}
 use Rattle.voice_unit.specs.Voice.{VoiceState}
 use Rattle.dsp_form.specs.Sample.{SharedInput, VoiceResult}
 use Rattle.batch_rows.specs.Lane.{voice_after, lane, outs, voices_after}

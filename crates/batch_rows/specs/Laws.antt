@@ -6,13 +6,13 @@ use Rattle.voice_unit.specs.declared.interface.VoiceOut.{VoiceOut}
 use Rattle.echo_unit.specs.Flg.{has_echo_writes}
 use Rattle.reach_map.specs.Reach.{window_pages}
 use Rattle.dsp_form.specs.Limits.{most_samples_of_batch}
-use Rattle.dsp_form.specs.Reach.{entries_from, starts_from, chip_window, chip_reach}
+use Rattle.dsp_form.specs.Reach.{chip_window, chip_reach}
 use Rattle.dsp_form.specs.Sample.{is_polled, sample}
 use Rattle.dsp_form.specs.Samples.{samples}
 use Rattle.dsp_form.specs.Valid.{is_valid}
 use Rattle.dsp_form.specs.declared.registers.TheConstants.{FLG, ENDX}
 use Rattle.dsp_form.specs.declared.state.ChipState.{ChipState}
-use Rattle.batch_rows.specs.Afar.{far_voice_pages}
+use Rattle.batch_rows.specs.Afar.{far_pages_of_chip}
 use Rattle.batch_rows.specs.Apart.{VoicesReadTheSame}
 use Rattle.batch_rows.specs.Once.{put_once, endx_after}
 use Rattle.batch_rows.specs.Rows.{by_rows, keys_after, results_after}
@@ -37,7 +37,7 @@ StillByRows =
 abbrev pub FarChainsApart : Type 0
 FarChainsApart =
     (s : ChipState) (memory : List ℕ)
-    → have_common_page (set.from_list (far_voice_pages (starts_from s memory 0 s.hidden.voices) (entries_from s.registers 0 s.hidden.voices))) (set.from_list (window_pages (chip_window s))) ≡ false
+    → have_common_page (set.from_list (far_pages_of_chip s memory)) (set.from_list (window_pages (chip_window s))) ≡ false
     → (chip_reach s memory).entangled ≡ false
 
 -- the results of a batch are those of its last sample, but for ENDX

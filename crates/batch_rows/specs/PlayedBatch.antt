@@ -1,6 +1,6 @@
 -- What the voices leave of a batch of n samples.
 use Rattle.std.specs.Prelude.{◌≡◌, ℕ, ◌-◌, ◌<◌, List, ℤ, pos, map, slice_index}
-use Rattle.num_fix.specs.Words.{number_at}
+use Rattle.num_fix.specs.SignedWords.{number_at}
 use Rattle.voice_unit.specs.Voice.{VoiceState}
 use Rattle.voice_unit.specs.declared.interface.VoiceOut.{VoiceOut}
 use Rattle.dsp_form.specs.Mix.{shares_at, clamped_sum}
@@ -19,7 +19,8 @@ abbrev pub sum_of : (volume : Volumes → ℤ) → List Volumes → List VoiceOu
 sum_of volume volumes answers = clamped_sum (pos 0) (shares_at volume volumes answers)
 
 -- the voices, their answers in the last sample, the bits of those that loop in each, and its sums
-pub record IsPlayedBatch (shared : ℕ → SharedInput) (n : ℕ) (volumes : List Volumes) (before voices : List VoiceState) (last : List VoiceOut) (loops : List ℕ) (sums : SumRows) : Type 0 where
+pub record IsPlayedBatch (shared : ℕ → SharedInput) (n : ℕ) (volumes : List Volumes) (before voices : List VoiceState)
+    (last : List VoiceOut) (loops : List ℕ) (sums : SumRows) : Type 0 where
   pub voices_are : voices ≡ voices_after shared 0 (λ j. pos 0) before n
   pub last_is : last ≡ answers_from shared 0 (λ j. pos 0) before (n - 1)
   pub loops_are : (j : ℕ) → j < n → slice_index loops j ≡ bits_from (λ answer. answer.looped) 0 (answers_from shared 0 (λ j. pos 0) before j)

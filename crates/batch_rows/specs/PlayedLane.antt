@@ -1,13 +1,14 @@
 -- What a voice leaves of a batch of n samples.
 use Rattle.std.specs.Prelude.{◌≡◌, ℕ, ◌+◌, ◌-◌, ◌^◌, ◌<◌, List, ℤ, slice_index, if◌then◌else◌}
-use Rattle.num_fix.specs.Words.{number_at}
+use Rattle.num_fix.specs.SignedWords.{number_at}
 use Rattle.voice_unit.specs.Voice.{VoiceState}
 use Rattle.voice_unit.specs.declared.interface.VoiceOut.{VoiceOut}
 use Rattle.dsp_form.specs.Sample.{SharedInput}
 use Rattle.batch_rows.specs.Lane.{voice_after, lane, outs}
 
 -- voice v, the row of its outputs, its bit in the bytes of the samples in which it loops, and its answer of the last sample
-pub record IsPlayedLane (shared : ℕ → SharedInput) (v n : ℕ) (previous : ℕ → ℤ) (before after : VoiceState) (row : List ℤ) (loops_before loops : List ℕ) (last : VoiceOut) : Type 0 where
+pub record IsPlayedLane (shared : ℕ → SharedInput) (v n : ℕ) (previous : ℕ → ℤ) (before after : VoiceState) (row : List ℤ)
+    (loops_before loops : List ℕ) (last : VoiceOut) : Type 0 where
   pub voice : after ≡ voice_after shared v previous before n
   pub row_is : (j : ℕ) → j < n → number_at row j ≡ outs shared v previous before j
   pub loops_are : (j : ℕ) → j < n → slice_index loops j ≡ slice_index loops_before j + (if (lane shared v previous before j).answer.looped then 2 ^ v else 0)

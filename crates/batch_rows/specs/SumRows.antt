@@ -1,7 +1,7 @@
 -- Rows of sums with the shares of a voice.
 use Rattle.std.specs.Prelude.{◌≡◌, ℕ, ◌<◌, List, ℤ, ◌+ℤ◌}
 use Rattle.num_fix.specs.Arithmetic.{clamp16, scaled}
-use Rattle.num_fix.specs.Words.{number_at}
+use Rattle.num_fix.specs.SignedWords.{number_at}
 use Rattle.num_fix.specs.declared.Frame.{Frame}
 use Rattle.echo_unit.specs.EchoOverBatch.{pair_of}
 use Rattle.dsp_form.specs.Limits.{most_samples_of_batch}

@@ -1,7 +1,7 @@
 //! The voices of a batch, each over all its samples before the next.
 
 ghost use Rattle.std.specs.Prelude.{◌≡◌, ◌<◌, ◌≤◌, ◌+◌, ◌-◌, ◌^◌, ℕ, pos, List, map, length, replicate, slice_index};
-ghost use Rattle.num_fix.specs.Words.{number_at};
+ghost use Rattle.num_fix.specs.SignedWords.{number_at};
 ghost use Rattle.rate_clock.specs.Counter.{counter_at};
 ghost use Rattle.dsp_form.specs.Limits.{most_samples_of_batch};
 ghost use Rattle.dsp_form.specs.Registers.{is_soft_reset};

@@ -2,7 +2,7 @@
 
 ghost use Rattle.std.specs.Prelude.{◌≡◌, ◌≤◌, ◌<◌, ◌+◌, ◌*◌, ◌++◌, ℕ, length, slice_index};
 ghost use Rattle.std.specs.List.{filter};
-ghost use Rattle.num_fix.specs.Words.{number_at};
+ghost use Rattle.num_fix.specs.SignedWords.{number_at};
 ghost use Rattle.rate_clock.specs.Counter.{counter_after};
 ghost use Rattle.trace_form.specs.Rooms.{frame_room, record_room};
 ghost use Rattle.voice_unit.specs.RunOfVoice.{outs_of};

@@ -2,7 +2,7 @@
 
 ghost use Rattle.std.specs.Prelude.{◌≡◌, ◌<◌, ℕ, ℤ, pos, ◌+ℤ◌, ◌*ℤ◌, neg_ℤ, ◌≤ℤ◌, ◌<ℤ◌, replicate, unsigned_abs};
 ghost use Rattle.num_fix.specs.Arithmetic.{clamp16, scaled};
-ghost use Rattle.num_fix.specs.Words.{number_at};
+ghost use Rattle.num_fix.specs.SignedWords.{number_at};
 ghost use Rattle.dsp_form.specs.Limits.{most_samples_of_batch};
 ghost use Rattle.batch_rows.specs.SumRows.{HasShares};
 

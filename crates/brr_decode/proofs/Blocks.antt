@@ -7,7 +7,7 @@ use Rattle.std.proofs.lemmas.Int.{of_z-to_z}
 use Rattle.std.proofs.lemmas.List.Sums.{fold-append}
 use Rattle.std.proofs.lemmas.List.{length-take-le, take-append-drop}
 use Rattle.num_fix.specs.Arithmetic.{wrap16}
-use Rattle.num_fix.specs.Words.{number_at}
+use Rattle.num_fix.specs.SignedWords.{number_at}
 use Rattle.num_fix.proofs.Entries.{drop-entries}
 use Rattle.brr_decode.specs.Kept.{kept_sample, Digit, with_kept, with_all_kept, digits_under, digits_of, EndsWith, samples_of}
 use Rattle.brr_decode.proofs.Samples.{kept_after, length-kept_after, with_all_kept-is, EndsWith-append, IsKept-samples_of}

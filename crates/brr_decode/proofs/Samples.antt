@@ -3,7 +3,7 @@ use Rattle.std.proofs.Common.{◌≡◌, ◌∙◌, sym, ap, refl, zero, suc, �
 use Rattle.std.specs.Prelude.{slice_get, reverse, Some}
 use Rattle.std.proofs.lemmas.List.{reverse-append, append-nil, length-reverse, get_or-reverse}
 use Rattle.std.proofs.Math.ListN.{get_or-append}
-use Rattle.num_fix.specs.Words.{number_at}
+use Rattle.num_fix.specs.SignedWords.{number_at}
 use Rattle.brr_decode.specs.Kept.{kept_sample, Digit, sample_from_end, with_kept, with_all_kept, EndsWith, IsKept, digits_of, samples_of}
 
 -- after other samples the last ones count from the same end

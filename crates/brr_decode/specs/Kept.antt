@@ -1,7 +1,7 @@
 -- The samples that are kept of the digits of blocks.
 use Rattle.std.specs.Prelude.{◌≡◌, ℕ, ◌+◌, ◌/◌, ◌^◌, ℤ, pos, neg_ℤ, ◌+ℤ◌, ◌-ℤ◌, ◌*ℤ◌, List, [], ◌∷◌, ◌++◌, length, reverse, fold, nat_le, int_lt, ◌==◌, if◌then◌else◌, slice_get, Some}
 use Rattle.num_fix.specs.Arithmetic.{floor_shift, scaled, wrap16, clamp16, sign4}
-use Rattle.num_fix.specs.Words.{number_at}
+use Rattle.num_fix.specs.SignedWords.{number_at}
 use Rattle.brr_decode.specs.Header.{shift_of, filter_of}
 
 -- A digit under the shift of its block. The shifts 13 to 15 leave of a digit its sign alone.

@@ -1,6 +1,6 @@
 -- What an encoder holds after targets.
 use Rattle.std.proofs.Common.{◌≡◌, ℕ, suc, ◌+◌, max, Bool, ℤ, List, [], ◌∷◌, length, refl, ap, ◌∙◌, arith}
-use Rattle.num_fix.specs.Words.{number_at}
+use Rattle.num_fix.specs.SignedWords.{number_at}
 use Rattle.brr_encode.specs.Greedy.{greedy_samples, squares}
 use Rattle.brr_encode.specs.Report.{worst}
 use Rattle.brr_encode.specs.Encoding.{best_header, block_samples}

@@ -1,7 +1,7 @@
 -- The blocks of an encoding, one by one and decoded, and their reports.
 use Rattle.std.proofs.Common.{◌≡◌, ℕ, zero, suc, ◌+◌, ◌*◌, ◌/◌, ◌%◌, ◌<◌, Bool, true, false, ◌==◌, ℤ, pos, List, [], ◌∷◌, ◌++◌, length, take, drop, refl, sym, ap, ◌∙◌, arith, append_assoc, length-append}
 use Rattle.std.proofs.lemmas.List.{length-take-le, length-drop, take_at, drop_at}
-use Rattle.num_fix.specs.Words.{number_at}
+use Rattle.num_fix.specs.SignedWords.{number_at}
 use Rattle.brr_decode.specs.Kept.{Digit, kept_sample, digits_of, digits_under, samples_of}
 use Rattle.brr_decode.proofs.Samples.{kept_after, length-kept_after, samples_of-is}
 use Rattle.brr_encode.specs.Greedy.{nearest_sample, greedy_digits, greedy_samples, squares}

@@ -1,6 +1,6 @@
 -- Words of the contracts of the encoder's parts; the promise on an encoding doesn't speak of them.
 use Rattle.std.specs.Prelude.{◌≡◌, ℕ, zero, suc, ◌+◌, ◌*◌, ◌<◌, ◌==◌, ◌/◌, length, max, Bool, true, false, ℤ, pos, List, [], ◌∷◌, take, drop, None, IfSome}
-use Rattle.num_fix.specs.Words.{number_at}
+use Rattle.num_fix.specs.SignedWords.{number_at}
 use Rattle.brr_decode.specs.Kept.{kept_sample}
 use Rattle.brr_encode.specs.Greedy.{digit_at, digit_distance, distance, nearest_sample, squares}
 use Rattle.brr_encode.specs.Encoding.{best_header, end_bits, block_samples, padded_samples}

@@ -1,7 +1,7 @@
 -- The encoding of samples: blocks of sixteen, each under the header that costs least.
 use Rattle.std.specs.Prelude.{ℕ, zero, suc, ◌+◌, ◌-◌, ◌*◌, ◌/◌, ◌%◌, List, [], ◌∷◌, ◌++◌, length, take, drop, replicate, Bool, true, false, ◌==◌, nat_lt, Result, Ok, Err, ℤ, pos, unsigned_abs, if◌then◌else◌}
 use Rattle.std.specs.Int.{int_rem_euclid}
-use Rattle.num_fix.specs.Words.{number_at}
+use Rattle.num_fix.specs.SignedWords.{number_at}
 use Rattle.brr_encode.specs.Least.{least_place}
 use Rattle.brr_encode.specs.declared.encoder.EncodeRefusal.{EncodeRefusal}
 use Rattle.brr_encode.specs.declared.encoder.EncodeRefusal.TheVariants.{Empty, TooLong}

@@ -25,15 +25,15 @@ ReadsInside {S = S} sample reach is_valid =
     → samples sample n k s (with_byte memory at value)
     ≡ record (samples sample n k s memory) { memory = with_byte (samples sample n k s memory).memory at value }
 
--- a byte put off the read pages leaves the reach as it is
-abbrev pub ReachStays : {S : Type 0} → (S → List ℕ → ReachPages) → Type 0
-ReachStays {S = S} reach =
-    (s : S) (memory : List ℕ) (at value : ℕ)
+-- where the premise holds, a byte put off the read pages leaves the reach as it is
+abbrev pub ReachStays : {S : Type 0} → (S → List ℕ → ReachPages) → (premise : S → List ℕ → Bool) → Type 0
+ReachStays {S = S} reach premise =
+    (s : S) (memory : List ℕ) (at value : ℕ) → premise s memory ≡ true
     → set.contains (reach s memory).read_pages (page_of at) ≡ false
     → reach s (with_byte memory at value) ≡ reach s memory
 
--- samples change no register but those of their results: ENVX and OUTX of the voices, and ENDX
-abbrev pub RegistersStay : {S : Type 0} → (ℕ → S → List ℕ → SampleResult S) → (register_read : S → ℕ → ℕ) → Type 0
-RegistersStay {S = S} sample register_read =
-    (n k : ℕ) (s : S) (memory : List ℕ) (address : ℕ) → is_result address ≡ false
+-- where the premise holds, n samples change no register but those of their results: ENVX and OUTX of the voices, and ENDX
+abbrev pub RegistersStay : {S : Type 0} → (ℕ → S → List ℕ → SampleResult S) → (register_read : S → ℕ → ℕ) → (premise : ℕ → S → Bool) → Type 0
+RegistersStay {S = S} sample register_read premise =
+    (n k : ℕ) (s : S) (memory : List ℕ) (address : ℕ) → premise n s ≡ true → is_result address ≡ false
     → register_read (samples sample n k s memory).state address ≡ register_read s address

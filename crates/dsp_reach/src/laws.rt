@@ -1,4 +1,5 @@
 // Laws of the chip over up to 64 samples, by the reach taken before the first of them.
+ghost use Rattle.std.specs.Prelude.{true};
 ghost use Rattle.dsp_form.specs.Outside.{register_read};
 ghost use Rattle.dsp_form.specs.Reach.{chip_reach};
 ghost use Rattle.dsp_form.specs.ReachLaws.{WritesInside, ReadsInside, ReachStays, RegistersStay};
@@ -15,12 +16,12 @@ pub fn samples_write_inside_the_window()
 /// and the memory after them in that byte alone. Nor does it change the reach.
 pub fn bytes_outside_the_reach_change_nothing()
     ensures samples { ReadsInside sample chip_reach is_valid }
-    ensures reach { ReachStays chip_reach }
+    ensures reach { ReachStays chip_reach (λ s memory. true) }
 {}
 
 /// Samples change no register but those of their results: ENVX and OUTX of the voices, and ENDX.
 pub fn registers_stay_but_for_results()
-    ensures { RegistersStay sample register_read }
+    ensures { RegistersStay sample register_read (λ n s. true) }
 {}
 
 /// From a valid state whose echo can't write what its voices read, each voice stays on its chains for 64 samples.

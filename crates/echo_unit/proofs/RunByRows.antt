@@ -5,7 +5,7 @@ use Rattle.std.proofs.lemmas.List.{take-append-le, take-take, take-map, get_or-t
 use Rattle.std.proofs.Math.ListN.{get_or-map}
 use Rattle.std.proofs.Math.Seq.{take-suc}
 use Rattle.num_fix.specs.declared.Frame.{Frame}
-use Rattle.num_fix.specs.Words.{number_at}
+use Rattle.num_fix.specs.SignedWords.{number_at}
 use Rattle.aram_core.specs.Memory.{byte_at, word_at}
 use Rattle.echo_unit.specs.Echo.{EchoState, is_at_cell, cell_address, halved_word, cell_pair, with_cell, after_reading, at_next_cell, next_echo, filtered_pair, feedback_pair, echo_heard, echo_memory, output_frame}
 use Rattle.echo_unit.specs.Fir.{filtered_sample, eight_from}

@@ -2,7 +2,7 @@
 use Rattle.std.proofs.Common.{◌≡◌, ℕ, zero, suc, ◌+◌, ◌<◌, ◌≤◌, List, [], ◌∷◌, ℤ, pos, length, drop, get_or, refl, ap, sym, ◌∙◌, arith}
 use Rattle.std.proofs.lemmas.List.{get_or-take, get_or-drop, length-take-le, length-drop}
 use Rattle.num_fix.specs.Arithmetic.{scaled, sign8}
-use Rattle.num_fix.specs.Words.{number_at}
+use Rattle.num_fix.specs.SignedWords.{number_at}
 use Rattle.echo_unit.specs.Fir.{taps, eight_from}
 
 pub number_at-taps : (hs : List ℤ) (cs : List ℕ) (i : ℕ) → i < length hs → i < length cs → number_at (taps hs cs) i ≡ scaled (number_at hs i) (sign8 (get_or cs i 0)) 6

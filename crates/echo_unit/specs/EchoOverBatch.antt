@@ -1,6 +1,6 @@
 -- The echo over the samples of a batch. A row is what there is for each sample, from 0 on.
 use Rattle.std.specs.Prelude.{ℕ, zero, suc, List, [], ◌∷◌, ◌++◌, ℤ}
-use Rattle.num_fix.specs.Words.{number_at}
+use Rattle.num_fix.specs.SignedWords.{number_at}
 use Rattle.num_fix.specs.declared.Frame.{Frame}
 use Rattle.echo_unit.specs.Echo.{EchoState, next_echo, echo_memory, echo_heard, output_frame}
 use Rattle.echo_unit.specs.declared.regs.EchoRegs.{EchoRegs}

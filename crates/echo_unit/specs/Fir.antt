@@ -1,7 +1,7 @@
 -- The FIR filter of the echo, over the last eight samples of a side, oldest first. C0 meets the oldest and C7 the newest.
 use Rattle.std.specs.Prelude.{ℕ, List, [], ◌∷◌, drop, take, fold, ℤ, pos, ◌+ℤ◌}
 use Rattle.num_fix.specs.Arithmetic.{scaled, wrap16, clamp16, clear_bit0, sign8}
-use Rattle.num_fix.specs.Words.{number_at}
+use Rattle.num_fix.specs.SignedWords.{number_at}
 
 -- what each sample gives: its product with its coefficient, over 64
 abbrev pub taps : (samples : List ℤ) → (coefficients : List ℕ) → List ℤ

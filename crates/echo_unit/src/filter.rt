@@ -1,7 +1,7 @@
 // The FIR filter.
 ghost use Rattle.std.specs.Prelude.{◌≡◌, ◌<◌, ◌≤◌, ◌+◌, map, length, slice_index};
 ghost use Rattle.num_fix.specs.Arithmetic.{scaled, sign8, wrap16};
-ghost use Rattle.num_fix.specs.Words.{number_at};
+ghost use Rattle.num_fix.specs.SignedWords.{number_at};
 ghost use Rattle.echo_unit.specs.Fir.{filtered_sample, eight_from};
 ghost use Rattle.echo_unit.specs.Echo.{filtered_pair};
 

@@ -1,7 +1,7 @@
 //! The rows of a batch: what is heard, what goes back into the buffer, and the output.
 
 ghost use Rattle.std.specs.Prelude.{◌≡◌, ◌<◌, ◌≤◌, ◌+◌, ℕ, pos, get_or, length, map, take};
-ghost use Rattle.num_fix.specs.Words.{number_at};
+ghost use Rattle.num_fix.specs.SignedWords.{number_at};
 ghost use Rattle.echo_unit.specs.Echo.{feedback_word, output_frame};
 ghost use Rattle.echo_unit.specs.Fir.{filtered_sample, eight_from};
 ghost use Rattle.echo_unit.specs.EchoOverBatch.{pair_of};

@@ -1,7 +1,7 @@
 -- Numbers that were read one by one, each from its two bytes, are the numbers that the bytes read as.
 use Rattle.std.proofs.Common.{◌≡◌, ℕ, suc, ◌+◌, ◌*◌, List, [], ◌∷◌, length, drop, ℤ, pos, Ok, refl, ap, arith, ◌∙◌}
 use Rattle.std.specs.Int.{w16, cast_signed}
-use Rattle.num_fix.specs.Words.{signed_word, signed_words}
+use Rattle.num_fix.specs.SignedWords.{signed_word, signed_words}
 use Rattle.gauss_table.specs.Weights.{table_length, weights_in}
 use Rattle.byteorder.specs.Endian.{little_number, IsReadBy}
 

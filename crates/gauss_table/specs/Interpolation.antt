@@ -1,7 +1,7 @@
 -- The interpolation of four samples by a table of 512 signed weights.
 use Rattle.std.specs.Prelude.{ℕ, ◌+◌, ◌-◌, List, ℤ, ◌+ℤ◌}
 use Rattle.num_fix.specs.Arithmetic.{scaled, wrap16, clamp16, clear_bit0}
-use Rattle.num_fix.specs.Words.{number_at}
+use Rattle.num_fix.specs.SignedWords.{number_at}
 
 -- what one sample gives under its weight
 abbrev pub tap : ℤ → ℤ → ℤ

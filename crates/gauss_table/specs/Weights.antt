@@ -1,6 +1,6 @@
 -- Which bytes are a table of weights (the layout of the file is own).
 use Rattle.std.specs.Prelude.{ℕ, ◌==◌, ℤ, List, length, Result, Ok, Err, if◌then◌else◌}
-use Rattle.num_fix.specs.Words.{signed_words}
+use Rattle.num_fix.specs.SignedWords.{signed_words}
 use Rattle.gauss_table.specs.declared.refusal.TableRefusal.{TableRefusal}
 use Rattle.gauss_table.specs.declared.refusal.TableRefusal.TheVariants.{Length}
 

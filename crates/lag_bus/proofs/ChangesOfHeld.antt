@@ -1,6 +1,7 @@
 -- What a chip some samples late comes to, after each change of what is held.
-use Rattle.std.proofs.Common.{◌≡◌, ◌≢◌, if◌then◌else◌, ℕ, zero, suc, ◌+◌, ◌-◌, ◌*◌, ◌<◌, ◌≤◌, List, [], ◌∷◌, ◌++◌, length, Bool, true, false, not, ◌||◌, ◌==◌, refl, ap, sym, ◌∙◌, arith, rules, append_assoc, length-append}
+use Rattle.std.proofs.Common.{◌≡◌, ◌≢◌, if◌then◌else◌, nat_le, ℕ, zero, suc, ◌+◌, ◌-◌, ◌*◌, ◌<◌, ◌≤◌, List, [], ◌∷◌, ◌++◌, length, Bool, true, false, not, ◌||◌, ◌==◌, refl, ap, sym, ◌∙◌, arith, rules, append_assoc, length-append}
 use Rattle.std.proofs.lemmas.Bool.{or_parts, not-true}
+use Rattle.std.proofs.lemmas.Bool.Decides.{nat_tests}
 use Rattle.std.proofs.lemmas.List.{append-nil}
 use Rattle.std.proofs.Math.Seq.{take-append_seam, drop-append_seam}
 use Rattle.std.proofs.lemmas.List.Elements.{filter-append}
@@ -63,12 +64,14 @@ module _ {S : Type 0} {chip : ChipMeaning S} (laws : IsLawfulChip chip) where
   register_stays zero k s memory address few valid free = rw samples_none refl
   register_stays (suc n) k s memory address few valid free =
       let some : (suc n == 0) ≡ false = search rules in
-      laws.registers_stay (suc n) k s memory address few valid (not-true _ (rw some at free))
+      let small : nat_le (suc n) 64 ≡ true = grind (arith, nat_tests) in
+      laws.registers_stay (suc n) k s memory address (rw (small, valid) refl) (not-true _ (rw some at free))
 
   untouched : (s : S) (memory : List ℕ) (at value : ℕ) → chip.is_valid s ≡ true → may_be_read (chip.reach s memory) at ≡ false
       → chip.reach s (with_byte memory at value) ≡ chip.reach s memory
   untouched s memory at value valid free =
-      laws.reach_stays s memory at value valid (or_parts _ _ free).0 (or_parts _ _ free).1
+      let apart : (chip.reach s memory).entangled ≡ false = (or_parts _ _ free).0 in
+      laws.reach_stays s memory at value (rw (valid, apart) refl) (or_parts _ _ free).1
 
   put_apart : (n k : ℕ) (s : S) (memory : List ℕ) (at value : ℕ) → n ≤ 64 → chip.is_valid s ≡ true
       → (n == 0 || not (may_be_read (chip.reach s memory) at)) ≡ true

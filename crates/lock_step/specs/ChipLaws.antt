@@ -1,14 +1,9 @@
 -- What each chip keeps.
-use Rattle.std.specs.Prelude.{◌≡◌, ℕ, ◌+◌, ◌<◌, ◌≤◌, List, [], ◌∷◌, Bool, true, false, ◌&&◌, ◌==◌}
-use Rattle.std.specs.FinSet as set
-use Rattle.aram_core.specs.Memory.{with_byte}
-use Rattle.aram_core.specs.Pages.{page_of}
+use Rattle.std.specs.Prelude.{◌≡◌, ℕ, ◌+◌, ◌<◌, List, [], ◌∷◌, Bool, true, false, not, ◌&&◌, ◌==◌, nat_le}
 use Rattle.trace_form.specs.declared.record.Record.{Record}
 use Rattle.trace_form.specs.declared.record.Record.TheVariants.{Reg, Port, Voice}
 use Rattle.dsp_form.specs.Limits.{most_samples_of_batch}
-use Rattle.dsp_form.specs.ReachLaws.{WritesInside, ReadsInside}
-use Rattle.dsp_form.specs.Results.{is_result}
-use Rattle.dsp_form.specs.Samples.{samples}
+use Rattle.dsp_form.specs.ReachLaws.{WritesInside, ReadsInside, ReachStays, RegistersStay}
 use Rattle.lock_step.specs.ChipMeaning.{ChipMeaning}
 
 -- whether records are those of the voices from v to 7 in order, in the sample of number k
@@ -33,11 +28,6 @@ pub record IsLawfulChip {S : Type 0} (chip : ChipMeaning S) : Type 0 where
   -- where the reach isn't entangled, a byte put off its read pages changes nothing of what the samples leave and give
   pub reads_inside : ReadsInside chip.sample chip.reach chip.is_valid
   -- nor does it change the reach
-  pub reach_stays : (s : S) (memory : List ℕ) (at value : ℕ) → chip.is_valid s ≡ true
-      → (chip.reach s memory).entangled ≡ false
-      → set.contains (chip.reach s memory).read_pages (page_of at) ≡ false
-      → chip.reach s (with_byte memory at value) ≡ chip.reach s memory
+  pub reach_stays : ReachStays chip.reach (λ s memory. chip.is_valid s && not (chip.reach s memory).entangled)
   -- the samples change no register but those of their results
-  pub registers_stay : (n k : ℕ) (s : S) (memory : List ℕ) (address : ℕ) → n ≤ most_samples_of_batch → chip.is_valid s ≡ true
-      → is_result address ≡ false
-      → chip.register_read (samples chip.sample n k s memory).state address ≡ chip.register_read s address
+  pub registers_stay : RegistersStay chip.sample chip.register_read (λ n s. nat_le n most_samples_of_batch && chip.is_valid s)

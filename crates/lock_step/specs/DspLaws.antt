@@ -45,8 +45,8 @@ dsp_is_lawful = record {
   gives_voice_records = are_voice_records-sample;
   writes_inside = writes_inside;
   reads_inside = reads_inside;
-  reach_stays = λ s memory at value _ _ free. reach_stays s memory at value free;
-  registers_stay = λ n k s memory address _ _ free. registers_stay n k s memory address free;
+  reach_stays = λ s memory at value _ free. reach_stays s memory at value free;
+  registers_stay = λ n k s memory address _ free. registers_stay n k s memory address free;
 }
 
 -- a write of a register and a sample leave the table alone

@@ -1,6 +1,6 @@
 -- Arithmetic: clamping, wrapping, shifting and signed readings, on whole numbers of any size.
--- Words: signed 16-bit numbers in bytes, and the entries of a list of numbers.
+-- SignedWords: signed 16-bit numbers in bytes, and the entries of a list of numbers.
 -- Limits: how much sound there can be.
 pub mod Arithmetic
-pub mod Words
 pub mod Limits
+pub mod SignedWords

@@ -44,7 +44,8 @@ abbrev pub whole_at_length : {S : Type 0} → ChipMeaning S → RenderState S �
 whole_at_length chip render = end_of_run (lock_step chip) lock_step_emits render.samples (render.cpu, render.bus.machine)
 
 -- frames and records that are the next piece between two states of a render, and whether it is the last one
-pub record IsNextPiece {S : Type 0} (chip : ChipMeaning S) (old new : RenderState S) (given : List Frame) (written : List Record) (is_last : Bool) : Type 0 where
+pub record IsNextPiece {S : Type 0} (chip : ChipMeaning S) (old new : RenderState S) (given : List Frame) (written : List Record)
+    (is_last : Bool) : Type 0 where
   -- the piece, followed by what is then still to come, is what was to come before it
   pub frames : frames_to_come chip old ≡ given ++ frames_to_come chip new
   pub records : records_to_come chip old ≡ written ++ records_to_come chip new

@@ -2,10 +2,10 @@
 //! any chip, and can make none.
 #![tactic(auto)]
 
-mod batches;
 mod pieces;
 mod rows;
+mod sound_report;
 
-pub use batches::{put_batches, put_sound_report};
 pub use pieces::RenderFiles;
 pub use rows::put_frames;
+pub use sound_report::{put_batches, put_sound_report};

@@ -10,8 +10,8 @@ ghost use Rattle.num_fix.specs.Limits.{most_frames};
 ghost use Rattle.render_files.specs.RenderFiles.{most_bytes_of_frames, most_bytes_of_lines, trace_of, to_come_of, held_of, report_of, work_of, IsUnmade};
 ghost use Rattle.report_text.specs.Room.{room_size};
 
-use crate::batches::put_sound_report;
 use crate::rows::put_frames;
+use crate::sound_report::put_sound_report;
 use command_frame::{OutOfMemory, Pieces};
 use lock_step::Chip;
 use num_fix::Frame;

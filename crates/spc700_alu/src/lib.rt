@@ -6,7 +6,7 @@ pub mod bytes;
 pub mod decimal;
 pub mod flags;
 mod laws;
-pub mod words;
+pub mod word_arithmetic;
 
 pub use bits::{BitKind, bitop};
 pub use bytes::{LogicKind, ShiftKind, adc, bump, cmp, logic, sbc, shift};
@@ -15,7 +15,7 @@ pub use laws::{
     carry_is_out_of_range, decimal_sums_are_decimal, division_is_exact, flags_change_alone,
     other_flags_stay, overflow_is_out_of_range,
 };
-pub use words::{addw, cmpw, div, mul, subw};
+pub use word_arithmetic::{addw, cmpw, div, mul, subw};
 
 /// A byte and the status after it was made.
 #[derive(Clone, Copy, Debug, PartialEq, Eq)]

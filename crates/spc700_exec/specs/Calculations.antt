@@ -8,8 +8,8 @@ use Rattle.spc700_exec.specs.declared.bytes.Calculation.{Calculation}
 use Rattle.spc700_exec.specs.declared.bytes.Calculation.TheVariants as Calculate
 use Rattle.spc700_exec.specs.declared.bytes.Modification.{Modification}
 use Rattle.spc700_exec.specs.declared.bytes.Modification.TheVariants as Modify
-use Rattle.spc700_exec.specs.declared.words.WordCalculation.{WordCalculation}
-use Rattle.spc700_exec.specs.declared.words.WordCalculation.TheVariants as Word
+use Rattle.spc700_exec.specs.declared.word_instructions.WordCalculation.{WordCalculation}
+use Rattle.spc700_exec.specs.declared.word_instructions.WordCalculation.TheVariants as Word
 use Rattle.spc700_exec.specs.Operations.{movw_of, kept_after_cmpw}
 
 abbrev pub calculation : Calculation → (a b psw : ℕ) → Out8

@@ -16,7 +16,7 @@ pub mod operand;
 mod registers;
 mod stack;
 mod stepping;
-mod words;
+mod word_instructions;
 
 pub use bus::Bus;
 pub use cpu::Cpu;

@@ -19,7 +19,7 @@ use crate::bytes::{calculate, compare, exchange, modify, mov};
 use crate::cpu::Cpu;
 use crate::jumps::{brk, call, halt, jump, pop_register, push_register, ret, reti, table_call};
 use crate::registers::{clear_overflow, nop, put_a, put_flag, put_ya, turn_carry};
-use crate::words::{WordCalculation, move_word, word, word_down, word_on_ya, word_up};
+use crate::word_instructions::{WordCalculation, move_word, word, word_down, word_on_ya, word_up};
 use spc700_alu::flags::{CARRY, INTERRUPT, NEGATIVE, OVERFLOW, PAGE, ZERO};
 use spc700_alu::{BitKind, LogicKind, ShiftKind, daa, das, div, mul};
 use spc700_table::{OpRow, row};

@@ -8,7 +8,7 @@ use Rattle.voice_unit.specs.Voice.{VoiceState, voice_step, voice_answer}
 use Rattle.voice_unit.specs.Play.{Lane, answer_at}
 use Rattle.voice_unit.specs.RunOfVoice.{silent_answer, IsRun}
 use Rattle.voice_unit.specs.declared.interface.VoiceOut.{VoiceOut}
-use Rattle.voice_unit.specs.declared.run.OutRow.{OutRow}
+use Rattle.voice_unit.specs.declared.out_row.OutRow.{OutRow}
 use Rattle.voice_unit.proofs.Played.{more_steps}
 
 -- a voice before its first step

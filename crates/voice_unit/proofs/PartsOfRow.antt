@@ -3,7 +3,7 @@ use Rattle.std.proofs.Common.{◌≡◌, ◌≢◌, ℕ, ◌+◌, ◌-◌, ◌<�
 use Rattle.std.proofs.lemmas.Bool.Decides.{nat_tests}
 use Rattle.std.proofs.lemmas.List.{get_or-set_same, get_or-set_other, drop-take}
 use Rattle.std.specs.List.{slice_range}
-use Rattle.num_fix.specs.Words.{number_at}
+use Rattle.num_fix.specs.SignedWords.{number_at}
 
 -- one entry more of a part from a place on
 pub part_more : (row : List ℤ) (at j : ℕ) (x : ℤ) (f : ℕ → ℤ) → at + j < length row → ((i : ℕ) → i < j → number_at row (at + i) ≡ f i) → x ≡ f j

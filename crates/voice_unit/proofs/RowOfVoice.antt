@@ -2,7 +2,7 @@
 use Rattle.std.proofs.Common.{◌≡◌, ℕ, zero, suc, ◌+◌, ◌-◌, ◌*◌, ◌/◌, ◌%◌, ◌<◌, ◌≤◌, ◌==◌, List, [], ◌∷◌, ◌++◌, Bool, true, false, ℤ, pos, length, take, drop, get_or, if◌then◌else◌, refl, ap, sym, ◌∙◌, add-one, append_assoc, length-append, length-drop, arith}
 use Rattle.std.proofs.lemmas.List.{get_or-reverse, drop-drop, drop_at, get_or-drop, get_or_append_left, take-append-drop, get_or-append-add, length-take-le, get_or-take}
 use Rattle.std.proofs.lemmas.Bool.Decides.{nat_tests}
-use Rattle.num_fix.specs.Words.{number_at}
+use Rattle.num_fix.specs.SignedWords.{number_at}
 use Rattle.aram_core.specs.Memory.{byte_at}
 use Rattle.brr_decode.specs.Header.{next_block}
 use Rattle.brr_decode.specs.Kept.{EndsWith, Digit, sample_from_end, with_kept, with_all_kept, digits_under, with_group}

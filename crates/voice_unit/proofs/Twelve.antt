@@ -4,7 +4,7 @@ use Rattle.std.proofs.lemmas.List.{get_or-reverse, drop-append-le}
 use Rattle.brr_decode.specs.Kept.{EndsWith}
 use Rattle.std.specs.List.{range_with_len}
 use Rattle.std.proofs.lemmas.List.FromFn.{fill_by_all}
-use Rattle.num_fix.specs.Words.{number_at}
+use Rattle.num_fix.specs.SignedWords.{number_at}
 
 -- a list is its entries in order
 entries : (n : ℕ) (s : List ℤ) → length s ≡ n → s ≡ map (number_at s) (range_with_len 0 n)

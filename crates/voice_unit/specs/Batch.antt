@@ -1,7 +1,7 @@
 -- A voice over a batch of samples. A row is told by the sample's place in the batch, from 0 on.
 use Rattle.std.specs.Prelude.{ℕ, zero, suc, List, ℤ, false, get_or, slice_index}
 use Rattle.num_fix.specs.Arithmetic.{has_bit}
-use Rattle.num_fix.specs.Words.{number_at}
+use Rattle.num_fix.specs.SignedWords.{number_at}
 use Rattle.voice_unit.specs.Voice.{VoiceState, is_modulated, voice_step, voice_answer}
 use Rattle.voice_unit.specs.declared.interface.VoiceRegs.{VoiceRegs}
 use Rattle.voice_unit.specs.declared.interface.VoiceIn.{VoiceIn}

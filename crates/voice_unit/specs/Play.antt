@@ -1,7 +1,7 @@
 -- A voice over a batch, as rows of numbers alone.
 use Rattle.std.specs.Prelude.{◌≡◌, ℕ, ◌+◌, ◌^◌, ◌<◌, ◌≤◌, List, ℤ, slice_index, if◌then◌else◌}
 use Rattle.num_fix.specs.Arithmetic.{has_bit}
-use Rattle.num_fix.specs.Words.{number_at}
+use Rattle.num_fix.specs.SignedWords.{number_at}
 use Rattle.rate_clock.specs.Counter.{counter_at}
 use Rattle.voice_unit.specs.Voice.{VoiceState}
 use Rattle.voice_unit.specs.Rest.{IsAtRest}

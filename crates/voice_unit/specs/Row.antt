@@ -25,7 +25,8 @@ unfoldable pub kept_row : (memory : List ℕ) → (loop_to : ℕ) → Place → 
 kept_row memory loop_to first samples zero = samples
 kept_row memory loop_to first samples (suc d) =
     let at = place_after memory loop_to first d in
-    with_group (kept_row memory loop_to first samples d) (byte_at memory at.block) (byte_at memory (at.block + at.offset)) (byte_at memory (at.block + at.offset + 1))
+    with_group (kept_row memory loop_to first samples d) (byte_at memory at.block)
+    (byte_at memory (at.block + at.offset)) (byte_at memory (at.block + at.offset + 1))
 
 -- how many groups a voice has read before sample j, from a position on, at a pitch that stays
 unfoldable pub groups_before : (position pitch j : ℕ) → ℕ

@@ -3,7 +3,7 @@ use Rattle.std.specs.Prelude.{◌≡◌, ℕ, ◌<◌, ◌≤◌, List, ℤ, pos
 use Rattle.voice_unit.specs.Voice.{VoiceState}
 use Rattle.voice_unit.specs.Play.{Lane, voice_at, answer_at}
 use Rattle.voice_unit.specs.declared.interface.VoiceOut.{VoiceOut}
-use Rattle.voice_unit.specs.declared.run.OutRow.{OutRow}
+use Rattle.voice_unit.specs.declared.out_row.OutRow.{OutRow}
 
 -- the answer of a voice that isn't heard
 abbrev pub silent_answer : VoiceOut

@@ -1,7 +1,7 @@
 -- One step of a voice, as a sequence of changes: each as in Anomie's S-DSP Doc, in an order of this project's own.
 use Rattle.std.specs.Prelude.{ℕ, ◌+◌, ◌-◌, ◌*◌, ◌/◌, ◌%◌, Bool, ◌&&◌, ◌||◌, not, ◌==◌, nat_le, nat_lt, min, List, drop, replicate, ℤ, pos, ◌+ℤ◌, unsigned_abs, if◌then◌else◌}
 use Rattle.num_fix.specs.Arithmetic.{floor_shift, scaled, wrap16, clear_bit0, high_byte, has_bit}
-use Rattle.num_fix.specs.Words.{number_at}
+use Rattle.num_fix.specs.SignedWords.{number_at}
 use Rattle.aram_core.specs.Memory.{byte_at}
 use Rattle.brr_decode.specs.Header.{has_end, has_loop, next_block}
 use Rattle.brr_decode.specs.Kept.{with_group}

@@ -1,7 +1,7 @@
 -- The chunks of a file, one by one.
 use Rattle.std.proofs.Common.{◌≡◌, ℕ, zero, suc, ◌+◌, ◌-◌, ◌<◌, ◌≤◌, Bool, true, false, nat_lt, List, [], ◌∷◌, length, take, drop, refl, sym, ap, ◌∙◌, arith, if◌then◌else◌}
 use Rattle.std.specs.Prelude.{codes, Ok, Err}
-use Rattle.num_fix.specs.Words.{signed_words}
+use Rattle.num_fix.specs.SignedWords.{signed_words}
 use Rattle.wav_form.specs.Mono.{samples_of_chunks}
 use Rattle.wav_form.specs.Seen.{PassesOver}
 use Rattle.wav_form.specs.declared.refusal.WavRefusal.{WavRefusal}

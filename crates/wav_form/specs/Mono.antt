@@ -3,7 +3,7 @@
 use Rattle.std.specs.Prelude.{ℕ, ◌&&◌, ◌==◌, Bool, true, false, List, [], ◌∷◌, length, take, drop, nat_le, codes, ℤ, Result, Ok, Err, if◌then◌else◌}
 use Rattle.std.specs.Str.{bytes_eq}
 use Rattle.byteorder.specs.Endian.{little_number}
-use Rattle.num_fix.specs.Words.{signed_words}
+use Rattle.num_fix.specs.SignedWords.{signed_words}
 use Rattle.wav_form.specs.Chunks.{Chunk, is_named, is_cut, chunks_from}
 use Rattle.wav_form.specs.declared.refusal.WavRefusal.{WavRefusal}
 use Rattle.wav_form.specs.declared.refusal.WavRefusal.TheVariants.{NotWave, NoFormat, Format, NoData, Cut}

@@ -2,7 +2,7 @@
 ghost use Rattle.std.specs.Prelude.{◌≡◌, ◌⊎◌, Ok, Err, false, codes, if◌then◌else◌, IfOk, IfErr, OnOk};
 ghost use Rattle.wav_form.specs.Chunks.{chunks_from, is_named, is_cut};
 ghost use Rattle.wav_form.specs.Seen.{chunk_of, PassesOver};
-ghost use Rattle.num_fix.specs.Words.{signed_words};
+ghost use Rattle.num_fix.specs.SignedWords.{signed_words};
 ghost use Rattle.wav_form.specs.Mono.{is_mono_format, is_wave, samples_of_chunks, mono_samples};
 
 use crate::chunk::{Chunk, after};

@@ -2,7 +2,7 @@ use Rattle.std.proofs.Common.{rules, ◌≡◌, ◌<◌, ◌++◌, ◌∷◌, []
 use Rattle.std.proofs.lemmas.List.{length-set, map_more, take_all, take_more_set}
 use Rattle.voice_unit.specs.RunOfVoice.{silent_answer}
 use Rattle.voice_unit.specs.declared.interface.VoiceOut.{VoiceOut}
-use Rattle.voice_unit.specs.declared.run.OutRow.{OutRow}
+use Rattle.voice_unit.specs.declared.out_row.OutRow.{OutRow}
 use Rattle.batch_rows.proofs.recorded.answers_in.Goals as goal
 
 pub loop-v-preserved : goal.loop-v-preserved

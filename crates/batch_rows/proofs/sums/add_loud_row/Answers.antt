@@ -2,7 +2,7 @@ use Rattle.std.proofs.Common.{rules, ◌≡◌, ◌≢◌, ◌<◌, ℕ, ◌+ℤ
 use Rattle.std.specs.Int.{w16}
 use Rattle.std.proofs.lemmas.List.{length-set, get_or-set_other}
 use Rattle.num_fix.specs.Arithmetic.{clamp16, scaled}
-use Rattle.num_fix.specs.Words.{number_at}
+use Rattle.num_fix.specs.SignedWords.{number_at}
 use Rattle.echo_unit.proofs.Entries.{with_entry}
 use Rattle.batch_rows.proofs.sums.add_loud_row.Goals as goal
 

@@ -2,7 +2,7 @@ use Rattle.std.proofs.Common.{rules, ◌≡◌, ◌≢◌, ◌+◌, ◌<◌, ◌
 use Rattle.std.specs.Int.{w16}
 use Rattle.std.proofs.lemmas.Bool.Decides.{nat_tests}
 use Rattle.num_fix.specs.Arithmetic.{clamp16}
-use Rattle.num_fix.specs.Words.{number_at}
+use Rattle.num_fix.specs.SignedWords.{number_at}
 use Rattle.batch_rows.proofs.Shares.{no_share}
 use Rattle.batch_rows.proofs.sums.add_silent_row.Goals as goal
 

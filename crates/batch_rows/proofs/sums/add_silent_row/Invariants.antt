@@ -1,6 +1,6 @@
 use Rattle.std.proofs.Common.{◌≡◌, ◌<◌, ℕ}
 use Rattle.num_fix.specs.Arithmetic.{clamp16}
-use Rattle.num_fix.specs.Words.{number_at}
+use Rattle.num_fix.specs.SignedWords.{number_at}
 use Rattle.batch_rows.proofs.sums.add_silent_row.Given as goal
 
 abbrev pub invariant-loop-j : goal.invariant-loop-j

@@ -1,6 +1,6 @@
 use Rattle.std.proofs.Common.{◌≡◌, ◌<◌, ◌≤◌, ℕ, ◌+ℤ◌, length}
 use Rattle.num_fix.specs.Arithmetic.{clamp16, scaled}
-use Rattle.num_fix.specs.Words.{number_at}
+use Rattle.num_fix.specs.SignedWords.{number_at}
 use Rattle.batch_rows.proofs.sums.add_soft_row.Given as goal
 
 abbrev pub invariant-loop-j : goal.invariant-loop-j

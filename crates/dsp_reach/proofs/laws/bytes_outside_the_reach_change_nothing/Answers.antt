@@ -6,4 +6,4 @@ pub returns-clause-samples : goal.returns-clause-samples
 returns-clause-samples c = reads_inside
 
 pub returns-clause-reach : goal.returns-clause-reach
-returns-clause-reach c = reach_stays
+returns-clause-reach c = λ s memory at value _ free. reach_stays s memory at value free

@@ -2,7 +2,7 @@ use Rattle.std.proofs.Common.{◌≡◌, ◌<◌, List, ℤ, ◌+ℤ◌, length,
 use Rattle.std.specs.Int.{w16}
 use Rattle.std.proofs.lemmas.List.Sums.{fold_more}
 use Rattle.num_fix.specs.Arithmetic.{wrap16, clamp16, clear_bit0}
-use Rattle.num_fix.specs.Words.{number_at}
+use Rattle.num_fix.specs.SignedWords.{number_at}
 use Rattle.echo_unit.specs.Fir.{signed_sum, taps, eight_from, filtered_sample}
 use Rattle.echo_unit.proofs.Products.{wrap16-sum}
 use Rattle.echo_unit.proofs.Taps.{length-taps, length-eight_from, is_tap}

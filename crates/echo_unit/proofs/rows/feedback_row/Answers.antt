@@ -1,7 +1,7 @@
 use Rattle.std.proofs.Common.{rules, ◌≡◌, ◌<◌, ℕ, pos, length, to_z, of_z, ◌∙◌, arith}
 use Rattle.std.specs.Int.{w16}
 use Rattle.std.proofs.lemmas.List.{length-set}
-use Rattle.num_fix.specs.Words.{number_at}
+use Rattle.num_fix.specs.SignedWords.{number_at}
 use Rattle.echo_unit.specs.Echo.{feedback_word}
 use Rattle.echo_unit.proofs.Entries.{with_entry}
 use Rattle.echo_unit.proofs.rows.feedback_row.Goals as goal

@@ -1,5 +1,5 @@
 use Rattle.std.proofs.Common.{◌≡◌, ◌<◌, ℕ, length}
-use Rattle.num_fix.specs.Words.{number_at}
+use Rattle.num_fix.specs.SignedWords.{number_at}
 use Rattle.echo_unit.specs.Echo.{feedback_word}
 use Rattle.echo_unit.proofs.rows.feedback_row.Given as goal
 

@@ -1,6 +1,6 @@
 use Rattle.std.proofs.Common.{rules, ◌≡◌, ◌+◌, ◌-◌, List, ℤ, to_z, of_z, length, take, refl, arith}
 use Rattle.std.specs.Int.{w16}
-use Rattle.num_fix.specs.Words.{number_at}
+use Rattle.num_fix.specs.SignedWords.{number_at}
 use Rattle.aram_core.specs.Memory.{byte_at}
 use Rattle.voice_unit.proofs.RowOfVoice.{ends_with_take}
 use Rattle.voice_unit.proofs.row.read_group.Goals as goal

@@ -1,5 +1,5 @@
 use Rattle.std.proofs.Common.{◌≡◌, ◌<◌, ◌+◌, ℕ, length}
-use Rattle.num_fix.specs.Words.{number_at}
+use Rattle.num_fix.specs.SignedWords.{number_at}
 use Rattle.voice_unit.specs.OutsOverRow.{mixed_at, sounding_at}
 use Rattle.voice_unit.proofs.sounding.put_at_level.Given as goal
 

@@ -1,5 +1,5 @@
 use Rattle.std.proofs.Common.{◌≡◌, ◌<◌, ◌+◌, ℕ, pos, length}
-use Rattle.num_fix.specs.Words.{number_at}
+use Rattle.num_fix.specs.SignedWords.{number_at}
 use Rattle.voice_unit.proofs.sounding.put_silence.Given as goal
 
 abbrev pub invariant-loop-j : goal.invariant-loop-j

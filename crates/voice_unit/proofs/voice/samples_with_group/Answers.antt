@@ -1,6 +1,6 @@
 use Rattle.std.proofs.Common.{rules, ◌≡◌, to_z, of_z, List, ℤ}
 use Rattle.std.specs.Int.{w16}
-use Rattle.num_fix.specs.Words.{number_at}
+use Rattle.num_fix.specs.SignedWords.{number_at}
 use Rattle.voice_unit.proofs.Twelve.{shifted_entries}
 use Rattle.voice_unit.proofs.voice.samples_with_group.Goals as goal
 

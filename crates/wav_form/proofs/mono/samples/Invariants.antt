@@ -1,5 +1,5 @@
 use Rattle.std.proofs.Common.{◌≡◌, ◌++◌, length}
-use Rattle.num_fix.specs.Words.{signed_words}
+use Rattle.num_fix.specs.SignedWords.{signed_words}
 use Rattle.wav_form.proofs.mono.samples.Given as goal
 
 abbrev pub invariant-pairs : goal.invariant-pairs

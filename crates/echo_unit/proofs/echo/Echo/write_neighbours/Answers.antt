@@ -1,6 +1,6 @@
 use Rattle.std.proofs.Common.{rules, ◌≡◌, ◌<◌, ◌+◌, ◌*◌, ◌%◌, ℕ, List, to_z, of_z, ap, sym, ◌∙◌, arith}
 use Rattle.std.specs.Int.{w16}
-use Rattle.num_fix.specs.Words.{number_at}
+use Rattle.num_fix.specs.SignedWords.{number_at}
 use Rattle.aram_core.specs.Pages.{page_of}
 use Rattle.echo_unit.specs.Echo.{EchoState, cell_address, with_cell}
 use Rattle.echo_unit.specs.Cells.{after_cells}

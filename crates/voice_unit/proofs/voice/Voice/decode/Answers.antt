@@ -1,6 +1,6 @@
 use Rattle.std.proofs.Common.{rules, ◌≡◌, ◌+◌, List, ℤ, to_z, of_z, refl, sym, ◌∙◌, ap, drop}
 use Rattle.std.specs.Int.{w16}
-use Rattle.num_fix.specs.Words.{number_at}
+use Rattle.num_fix.specs.SignedWords.{number_at}
 use Rattle.aram_core.specs.Memory.{byte_at}
 use Rattle.voice_unit.specs.Voice.{after_decoding}
 use Rattle.voice_unit.proofs.Twelve.{ends_with_last_two, drop-more}

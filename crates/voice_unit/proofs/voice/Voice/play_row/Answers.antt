@@ -2,7 +2,7 @@ use Rattle.std.proofs.Common.{rules, ◌≡◌, ◌≢◌, ◌<◌, ◌≤◌, �
 use Rattle.std.specs.Int.{w16}
 use Rattle.std.proofs.lemmas.List.{length-set}
 use Rattle.num_fix.specs.Arithmetic.{has_bit}
-use Rattle.num_fix.specs.Words.{number_at}
+use Rattle.num_fix.specs.SignedWords.{number_at}
 use Rattle.rate_clock.specs.Counter.{counter_at}
 use Rattle.voice_unit.specs.Batch.{lane_input, lane_inputs}
 use Rattle.voice_unit.specs.Rest.{IsAtRest}

@@ -1,7 +1,7 @@
 //! A voice over a batch of samples, with what each step gives.
 
 ghost use Rattle.std.specs.Prelude.{◌≡◌, ◌<◌, ◌≤◌, ℕ, replicate, slice_index};
-ghost use Rattle.num_fix.specs.Words.{number_at};
+ghost use Rattle.num_fix.specs.SignedWords.{number_at};
 ghost use Rattle.rate_clock.specs.Counter.{counter_after};
 ghost use Rattle.voice_unit.specs.Play.{lane_of};
 ghost use Rattle.voice_unit.specs.RunOfVoice.{silent_answer, outs_of, IsRun};
