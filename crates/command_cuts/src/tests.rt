@@ -34,10 +34,11 @@ fn cut_over(alloc: Global, inputs: &[(&str, &[u8])]) -> Result<Outcome, Fail> {
 fn cut_from(alloc: Global, pieces: Pieces, list: &[u8]) -> Result<Outcome, Fail> {
     let file = file_of(alloc, 66048, FIVE, pieces)?;
     let table = straight_table(alloc)?;
+    let list = Vec::from_slice(alloc, list)?;
     let inputs = [
         ("SPC", file.as_slice()),
         ("TABLE", table.as_slice()),
-        ("LIST", list),
+        ("LIST", list.as_slice()),
     ];
     cut_over(alloc, &inputs)
 }

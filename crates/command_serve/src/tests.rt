@@ -37,10 +37,11 @@ fn served(alloc: Global, more: Pieces, script: &[u8], pages: u32) -> Result<Outc
 {
     let file = file_of(alloc, 66048, FIVE, more)?;
     let table = straight_table(alloc)?;
+    let script = Vec::from_slice(alloc, script)?;
     let inputs = [
         ("SPC", file.as_slice()),
         ("TABLE", table.as_slice()),
-        ("SCRIPT", script),
+        ("SCRIPT", script.as_slice()),
     ];
     serve_over(alloc, &inputs, pages)
 }
