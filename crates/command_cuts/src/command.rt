@@ -54,11 +54,10 @@ fn plan<'a>(
     ensures { let answer = list_answer wave.now file.now table cuts in
         Plans (stream_makes (to_come_of dsp_chip dsp_saving) (report_of dsp_chip dsp_saving)) answer result }
 {
-    let samples = cuts.samples();
-    let Ok(source) = open_cuts(alloc, file, table, cuts) else {
+    let Ok(head) = Vec::from_slice(alloc, &header(2, cuts.samples())) else {
         return Err(Refusal::OutOfMemory);
     };
-    let Ok(head) = Vec::from_slice(alloc, &header(2, samples)) else {
+    let Ok(source) = open_cuts(alloc, file, table, cuts) else {
         return Err(Refusal::OutOfMemory);
     };
     Ok(StreamedPlan {

@@ -86,10 +86,10 @@ fn plan<'a>(
 {
     let length = length_with(options.samples, file);
     let voices = traced_voices(options);
-    let Ok(source) = open_files(alloc, file, table, length, voices) else {
+    let Ok(head) = Vec::from_slice(alloc, &header(2, length.frames)) else {
         return Err(Refusal::OutOfMemory);
     };
-    let Ok(head) = Vec::from_slice(alloc, &header(2, length.frames)) else {
+    let Ok(source) = open_files(alloc, file, table, length, voices) else {
         return Err(Refusal::OutOfMemory);
     };
     Ok(StreamedPlan {

@@ -63,11 +63,10 @@ fn plan<'a>(
     ensures { let answer = script_answer wave.now pages file.now table script in
         Plans (stream_makes (to_come_of dsp_chip dsp_saving) (report_of dsp_chip dsp_saving)) answer result }
 {
-    let samples = script.samples();
-    let Ok(source) = open_session(alloc, file, table, script, pages) else {
+    let Ok(head) = Vec::from_slice(alloc, &header(2, script.samples())) else {
         return Err(Refusal::OutOfMemory);
     };
-    let Ok(head) = Vec::from_slice(alloc, &header(2, samples)) else {
+    let Ok(source) = open_session(alloc, file, table, script, pages) else {
         return Err(Refusal::OutOfMemory);
     };
     Ok(StreamedPlan {

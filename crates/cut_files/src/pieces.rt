@@ -51,6 +51,29 @@ impl<C: Chip> Model for CutFiles<C> {
         (record { server = f.server; cuts = f.cuts; begun = f.begun; left = f.left; wave = f.wave; is_done = f.is_done }) f.report };
 }
 
+/// The rooms that cuts are made in: for the frames of a piece, for their bytes, and for the report.
+#[derive(Drop)]
+struct CutRooms {
+    frames: Frames,
+    wave: ByteRoom,
+    report: ByteRoom,
+}
+
+impl CutRooms {
+    /// Empty rooms.
+    fn reserve(alloc: Global) -> Result<CutRooms, OutOfMemory>
+        ensures frames { IfOk result (λ rooms. rooms.frames ≡ []) }
+        ensures wave { IfOk result (λ rooms. rooms.wave ≡ []) }
+        ensures report { IfOk result (λ rooms. rooms.report ≡ []) }
+    {
+        Ok(CutRooms {
+            frames: Frames::new(alloc)?,
+            wave: ByteRoom::new(alloc)?,
+            report: ByteRoom::new(alloc)?,
+        })
+    }
+}
+
 impl<C: Chip> CutFiles<C> {
     /// The files of cuts that a server has yet to play. All room is made here, and no later call takes memory.
     pub fn open(
@@ -65,18 +88,16 @@ impl<C: Chip> CutFiles<C> {
             ≡ stereo_wave (cut_frames (frames_to C.meaning C.saving server) cuts)) }
         ensures report { IfOk result (λ files. report_of C.meaning C.saving files ≡ cuts_report cuts (cut_book (pages_at C.meaning C.saving server) cuts)) }
     {
-        let frames = Frames::new(alloc)?;
-        let wave = ByteRoom::new(alloc)?;
-        let report = ByteRoom::new(alloc)?;
+        let rooms = CutRooms::reserve(alloc)?;
         Ok(CutFiles {
             server,
             cuts,
             begun: 0,
             left: 0,
-            frames,
-            wave,
+            frames: rooms.frames,
+            wave: rooms.wave,
             is_done: false,
-            report,
+            report: rooms.report,
         })
     }
 

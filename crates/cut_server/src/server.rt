@@ -69,10 +69,10 @@ impl<C: Chip> CutServer<C> {
         ensures book { IfOk result (λ server. book_of server ≡ opened_book (pages_at C.meaning C.saving server)) }
         ensures slots { IfOk result (λ server. slots_of server ≡ pages) }
     {
+        let scratch = Aram::from_image(alloc, file.memory())?;
         // No voice is in the mask, so the voices give no records.
         let render = Render::open(alloc, file, chip, 0, 0)?;
         let table = Table::open(alloc, pages, render.save(), render.memory())?;
-        let scratch = Aram::from_image(alloc, file.memory())?;
         Ok(CutServer {
             render,
             position: 0,

@@ -6,8 +6,10 @@ ghost use Rattle.render_core.specs.MachineRun.{after_run};
 ghost use Rattle.render_core.specs.Items.{run_frames, run_records, records_before, end_of_run};
 ghost use Rattle.lock_step.specs.Emits.{IsCountedOn};
 
+use crate::OutOfMemory;
 use lock_step::{DrainedBus, sample_number};
 use spc700_exec::Cpu;
+use std::alloc::Global;
 use trace_form::{Frames, Records};
 
 /// Takes over the records that stand before the last frame. After it a step may have emitted more.
@@ -47,6 +49,24 @@ pub(crate) struct Lists {
     pub(crate) records: Records,
     pub(crate) drained: Records,
     pub(crate) pause: TrialPause,
+}
+
+impl Lists {
+    ghost use Rattle.std.specs.Prelude.{IfOk};
+
+    /// Empty lists, with all their room.
+    pub(crate) fn reserve(alloc: Global) -> Result<Lists, OutOfMemory>
+        ensures frames { IfOk result (λ lists. lists.frames ≡ []) }
+        ensures records { IfOk result (λ lists. lists.records ≡ []) }
+        ensures drained { IfOk result (λ lists. lists.drained ≡ []) }
+    {
+        Ok(Lists {
+            frames: Frames::new(alloc)?,
+            records: Records::new(alloc)?,
+            drained: Records::new(alloc)?,
+            pause: TrialPause::none(),
+        })
+    }
 }
 
 /// Makes at once whole rounds of the loop at which the processor stands, as far as they only wait.

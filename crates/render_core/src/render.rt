@@ -24,7 +24,6 @@ use spc_form::{SpcFile, opening};
 use spc700_exec::Cpu;
 use std::alloc::Global;
 use std::marker::Model;
-use trace_form::{Frames, Records};
 
 /// A render of so many samples over a chip, 32,000 a second.
 #[derive(Drop)]
@@ -121,21 +120,14 @@ impl<C: Chip> Render<C> {
         ensures at_length { let whole = opened_whole file.now (C.state chip) mask in
             IfOk result (λ render. whole_at_length C.meaning render ≡ end_of_run (lock_step C.meaning) lock_step_emits samples whole) }
     {
+        let lists = Lists::reserve(alloc)?;
         let state = opening(alloc, file)?;
         let bus = LagBus::open(alloc, state, chip, mask)?;
-        let frames = Frames::new(alloc)?;
-        let records = Records::new(alloc)?;
-        let drained = Records::new(alloc)?;
         Ok(Render {
             cpu: opened_cpu(file),
             bus,
             samples,
-            lists: Lists {
-                frames,
-                records,
-                drained,
-                pause: TrialPause::none(),
-            },
+            lists,
         })
     }
 

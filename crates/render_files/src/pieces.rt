@@ -93,6 +93,29 @@ fn put_lines(trace: &mut ByteRoom, records: &[Record])
     }
 }
 
+/// The rooms that a render's files are made in.
+#[derive(Drop)]
+struct RenderRooms {
+    wave: ByteRoom,
+    trace: ByteRoom,
+    report: ByteRoom,
+}
+
+impl RenderRooms {
+    /// Empty rooms.
+    fn reserve(alloc: Global) -> Result<RenderRooms, OutOfMemory>
+        ensures wave { IfOk result (λ rooms. rooms.wave ≡ []) }
+        ensures trace { IfOk result (λ rooms. rooms.trace ≡ []) }
+        ensures report { IfOk result (λ rooms. rooms.report ≡ []) }
+    {
+        Ok(RenderRooms {
+            wave: ByteRoom::new(alloc)?,
+            trace: ByteRoom::new(alloc)?,
+            report: ByteRoom::new(alloc)?,
+        })
+    }
+}
+
 impl<C: Chip> RenderFiles<C> {
     /// The files of a render of so many samples that has made nothing yet; the last `fade` samples fade out. Without a
     /// trace its records are dropped. All room is made here, and no later call takes memory.
@@ -111,19 +134,17 @@ impl<C: Chip> RenderFiles<C> {
         ensures trace { IfOk result (λ files. (to_come_of C.meaning files).second ≡ trace_of is_traced (records_to_come C.meaning render)) }
         ensures report { IfOk result (λ files. report_of C.meaning files ≡ sound_report samples (counts_to_come C.meaning render)) }
     {
-        let wave = ByteRoom::new(alloc)?;
-        let trace = ByteRoom::new(alloc)?;
-        let report = ByteRoom::new(alloc)?;
+        let rooms = RenderRooms::reserve(alloc)?;
         Ok(RenderFiles {
             render,
             made: 0,
             samples,
             fade,
             is_traced,
-            wave,
-            trace,
+            wave: rooms.wave,
+            trace: rooms.trace,
             is_done: false,
-            report,
+            report: rooms.report,
         })
     }
 

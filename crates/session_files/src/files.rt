@@ -68,6 +68,31 @@ pub fn put_played(wave: &mut ByteRoom, frames: &Frames)
     put_frames(wave, frames.as_slice());
 }
 
+/// The rooms that a session works in: for the frames of a piece, for their bytes, and for all replies.
+#[derive(Drop)]
+struct SessionRooms {
+    frames: Frames,
+    wave: ByteRoom,
+    report: Vec<u8>,
+}
+
+impl SessionRooms {
+    ghost use Rattle.std.specs.Prelude.{vec_capacity};
+
+    /// Empty rooms, that for the replies of so many bytes.
+    fn reserve(alloc: Global, reply_bytes: usize) -> Result<SessionRooms, OutOfMemory>
+        ensures wave { IfOk result (λ rooms. rooms.wave ≡ []) }
+        ensures report { IfOk result (λ rooms. rooms.report.items ≡ []) }
+        ensures replies { IfOk result (λ rooms. reply_bytes ≤ vec_capacity rooms.report) }
+    {
+        Ok(SessionRooms {
+            frames: Frames::new(alloc)?,
+            wave: ByteRoom::new(alloc)?,
+            report: Vec::with_capacity(alloc, reply_bytes)?,
+        })
+    }
+}
+
 impl<C: Chip> SessionFiles<C> {
     /// The files of a session on a server that stands at its opening. All room is made here, that for the replies too, and
     /// no later call takes memory.
@@ -84,17 +109,15 @@ impl<C: Chip> SessionFiles<C> {
         ensures report { let told = replies_of_server C.meaning C.saving server script in
             IfOk result (λ files. report_of C.meaning C.saving files ≡ report_on told) }
     {
-        let report = Vec::with_capacity(alloc, script.len() * REPLY_BYTES)?;
-        let frames = Frames::new(alloc)?;
-        let wave = ByteRoom::new(alloc)?;
+        let rooms = SessionRooms::reserve(alloc, script.len() * REPLY_BYTES)?;
         let player = Player::new(server);
         Ok(SessionFiles {
             player,
             script,
             next: 0,
-            frames,
-            wave,
-            report,
+            frames: rooms.frames,
+            wave: rooms.wave,
+            report: rooms.report,
         })
     }
 
