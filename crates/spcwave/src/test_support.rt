@@ -119,20 +119,18 @@ pub fn run_words(alloc: Global, words: &[&str], input: &[u8]) -> Result<Outcome,
     run_over(alloc, given.as_slice(), &[("IN", input)], ROOM)
 }
 
-/// Runs a script that asks what is free over a file and a table, with these words more.
-fn serve_over(alloc: Global, file: &[u8], table: &[u8], words: &[&str]) -> Result<Outcome, Fail> {
-    let serve = ["serve", "SPC", "TABLE", "SCRIPT", "OUT"];
-    let given = extend_words(alloc, &serve, words)?;
-    let script = b"free".as_slice();
-    let inputs = [("SPC", file), ("TABLE", table), ("SCRIPT", script)];
-    run_over(alloc, given.as_slice(), &inputs, ROOM)
-}
-
 /// Runs a script that asks what is free, with these words more.
 pub fn serve_free(alloc: Global, words: &[&str]) -> Result<Outcome, Fail> {
     let file = file_of(alloc, 66048, &[], &[])?;
     let table = straight_table(alloc)?;
-    serve_over(alloc, file.as_slice(), table.as_slice(), words)
+    let serve = ["serve", "SPC", "TABLE", "SCRIPT", "OUT"];
+    let given = extend_words(alloc, &serve, words)?;
+    let inputs = [
+        ("SPC", file.as_slice()),
+        ("TABLE", table.as_slice()),
+        ("SCRIPT", b"free".as_slice()),
+    ];
+    run_over(alloc, given.as_slice(), &inputs, ROOM)
 }
 
 /// The number that the process exits with for what the command line gives, and the complaint.
