@@ -1,6 +1,10 @@
--- How much sound there can be.
+-- How much sound there can be, and how much of an input is read.
 use Rattle.std.specs.Prelude.{ℕ}
 
 -- the most frames of a sound: an hour of 32,000 a second
 abbrev pub most_frames : ℕ
 most_frames = 115200000
+
+-- the most bytes of an input that is no sound file: 1 MB
+abbrev pub most_input : ℕ
+most_input = 1048576
