@@ -4,7 +4,7 @@ ghost use Rattle.num_fix.specs.Arithmetic.{clamp16, scaled, wrap16};
 ghost use Rattle.brr_decode.specs.Header.{filter_of, has_end, has_loop, shift_of};
 ghost use Rattle.brr_decode.specs.Kept.{shifted_digit, prediction, kept_sample};
 
-use num_fix::{clamp16, half, scaled, wrap16};
+use num_fix::{clamp16, half, has_bit, scaled, wrap16};
 
 /// The shift that a header names.
 pub fn shift_of(header: u8) -> u8
@@ -24,14 +24,14 @@ pub fn filter_of(header: u8) -> u8
 pub fn has_end(header: u8) -> bool
     ensures { result ≡ has_end header }
 {
-    header % 2 == 1
+    has_bit(header, 0)
 }
 
 /// Whether a header has its loop bit: where its block is the last one, it doesn't silence the voice.
 pub fn has_loop(header: u8) -> bool
     ensures { result ≡ has_loop header }
 {
-    header / 2 % 2 == 1
+    has_bit(header, 1)
 }
 
 /// 2 to the `shift`.
@@ -121,14 +121,21 @@ fn prediction(filter: u8, p1: i16, p2: i16) -> i32
     }
 }
 
+/// Twice a number, at 16 bits, where it wraps.
+#[inline(always)]
+fn doubled(number: i16) -> i16
+    ensures { result ≡ wrap16 (pos 2 *ℤ number) }
+{
+    wrap16(2 * i32::from(number))
+}
+
 /// The sample that is kept of a shifted digit under a filter.
 #[inline(always)]
 pub fn filtered(filter: u8, shifted: i32, p1: i16, p2: i16) -> i16
     requires { unsigned_abs shifted ≤ 2 ^ 29 }
     ensures { result ≡ wrap16 (pos 2 *ℤ clamp16 (shifted +ℤ prediction filter p1 p2)) }
 {
-    let value = shifted + prediction(filter, p1, p2);
-    wrap16(2 * i32::from(clamp16(value)))
+    doubled(clamp16(shifted + prediction(filter, p1, p2)))
 }
 
 /// The sample that is kept of a digit, −8 to 7, under the header of its block.

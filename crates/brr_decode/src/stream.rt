@@ -8,11 +8,12 @@ use std::alloc::Global;
 use thiserror::Error;
 
 /// Why a stream was not decoded.
-#[derive(Debug, Drop, Error)]
+#[derive(Clone, Copy, Debug, PartialEq, Eq, Error)]
 pub enum BrrRefusal {
     /// This number of bytes is none of 1 to 7,281 blocks.
     #[error("{0} bytes are no blocks")]
     Length(usize),
+    /// There is no memory.
     #[error("out of memory")]
     OutOfMemory,
 }
