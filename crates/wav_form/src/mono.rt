@@ -76,7 +76,8 @@ fn refusal_at_end(has_format: bool) -> WavRefusal
 /// The samples of the chunks after the first twelve bytes.
 fn walk(alloc: Global, bytes: &[u8]) -> Result<Vec<i16>, WavRefusal>
     ensures samples { IfOk result (λ samples. samples_of_chunks false (chunks_from 12 bytes.now) ≡ Ok samples.items) }
-    ensures refused { IfErr result (λ refusal. (samples_of_chunks false (chunks_from 12 bytes.now) ≡ Err refusal) ⊎ (refusal ≡ WavRefusal.OutOfMemory)) }
+    ensures refused { IfErr (samples_of_chunks false (chunks_from 12 bytes.now)) (λ refusal. result ≡ Err refusal) }
+    ensures causes { IfErr result (λ refusal. (samples_of_chunks false (chunks_from 12 bytes.now) ≡ Err refusal) ⊎ (refusal ≡ WavRefusal.OutOfMemory)) }
 {
     let mut rest = bytes;
     let mut place = 12;
@@ -97,10 +98,11 @@ fn walk(alloc: Global, bytes: &[u8]) -> Result<Vec<i16>, WavRefusal>
 }
 
 /// Reads the samples of a file with one channel of 16 bits of PCM. Chunks with other names are passed over, and a `data`
-/// chunk that runs past the end stops there, as tools that stream leave it.
+/// chunk that runs past the end stops there, as tools that stream leave it. No memory is taken for bytes that are refused.
 pub fn read_mono(alloc: Global, bytes: &[u8]) -> Result<Vec<i16>, WavRefusal>
     ensures samples { IfOk result (λ samples. mono_samples bytes.now ≡ Ok samples.items) }
-    ensures refused { IfErr result (λ refusal. (mono_samples bytes.now ≡ Err refusal) ⊎ (refusal ≡ WavRefusal.OutOfMemory)) }
+    ensures refused { IfErr (mono_samples bytes.now) (λ refusal. result ≡ Err refusal) }
+    ensures causes { IfErr result (λ refusal. (mono_samples bytes.now ≡ Err refusal) ⊎ (refusal ≡ WavRefusal.OutOfMemory)) }
 {
     if is_wave(bytes) {
         walk(alloc, &bytes[12..])

@@ -23,6 +23,7 @@ pub enum WavRefusal {
     /// The body of the chunk whose name stands at this place runs past the end.
     #[error("the chunk at {0} is cut")]
     Cut(usize),
+    /// There is no memory.
     #[error("out of memory")]
     OutOfMemory,
 }

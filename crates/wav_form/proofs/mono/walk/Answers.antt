@@ -13,14 +13,14 @@ returns-then-has_format-clause-samples c =
     let found = walk_data c.chunks.has_format c.chunks.place c.chunks.rest.now (chunk_of c.in-Some.chunk) c.in-Some.ensures.chunk c.in-Some.ensures.whole named in
     sym c.chunks.invariant.left ∙ found ∙ rw (c.if-has_format.true, c.in_ok-samples.ensures) refl
 
-pub returns-then-is_named-clause-refused : goal.returns-then-is_named-clause-refused
-returns-then-is_named-clause-refused c =
+pub returns-then-is_named-clause-causes : goal.returns-then-is_named-clause-causes
+returns-then-is_named-clause-causes c =
     let named = sym c.is_named.ensures ∙ c.if-is_named.true in
     let found = walk_data c.chunks.has_format c.chunks.place c.chunks.rest.now (chunk_of c.in-Some.chunk) c.in-Some.ensures.chunk c.in-Some.ensures.whole named in
     inl (sym c.chunks.invariant.left ∙ found ∙ rw c.if-has_format.false refl)
 
-pub returns-in_err-has_format-clause-refused : goal.returns-in_err-has_format-clause-refused
-returns-in_err-has_format-clause-refused c =
+pub returns-in_err-has_format-clause-causes : goal.returns-in_err-has_format-clause-causes
+returns-in_err-has_format-clause-causes c =
     let named = sym c.is_named.ensures ∙ c.if-is_named.false in
     let found = walk_refused c.chunks.has_format c.in_err-has_format.field-0.0 c.chunks.place c.chunks.rest.now (chunk_of c.in-Some.chunk) c.in-Some.ensures.chunk c.in-Some.ensures.whole named c.in_err-has_format.ensures.passes in
     let p = err_from_is_err_and c.from_residual-in_err-has_format.result c.from_residual-in_err-has_format.ensures.1 in
@@ -41,7 +41,38 @@ chunks-preserved c =
       end = omega (arith, short, taken, fits, inside);
     }
 
+pub returns-clause-causes : goal.returns-clause-causes
+returns-clause-causes c =
+    let end = walk_end c.chunks.has_format c.chunks.place c.chunks.rest.now (c.in_default.ensures.end refl) in
+    inl (sym c.chunks.invariant.left ∙ end ∙ rw c.refusal_at_end.ensures refl)
+
+-- bytes that give samples are not to be refused, whether memory is found or not
+pub returns-then-has_format-clause-refused : goal.returns-then-has_format-clause-refused
+returns-then-has_format-clause-refused c =
+    let named = sym c.is_named.ensures ∙ c.if-is_named.true in
+    let found = walk_data c.chunks.has_format c.chunks.place c.chunks.rest.now (chunk_of c.in-Some.chunk) c.in-Some.ensures.chunk c.in-Some.ensures.whole named in
+    rw (sym c.chunks.invariant.left ∙ found, c.if-has_format.true) tt
+
+pub returns-in_err-samples-clause-refused : goal.returns-in_err-samples-clause-refused
+returns-in_err-samples-clause-refused c =
+    let named = sym c.is_named.ensures ∙ c.if-is_named.true in
+    let found = walk_data c.chunks.has_format c.chunks.place c.chunks.rest.now (chunk_of c.in-Some.chunk) c.in-Some.ensures.chunk c.in-Some.ensures.whole named in
+    rw (sym c.chunks.invariant.left ∙ found, c.if-has_format.true) tt
+
+pub returns-then-is_named-clause-refused : goal.returns-then-is_named-clause-refused
+returns-then-is_named-clause-refused c =
+    let named = sym c.is_named.ensures ∙ c.if-is_named.true in
+    let found = walk_data c.chunks.has_format c.chunks.place c.chunks.rest.now (chunk_of c.in-Some.chunk) c.in-Some.ensures.chunk c.in-Some.ensures.whole named in
+    rw (sym c.chunks.invariant.left ∙ found, c.if-has_format.false) refl
+
+pub returns-in_err-has_format-clause-refused : goal.returns-in_err-has_format-clause-refused
+returns-in_err-has_format-clause-refused c =
+    let named = sym c.is_named.ensures ∙ c.if-is_named.false in
+    let found = walk_refused c.chunks.has_format c.in_err-has_format.field-0.0 c.chunks.place c.chunks.rest.now (chunk_of c.in-Some.chunk) c.in-Some.ensures.chunk c.in-Some.ensures.whole named c.in_err-has_format.ensures.passes in
+    let p = err_from_is_err_and c.from_residual-in_err-has_format.result c.from_residual-in_err-has_format.ensures.1 in
+    rw (sym c.chunks.invariant.left ∙ found) (p.1 ∙ ap Err p.2)
+
 pub returns-clause-refused : goal.returns-clause-refused
 returns-clause-refused c =
     let end = walk_end c.chunks.has_format c.chunks.place c.chunks.rest.now (c.in_default.ensures.end refl) in
-    inl (sym c.chunks.invariant.left ∙ end ∙ rw c.refusal_at_end.ensures refl)
+    rw (sym c.chunks.invariant.left ∙ end) (ap Err c.refusal_at_end.ensures)
