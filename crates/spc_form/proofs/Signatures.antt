@@ -1,20 +1,14 @@
 -- Where bytes differ from those that are wanted.
-use Rattle.std.proofs.Common.{◌≡◌, ◌≢◌, ap, sym, ◌∙◌, ℕ, zero, suc, ◌+◌, ◌-◌, ◌<◌, ◌≤◌, List, [], ◌∷◌, ◌++◌, length, take, get_or, Option, Some, None, Bool, true, false, refl, arith}
+use Rattle.std.proofs.Common.{◌≡◌, ◌≢◌, ap, sym, ◌∙◌, ℕ, zero, suc, ◌+◌, ◌-◌, ◌<◌, ◌≤◌, List, [], ◌∷◌, ◌++◌, length, take, get_or, Option, Some, None, Bool, refl, arith}
 use Rattle.std.specs.Prelude.{◌==◌, if◌then◌else◌, replicate}
 use Rattle.std.proofs.lemmas.List.{length-take}
 use Rattle.std.specs.Option.{option_map}
-use Rattle.std.proofs.lemmas.Bool.Decides.{nat_tests}
+use Rattle.std.proofs.lemmas.Bool.{eq-eqb, ne_eqb}
 use Rattle.spc_form.specs.Accepted.{first_difference, padded_to}
-
-equal_true : (a b : ℕ) → a ≡ b → (a == b) ≡ true
-equal_true a b h = grind (arith, nat_tests)
-
-equal_false : (a b : ℕ) → a ≢ b → (a == b) ≡ false
-equal_false a b h = grind (arith, nat_tests)
 
 -- the difference of two lists that begin with the same byte
 difference_after : (wanted bytes : List ℕ) (w byte : ℕ) → w ≡ byte → first_difference (w ∷ wanted) (byte ∷ bytes) ≡ option_map (λ at. at + 1) (first_difference wanted bytes)
-difference_after wanted bytes w byte same = ap (λ (b : Bool). if b then option_map (λ at. at + 1) (first_difference wanted bytes) else Some 0) (equal_true w byte same)
+difference_after wanted bytes w byte same = ap (λ (b : Bool). if b then option_map (λ at. at + 1) (first_difference wanted bytes) else Some 0) (eq-eqb w byte same)
 
 -- bytes that are the wanted ones at each place don't differ
 pub none_differs : (wanted bytes : List ℕ) → length wanted ≤ length bytes → ((k : ℕ) → k < length wanted → get_or bytes k 0 ≡ get_or wanted k 0) → first_difference wanted bytes ≡ None
@@ -29,7 +23,7 @@ pub first_differs : (wanted bytes : List ℕ) (at : ℕ) → length wanted ≤ l
 first_differs [] bytes at long inside differs same = absurd (omega arith)
 first_differs (w ∷ wanted) [] at long inside differs same = absurd (omega arith)
 first_differs (w ∷ wanted) (byte ∷ bytes) zero long inside differs same =
-    ap (λ (b : Bool). if b then option_map (λ at. at + 1) (first_difference wanted bytes) else Some 0) (equal_false w byte (λ h. differs (sym h)))
+    ap (λ (b : Bool). if b then option_map (λ at. at + 1) (first_difference wanted bytes) else Some 0) (ne_eqb w byte (λ h. differs (sym h)))
 first_differs (w ∷ wanted) (byte ∷ bytes) (suc at) long inside differs same =
     let next : at + 1 ≡ suc at = omega arith in
     difference_after wanted bytes w byte (sym (same 0 (omega arith)))

@@ -1,6 +1,7 @@
 -- Which bytes are an SPC file (SPC file format text v0.30; that short files are accepted and whatever follows the signature is own).
 use Rattle.std.specs.Prelude.{ℕ, ◌+◌, ◌-◌, ◌==◌, ◌&&◌, Bool, List, [], ◌∷◌, ◌++◌, length, take, replicate, codes, Option, Some, None, Result, Ok, Err, nat_le, if◌then◌else◌}
 use Rattle.std.specs.Option.{option_map}
+use Rattle.num_fix.specs.Limits.{most_input}
 use Rattle.spc_form.specs.declared.reading.SpcRefusal.{SpcRefusal}
 use Rattle.spc_form.specs.declared.reading.SpcRefusal.TheVariants.{Length, Signature}
 
@@ -8,9 +9,9 @@ use Rattle.spc_form.specs.declared.reading.SpcRefusal.TheVariants.{Length, Signa
 abbrev pub least_length : ℕ
 least_length = 65920
 
--- the greatest: 1 MB
+-- the greatest
 abbrev pub greatest_length : ℕ
-greatest_length = 1048576
+greatest_length = most_input
 
 -- how many bytes are kept of a file
 abbrev pub kept_length : ℕ

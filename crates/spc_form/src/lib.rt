@@ -9,7 +9,7 @@ mod state;
 mod tags;
 
 pub use file::SpcFile;
-pub use reading::{SpcRefusal, read_spc, write_spc};
+pub use reading::{GREATEST_LENGTH, SpcRefusal, read_spc, write_spc};
 pub use state::{OpenState, opening};
 pub use std::alloc::AllocError as OutOfMemory;
 pub use tags::{Length, Tag};

@@ -7,11 +7,14 @@ use crate::{OutOfMemory, SpcFile};
 use std::alloc::Global;
 use thiserror::Error;
 
+/// The greatest length of a file in bytes: 1 MB.
+pub const GREATEST_LENGTH: usize = 1048576;
+
 /// What a file begins with.
 const SIGNATURE: [u8; 27] = *b"SNES-SPC700 Sound File Data";
 
 /// Why bytes were not read as an SPC file.
-#[derive(Debug, Drop, Error)]
+#[derive(Clone, Copy, Debug, PartialEq, Eq, Error)]
 pub enum SpcRefusal {
     /// The length, where it is below 65,920 or above 1,048,576.
     #[error("{0} bytes are no SPC file")]
@@ -19,6 +22,7 @@ pub enum SpcRefusal {
     /// The first place at which the bytes differ from the signature.
     #[error("the signature differs at {0}")]
     Signature(usize),
+    /// There is no memory.
     #[error("out of memory")]
     OutOfMemory,
 }
@@ -63,7 +67,7 @@ pub fn read_spc(alloc: Global, bytes: &[u8]) -> Result<SpcFile, SpcRefusal>
     ensures refused { IfErr (spc_file bytes.now) (λ refusal. result ≡ Err refusal) }
     ensures causes { IfErr result (λ refusal. (spc_file bytes.now ≡ Err refusal) ⊎ (refusal ≡ SpcRefusal.OutOfMemory)) }
 {
-    if bytes.len() < 65920 || bytes.len() > 1048576 {
+    if bytes.len() < 65920 || bytes.len() > GREATEST_LENGTH {
         return Err(SpcRefusal::Length(bytes.len()));
     }
     if let Some(at) = first_difference(bytes) {

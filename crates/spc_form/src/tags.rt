@@ -10,25 +10,33 @@ use crate::parts::part;
 use number_text::decimal_value;
 use text_parts::place_of;
 
-/// The tags of a file.
+/// The tags of a file (SPC file format text v0.30).
 #[derive(Clone, Copy, Debug, PartialEq, Eq)]
 pub enum Tag {
+    /// The title of the tune.
     Title,
+    /// The title of the game that it is from.
     Game,
+    /// Who made the file.
     Dumper,
+    /// Comments of any kind.
     Comments,
+    /// The day on which the file was made, as text.
     Date,
     /// The length in seconds, before the fade.
     Seconds,
     /// The length of the fade in milliseconds.
     Fade,
+    /// Who wrote the tune.
     Artist,
 }
 
 /// A length in frames, of which the last `fade` fade out.
 #[derive(Clone, Copy, Debug, PartialEq, Eq)]
 pub struct Length {
+    /// All frames, those of the fade among them; 32,000 are a second.
     pub frames: u32,
+    /// The frames of the fade, at the end; 0 is no fade.
     pub fade: u32,
 }
 
