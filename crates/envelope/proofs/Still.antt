@@ -11,26 +11,26 @@ pub record IsAtTarget (e : EnvelopeState) (adsr1 adsr2 gain : ℕ) (target : Tar
   pub mode : next_mode e.mode target.value (sustain_level adsr1 adsr2 gain) ≡ e.mode
 
 -- a step with no firing leaves it as it is
-pub unfired : (e : EnvelopeState) (adsr1 adsr2 gain counter : ℕ) (target : Target) → IsAtTarget e adsr1 adsr2 gain target → fires target.rate counter ≡ false
+pub envelope_step-unfired : (e : EnvelopeState) (adsr1 adsr2 gain counter : ℕ) (target : Target) → IsAtTarget e adsr1 adsr2 gain target → fires target.rate counter ≡ false
     → envelope_step e adsr1 adsr2 gain counter ≡ e
 unfolding envelope_step after_target next_level
-unfired e adsr1 adsr2 gain counter target at quiet = rw (at.aim, quiet, at.mode, at.value) refl
+envelope_step-unfired e adsr1 adsr2 gain counter target at quiet = rw (at.aim, quiet, at.mode, at.value) refl
 
 -- nor does any step, where the new value is no other level
-pub level : (e : EnvelopeState) (adsr1 adsr2 gain counter : ℕ) (target : Target) → IsAtTarget e adsr1 adsr2 gain target → nearest_level target.value ≡ e.level
+pub envelope_step-same_level : (e : EnvelopeState) (adsr1 adsr2 gain counter : ℕ) (target : Target) → IsAtTarget e adsr1 adsr2 gain target → nearest_level target.value ≡ e.level
     → envelope_step e adsr1 adsr2 gain counter ≡ e
 unfolding envelope_step after_target next_level
-level e adsr1 adsr2 gain counter target at same = by (fires target.rate counter) refl
+envelope_step-same_level e adsr1 adsr2 gain counter target at same = by (fires target.rate counter) refl
   where
     by : (b : Bool) → fires target.rate counter ≡ b → after_target e (step_target e.mode e.level e.hidden adsr1 adsr2 gain) (sustain_level adsr1 adsr2 gain) counter ≡ e
     by true now = rw (at.aim, now, same, at.mode, at.value) refl
     by false now = rw (at.aim, now, at.mode, at.value) refl
 
 -- in release a step leaves level 0
-pub released : (e : EnvelopeState) (adsr1 adsr2 gain counter : ℕ) → step_target e.mode e.level e.hidden adsr1 adsr2 gain ≡ None → e.level ≡ 0
+pub envelope_step-released : (e : EnvelopeState) (adsr1 adsr2 gain counter : ℕ) → step_target e.mode e.level e.hidden adsr1 adsr2 gain ≡ None → e.level ≡ 0
     → envelope_step e adsr1 adsr2 gain counter ≡ e
 unfolding envelope_step after_target
-released e adsr1 adsr2 gain counter none zero = let still : e.level - 8 ≡ e.level = omega (arith, zero) in rw (none, still) refl
+envelope_step-released e adsr1 adsr2 gain counter none zero = let still : e.level - 8 ≡ e.level = omega (arith, zero) in rw (none, still) refl
 
 -- what a step makes of the mode, of the hidden value, and of the level where the rate fires
 pub mode_after : (e : EnvelopeState) (adsr1 adsr2 gain counter : ℕ) (target : Target) → step_target e.mode e.level e.hidden adsr1 adsr2 gain ≡ Some target

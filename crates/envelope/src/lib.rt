@@ -16,15 +16,20 @@ use target::{step_target, sustain_level};
 /// What an envelope is doing.
 #[derive(Clone, Copy, Debug, PartialEq, Eq)]
 pub enum Mode {
+    /// From a key on, until a new value is no level: below 0 or above 7FFh.
     Attack,
+    /// From there, until the new value, in units of 100h, is the sustain level.
     Decay,
+    /// From there, until the key off.
     Sustain,
+    /// From a key off: the level falls by 8 in each step, to 0.
     Release,
 }
 
 /// The envelope of a voice (Anomie's S-DSP Doc, "Envelopes").
 #[derive(Clone, Copy, Debug)]
 pub struct Envelope {
+    /// What it is doing: it says how the next step goes.
     pub mode: Mode,
     /// The level, at most 7FFh.
     pub level: u16,

@@ -3,12 +3,16 @@
 ghost use Rattle.std.specs.Prelude.{◌≡◌, ◌<◌, ◌≤◌, ℕ, Some, slice_get};
 ghost use Rattle.gauss_table.specs.Quads.{quad_at};
 
-/// The weights of four samples, oldest first, at one place between the middle two.
+/// The weights of four samples, oldest first, at one place between the middle two. Each is signed, in 2,048ths.
 #[derive(Clone, Copy, Debug)]
 pub struct Quad {
+    /// The weight of the oldest sample.
     pub oldest: i16,
+    /// The weight of the sample before the place.
     pub older: i16,
+    /// The weight of the sample after the place.
     pub newer: i16,
+    /// The weight of the newest sample.
     pub newest: i16,
 }
 

@@ -11,6 +11,7 @@ pub enum TableRefusal {
     /// The number of bytes, where it is not 1,024.
     #[error("table has {0} bytes, not 1024")]
     Length(usize),
+    /// There is no memory.
     #[error("out of memory")]
     OutOfMemory,
 }

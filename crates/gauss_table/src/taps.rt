@@ -9,12 +9,17 @@ ghost use Rattle.gauss_table.specs.TapBounds.{AreSmall, most_of_tap};
 use crate::quad::Quad;
 use num_fix::{clamp16, clear_bit0, scaled, wrap16};
 
-/// What four samples give, oldest first, each under its weight.
+/// What four samples give, oldest first: the product of each with its weight, over 2,048 and rounded down. None is above 80000h or
+/// below its negative.
 #[derive(Clone, Copy, Debug)]
 pub struct Taps {
+    /// What the oldest sample gives.
     pub oldest: i32,
+    /// What the sample before the place gives.
     pub older: i32,
+    /// What the sample after the place gives.
     pub newer: i32,
+    /// What the newest sample gives.
     pub newest: i32,
     ghost are_small: { AreSmall oldest older newer newest },
 }

@@ -1,14 +1,14 @@
 use Rattle.std.proofs.Common.{rules, ◌≡◌, ◌+◌, ◌-◌, ◌<◌, None, sym, ap, ◌∙◌, arith}
 use Rattle.rate_clock.specs.Counter.{counter_at}
 use Rattle.envelope.specs.Envelope.{step_target}
-use Rattle.envelope.proofs.Still.{released, level_released}
+use Rattle.envelope.proofs.Still.{envelope_step-released, level_released}
 use Rattle.envelope.proofs.Envelope.rest.Goals as goal
 
 pub returns-in-None-clause-rests : goal.returns-in-None-clause-rests
 returns-in-None-clause-rests c k now j below =
     let none : step_target c.args.self.now.mode c.args.self.now.level c.args.self.now.hidden c.args.adsr1 c.args.adsr2 c.args.gain ≡ None = search rules in
     let zero : c.args.self.now.level ≡ 0 = search rules in
-    released c.args.self.now c.args.adsr1 c.args.adsr2 c.args.gain (counter_at (k + j)) none zero
+    envelope_step-released c.args.self.now c.args.adsr1 c.args.adsr2 c.args.gain (counter_at (k + j)) none zero
 
 pub returns-in-None-2-clause-then_stirs : goal.returns-in-None-2-clause-then_stirs
 returns-in-None-2-clause-then_stirs c k now few same =

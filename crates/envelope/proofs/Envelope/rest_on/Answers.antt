@@ -1,7 +1,7 @@
 use Rattle.std.proofs.Common.{rules, ◌≡◌, ◌+◌, ℕ, true, false, refl, sym, ap, ◌∙◌}
 use Rattle.rate_clock.specs.Counter.{counter_at, fires}
 use Rattle.envelope.specs.Envelope.{next_mode, sustain_level, nearest_level}
-use Rattle.envelope.proofs.Still.{IsAtTarget, unfired, level, mode_after, hidden_after, level_after}
+use Rattle.envelope.proofs.Still.{IsAtTarget, envelope_step-unfired, envelope_step-same_level, mode_after, hidden_after, level_after}
 use Rattle.envelope.proofs.Envelope.rest_on.Goals as goal
 
 -- rate 0 never fires
@@ -25,7 +25,7 @@ returns-then-target-eq0-clause-rests c k now j below =
     let mode : next_mode c.args.self.now.mode c.args.target.now.value (sustain_level c.args.adsr1 c.args.adsr2 c.args.gain) ≡ c.args.self.now.mode = search rules in
     let at : IsAtTarget c.args.self.now c.args.adsr1 c.args.adsr2 c.args.gain c.args.target.now = record { aim = c.requires.target; value = value; mode = mode } in
     let none : c.args.target.now.rate ≡ 0 = search rules in
-    unfired c.args.self.now c.args.adsr1 c.args.adsr2 c.args.gain (counter_at (k + j)) c.args.target.now at (never c.args.target.now.rate (counter_at (k + j)) none)
+    envelope_step-unfired c.args.self.now c.args.adsr1 c.args.adsr2 c.args.gain (counter_at (k + j)) c.args.target.now at (never c.args.target.now.rate (counter_at (k + j)) none)
 
 pub returns-then-nearest_level-self-clause-rests : goal.returns-then-nearest_level-self-clause-rests
 returns-then-nearest_level-self-clause-rests c k now j below =
@@ -33,14 +33,14 @@ returns-then-nearest_level-self-clause-rests c k now j below =
     let mode : next_mode c.args.self.now.mode c.args.target.now.value (sustain_level c.args.adsr1 c.args.adsr2 c.args.gain) ≡ c.args.self.now.mode = search rules in
     let at : IsAtTarget c.args.self.now c.args.adsr1 c.args.adsr2 c.args.gain c.args.target.now = record { aim = c.requires.target; value = value; mode = mode } in
     let same : nearest_level c.args.target.now.value ≡ c.args.self.now.level = search rules in
-    level c.args.self.now c.args.adsr1 c.args.adsr2 c.args.gain (counter_at (k + j)) c.args.target.now at same
+    envelope_step-same_level c.args.self.now c.args.adsr1 c.args.adsr2 c.args.gain (counter_at (k + j)) c.args.target.now at same
 
 pub returns-clause-rests : goal.returns-clause-rests
 returns-clause-rests c k now j below =
     let value : c.args.target.now.value ≡ c.args.self.now.hidden = search rules in
     let mode : next_mode c.args.self.now.mode c.args.target.now.value (sustain_level c.args.adsr1 c.args.adsr2 c.args.gain) ≡ c.args.self.now.mode = search rules in
     let at : IsAtTarget c.args.self.now c.args.adsr1 c.args.adsr2 c.args.gain c.args.target.now = record { aim = c.requires.target; value = value; mode = mode } in
-    unfired c.args.self.now c.args.adsr1 c.args.adsr2 c.args.gain (counter_at (k + j)) c.args.target.now at (c.until_fires.ensures.quiet k now j below)
+    envelope_step-unfired c.args.self.now c.args.adsr1 c.args.adsr2 c.args.gain (counter_at (k + j)) c.args.target.now at (c.until_fires.ensures.quiet k now j below)
 
 pub returns-clause-then_stirs : goal.returns-clause-then_stirs
 returns-clause-then_stirs c k now few same =
