@@ -1,7 +1,6 @@
 use Rattle.std.proofs.Common.{◌≡◌, ◌+◌, ◌-◌, ◌/◌, ◌∙◌, ap, arith}
 use Rattle.std.specs.FinSet as set
-use Rattle.aram_core.specs.Pages.{page_of, pages_from}
-use Rattle.reach_map.specs.Added.{with_pages}
+use Rattle.aram_core.specs.Pages.{page_of}
 use Rattle.reach_map.specs.Reach.{window_pages}
 use Rattle.reach_map.proofs.Added.{with_pages-empty}
 use Rattle.reach_map.proofs.EveryPage.{last_step, pages_from-steps}
