@@ -1,5 +1,6 @@
 // The ports, the ROM and the timers together.
-ghost use Rattle.std.specs.Prelude.{◌≡◌, ◌<◌, ◌^◌, is_some};
+ghost use Rattle.std.specs.Prelude.{◌≡◌, ◌<◌, is_some};
+ghost use Rattle.ports_timers.specs.Limits.{clock_limit};
 ghost use Rattle.ports_timers.specs.Io.{is_enabled, first_timer, first_io, answers_read, read_answer, after_read, latches_after_control, timer_after_control, after_control_write, after_write, after_ticks_of};
 
 use crate::Timer;
@@ -127,7 +128,7 @@ impl Io {
 
     /// Does the ticks as the clock goes on by some cycles from `from_clock`, which is below 2 to the 40.
     pub fn ticks(&mut self, from_clock: u64, cycles: u8)
-        requires { from_clock < 2 ^ 40 }
+        requires { from_clock < clock_limit }
         ensures { self.new ≡ after_ticks_of self.old from_clock cycles }
     {
         // Each tick falls on a multiple of 16.

@@ -1,5 +1,6 @@
 // One timer.
-ghost use Rattle.std.specs.Prelude.{◌≡◌, ◌<◌, ◌^◌};
+ghost use Rattle.std.specs.Prelude.{◌≡◌, ◌<◌};
+ghost use Rattle.ports_timers.specs.Limits.{clock_limit};
 ghost use Rattle.ports_timers.specs.Timer.{after_tick, after_ticks, after_cycles, restarted_timer};
 
 /// A timer: its target, where 0 means 256, its inner counter, and its output counter, 0 to 15.
@@ -42,7 +43,7 @@ impl Timer {
     /// Lets some cycles pass, from a moment of the clock on.
     pub(crate) fn pass(&mut self, enabled: bool, period: u64, clock: u64, cycles: u8)
         requires period { 0 < period }
-        requires clock { clock < 2 ^ 40 }
+        requires clock { clock < clock_limit }
         ensures { self.new ≡ after_cycles enabled period clock cycles self.old }
     {
         if enabled {

@@ -1,5 +1,6 @@
 // How long counters that are 0 stay 0.
-ghost use Rattle.std.specs.Prelude.{◌≡◌, ◌+◌, ◌-◌, ◌*◌, ◌/◌, ◌<◌, ◌≤◌, ◌^◌, true, false, if◌then◌else◌};
+ghost use Rattle.std.specs.Prelude.{◌≡◌, ◌+◌, ◌-◌, ◌*◌, ◌/◌, ◌<◌, ◌≤◌, true, false, if◌then◌else◌};
+ghost use Rattle.ports_timers.specs.Limits.{clock_limit};
 ghost use Rattle.ports_timers.specs.Timer.{tick_count};
 ghost use Rattle.ports_timers.specs.Io.{is_enabled, after_ticks_of};
 ghost use Rattle.ports_timers.specs.Zeros.{ticks_to_count, stays_if_0, zeros_stay, IsTimer, AreTimers};
@@ -23,7 +24,7 @@ fn ticks_to_count(timer: Timer) -> u64
 fn cycles_below(ticks: u64, slow: bool, clock: u64) -> u64
     requires some { 1 ≤ ticks }
     requires few { ticks ≤ 256 }
-    requires clock { clock < 2 ^ 40 }
+    requires clock { clock < clock_limit }
     ensures { tick_count (if slow then 128 else 16) clock result < ticks }
 {
     if slow {
@@ -35,7 +36,7 @@ fn cycles_below(ticks: u64, slow: bool, clock: u64) -> u64
 
 /// Cycles for which a counter that is 0 stays 0.
 fn cycles_at_0(timer: Timer, is_enabled: bool, slow: bool, clock: u64) -> u64
-    requires clock { clock < 2 ^ 40 }
+    requires clock { clock < clock_limit }
     ensures stay { stays_if_0 is_enabled (if slow then 128 else 16) clock result timer ≡ true }
     ensures bytes { IsTimer timer }
 {
@@ -48,7 +49,7 @@ fn cycles_at_0(timer: Timer, is_enabled: bool, slow: bool, clock: u64) -> u64
 /// Cycles from a moment of the clock on, below 2 to the 40, over which each output counter that is 0 stays 0. They may be
 /// fewer than the most.
 pub fn cycles_of_zeros(io: &Io, clock: u64) -> u64
-    requires clock { clock < 2 ^ 40 }
+    requires clock { clock < clock_limit }
     ensures stay { zeros_stay io.now clock result ≡ true }
     ensures timers { AreTimers io.now }
 {
@@ -60,7 +61,7 @@ pub fn cycles_of_zeros(io: &Io, clock: u64) -> u64
 
 /// Does the ticks of any number of cycles from a moment of the clock on; the moment after them is below 2 to the 40.
 pub fn tick_through(io: &mut Io, clock: u64, cycles: u64)
-    requires { clock + cycles < 2 ^ 40 }
+    requires { clock + cycles < clock_limit }
     ensures { io.new ≡ after_ticks_of io.old clock cycles }
 {
     'parts: for part in 0..cycles / 128 {
