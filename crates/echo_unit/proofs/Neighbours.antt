@@ -6,8 +6,8 @@ use Rattle.std.proofs.lemmas.List.{get_or-take, get_or-drop, drop-drop, length-s
 use Rattle.num_fix.specs.declared.Frame.{Frame}
 use Rattle.aram_core.specs.Memory.{byte_at, word_at, with_byte, page_bytes, with_page}
 use Rattle.aram_core.specs.Pages.{page_of}
-use Rattle.echo_unit.specs.Echo.{EchoState, cell_address, halved_word, cell_pair, with_word, with_cell, at_next_cell}
-use Rattle.echo_unit.specs.Cells.{after_cells, length_in_force, AreNeighbours}
+use Rattle.echo_unit.specs.Echo.{EchoState, cell_address, halved_word, cell_pair, with_word, with_cell, length_in_force, at_next_cell}
+use Rattle.echo_unit.specs.Cells.{after_cells, AreNeighbours}
 use Rattle.echo_unit.specs.Page.{halved_at, pair_in, with_word_in, with_pair_in}
 use Rattle.echo_unit.proofs.Walk.{goes_on}
 

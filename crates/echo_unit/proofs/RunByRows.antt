@@ -1,5 +1,5 @@
 -- The echo over a batch whose cells are read before they are written: all may be read, then filtered, then written.
-use Rattle.std.proofs.Common.{◌≡◌, ℕ, zero, suc, ◌+◌, ◌%◌, ◌<◌, ◌≤◌, ◌==◌, Bool, true, false, List, [], ◌∷◌, ◌++◌, ℤ, pos, length, map, take, drop, get_or, set, ◌⊎◌, inl, inr, refl, ap, sym, ◌∙◌, length-append, add-one, arith}
+use Rattle.std.proofs.Common.{◌≡◌, ℕ, zero, suc, ◌+◌, ◌%◌, ◌<◌, ◌≤◌, ◌==◌, Bool, true, false, List, [], ◌∷◌, ◌++◌, ℤ, length, map, take, drop, get_or, set, ◌⊎◌, inl, inr, refl, ap, sym, ◌∙◌, length-append, add-one, arith}
 use Rattle.std.proofs.lemmas.Bool.Decides.{nat_tests}
 use Rattle.std.proofs.lemmas.List.{take-append-le, take-take, take-map, get_or-take, get_or-drop, length-drop, ext_get_or}
 use Rattle.std.proofs.Math.ListN.{get_or-map}
@@ -7,7 +7,7 @@ use Rattle.std.proofs.Math.Seq.{take-suc}
 use Rattle.num_fix.specs.declared.Frame.{Frame}
 use Rattle.num_fix.specs.SignedWords.{number_at}
 use Rattle.aram_core.specs.Memory.{byte_at, word_at}
-use Rattle.echo_unit.specs.Echo.{EchoState, is_at_cell, cell_address, halved_word, cell_pair, with_cell, after_reading, at_next_cell, next_echo, filtered_pair, feedback_pair, echo_heard, echo_memory, output_frame}
+use Rattle.echo_unit.specs.Echo.{EchoState, is_at_cell, silent_frame, cell_address, halved_word, cell_pair, with_cell, after_reading, at_next_cell, next_echo, filtered_pair, feedback_pair, echo_heard, echo_memory, output_frame}
 use Rattle.echo_unit.specs.Fir.{filtered_sample, eight_from}
 use Rattle.echo_unit.specs.Flg.{has_echo_writes}
 use Rattle.echo_unit.specs.EchoOverBatch.{EchoOver, echo_over, pair_of}
@@ -174,7 +174,7 @@ module _ (regs : EchoRegs) (main sent : ℕ → Frame) (echo : EchoState) (memor
       memory_is on (suc j) few =
           rw (on, read_is j (omega (arith, few)), (stands j).0, memory_is on j (omega (arith, few)), heard_is j (omega (arith, few))) refl
 
--- what rows of what was heard and written are, of a run
+-- what rows of what was heard and written are, of a batch
 pub record IsPlayed (regs : EchoRegs) (main sent : ℕ → Frame) (echo : EchoState) (memory written : List ℕ) (n : ℕ) (left right heard_left heard_right : List ℤ) (history frames : List Frame) : Type 0 where
   pub first : ReadsFirst regs echo n
   pub eight : length echo.history ≡ 8
@@ -186,9 +186,9 @@ pub record IsPlayed (regs : EchoRegs) (main sent : ℕ → Frame) (echo : EchoSt
   pub on : has_echo_writes regs.flg ≡ true → written ≡ with_cells echo regs (λ j. feedback_pair (sent j) (pair_of heard_left heard_right j) regs.efb) memory n
   pub off : has_echo_writes regs.flg ≡ false → written ≡ memory
   pub pairs : length history ≡ 8
-  pub history_is : (i : ℕ) → i < 8 → get_or history i (record { left = pos 0; right = pos 0 }) ≡ pair_of left right (n + i)
+  pub history_is : (i : ℕ) → i < 8 → get_or history i silent_frame ≡ pair_of left right (n + i)
   pub count : length frames ≡ 64
-  pub frames_are : (j : ℕ) → j < 64 → get_or frames j (record { left = pos 0; right = pos 0 }) ≡ output_frame regs (main j) (pair_of heard_left heard_right j)
+  pub frames_are : (j : ℕ) → j < 64 → get_or frames j silent_frame ≡ output_frame regs (main j) (pair_of heard_left heard_right j)
 
 -- a side of the pairs that were read, as a row has it
 side_window : (side : Frame → ℤ) (s : EchoState) (regs : EchoRegs) (memory : List ℕ) (row : List ℤ) (n j : ℕ) → length s.history ≡ 8 → j < n
@@ -204,9 +204,9 @@ side_window side s regs memory row n j eight few is =
 side_entry : (side : Frame → ℤ) (row : List ℤ) (pairs : List Frame) (n i : ℕ) (d : Frame) → i < n → take n row ≡ map side pairs → get_or row i (side d) ≡ side (get_or pairs i d)
 side_entry side row pairs n i d few is = sym (get_or-take n row i (side d) few) ∙ ap (λ (l : List ℤ). get_or l i (side d)) is ∙ get_or-map side pairs i d
 
-pub same_run : (run : EchoOver) (echo : EchoState) (memory : List ℕ) (frames : List Frame) → run.echo ≡ echo → run.memory ≡ memory → run.frames ≡ frames
-    → run ≡ record { echo = echo; memory = memory; frames = frames }
-same_run run echo memory frames a b c = λ i. record { echo = a i; memory = b i; frames = c i }
+pub same_echo_over : (batch : EchoOver) (echo : EchoState) (memory : List ℕ) (frames : List Frame) → batch.echo ≡ echo → batch.memory ≡ memory → batch.frames ≡ frames
+    → batch ≡ record { echo = echo; memory = memory; frames = frames }
+same_echo_over batch echo memory frames a b c = λ i. record { echo = a i; memory = b i; frames = c i }
 
 heard_of_rows : (regs : EchoRegs) (main sent : ℕ → Frame) (echo : EchoState) (memory written : List ℕ) (n : ℕ) (left right heard_left heard_right : List ℤ) (history frames : List Frame)
     → IsPlayed regs main sent echo memory written n left right heard_left heard_right history frames
@@ -225,23 +225,23 @@ pub run_by_rows : (regs : EchoRegs) (main sent : ℕ → Frame) (echo : EchoStat
     → IsPlayed regs main sent echo memory written n left right heard_left heard_right history frames
     → echo_over regs main sent echo memory n ≡ record { echo = record (after_cells echo regs.edl n) { history = history }; memory = written; frames = take n frames }
 run_by_rows regs main sent echo memory written n left right heard_left heard_right history frames p =
-    let run : EchoOver = echo_over regs main sent echo memory n in
+    let batch : EchoOver = echo_over regs main sent echo memory n in
     let places = stands regs main sent echo memory n in
     let pairs : List Frame = pairs_read echo regs memory n in
     let long : length pairs ≡ 8 + n = length-pairs_read echo regs memory n p.eight in
-    let d : Frame = record { left = pos 0; right = pos 0 } in
+    let d : Frame = silent_frame in
     let newest : history ≡ drop n pairs =
     ext_get_or d history (drop n pairs) (p.pairs ∙ omega (arith, long, length-drop n pairs)) (λ i below. newest_is i (omega (arith, below, p.pairs))) in
-    let ended : run.echo.history ≡ history = history_is regs main sent echo memory n p.first p.eight n (omega arith) ∙ sym newest in
-    let at : run.echo ≡ record (after_cells echo regs.edl n) { history = history } =
-    same_echo run.echo (record (after_cells echo regs.edl n) { history = history }) places.0 places.1 ended in
-    same_run run (record (after_cells echo regs.edl n) { history = history }) written (take n frames) at (by (has_echo_writes regs.flg) refl)
+    let ended : batch.echo.history ≡ history = history_is regs main sent echo memory n p.first p.eight n (omega arith) ∙ sym newest in
+    let at : batch.echo ≡ record (after_cells echo regs.edl n) { history = history } =
+    same_echo batch.echo (record (after_cells echo regs.edl n) { history = history }) places.0 places.1 ended in
+    same_echo_over batch (record (after_cells echo regs.edl n) { history = history }) written (take n frames) at (by (has_echo_writes regs.flg) refl)
     (frames_are regs main sent echo memory n p.first p.eight (pair_of heard_left heard_right) (heard_of_rows regs main sent echo memory written n left right heard_left heard_right history frames p) frames d (omega (arith, p.count, p.few)) (λ j below. p.frames_are j (omega (arith, below, p.few))) n (omega arith))
   where
-    newest_is : (i : ℕ) → i < 8 → get_or history i (record { left = pos 0; right = pos 0 }) ≡ get_or (drop n (pairs_read echo regs memory n)) i (record { left = pos 0; right = pos 0 })
+    newest_is : (i : ℕ) → i < 8 → get_or history i silent_frame ≡ get_or (drop n (pairs_read echo regs memory n)) i silent_frame
     newest_is i small =
         let pairs : List Frame = pairs_read echo regs memory n in
-        let d : Frame = record { left = pos 0; right = pos 0 } in
+        let d : Frame = silent_frame in
         let inside : n + i < 8 + n = omega (arith, small) in
         let on_left : number_at left (n + i) ≡ (get_or pairs (n + i) d).left = side_entry (λ pair. pair.left) left pairs (8 + n) (n + i) d inside p.left_is in
         let on_right : number_at right (n + i) ≡ (get_or pairs (n + i) d).right = side_entry (λ pair. pair.right) right pairs (8 + n) (n + i) d inside p.right_is in

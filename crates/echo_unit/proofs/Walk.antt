@@ -2,8 +2,8 @@
 use Rattle.std.proofs.Common.{◌≡◌, ◌≢◌, ℕ, zero, suc, ◌+◌, ◌*◌, ◌%◌, ◌<◌, ◌≤◌, ◌==◌, nat_le, Bool, true, false, if◌then◌else◌, ◌⊎◌, inl, inr, refl, ap, arith}
 use Rattle.std.proofs.lemmas.Bool.Decides.{nat_tests}
 use Rattle.reach_map.specs.Window.{echo_length}
-use Rattle.echo_unit.specs.Echo.{EchoState, at_next_cell}
-use Rattle.echo_unit.specs.Cells.{after_cells, cell_after, length_in_force}
+use Rattle.echo_unit.specs.Echo.{EchoState, length_in_force, at_next_cell}
+use Rattle.echo_unit.specs.Cells.{after_cells, cell_after}
 use Rattle.echo_unit.specs.declared.regs.EchoRegs.{EchoRegs}
 use Rattle.echo_unit.proofs.Cells.{IsCell}
 use Rattle.echo_unit.proofs.OffCell.{IsOffCell, off_other}

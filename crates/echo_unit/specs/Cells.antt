@@ -1,8 +1,7 @@
 -- The cells that the echo goes through one after another.
-use Rattle.std.specs.Prelude.{ℕ, zero, suc, ◌+◌, ◌*◌, ◌%◌, ◌<◌, ◌≤◌, ◌==◌, List, [], ◌∷◌, ◌++◌, if◌then◌else◌}
+use Rattle.std.specs.Prelude.{ℕ, zero, suc, ◌+◌, ◌*◌, ◌%◌, ◌<◌, ◌≤◌, List, [], ◌∷◌, ◌++◌}
 use Rattle.num_fix.specs.declared.Frame.{Frame}
-use Rattle.reach_map.specs.Window.{echo_length}
-use Rattle.echo_unit.specs.Echo.{EchoState, cell_address, cell_pair, with_cell, at_next_cell}
+use Rattle.echo_unit.specs.Echo.{EchoState, cell_address, cell_pair, with_cell, length_in_force, at_next_cell}
 use Rattle.echo_unit.specs.declared.regs.EchoRegs.{EchoRegs}
 
 -- the echo so many cells further, with the history that it had
@@ -23,10 +22,6 @@ pairs_read s regs memory (suc j) = pairs_read s regs memory j ++ cell_pair memor
 abbrev pub with_cells : EchoState → EchoRegs → (words : ℕ → Frame) → (memory : List ℕ) → (cells : ℕ) → List ℕ
 with_cells s regs words memory zero = memory
 with_cells s regs words memory (suc j) = with_cell (with_cells s regs words memory j) (cell_after s regs j) (words j).left (words j).right
-
--- the length of the buffer that a step goes by: EDL counts at the first cell
-abbrev pub length_in_force : (edl : ℕ) → EchoState → ℕ
-length_in_force edl s = if s.offset == 0 then echo_length edl else s.length
 
 -- the next so many cells stand one after another in one page
 pub record AreNeighbours (edl cells : ℕ) (s : EchoState) : Type 0 where

@@ -16,9 +16,13 @@ pub record EchoState : Type 0 where
   pub length : ℕ
   pub history : List Frame
 
+-- the silent frame
+abbrev pub silent_frame : Frame
+silent_frame = record { left = pos 0; right = pos 0 }
+
 -- the echo before its first step
 abbrev pub first_echo : EchoState
-first_echo = record { offset = 0; length = 0; history = replicate 8 record { left = pos 0; right = pos 0 } }
+first_echo = record { offset = 0; length = 0; history = replicate 8 silent_frame }
 
 -- The echo stands at a cell of its buffer, or at its only cell; the buffer is a multiple of 2,048 bytes long, up to 15 of them.
 abbrev pub is_at_cell : EchoState → Bool
@@ -67,7 +71,7 @@ side_output main main_volume echo echo_volume = clamp16 (at_volume main main_vol
 -- the frame of a step, of the voices' main sums
 unfoldable pub output_frame : EchoRegs → (main echo : Frame) → Frame
 output_frame regs main echo =
-    if is_muted regs.flg then record { left = pos 0; right = pos 0 }
+    if is_muted regs.flg then silent_frame
     else record {
       left = side_output main.left regs.mvol_l echo.left regs.evol_l;
       right = side_output main.right regs.mvol_r echo.right regs.evol_r;
@@ -91,10 +95,14 @@ with_word memory address word =
 unfoldable pub with_cell : (memory : List ℕ) → (address : ℕ) → (left right : ℤ) → List ℕ
 with_cell memory address left right = with_word (with_word memory address left) ((address + 2) % 0x10000) right
 
--- The echo at its next cell. The length follows EDL only where the step was at the buffer's first cell.
+-- the length of the buffer that a step goes by: EDL counts at the first cell
+abbrev pub length_in_force : (edl : ℕ) → EchoState → ℕ
+length_in_force edl s = if s.offset == 0 then echo_length edl else s.length
+
+-- the echo at its next cell, by the length in force
 unfoldable pub at_next_cell : EchoState → (edl : ℕ) → EchoState
 at_next_cell s edl =
-    let length = if s.offset == 0 then echo_length edl else s.length in
+    let length = length_in_force edl s in
     record s { length = length; offset = if nat_le length (s.offset + 4) then 0 else s.offset + 4 }
 
 -- the echo after a step

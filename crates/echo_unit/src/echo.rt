@@ -1,8 +1,8 @@
 // The echo itself.
 ghost use Rattle.std.specs.Prelude.{◌≡◌, ◌<◌, ◌≤◌, ◌+◌, ◌*◌, ◌%◌, true, false, length, map, take};
 ghost use Rattle.reach_map.specs.Window.{echo_window};
-ghost use Rattle.echo_unit.specs.Echo.{first_echo, is_at_cell, cell_address, with_newest, after_reading, at_next_cell, echo_heard, next_echo, echo_memory, output_frame, feedback_pair};
-ghost use Rattle.echo_unit.specs.Cells.{AreNeighbours, after_cells, length_in_force, with_cells};
+ghost use Rattle.echo_unit.specs.Echo.{first_echo, is_at_cell, cell_address, with_newest, after_reading, length_in_force, at_next_cell, echo_heard, next_echo, echo_memory, output_frame, feedback_pair};
+ghost use Rattle.echo_unit.specs.Cells.{AreNeighbours, after_cells, with_cells};
 ghost use Rattle.echo_unit.specs.Flg.{has_echo_writes};
 ghost use Rattle.echo_unit.specs.EchoOverBatch.{echo_over, pair_of};
 
@@ -63,7 +63,7 @@ impl Echo {
         Echo {
             offset: 0,
             length: 0,
-            history: [Frame { left: 0, right: 0 }; 8],
+            history: [SILENCE; 8],
         }
     }
 
@@ -243,8 +243,8 @@ impl Echo {
     ) -> [Frame; 64]
         requires few { n ≤ 64 }
         requires apart { has_echo_writes regs.now.flg ≡ true → 0 < regs.now.edl % 16 }
-        ensures run { let run = echo_over regs.now (pair_of main_left.now main_right.now) (pair_of sent_left.now sent_right.now) self.old memory.old n in
-            run ≡ record { echo = self.new; memory = memory.new; frames = take n result } }
+        ensures batch { let batch = echo_over regs.now (pair_of main_left.now main_right.now) (pair_of sent_left.now sent_right.now) self.old memory.old n in
+            batch ≡ record { echo = self.new; memory = memory.new; frames = take n result } }
     {
         let mut left = [0; 72];
         let mut right = [0; 72];
@@ -276,8 +276,8 @@ impl Echo {
         memory: &mut Aram,
     ) -> [Frame; 64]
         requires few { n ≤ 64 }
-        ensures run { let run = echo_over regs.now (pair_of main_left.now main_right.now) (pair_of sent_left.now sent_right.now) self.old memory.old n in
-            run ≡ record { echo = self.new; memory = memory.new; frames = take n result } }
+        ensures batch { let batch = echo_over regs.now (pair_of main_left.now main_right.now) (pair_of sent_left.now sent_right.now) self.old memory.old n in
+            batch ≡ record { echo = self.new; memory = memory.new; frames = take n result } }
     {
         let mut frames = [SILENCE; 64];
         for j in 0..n {
@@ -302,8 +302,8 @@ impl Echo {
         memory: &mut Aram,
     ) -> [Frame; 64]
         requires few { n ≤ 64 }
-        ensures run { let run = echo_over regs.now (pair_of main_left.now main_right.now) (pair_of sent_left.now sent_right.now) self.old memory.old n in
-            run ≡ record { echo = self.new; memory = memory.new; frames = take n result } }
+        ensures batch { let batch = echo_over regs.now (pair_of main_left.now main_right.now) (pair_of sent_left.now sent_right.now) self.old memory.old n in
+            batch ≡ record { echo = self.new; memory = memory.new; frames = take n result } }
     {
         if 16 <= n && are_cells_apart(regs) {
             self.play_rows(

@@ -2,7 +2,7 @@
 
 ghost use Rattle.std.specs.Prelude.{◌≡◌, ◌<◌, ◌≤◌, ◌+◌, ℕ, pos, get_or, length, map, take};
 ghost use Rattle.num_fix.specs.SignedWords.{number_at};
-ghost use Rattle.echo_unit.specs.Echo.{feedback_word, output_frame};
+ghost use Rattle.echo_unit.specs.Echo.{silent_frame, feedback_word, output_frame};
 ghost use Rattle.echo_unit.specs.Fir.{filtered_sample, eight_from};
 ghost use Rattle.echo_unit.specs.EchoOverBatch.{pair_of};
 
@@ -56,7 +56,7 @@ pub fn output_row(
     heard_left: &[i16; 64],
     heard_right: &[i16; 64],
 ) -> [Frame; 64]
-    ensures { (j : ℕ) → j < 64 → get_or result j (record { left = pos 0; right = pos 0 })
+    ensures { (j : ℕ) → j < 64 → get_or result j silent_frame
         ≡ output_frame regs.now (pair_of main_left.now main_right.now j) (pair_of heard_left.now heard_right.now j) }
 {
     let mut frames = [SILENCE; 64];
@@ -70,7 +70,7 @@ pub fn output_row(
 /// The last eight pairs of two rows of eight samples of the history and `n` that were read.
 pub fn last_pairs(left: &[i16; 72], right: &[i16; 72], n: u8) -> [Frame; 8]
     requires { n ≤ 64 }
-    ensures { (i : ℕ) → i < 8 → get_or result i (record { left = pos 0; right = pos 0 }) ≡ pair_of left.now right.now (n + i) }
+    ensures { (i : ℕ) → i < 8 → get_or result i silent_frame ≡ pair_of left.now right.now (n + i) }
 {
     let first = usize::from(n);
     let mut history = [SILENCE; 8];

@@ -4,5 +4,5 @@ use Rattle.echo_unit.proofs.echo.Echo.play_each.Given as goal
 
 abbrev pub invariant-loop-j : goal.invariant-loop-j
 invariant-loop-j l =
-    let run = echo_over l.regs (pair_of l.main_left l.main_right) (pair_of l.sent_left l.sent_right) l.initial.self l.initial.memory l.j in
-    record { echo : l.self ≡ run.echo; memory : l.memory ≡ run.memory; frames : take l.j l.frames ≡ run.frames; long : length l.frames ≡ 64 }
+    let batch = echo_over l.regs (pair_of l.main_left l.main_right) (pair_of l.sent_left l.sent_right) l.initial.self l.initial.memory l.j in
+    record { echo : l.self ≡ batch.echo; memory : l.memory ≡ batch.memory; frames : take l.j l.frames ≡ batch.frames; long : length l.frames ≡ 64 }

@@ -29,9 +29,9 @@ returns c =
       frames_are = c.output_row.ensures;
     } in
     let echo : c.go_to.new.self ≡ record (after_cells c.args.self.now c.args.regs.now.edl c.args.n) { history = c.last_pairs.result } = rw c.read_cells-next.ensures.echo at c.go_to.ensures in
-    let run : echo_over c.args.regs.now (pair_of c.args.main_left.now c.args.main_right.now) (pair_of c.args.sent_left.now c.args.sent_right.now) c.args.self.now c.args.memory.now c.args.n
+    let batch : echo_over c.args.regs.now (pair_of c.args.main_left.now c.args.main_right.now) (pair_of c.args.sent_left.now c.args.sent_right.now) c.args.self.now c.args.memory.now c.args.n
     ≡ record { echo = c.go_to.new.self; memory = c.write_back.new.memory; frames = take c.args.n c.output_row.result } =
     run_by_rows c.args.regs.now (pair_of c.args.main_left.now c.args.main_right.now) (pair_of c.args.sent_left.now c.args.sent_right.now) c.args.self.now c.args.memory.now
     c.write_back.new.memory c.args.n c.read_cells-next.new.left c.read_cells-next.new.right c.filtered_row-heard_left.result c.filtered_row-heard_right.result c.last_pairs.result c.output_row.result played
     ∙ ap (λ (e : EchoState). record { echo = e; memory = c.write_back.new.memory; frames = take c.args.n c.output_row.result }) (sym echo) in
-    record { run = run }
+    record { batch = batch }

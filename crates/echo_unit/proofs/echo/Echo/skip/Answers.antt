@@ -1,7 +1,6 @@
 use Rattle.std.proofs.Common.{◌≡◌, ◌+◌, ◌*◌, nat_le, true, false, sym, ap, arith}
 use Rattle.std.proofs.lemmas.Bool.Decides.{nat_tests}
-use Rattle.echo_unit.specs.Echo.{EchoState}
-use Rattle.echo_unit.specs.Cells.{length_in_force}
+use Rattle.echo_unit.specs.Echo.{EchoState, length_in_force}
 use Rattle.echo_unit.proofs.Neighbours.{skipped}
 use Rattle.echo_unit.proofs.echo.Echo.skip.Goals.{then-length-end, else-length-end}
 use Rattle.echo_unit.proofs.echo.Echo.skip.Goals as goal
