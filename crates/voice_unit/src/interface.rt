@@ -12,8 +12,11 @@ pub struct VoiceRegs {
     pub pitch: u16,
     /// The number of the source in the directory.
     pub srcn: u8,
+    /// ADSR1: the attack rate in bits 0 to 3, the decay rate in bits 4 to 6; bit 7 says that ADSR rules, and not GAIN.
     pub adsr1: u8,
+    /// ADSR2: the sustain rate in bits 0 to 4, and in bits 5 to 7 the level at which decay ends, in units of 100h.
     pub adsr2: u8,
+    /// GAIN: below 80h a level in units of 16; else the slope in bits 5 and 6, and its rate in bits 0 to 4.
     pub gain: u8,
 }
 
@@ -34,6 +37,7 @@ pub struct VoiceIn {
     pub reset: bool,
     /// The keys are looked at in this sample, as in every second one.
     pub poll: bool,
+    /// Its KOFF bit: it is released where the keys are looked at.
     pub koff: bool,
     /// The poll took its KON bit.
     pub kon: bool,
@@ -46,7 +50,9 @@ pub struct VoiceOut {
     pub out: i16,
     /// The level that made it, at most 7FFh.
     pub level: u16,
+    /// The register ENVX: the level over 16, at most 7Fh.
     pub envx: u8,
+    /// The register OUTX: the high byte of the output, which is signed.
     pub outx: u8,
     /// The address of its block after the step.
     pub block: u16,
