@@ -2,7 +2,7 @@
 
 ghost use Rattle.std.specs.Prelude.{◌≡◌, ◌≤◌, ◌<◌, ◌+◌, ◌++◌};
 ghost use Rattle.arrayvec.specs.ArrayVec.{array_vec_len};
-ghost use Rattle.dsp_form.specs.Reach.{chip_reach, entries_from, starts_from, voice_starts};
+ghost use Rattle.dsp_form.specs.Reach.{can_start, chip_reach, entries_from, starts_from, voice_starts};
 
 use crate::registers::{DIR, EDL, ESA, FLG, SRCN, voice_register};
 use crate::state::ChipState;
@@ -29,6 +29,14 @@ impl ChipState {
         entries
     }
 
+    /// Whether voice `v` can go to the start of its sample: its key on waits, or its delay after a key on is not over.
+    pub fn can_start(&self, v: u8, voice: &Voice) -> bool
+        requires { v < 8 }
+        ensures { result ≡ can_start self.now v voice.now }
+    {
+        has_bit(self.hidden.waiting, v) || voice.delay() != 0
+    }
+
     /// Adds where voice `v` can be.
     fn add_voice_starts(&self, starts: &mut Starts, memory: &Aram, v: u8, voice: &Voice)
         requires voice { v < 8 }
@@ -43,7 +51,7 @@ impl ChipState {
             block: voice.block(),
             loop_word,
         });
-        if has_bit(self.hidden.waiting, v) || voice.delay() != 0 {
+        if self.can_start(v, voice) {
             starts.push(ChainStart {
                 block: start_word(dir, srcn, memory),
                 loop_word,

@@ -6,10 +6,12 @@ ghost use Rattle.dsp_form.specs.Volumes.{voice_volumes, all_volumes};
 use crate::registers::{EON, Registers, VOLL, VOLR, voice_register};
 use num_fix::{has_bit, sign8};
 
-/// The volumes of a voice.
+/// The volumes of a voice, each -128 to 127, in 128ths.
 #[derive(Clone, Copy, Debug)]
 pub struct Volumes {
+    /// The left volume, VOLL; a negative one turns the wave over.
     pub left: i16,
+    /// The right volume, VOLR, likewise.
     pub right: i16,
     /// The left volume where the voice is sent to the echo, and 0 elsewhere.
     pub sent_left: i16,
