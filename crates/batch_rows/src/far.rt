@@ -4,7 +4,7 @@ ghost use Rattle.std.specs.Prelude.{◌≡◌, ◌<◌, ◌≤◌, true, false, 
 ghost use Rattle.aram_core.specs.Pages.{has_page};
 ghost use Rattle.reach_map.specs.Reach.{pages_of_bytes};
 ghost use Rattle.echo_unit.specs.Flg.{has_echo_writes};
-ghost use Rattle.dsp_form.specs.Reach.{can_start, chip_reach};
+ghost use Rattle.dsp_form.specs.Reach.{chip_reach};
 ghost use Rattle.dsp_form.specs.declared.registers.TheConstants.{FLG};
 ghost use Rattle.batch_rows.specs.Afar.{AreApart, IsVoiceApart, far_pages, window_from};
 
@@ -12,7 +12,6 @@ use aram_core::{Aram, page_of};
 use dsp_form::ChipState;
 use dsp_form::registers::{DIR, EDL, ESA, FLG, SRCN, voice_register};
 use echo_unit::has_echo_writes;
-use num_fix::has_bit;
 use voice_unit::{Voice, entry_address, loop_word, start_word};
 
 /// How many bytes from its start, and from its loop word, a chain lies within.
@@ -49,14 +48,6 @@ fn is_chain_off(block: u16, loop_word: u16, esa: u8, len: u32) -> bool
     are_bytes_off(loop_word, CHAIN, esa, len)
 }
 
-/// Whether voice `v` can go to the start of its sample.
-fn can_start(state: &ChipState, v: u8, voice: &Voice) -> bool
-    requires { v < 8 }
-    ensures { result ≡ can_start state.now v voice.now }
-{
-    has_bit(state.hidden.waiting, v) || voice.delay() != 0
-}
-
 /// Whether what voice `v` can read has no page of a window.
 fn is_voice_off(state: &ChipState, memory: &Aram, v: u8, voice: &Voice, esa: u8, len: u32) -> bool
     requires { v < 8 }
@@ -71,7 +62,7 @@ fn is_voice_off(state: &ChipState, memory: &Aram, v: u8, voice: &Voice, esa: u8,
     if !is_chain_off(voice.block(), again, esa, len) {
         return false;
     }
-    let starts = can_start(state, v, voice);
+    let starts = state.can_start(v, voice);
     if !starts {
         return true;
     }
