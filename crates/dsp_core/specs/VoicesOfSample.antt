@@ -14,8 +14,8 @@ ForInput settings common memory table counter P =
     → P record { registers = registers; common = common; memory = memory; table = table; counter = counter }
 
 -- all voices after their step, and their answers
-abbrev pub voices_after : SharedInput → List VoiceState → List VoiceState
-voices_after shared voices = map (λ one. one.voice) (results_from shared 0 (pos 0) voices)
+abbrev pub voices_after_step : SharedInput → List VoiceState → List VoiceState
+voices_after_step shared voices = map (λ one. one.voice) (results_from shared 0 (pos 0) voices)
 
 abbrev pub answers_of : SharedInput → List VoiceState → List VoiceOut
 answers_of shared voices = map (λ one. one.answer) (results_from shared 0 (pos 0) voices)

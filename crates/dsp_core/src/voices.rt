@@ -1,27 +1,20 @@
 //! The voices of one sample, one after another.
 
 ghost use Rattle.std.specs.Prelude.{◌≡◌, ◌<◌, ℕ, List};
-ghost use Rattle.num_fix.specs.Arithmetic.{has_bit};
 ghost use Rattle.dsp_form.specs.Settings.{settings_of};
 ghost use Rattle.dsp_form.specs.Sample.{voice_in, voice_result};
-ghost use Rattle.dsp_core.specs.VoicesOfSample.{ForInput, voices_after, answers_of};
+ghost use Rattle.dsp_core.specs.VoicesOfSample.{ForInput, voices_after_step, answers_of};
 
 use aram_core::Aram;
 use dsp_form::{Settings, SharedByVoices};
 use gauss_table::GaussTable;
+use num_fix::has_bit;
 use rate_clock::RateClock;
 use voice_unit::{Voice, VoiceIn, VoiceOut};
 
 /// What voice `v` reads beside its registers.
-fn voice_in(
-    settings: &Settings,
-    common: &SharedByVoices,
-    v: u8,
-    kon: bool,
-    previous: i16,
-) -> VoiceIn
-    requires v { v < 8 }
-    requires kon { kon ≡ has_bit common.now.taken v }
+fn voice_in(settings: &Settings, common: &SharedByVoices, v: u8, previous: i16) -> VoiceIn
+    requires { v < 8 }
     ensures value { (registers : List ℕ) → settings.now ≡ settings_of registers → result ≡ voice_in registers common.now v previous }
     ensures noise { result.noise ≡ common.now.noise }
 {
@@ -35,7 +28,7 @@ fn voice_in(
         reset: settings.reset,
         poll: common.is_poll,
         koff: one.koff,
-        kon,
+        kon: has_bit(common.taken, v),
     }
 }
 
@@ -46,19 +39,17 @@ fn step_voice(
     settings: &Settings,
     common: &SharedByVoices,
     v: u8,
-    kon: bool,
     previous: i16,
     memory: &Aram,
     table: &GaussTable,
     clock: &RateClock,
 ) -> VoiceOut
     requires v { v < 8 }
-    requires kon { kon ≡ has_bit common.now.taken v }
     requires noise { common.now.noise < 0x8000 }
     ensures voice { ForInput settings.now common.now memory.now table.now clock.now (λ shared. voice.new ≡ (voice_result shared v previous voice.old).voice) }
     ensures answer { ForInput settings.now common.now memory.now table.now clock.now (λ shared. result ≡ (voice_result shared v previous voice.old).answer) }
 {
-    let input = voice_in(settings, common, v, kon, previous);
+    let input = voice_in(settings, common, v, previous);
     let regs = &settings.voices[usize::from(v)].regs;
     voice.step(regs, &input, memory, table, clock)
 }
@@ -74,12 +65,10 @@ pub fn step_voices(
     answers: &mut [VoiceOut; 8],
 )
     requires { common.now.noise < 0x8000 }
-    ensures voices { ForInput settings.now common.now memory.now table.now clock.now (λ shared. voices.new ≡ voices_after shared voices.old) }
+    ensures voices { ForInput settings.now common.now memory.now table.now clock.now (λ shared. voices.new ≡ voices_after_step shared voices.old) }
     ensures answers { ForInput settings.now common.now memory.now table.now clock.now (λ shared. answers.new ≡ answers_of shared voices.old) }
 {
     let mut previous = 0;
-    // the key-ons of the voices still to come, lowest first
-    let mut taken = common.taken;
     for v in 0..8u8 {
         let place = usize::from(v);
         let answer = step_voice(
@@ -87,7 +76,6 @@ pub fn step_voices(
             settings,
             common,
             v,
-            taken % 2 == 1,
             previous,
             memory,
             table,
@@ -95,6 +83,5 @@ pub fn step_voices(
         );
         previous = answer.out;
         answers[place] = answer;
-        taken /= 2;
     }
 }

@@ -1,4 +1,4 @@
-use Rattle.std.proofs.Common.{◌≡◌, ℕ, List, ◌++◌, ◌/◌, ◌^◌, pos, take, drop, map, length}
+use Rattle.std.proofs.Common.{◌≡◌, ℕ, List, ◌++◌, pos, take, drop, map, length}
 use Rattle.dsp_form.specs.Settings.{settings_of}
 use Rattle.dsp_form.specs.Sample.{SharedInput, VoiceResult, results_from}
 use Rattle.dsp_core.proofs.voices.step_voices.Given as goal
@@ -11,7 +11,6 @@ invariant-loop-v l = record {
   answers : (registers : List ℕ) → l.settings ≡ settings_of registers → let shared : SharedInput = record { registers = registers; common = l.common; memory = l.memory; table = l.table; counter = l.clock } in
       map (λ (one : VoiceResult). one.answer) (results_from shared 0 (pos 0) l.initial.voices)
       ≡ take l.v l.answers ++ map (λ (one : VoiceResult). one.answer) (results_from shared l.v l.previous (drop l.v l.voices));
-  taken : l.taken ≡ l.common.taken / 2 ^ l.v;
   eight_voices : length l.voices ≡ 8;
   eight_answers : length l.answers ≡ 8;
 }
