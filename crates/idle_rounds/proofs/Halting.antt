@@ -11,7 +11,7 @@ use Rattle.spc700_exec.specs.declared.operand.Operand.TheVariants as P
 use Rattle.spc700_exec.specs.Script.{Script}
 use Rattle.spc700_exec.specs.Operands.{addressed, both_addressed, loaded, stored}
 use Rattle.spc700_exec.specs.Operations.{Operation, operation_of, OnStatus, OnA, OnYa, Branch, BitBranch, CompareBranch, CountBranch, Move, Calculate, Compare, Modify, BitToCarry, BitInPlace, BitTest, WordOnYa, WordStore, WordModify, Push, Pop, Jump, Call, TableCall, Break, Return, InterruptReturn, Halt}
-use Rattle.spc700_exec.specs.Lines.{branched}
+use Rattle.spc700_exec.specs.Lines.{branch_end}
 use Rattle.spc700_exec.specs.Instruction.{line_of, step_unless, script}
 use Rattle.idle_rounds.specs.Looking.{HaltsToSample}
 
@@ -67,9 +67,9 @@ on_stored (P.Value byte) v cpu next h = h _
 on_stored P.Implied v cpu next h = h _
 
 module _ (row : OpRow) where
-  on_branched : (on : Bool) (r : ℕ) (cpu : Cpu) → HaltsToSample (branched on r row cpu)
-  on_branched true r cpu = tt
-  on_branched false r cpu = tt
+  on_branch_end : (on : Bool) (r : ℕ) (cpu : Cpu) → HaltsToSample (branch_end on r row cpu)
+  on_branch_end true r cpu = tt
+  on_branch_end false r cpu = tt
 
   on_both : (cpu : Cpu) (next : Both → Cpu → Script) → ((both : Both) (cpu : Cpu) → HaltsToSample (next both cpu)) → HaltsToSample (both_addressed row cpu next)
   unfolding both_addressed
@@ -89,10 +89,10 @@ module _ (row : OpRow) where
   on_line (OnStatus change) cpu = tt
   on_line (OnA change) cpu = tt
   on_line (OnYa change) cpu = tt
-  on_line (Branch condition) cpu = λ r. on_branched _ r _
-  on_line (BitBranch on) cpu = on_both cpu _ (λ both cpu. on_loaded both.first _ _ (λ v. on_loaded both.second _ _ (λ r. on_branched _ r _)))
-  on_line CompareBranch cpu = on_both cpu _ (λ both cpu. on_loaded both.first _ _ (λ v. on_loaded both.second _ _ (λ r. on_branched _ r _)))
-  on_line CountBranch cpu = on_both cpu _ (λ both cpu. on_loaded both.first _ _ (λ v. on_loaded both.second _ _ (λ r. on_stored both.first _ _ _ (λ cpu. on_branched _ r cpu))))
+  on_line (Branch condition) cpu = λ r. on_branch_end _ r _
+  on_line (BitBranch on) cpu = on_both cpu _ (λ both cpu. on_loaded both.first _ _ (λ v. on_loaded both.second _ _ (λ r. on_branch_end _ r _)))
+  on_line CompareBranch cpu = on_both cpu _ (λ both cpu. on_loaded both.first _ _ (λ v. on_loaded both.second _ _ (λ r. on_branch_end _ r _)))
+  on_line CountBranch cpu = on_both cpu _ (λ both cpu. on_loaded both.first _ _ (λ v. on_loaded both.second _ _ (λ r. on_stored both.first _ _ _ (λ cpu. on_branch_end _ r cpu))))
   on_line Move cpu = on_both cpu _ (λ both cpu. on_loaded both.second cpu _ (λ v. on_stored both.first v cpu _ (λ cpu. tt)))
   on_line (Calculate calculate) cpu = on_both cpu _ (λ both cpu. on_loaded both.second cpu _ (λ b. on_loaded both.first cpu _ (λ a. on_stored both.first _ _ _ (λ cpu. tt))))
   on_line Compare cpu = on_both cpu _ (λ both cpu. on_loaded both.second cpu _ (λ b. on_loaded both.first cpu _ (λ a. tt)))

@@ -18,7 +18,7 @@ use Rattle.spc700_exec.specs.Script.{Script}
 use Rattle.spc700_exec.specs.Operands.{with_next_pc, next_in_page, call_entry, addressed, both_addressed, loaded, stored, address_of, bit_of, loaded_word, stored_word, pushed, popped, pushed_word}
 use Rattle.spc700_exec.specs.Operations.{Operation, ya, flag_is, OnStatus, OnA, OnYa, Branch, BitBranch, CompareBranch, CountBranch, Move, Calculate, Compare, Modify, BitToCarry, BitInPlace, BitTest, WordOnYa, WordStore, WordModify, Push, Pop, Jump, Call, TableCall, Break, Return, InterruptReturn, Halt}
 use Rattle.spc700_exec.specs.Forms.{is_none, is_register, is_bit, is_address, is_target, is_source, is_entry}
-use Rattle.spc700_exec.specs.Lines.{branched, done, with_nz_of_move, with_ya}
+use Rattle.spc700_exec.specs.Lines.{branch_end, done, with_nz_of_move, with_ya}
 use Rattle.spc700_exec.specs.Instruction.{line_of}
 use Rattle.spc700_exec.proofs.Steady.{changes_x, looks_at_x, is_steady, not_both, IsListed}
 use Rattle.spc700_exec.proofs.OperandReads.{at_memory, IsFound, Follows, after_addressed}
@@ -97,9 +97,9 @@ module _ (row : OpRow) (start : Cpu) where
   last_stored : (p : Progress) (operand : Operand) (v : ℕ) (cpu : Cpu) (next : Cpu → Script) → IsFound row start row.first p.first operand → ((cpu : Cpu) → Makes row start p [] (next cpu)) → Makes row start p (destination row) (stored operand v cpu next)
   last_stored p operand v cpu next f h = nothing_more p (destination row) (stored operand v cpu next) (after_stored p operand [] v cpu next f h)
 
-  after_branched : (p : Progress) (on : Bool) (r : ℕ) (cpu : Cpu) → Makes row start p [] (branched on r row cpu)
-  after_branched p true r cpu = inr refl
-  after_branched p false r cpu = inl refl
+  after_branch_end : (p : Progress) (on : Bool) (r : ℕ) (cpu : Cpu) → Makes row start p [] (branch_end on r row cpu)
+  after_branch_end p true r cpu = inr refl
+  after_branch_end p false r cpu = inl refl
 
   -- the first operand alone, from the start
   first_operand : (n : List Access) (next : Operand → Cpu → Script) → Follows row start First row.first (begun start) start.x n next → Makes row start (begun start) (operand_reads First row.first ++ n) (addressed row.first start next)
@@ -164,17 +164,17 @@ module _ (row : OpRow) (start : Cpu) where
   Makes-line_of (Branch condition) listed =
       let t = line_of (Branch condition) row start in
       subst (λ (form : Form). Makes row start (begun start) (operand_reads First form) t) (sym (form_of_distance row.first listed.suits))
-      ((refl, refl), λ r. after_branched (after_access (OperandRead First) r (begun start)) (condition start.psw) r (with_next_pc start))
+      ((refl, refl), λ r. after_branch_end (after_access (OperandRead First) r (begun start)) (condition start.psw) r (with_next_pc start))
   Makes-line_of (BitBranch on) listed =
-      let next : Both → Cpu → Script = λ both cpu. loaded both.first cpu (λ byte. loaded both.second cpu (λ r. branched (flag_is (2 ^ bit_of both.first) on byte) r row cpu)) in
-      after_distance_last (source First row ++ source Second row) next listed.steady (and_parts (is_bit row.first) (is_distance row.second) listed.suits).1 (λ both p cpu f g. after_loaded First p both.first (source Second row) _ _ f (λ v. last_loaded Second p both.second _ _ g (λ r. after_branched p _ r _)))
+      let next : Both → Cpu → Script = λ both cpu. loaded both.first cpu (λ byte. loaded both.second cpu (λ r. branch_end (flag_is (2 ^ bit_of both.first) on byte) r row cpu)) in
+      after_distance_last (source First row ++ source Second row) next listed.steady (and_parts (is_bit row.first) (is_distance row.second) listed.suits).1 (λ both p cpu f g. after_loaded First p both.first (source Second row) _ _ f (λ v. last_loaded Second p both.second _ _ g (λ r. after_branch_end p _ r _)))
   Makes-line_of CompareBranch listed =
-      let next : Both → Cpu → Script = λ both cpu. loaded both.first cpu (λ byte. loaded both.second cpu (λ r. branched (not (cpu.a == byte)) r row cpu)) in
-      after_distance_last (source First row ++ source Second row) next listed.steady (and_parts (is_address row.first) (is_distance row.second) listed.suits).1 (λ both p cpu f g. after_loaded First p both.first (source Second row) _ _ f (λ v. last_loaded Second p both.second _ _ g (λ r. after_branched p _ r _)))
+      let next : Both → Cpu → Script = λ both cpu. loaded both.first cpu (λ byte. loaded both.second cpu (λ r. branch_end (not (cpu.a == byte)) r row cpu)) in
+      after_distance_last (source First row ++ source Second row) next listed.steady (and_parts (is_address row.first) (is_distance row.second) listed.suits).1 (λ both p cpu f g. after_loaded First p both.first (source Second row) _ _ f (λ v. last_loaded Second p both.second _ _ g (λ r. after_branch_end p _ r _)))
   Makes-line_of CountBranch listed =
       let less : ℕ → ℕ = λ byte. (byte + 0x100 - 1) % 0x100 in
-      let next : Both → Cpu → Script = λ both cpu. loaded both.first cpu (λ byte. loaded both.second cpu (λ r. stored both.first (less byte) cpu (λ cpu. branched (not (less byte == 0)) r row cpu))) in
-      after_distance_last (source First row ++ (source Second row ++ destination row)) next listed.steady (and_parts (is_target row.first) (is_distance row.second) listed.suits).1 (λ both p cpu f g. after_loaded First p both.first (source Second row ++ destination row) _ _ f (λ v. after_loaded Second p both.second (destination row) _ _ g (λ r. last_stored p both.first _ _ _ f (λ cpu. after_branched p _ r cpu))))
+      let next : Both → Cpu → Script = λ both cpu. loaded both.first cpu (λ byte. loaded both.second cpu (λ r. stored both.first (less byte) cpu (λ cpu. branch_end (not (less byte == 0)) r row cpu))) in
+      after_distance_last (source First row ++ (source Second row ++ destination row)) next listed.steady (and_parts (is_target row.first) (is_distance row.second) listed.suits).1 (λ both p cpu f g. after_loaded First p both.first (source Second row ++ destination row) _ _ f (λ v. after_loaded Second p both.second (destination row) _ _ g (λ r. last_stored p both.first _ _ _ f (λ cpu. after_branch_end p _ r cpu))))
   Makes-line_of Move listed =
       let next : Both → Cpu → Script = λ both cpu. loaded both.second cpu (λ v. stored both.first v cpu (λ cpu. done row (with_nz_of_move both.first v cpu))) in
       after_source_first (source Second row ++ destination row) next listed.steady (and_parts (is_target row.first) (is_source row.second) listed.suits).1 (λ both p cpu f g. after_loaded Second p both.second (destination row) _ _ g (λ v. last_stored p both.first v _ _ f (λ cpu. inl refl)))

@@ -39,27 +39,27 @@ abbrev pub ya_line : (Cpu → Out16) → OpRow → Cpu → Script
 ya_line change row cpu = done row (with_ya (change cpu) cpu)
 
 -- the end of a branch, taken or not
-abbrev pub branched : Bool → (r : ℕ) → OpRow → Cpu → Script
-branched true r row cpu = End (record cpu { pc = branch_target cpu.pc r }) (Cycles row.taken)
-branched false r row cpu = done row cpu
+abbrev pub branch_end : Bool → (r : ℕ) → OpRow → Cpu → Script
+branch_end true r row cpu = End (record cpu { pc = branch_target cpu.pc r }) (Cycles row.taken)
+branch_end false r row cpu = done row cpu
 
 -- BRA and the branches on a flag
 abbrev pub branch_line : (ℕ → Bool) → OpRow → Cpu → Script
-branch_line condition row cpu = fetched cpu (λ r cpu. branched (condition cpu.psw) r row cpu)
+branch_line condition row cpu = fetched cpu (λ r cpu. branch_end (condition cpu.psw) r row cpu)
 
 -- BBS, BBC
 abbrev pub bit_branch_line : Bool → OpRow → Cpu → Script
 bit_branch_line on row cpu =
     both_addressed row cpu (λ both cpu.
     loaded both.first cpu (λ byte. loaded both.second cpu (λ r.
-    branched (flag_is (2 ^ bit_of both.first) on byte) r row cpu)))
+    branch_end (flag_is (2 ^ bit_of both.first) on byte) r row cpu)))
 
 -- CBNE
 abbrev pub compare_branch_line : OpRow → Cpu → Script
 compare_branch_line row cpu =
     both_addressed row cpu (λ both cpu.
     loaded both.first cpu (λ byte. loaded both.second cpu (λ r.
-    branched (not (cpu.a == byte)) r row cpu)))
+    branch_end (not (cpu.a == byte)) r row cpu)))
 
 -- DBNZ: the byte less 1 is written, and the branch taken where that isn't 0
 abbrev pub count_branch_line : OpRow → Cpu → Script
@@ -67,7 +67,7 @@ count_branch_line row cpu =
     both_addressed row cpu (λ both cpu.
     loaded both.first cpu (λ byte. loaded both.second cpu (λ r. let less = (byte + 0x100 - 1) % 0x100 in
     stored both.first less cpu (λ cpu.
-    branched (not (less == 0)) r row cpu))))
+    branch_end (not (less == 0)) r row cpu))))
 
 -- a byte that was moved to A, X or Y shows in N and Z
 abbrev pub with_nz_of_move : Operand → (value : ℕ) → Cpu → Cpu

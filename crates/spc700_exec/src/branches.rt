@@ -5,7 +5,7 @@
 ghost use Rattle.std.specs.Prelude.{◌≡◌, true};
 ghost use Rattle.spc700_exec.specs.Script.{End, Cycles};
 ghost use Rattle.spc700_exec.specs.Operations.{flag_is};
-ghost use Rattle.spc700_exec.specs.Lines.{branched, branch_line, bit_branch_line, compare_branch_line, count_branch_line};
+ghost use Rattle.spc700_exec.specs.Lines.{branch_end, branch_line, bit_branch_line, compare_branch_line, count_branch_line};
 ghost use Rattle.spc700_exec.specs.Pieces.{HasRoom, IsRow, IsTime, IsInstruction};
 
 use crate::bus::Bus;
@@ -18,7 +18,7 @@ use spc700_table::{OpRow, branch_target};
 #[inline(always)]
 fn branch_if(cpu: &mut Cpu, row: OpRow, taken: bool, r: u8) -> u8
     requires row { IsRow row }
-    ensures does { branched taken r row cpu.old ≡ End cpu.new (Cycles result) }
+    ensures does { branch_end taken r row cpu.old ≡ End cpu.new (Cycles result) }
     ensures time { IsTime row result }
 {
     if taken {
