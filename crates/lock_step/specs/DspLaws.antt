@@ -7,7 +7,7 @@ use Rattle.voice_unit.specs.Voice.{VoiceState}
 use Rattle.dsp_form.specs.declared.state.ChipState.{ChipState}
 use Rattle.dsp_form.specs.Outside.{register_write}
 use Rattle.dsp_form.specs.Results.{without_bits}
-use Rattle.dsp_form.specs.Sample.{VoiceResult, results_from, records_from, shared_input, after_poll, after_noise, before_voices, sample}
+use Rattle.dsp_form.specs.Sample.{VoiceResult, results_from, records_from, shared_input, is_polled, after_poll, after_noise, before_voices, sample}
 use Rattle.dsp_form.specs.Valid.{is_valid}
 use Rattle.dsp_form.proofs.EightVoices.{polled_part, length-results_from, voices-before_voices}
 use Rattle.dsp_form.proofs.Valid.{valid_of, is_valid-sample, is_valid-register_write}
@@ -60,7 +60,7 @@ table-register_write s address byte = by (nat_le 0x80 address) _ _
 
 table-sample : (k : ℕ) (s : ChipState) (memory : List ℕ) → (sample k s memory).state.table ≡ s.table
 unfolding sample after_poll after_noise
-table-sample k s memory = polled_part (λ (s : ChipState). s.table) (k % 2 == 0) s (without_bits s.hidden.waiting s.hidden.taken) refl
+table-sample k s memory = polled_part (λ (s : ChipState). s.table) (is_polled k) s (without_bits s.hidden.waiting s.hidden.taken) refl
 
 pub dsp_saves_lawfully : IsLawfulSaving dsp_chip dsp_saving
 dsp_saves_lawfully = record {
