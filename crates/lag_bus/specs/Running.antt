@@ -8,11 +8,11 @@ use Rattle.lock_step.specs.LockStep.{samples_made}
 use Rattle.lag_bus.specs.Lagging.{Lagging}
 use Rattle.lag_bus.specs.Late.{AreWritesWithin, AreReadsWithin}
 use Rattle.lag_bus.specs.Ready.{NoneIsReady}
-use Rattle.lag_bus.specs.Waiting.{with_due}
+use Rattle.lag_bus.specs.Waiting.{samples_due, with_due}
 
 -- the samples that fall due up to a later moment of the clock
 abbrev pub due_at : {S : Type 0} → (clock : ℕ) → Lagging S → ℕ
-due_at clock bus = clock / 32 - bus.machine.clock / 32
+due_at clock bus = samples_due bus.machine.clock clock
 
 -- the bus at a later moment of the clock with so many calls: the timers ticked, and the samples that fell due are pending
 abbrev pub caught_up : {S : Type 0} → ChipMeaning S → (clock calls : ℕ) → Lagging S → Lagging S

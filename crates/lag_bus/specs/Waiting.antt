@@ -24,9 +24,13 @@ only_looks reach io at = not (at == 0xF3) && not (may_be_written reach at) && co
 abbrev pub byte_seen : {S : Type 0} → ChipMeaning S → Lagging S → (at : ℕ) → Option ℕ
 byte_seen chip bus at = if only_looks bus.book.reach bus.machine.io at then Some (bus_answer chip bus.machine at) else None
 
+-- the samples that fall due from one moment of the clock to a later one
+abbrev pub samples_due : (from to : ℕ) → ℕ
+samples_due from to = to / 32 - from / 32
+
 -- the samples that fall due in some cycles
 abbrev pub samples_in : (clock cycles : ℕ) → ℕ
-samples_in clock cycles = (clock + cycles) / 32 - clock / 32
+samples_in clock cycles = samples_due clock (clock + cycles)
 
 -- The bus at a later moment of the clock, at which so many samples more are pending: the machine has what they leave and emit, as it always has.
 abbrev pub with_due : {S : Type 0} → ChipMeaning S → Lagging S → (due clock : ℕ) → Io → (calls : ℕ) → Lagging S

@@ -1,6 +1,7 @@
 // The clock, the calls of the bus, and the ports and timers at the clock, whose ticks are done where they are looked at or changed, and where
 // the bus itself passes cycles. Its small calls are in line with those of the bus.
-ghost use Rattle.std.specs.Prelude.{◌≡◌, ◌+◌, ◌-◌, ◌<◌, ◌≤◌, ◌^◌};
+ghost use Rattle.std.specs.Prelude.{◌≡◌, ◌+◌, ◌-◌, ◌<◌, ◌≤◌};
+ghost use Rattle.ports_timers.specs.Limits.{clock_limit};
 ghost use Rattle.ports_timers.specs.Io.{read_answer, after_read, after_write, after_ticks_of};
 ghost use Rattle.lag_bus.specs.Clocked.{clocked_after};
 
@@ -19,7 +20,8 @@ pub struct ClockedIo {
 }
 
 impl Model for ClockedIo {
-    ghost use Rattle.std.specs.Prelude.{◌-◌, ◌<◌, ◌≤◌, ◌^◌};
+    ghost use Rattle.std.specs.Prelude.{◌-◌, ◌<◌, ◌≤◌};
+    ghost use Rattle.ports_timers.specs.Limits.{clock_limit};
     ghost use Rattle.ports_timers.specs.Io.{after_ticks_of};
     ghost use Rattle.lag_bus.specs.Clocked.{Clocked};
 
@@ -27,14 +29,14 @@ impl Model for ClockedIo {
 
     ghost view = { λ c. record { io = after_ticks_of c.io c.ticked (c.clock - c.ticked); clock = c.clock; calls = c.calls } };
 
-    ghost invariant = { λ c. (c.ticked ≤ c.clock) × (c.clock < 2 ^ 40) };
+    ghost invariant = { λ c. (c.ticked ≤ c.clock) × (c.clock < clock_limit) };
 }
 
 impl ClockedIo {
     /// The ports and timers at a moment of the clock, and no calls.
     #[tactic(auto, using(crate::proofs::LateTicks::no_ticks))]
     pub fn new(io: Io, clock: u64) -> Self
-        requires { clock < 2 ^ 40 }
+        requires { clock < clock_limit }
         ensures { result ≡ record { io = io; clock = clock; calls = 0 } }
     {
         ClockedIo {
@@ -49,7 +51,7 @@ impl ClockedIo {
     #[inline(always)]
     pub fn clock(&self) -> u64
         ensures clock { result ≡ self.now.clock }
-        ensures fits { result < 2 ^ 40 }
+        ensures fits { result < clock_limit }
     {
         self.clock
     }
@@ -76,7 +78,7 @@ impl ClockedIo {
     #[tactic(auto, using(crate::proofs::LateTicks::ticks_between))]
     pub fn catch_up(&mut self, clock: u64, calls: u8)
         requires later { self.old.clock ≤ clock }
-        requires fits { clock < 2 ^ 40 }
+        requires fits { clock < clock_limit }
         ensures { self.new ≡ record {
           io = after_ticks_of self.old.io self.old.clock (clock - self.old.clock);
           clock = clock;
@@ -99,7 +101,7 @@ impl ClockedIo {
     #[tactic(auto, using(crate::proofs::LateTicks::ticks_to_come))]
     pub fn pass(&mut self, cycles: u8)
         requires calls { self.old.calls < 255 }
-        requires clock { self.old.clock + cycles < 2 ^ 40 }
+        requires clock { self.old.clock + cycles < clock_limit }
         ensures { self.new ≡ record (clocked_after cycles self.old) { calls = self.old.calls + 1 } }
     {
         self.tick();
@@ -120,7 +122,7 @@ impl ClockedIo {
     /// Lets some cycles pass.
     #[tactic(auto, using(crate::proofs::LateTicks::ticks_to_come))]
     pub fn wait(&mut self, cycles: u64)
-        requires { self.old.clock + cycles < 2 ^ 40 }
+        requires { self.old.clock + cycles < clock_limit }
         ensures { self.new ≡ clocked_after cycles self.old }
     {
         self.clock += cycles;

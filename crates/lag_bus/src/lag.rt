@@ -434,6 +434,7 @@ impl<C: Chip> BehindBus for LagBus<C> {
         32 * (self.time.clock() / 32 + to_come)
     }
 
+    // In line with the loop over steps, which asks it where the room for calls is filled.
     #[inline]
     fn begin_calls_anew(&mut self) -> bool {
         if !self.late.is_drained() {

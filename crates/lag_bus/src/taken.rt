@@ -53,6 +53,7 @@ impl TakenReach {
     }
 
     /// The reach.
+    // In line with what asks for it: a field is copied.
     #[inline]
     pub fn reach(&self) -> Option<ReachPages>
         ensures { result ≡ self.now }
@@ -69,6 +70,7 @@ impl TakenReach {
     }
 
     /// Drops the reach, so that it is taken anew.
+    // In line with writes and batches: where none was taken it is one test.
     #[inline]
     pub fn forget(&mut self)
         ensures { self.new ≡ None }
