@@ -5,11 +5,12 @@ ghost use Rattle.input_files.specs.Reading.{bytes_in, Reads, input_limit, wave_l
 
 use command_frame::Refusal;
 use snd_host::{Host, ReadRefusal, read_whole};
+use spc_form::GREATEST_LENGTH;
 use std::alloc::Global;
 use std::marker::Model;
 
-/// The greatest length of most inputs.
-pub const INPUT_LIMIT: usize = 1048576;
+/// The greatest length of most inputs, that of an SPC file.
+pub const INPUT_LIMIT: usize = GREATEST_LENGTH;
 
 /// The greatest length of a sound file that is to be encoded.
 pub const WAVE_LIMIT: usize = 16777216;
