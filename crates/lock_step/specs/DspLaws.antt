@@ -1,5 +1,5 @@
 -- The S-DSP keeps what each chip keeps.
-use Rattle.std.proofs.Common.{◌≡◌, ℕ, ◌+◌, ◌%◌, ◌==◌, nat_le, List, [], ◌∷◌, pos, map, Bool, true, false, if◌then◌else◌, length, refl, ap, ◌∙◌, arith}
+use Rattle.std.proofs.Common.{◌≡◌, ℕ, ◌+◌, nat_le, List, [], ◌∷◌, pos, map, Bool, true, false, if◌then◌else◌, length, refl, ap, ◌∙◌, arith}
 use Rattle.std.proofs.lemmas.Bool.{eq-eqb}
 use Rattle.std.proofs.lemmas.List.{length-map}
 use Rattle.voice_unit.specs.declared.interface.VoiceOut.{VoiceOut}
