@@ -190,39 +190,56 @@ fn send_on<C: Chip>(
     Ok((render.is_done(), render.chip().sample(), render.total()))
 }
 
-/// Sends a render over a chip to sample 3, on to 8, back to 3 and to 8 again.
+/// Sends a render of three samples to its end, on to sample 8, back to 3 and to 8 again.
 fn go_back_and_on<C: Chip>(
     alloc: Global,
-    file: &SpcFile,
-    chip: C,
-) -> Result<(Vec<Frame>, [(bool, u32, u64); 3]), Fail>
-    requires sample { C.sample chip ≡ 0 }
-    requires batches { C.batches chip ≡ 0 }
-{
-    let image = vec![in alloc; 0u8; 0x10000]?;
-    let mut memory = Aram::from_image(alloc, &image)?;
-    let mut frames = Vec::new(alloc);
-    let mut render = Render::open(alloc, file, chip, 3, 0)?;
-    let third = send_on(alloc, &mut render, 3, &mut frames)?;
+    render: &mut Render<C>,
+    memory: &mut Aram,
+    frames: &mut Vec<Frame>,
+) -> Result<[(bool, u32, u64); 3], Fail> {
+    let third = send_on(alloc, render, 3, frames)?;
     if !render.is_done() {
-        return Ok((frames, [third; 3]));
+        return Ok([third; 3]);
     }
     memory.copy_from(render.memory());
     let saved = render.save();
-    let eighth = send_on(alloc, &mut render, 8, &mut frames)?;
+    let eighth = send_on(alloc, render, 8, frames)?;
     if render.is_done() {
-        render.load(&saved, &memory);
+        render.load(&saved, memory);
     }
-    let again = send_on(alloc, &mut render, 8, &mut frames)?;
-    Ok((frames, [third, eighth, again]))
+    let again = send_on(alloc, render, 8, frames)?;
+    Ok([third, eighth, again])
+}
+
+/// The same over a chip, from its opening on.
+fn go_back_and_on_over<C: Chip>(
+    alloc: Global,
+    file: &SpcFile,
+    chip: C,
+    memory: &mut Aram,
+    frames: &mut Vec<Frame>,
+) -> Result<[(bool, u32, u64); 3], Fail>
+    requires sample { C.sample chip ≡ 0 }
+    requires batches { C.batches chip ≡ 0 }
+{
+    let mut render = Render::open(alloc, file, chip, 3, 0)?;
+    go_back_and_on(alloc, &mut render, memory, frames)
+}
+
+/// A memory of zeros.
+fn zeros(alloc: Global) -> Result<Aram, Fail> {
+    let image = vec![in alloc; 0u8; 0x10000]?;
+    Ok(Aram::from_image(alloc, &image)?)
 }
 
 /// A render goes from sample 3 to 8, back to 3 and to 8 again. Its chip makes 13 samples in all.
 #[test]
 fn a_render_is_saved_loaded_and_sent_on(rt: HostRuntime) -> Result<(), Fail> {
+    let mut frames = Vec::new(rt.alloc());
+    let mut memory = zeros(rt.alloc())?;
     let playing = file(rt.alloc(), &SOUND, &[])?;
     let chip = chip_of(rt.alloc(), &playing)?;
-    let (frames, told) = go_back_and_on(rt.alloc(), &playing, chip)?;
+    let told = go_back_and_on_over(rt.alloc(), &playing, chip, &mut memory, &mut frames)?;
     assert!(rt; told == [(true, 3, 3), (true, 8, 8), (true, 8, 13)]);
     assert!(rt; frames.as_slice() == WANTED.as_slice());
     Ok(())
