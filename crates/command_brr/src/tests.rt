@@ -1,19 +1,11 @@
 // Runs of `brr` over a host in memory.
 use crate::brr;
-use command_tests::{Outcome, ROOM, host_with};
+use command_tests::{BLOCK, BLOCK_WAV, Outcome, ROOM, host_with};
 use status_lines::Status;
 use std::alloc::Global;
 use std::test::Fail;
 
-/// One block: its first digit is 1 at shift 12, the others are 0.
-const BLOCK: [u8; 9] = [0xc1, 0x10, 0, 0, 0, 0, 0, 0, 0];
-
-/// The 16 samples of that block: 4096, and then zeros.
-const BLOCK_WAV: [u8; 76] =
-    *b"RIFF\x44\0\0\0WAVEfmt \x10\0\0\0\x01\0\x01\0\0\x7d\0\0\0\xfa\0\0\x02\0\x10\0data\x20\0\0\0\
-    \0\x10\0\0\0\0\0\0\0\0\0\0\0\0\0\0\0\0\0\0\0\0\0\0\0\0\0\0\0\0\0\0";
-
-/// What is reported on that block.
+/// What is reported on the block.
 const BLOCK_REPORT: &str = "blocks 1 samples 16\n";
 
 /// Decodes an input, where the calls of these numbers fail.
@@ -25,8 +17,8 @@ fn decode_file(alloc: Global, input: &[u8], failing: &[u32]) -> Result<Outcome, 
 
 #[test]
 fn one_block_is_decoded(rt: HostRuntime) -> Result<(), Fail> {
-    let outcome = decode_file(rt.alloc(), &BLOCK, &[])?;
-    assert!(rt; outcome.is_done(&BLOCK_WAV, BLOCK_REPORT));
+    let outcome = decode_file(rt.alloc(), BLOCK, &[])?;
+    assert!(rt; outcome.is_done(BLOCK_WAV, BLOCK_REPORT));
     Ok(())
 }
 
@@ -85,14 +77,14 @@ fn other_lengths_are_refused(rt: HostRuntime) -> Result<(), Fail> {
 #[test]
 fn each_call_of_the_host_may_fail(rt: HostRuntime) -> Result<(), Fail> {
     // The input is opened and read twice; then the output is created, written and ended, and the report is written.
-    let whole = decode_file(rt.alloc(), &BLOCK, &[])?;
+    let whole = decode_file(rt.alloc(), BLOCK, &[])?;
     assert!(rt; whole.calls() == 7);
     for call in 0..7 {
-        let outcome = decode_file(rt.alloc(), &BLOCK, &[call])?;
+        let outcome = decode_file(rt.alloc(), BLOCK, &[call])?;
         let holds = if call < 3 {
             outcome.is_unread(call)
         } else {
-            outcome.is_cut_off(&BLOCK_WAV, &[], BLOCK_REPORT)
+            outcome.is_cut_off(BLOCK_WAV, &[], BLOCK_REPORT)
                 && (outcome.first().len() == 76) == (call > 4)
         };
         assert!(rt; holds, "at {call}");

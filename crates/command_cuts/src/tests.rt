@@ -1,21 +1,13 @@
 // Lists of cuts over a host in memory.
 use crate::cuts;
 use command_tests::{
-    FIVE, Frames, MEMORY, Outcome, Pieces, ROOM, file_of, host_with, straight_table, wave_of,
+    ENDS_THE_BLOCK, FIVE, Frames, MEMORY, Outcome, Pieces, ROOM, TAGS, file_of, host_with,
+    straight_table, wave_of,
 };
 use status_lines::Status;
 use std::alloc::Global;
 use std::process::Abort;
 use std::test::Fail;
-
-/// A program that waits for 63 samples, and then ends the block that voice 0 repeats.
-const ENDS_THE_BLOCK: Pieces = &[(
-    MEMORY + 0x0400,
-    b"\xcd\xcb\x1d\x00\x00\xd0\xfb\xe8\xc1\xc5\x00\x06\x2f\xfe",
-)];
-
-/// Tags: a second, and a fade of a millisecond.
-const TAGS: Pieces = &[(0x23, b"\x1a"), (0xa9, b"001"), (0xac, b"00001")];
 
 /// A program that goes round the pages from 10h on and changes a byte of each, and counts its steps in page 0.
 const CHANGES_241_PAGES: Pieces = &[(

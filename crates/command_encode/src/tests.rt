@@ -1,15 +1,11 @@
 // Runs of `encode` over a host in memory.
 use crate::encode;
-use command_tests::{Outcome, ROOM, host_with};
+use command_tests::{MONO, Outcome, ROOM, host_with};
 use status_lines::Status;
 use std::alloc::Global;
 use std::test::Fail;
 
-/// What a file of one channel begins with, whose samples go on to its end.
-const MONO: [u8; 44] =
-    *b"RIFF\xff\xff\xff\xffWAVEfmt \x10\0\0\0\x01\0\x01\0\0\x7d\0\0\0\xfa\0\0\x02\0\x10\0data\xff\xff\xff\xff";
-
-/// The same with two channels.
+/// `MONO` with two channels.
 const STEREO: [u8; 44] =
     *b"RIFF\xff\xff\xff\xffWAVEfmt \x10\0\0\0\x01\0\x02\0\0\x7d\0\0\0\xfa\0\0\x02\0\x10\0data\xff\xff\xff\xff";
 
@@ -91,7 +87,7 @@ const ENCODED: &[Encoded] = &[
 #[test]
 fn each_sound_has_its_blocks(rt: HostRuntime) -> Result<(), Fail> {
     for row in ENCODED {
-        let outcome = encode_file(rt.alloc(), row.looped, &MONO, row.samples, row.length, &[])?;
+        let outcome = encode_file(rt.alloc(), row.looped, MONO, row.samples, row.length, &[])?;
         assert!(rt; outcome.is_done(row.blocks, row.report), "{}", row.report);
     }
     Ok(())
@@ -106,19 +102,19 @@ const REFUSED: &[(&[u8], usize, Status, &str)] = &[
         "spcwave: not a mono 16-bit PCM WAV\n",
     ),
     (
-        &MONO,
+        MONO,
         44,
         Status::EncodeSize,
         "spcwave: 0 samples cannot be encoded\n",
     ),
     (
-        &MONO,
+        MONO,
         233006,
         Status::EncodeSize,
         "spcwave: 116481 samples cannot be encoded\n",
     ),
     (
-        &MONO,
+        MONO,
         16777217,
         Status::InputTooLong,
         "spcwave: input is too long\n",
@@ -152,9 +148,9 @@ fn may_end_so(outcome: &Outcome, call: u32) -> bool {
 
 #[test]
 fn each_call_of_the_host_may_fail(rt: HostRuntime) -> Result<(), Fail> {
-    let calls = encode_file(rt.alloc(), false, &MONO, &STEEP, 76, &[])?.calls();
+    let calls = encode_file(rt.alloc(), false, MONO, &STEEP, 76, &[])?.calls();
     for call in 0..calls {
-        let outcome = encode_file(rt.alloc(), false, &MONO, &STEEP, 76, &[call])?;
+        let outcome = encode_file(rt.alloc(), false, MONO, &STEEP, 76, &[call])?;
         assert!(rt; may_end_so(&outcome, call), "at {call}");
     }
     Ok(())

@@ -7,7 +7,8 @@ use crate::test_support::{
 };
 use crate::{RenderOptions, render};
 use command_tests::{
-    DSP, FIVE, Frames, MEMORY, Outcome, Pieces, ROOM, file_of, host_with, straight_table, wave_of,
+    DSP, ENDS_THE_BLOCK, FIVE, Frames, MEMORY, Outcome, Pieces, ROOM, TAGS, file_of, host_with,
+    straight_table, wave_of,
 };
 use status_lines::Status;
 use std::alloc::Global;
@@ -37,9 +38,6 @@ const ECHO: Pieces = &[
     (DSP + 0x7f, b"\x7f"),
 ];
 
-/// Tags: a second, and a fade of a millisecond.
-const TAGS: Pieces = &[(0x23, b"\x1a"), (0xa9, b"001"), (0xac, b"00001")];
-
 /// Three batches of 64 samples, and one of those that are left.
 const FOUR_BATCHES: &str = "batches 4 register 0 memory 0 echo 0 full 3 events 0 end 1\n";
 
@@ -56,12 +54,6 @@ const APART: Pieces = &[
     (DSP + 0x6c, b"\x00\x05"),
     (MEMORY + 0x0400, b"\xc5\x00\x07\x2f\xfb"),
 ];
-
-/// With 63 samples pending, the program ends the block that voice 0 repeats.
-const HEADER: Pieces = &[(
-    MEMORY + 0x0400,
-    b"\xcd\xcb\x1d\x00\x00\xd0\xfb\xe8\xc1\xc5\x00\x06\x2f\xfe",
-)];
 
 /// What is heard.
 const HEARD: &[Heard] = &[
@@ -156,7 +148,7 @@ const HEARD: &[Heard] = &[
     Heard {
         shows: "the voice ends after sample 63, as the program has it",
         sound: FIVE,
-        more: HEADER,
+        more: ENDS_THE_BLOCK,
         samples: 70,
         frames: &[(6, 0), (58, 4000), (6, 0)],
         batches: "batches 2 register 0 memory 1 echo 0 full 0 events 0 end 1\n",

@@ -5,17 +5,12 @@ ghost use Rattle.cut_form.specs.Checkpoints.{fewest_pages};
 
 use crate::serve;
 use command_tests::{
-    FIVE, MEMORY, Outcome, Pieces, ROOM, file_of, host_with, straight_table, wave_of,
+    ENDS_THE_BLOCK, FIVE, MEMORY, Outcome, Pieces, ROOM, file_of, host_with, straight_table,
+    wave_of,
 };
 use status_lines::Status;
 use std::alloc::Global;
 use std::test::Fail;
-
-/// A program that waits for 63 samples, and then ends the block that voice 0 repeats.
-const ENDS_THE_BLOCK: Pieces = &[(
-    MEMORY + 0x0400,
-    b"\xcd\xcb\x1d\x00\x00\xd0\xfb\xe8\xc1\xc5\x00\x06\x2f\xfe",
-)];
 
 /// A program that counts at 0700h, 224 times in 70 samples.
 const COUNTS: Pieces = &[(MEMORY + 0x0400, b"\xac\x00\x07\x2f\xfb")];

@@ -37,8 +37,17 @@ pub const FIVE: Pieces = &[
     (DSP + 0x6c, b"\x20"),
 ];
 
+/// A program that waits for 63 samples, and then ends the block that voice 0 repeats.
+pub const ENDS_THE_BLOCK: Pieces = &[(
+    MEMORY + 0x0400,
+    b"\xcd\xcb\x1d\x00\x00\xd0\xfb\xe8\xc1\xc5\x00\x06\x2f\xfe",
+)];
+
+/// Tags: a second, and a fade of a millisecond.
+pub const TAGS: Pieces = &[(0x23, b"\x1a"), (0xa9, b"001"), (0xac, b"00001")];
+
 /// Puts pieces of bytes at their places, as far as there are such places.
-fn put_all(image: &mut [u8], pieces: Pieces) {
+fn put_all(image: &mut [u8], pieces: &[(usize, &[u8])]) {
     for (place, bytes) in pieces {
         let mut at = *place;
         for byte in *bytes {
@@ -54,8 +63,8 @@ fn put_all(image: &mut [u8], pieces: Pieces) {
 pub fn file_of(
     alloc: Global,
     length: usize,
-    pieces: Pieces,
-    more: Pieces,
+    pieces: &[(usize, &[u8])],
+    more: &[(usize, &[u8])],
 ) -> Result<Vec<u8>, OutOfMemory> {
     let mut image = vec![in alloc; 0u8; length]?;
     put_all(&mut image, BASE);

@@ -6,7 +6,7 @@ use std::alloc::Global;
 pub type Frames = &'static [(u32, i16)];
 
 /// The bytes of these frames.
-pub fn frame_bytes(alloc: Global, frames: &[(u32, i16)]) -> Result<Vec<u8>, OutOfMemory> {
+fn frame_bytes(alloc: Global, frames: &[(u32, i16)]) -> Result<Vec<u8>, OutOfMemory> {
     let mut bytes = Vec::new(alloc);
     for (count, side) in frames {
         for _ in 0..*count {

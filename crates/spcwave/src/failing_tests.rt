@@ -1,6 +1,6 @@
 // Each call of each command may fail.
-use crate::test_support::{MONO, list_words, run_failing};
-use command_tests::{FIVE, Frames, Outcome, file_of, straight_table, wave_of};
+use crate::test_support::{list_words, run_failing};
+use command_tests::{FIVE, Frames, MONO, Outcome, STEADY_WAV, file_of, straight_table, wave_of};
 use std::alloc::Global;
 use std::test::Fail;
 
@@ -53,11 +53,6 @@ impl Command {
 const SILENT_WAV: &[u8] =
     b"RIFF\x44\0\0\0WAVEfmt \x10\0\0\0\x01\0\x01\0\0\x7d\0\0\0\xfa\0\0\x02\0\x10\0data\x20\0\0\0\
     \0\0\0\0\0\0\0\0\0\0\0\0\0\0\0\0\0\0\0\0\0\0\0\0\0\0\0\0\0\0\0\0";
-
-/// Sixteen samples of 4096.
-const STEADY_WAV: &[u8] =
-    b"RIFF\x44\0\0\0WAVEfmt \x10\0\0\0\x01\0\x01\0\0\x7d\0\0\0\xfa\0\0\x02\0\x10\0data\x20\0\0\0\
-    \0\x10\0\x10\0\x10\0\x10\0\x10\0\x10\0\x10\0\x10\0\x10\0\x10\0\x10\0\x10\0\x10\0\x10\0\x10\0\x10";
 
 /// The commands, but for those that only tell a text.
 const COMMANDS: &[Command] = &[

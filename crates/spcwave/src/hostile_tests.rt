@@ -1,10 +1,11 @@
 // Damaged files, awkward programs and outputs without room: each run over a host in memory, and over one that gives and
 // takes one byte at a time.
 use crate::test_support::{
-    Dripped, MONO, drips_alike, list_words, render_straight, run_dripping, run_over,
+    Dripped, drips_alike, list_words, render_straight, run_dripping, run_over,
 };
 use command_tests::{
-    DSP, FIVE, Frames, MEMORY, Outcome, Pieces, ROOM, file_of, frame_bytes, straight_table, wave_of,
+    DSP, ENDS_THE_BLOCK, FIVE, Frames, MEMORY, MONO, Outcome, Pieces, ROOM, file_of,
+    straight_table, wave_of,
 };
 use status_lines::Status;
 use std::alloc::Global;
@@ -38,19 +39,28 @@ impl Hostile {
         }
     }
 
-    /// Whether a run ended as this row says, with these frames after the header of the sound file.
-    fn is_ended_so(&self, outcome: &Outcome, frames: &[u8]) -> bool {
+    /// The first output: the sound file of this row's frames, or nothing where the row is refused.
+    fn first(&self, alloc: Global) -> Result<Vec<u8>, Fail> {
+        if self.status == Status::Ok {
+            Ok(wave_of(alloc, self.frames)?)
+        } else {
+            Ok(Vec::new(alloc))
+        }
+    }
+
+    /// Whether a run ended as this row says, with this first output.
+    fn is_ended_so(&self, outcome: &Outcome, first: &[u8]) -> bool {
         outcome.status() == self.status
             && outcome.report() == self.report.as_bytes()
             && outcome.complaint() == self.complaint.as_bytes()
-            && outcome.first().get(44..).unwrap_or(&[]) == frames
+            && outcome.first() == first
             && outcome.second() == self.trace.as_bytes()
     }
 
-    /// Whether a run ended as this row says, with its frames.
+    /// Whether a run ended as this row says, with its first output.
     fn is_ended(&self, alloc: Global, outcome: &Outcome) -> Result<bool, Fail> {
-        let frames = frame_bytes(alloc, self.frames)?;
-        Ok(self.is_ended_so(outcome, frames.as_slice()))
+        let first = self.first(alloc)?;
+        Ok(self.is_ended_so(outcome, first.as_slice()))
     }
 
     /// Whether it ends so over both hosts with these inputs.
@@ -258,10 +268,7 @@ const WAITING: &[Hostile] = &[
         words: &["render", "SPC", "TABLE", "OUT", "--samples", "70"],
         length: 66048,
         sound: FIVE,
-        more: &[(
-            MEMORY + 0x0400,
-            b"\xcd\xcb\x1d\x00\x00\xd0\xfb\xe8\xc1\xc5\x00\x06\x2f\xfe",
-        )],
+        more: ENDS_THE_BLOCK,
         table: None,
         status: Status::Ok,
         report: "samples 70\nbatches 2 register 0 memory 1 echo 0 full 0 events 0 end 1\n",

@@ -7,10 +7,6 @@ use status_lines::Status;
 use std::alloc::Global;
 use std::test::Fail;
 
-/// What a file of one channel begins with, whose samples go on to its end.
-pub const MONO: &[u8] =
-    b"RIFF\xff\xff\xff\xffWAVEfmt \x10\0\0\0\x01\0\x01\0\0\x7d\0\0\0\xfa\0\0\x02\0\x10\0data\xff\xff\xff\xff";
-
 /// Adds these words.
 fn add_words(alloc: Global, given: &mut Vec<String>, words: &[&str]) -> Result<(), Fail> {
     for word in words {

@@ -1,14 +1,11 @@
 // Words, and one run of each command that they say.
 use crate::given::Given;
 use crate::test_support::{give, list_words, run_failing, run_words, serve_free};
-use command_tests::Outcome;
+use command_tests::{BLOCK, Outcome};
 use status_lines::Status;
 use std::alloc::Global;
 use std::process::Abort;
 use std::test::Fail;
-
-/// One block: its first digit is 1 at shift 12, the others are 0.
-const BLOCK: [u8; 9] = [0xc1, 0x10, 0, 0, 0, 0, 0, 0, 0];
 
 /// Whether the words were found to be no command, and nothing was read.
 fn is_usage(outcome: &Outcome) -> bool {
@@ -96,7 +93,7 @@ const WORDS: &[&[&str]] = &[
 #[test]
 fn other_words_are_not_understood(rt: HostRuntime) -> Result<(), Fail> {
     for words in WORDS {
-        let outcome = run_words(rt.alloc(), words, &BLOCK)?;
+        let outcome = run_words(rt.alloc(), words, BLOCK)?;
         assert!(rt; is_usage(&outcome), "{words:?}");
     }
     Ok(())
@@ -140,7 +137,7 @@ fn look_at(rt: &impl Abort, outcome: &Outcome, words: &[&str], status: Status, r
 #[test]
 fn each_word_says_its_command(rt: HostRuntime) -> Result<(), Fail> {
     for (words, wanted, report) in COMMANDS {
-        let outcome = run_words(rt.alloc(), words, &BLOCK)?;
+        let outcome = run_words(rt.alloc(), words, BLOCK)?;
         look_at(&rt, &outcome, words, *wanted, report);
     }
     Ok(())
