@@ -1,7 +1,7 @@
 // Runs of `rip` over a host in memory.
 use crate::command::entry_name;
 use crate::rip;
-use command_tests::{DSP, FIVE, MEMORY, Outcome, Pieces, file_of};
+use command_tests::{DSP, FIVE, MEMORY, Outcome, Pieces, STEADY_WAV, file_of};
 use snd_host::MemHost;
 use status_lines::Status;
 use std::alloc::Global;
@@ -39,11 +39,6 @@ fn rip_file(
     Ok(Outcome::of(refusal, host))
 }
 
-/// Sixteen samples of 4096.
-const STEADY_WAV: [u8; 76] =
-    *b"RIFF\x44\0\0\0WAVEfmt \x10\0\0\0\x01\0\x01\0\0\x7d\0\0\0\xfa\0\0\x02\0\x10\0data\x20\0\0\0\
-    \0\x10\0\x10\0\x10\0\x10\0\x10\0\x10\0\x10\0\x10\0\x10\0\x10\0\x10\0\x10\0\x10\0\x10\0\x10\0\x10";
-
 /// The loop word of the first entry is its start.
 const LOOPED: Pieces = &[(MEMORY + 0x0202, b"\x00\x05")];
 
@@ -60,7 +55,7 @@ fn one_entry_that_loops_outside_or_to_itself(rt: HostRuntime) -> Result<(), Fail
         ),
     ] {
         let outcome = rip_file(rt.alloc(), (FIVE, more), None, &[], (1, 76))?;
-        assert!(rt; outcome.is_done(&STEADY_WAV, report));
+        assert!(rt; outcome.is_done(STEADY_WAV, report));
     }
     Ok(())
 }
@@ -95,11 +90,18 @@ const CHANGED: Pieces = &[
     (DSP + 0x5d, b"\x02"),
 ];
 
+/// Its 32 samples as a sound file. They, and the numbers of the report, were worked out by a decoder and an encoder that were written from
+/// the rules of BRR alone, in another language.
+const CHANGED_WAV: &[u8] =
+    b"RIFF\x64\0\0\0WAVEfmt \x10\0\0\0\x01\0\x01\0\0\x7d\0\0\0\xfa\0\0\x02\0\x10\0data\x40\0\0\0\
+    \x00\x07\x90\x0d\xb6\x0d\xda\x0e\xec\x10\xdc\x13\x9e\x12\x74\x11\x5c\x10\x56\x0f\x60\x0e\x7a\x0d\xa2\x0c\xd6\x0b\x18\x0c\x56\x0b\
+    \x42\x0b\xd2\x0a\x12\x0a\x0c\x09\xcc\x07\x60\x06\xd6\x03\x54\x01\xee\xfe\xb4\xfc\xb6\xfa\x00\xf9\x9c\xf7\x90\xf6\xde\xf5\x86\xf6";
+
 #[test]
 fn a_sample_that_is_encoded_again_with_errors(rt: HostRuntime) -> Result<(), Fail> {
     let outcome = rip_file(rt.alloc(), (CHANGED, &[]), None, &[], (1, 108))?;
-    let report = b"entry 00 start 0500 blocks 2 loop 16 worst 438 squares 1236604\nentries 1\n";
-    look_at(&rt, &outcome, report, 108);
+    let report = "entry 00 start 0500 blocks 2 loop 16 worst 438 squares 1236604\nentries 1\n";
+    assert!(rt; outcome.is_done(CHANGED_WAV, report));
     Ok(())
 }
 
@@ -129,7 +131,7 @@ fn rip_three(alloc: Global, failing: &[u32]) -> Result<Outcome, Fail> {
 fn first_lawless_call(alloc: Global, calls: u32) -> Result<Option<u32>, Fail> {
     for call in 0..calls {
         let outcome = rip_three(alloc, &[call])?;
-        let cut = outcome.is_cut_off(&STEADY_WAV, &STEADY_WAV, THREE_REPORT);
+        let cut = outcome.is_cut_off(STEADY_WAV, STEADY_WAV, THREE_REPORT);
         if !outcome.is_unread(call) && !cut {
             return Ok(Some(call));
         }
@@ -139,8 +141,8 @@ fn first_lawless_call(alloc: Global, calls: u32) -> Result<Option<u32>, Fail> {
 
 /// Looks at all three, where no call fails.
 fn look_at_whole(rt: &impl Abort, whole: &Outcome) {
-    assert!(rt; whole.is_done(&STEADY_WAV, THREE_REPORT));
-    assert!(rt; whole.second() == STEADY_WAV.as_slice());
+    assert!(rt; whole.is_done(STEADY_WAV, THREE_REPORT));
+    assert!(rt; whole.second() == STEADY_WAV);
 }
 
 #[test]
@@ -164,8 +166,8 @@ fn third_creation(alloc: Global) -> Result<u32, Fail> {
 
 /// Looks at the outputs before the third one, whose creation fails in the call of this number.
 fn look_at_two(rt: &impl Abort, outcome: &Outcome, third: u32) {
-    assert!(rt; outcome.first() == STEADY_WAV.as_slice());
-    assert!(rt; outcome.second() == STEADY_WAV.as_slice());
+    assert!(rt; outcome.first() == STEADY_WAV);
+    assert!(rt; outcome.second() == STEADY_WAV);
     assert!(rt; outcome.report().is_empty() && outcome.calls() == third.wrapping_add(2));
 }
 
