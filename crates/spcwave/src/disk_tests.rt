@@ -1,10 +1,10 @@
-// A render over real files, beside the same over a host in memory.
+// A decoding over real files, whose bytes are known, and a render over them, beside the same over a host in memory.
 ghost use Rattle.std.specs.Prelude.{◌≡◌, [], IfOk};
 ghost use Rattle.snd_host.specs.Memory.{memory_state};
 
 use crate::run::run;
 use crate::test_support::list_words;
-use command_tests::{Outcome, straight_table};
+use command_tests::{BLOCK, BLOCK_WAV, Outcome, straight_table};
 use disk_host::DiskHost;
 use snd_host::MemHost;
 use status_lines::Status;
@@ -21,13 +21,22 @@ const TRACE_ROOM: usize = 250000;
 /// The least number of bytes of that trace, whose lines have 18 or more: more than the 131,072 of a piece.
 const TRACE_LEAST: usize = 8000 * 18;
 
-/// The names of real files, which all begin alike.
+/// The names of the real files of a render, which all begin alike.
 #[derive(Drop)]
 struct Names {
     tune: String,
     table: String,
     wave: String,
     trace: String,
+    report: String,
+    complaint: String,
+}
+
+/// The names of the real files of a decoding.
+#[derive(Drop)]
+struct BlockNames {
+    block: String,
+    wave: String,
     report: String,
     complaint: String,
 }
@@ -55,6 +64,15 @@ fn names_of(alloc: Global, front: &str) -> Result<Names, Fail> {
     })
 }
 
+fn block_names_of(alloc: Global, front: &str) -> Result<BlockNames, Fail> {
+    Ok(BlockNames {
+        block: name_of(alloc, front, "-block.brr")?,
+        wave: name_of(alloc, front, "-block.wav")?,
+        report: name_of(alloc, front, "-block.report")?,
+        complaint: name_of(alloc, front, "-block.complaint")?,
+    })
+}
+
 /// The words of a render with a trace of all voices, which comes in several pieces.
 fn render_words(alloc: Global, names: &Names) -> Result<Vec<String>, Fail> {
     let words = [
@@ -75,17 +93,34 @@ fn render_words(alloc: Global, names: &Names) -> Result<Vec<String>, Fail> {
 /// What the trace begins with: all voices are keyed in the first sample.
 const KEYED: &[u8] = b"V 0 0 0 0 0000 k-\nV 0 1 0 0 0000 k-\nV 0 2 0 0 0000 k-\n";
 
-/// Runs these words over real files, the report and the complaint among them.
+/// Runs these words over real files, the report and the complaint of these names among them.
 fn run_on_disk<R: Files>(
+    alloc: Global,
+    files: &R,
+    words: &[String],
+    report: &str,
+    complaint: &str,
+) -> Result<Status, Fail> {
+    let report = fs::create(files, report)?;
+    let complaint = fs::create(files, complaint)?;
+    let mut host = DiskHost::new(alloc, files, report, complaint);
+    Ok(run(alloc, words, &mut host))
+}
+
+/// Runs the words of a render, or of what it needs.
+fn run_for_render<R: Files>(
     alloc: Global,
     files: &R,
     names: &Names,
     words: &[String],
 ) -> Result<Status, Fail> {
-    let report = fs::create(files, names.report.as_str())?;
-    let complaint = fs::create(files, names.complaint.as_str())?;
-    let mut host = DiskHost::new(alloc, files, report, complaint);
-    Ok(run(alloc, words, &mut host))
+    run_on_disk(
+        alloc,
+        files,
+        words,
+        names.report.as_str(),
+        names.complaint.as_str(),
+    )
 }
 
 /// Writes the table of straight lines.
@@ -98,13 +133,13 @@ fn write_table<R: Files>(alloc: Global, files: &R, names: &Names) -> Result<(), 
 /// Has the program write the demo file of 7.
 fn write_tune<R: Files>(alloc: Global, files: &R, names: &Names) -> Result<Status, Fail> {
     let words = list_words(alloc, &["demo", "7", names.tune.as_str()])?;
-    run_on_disk(alloc, files, names, words.as_slice())
+    run_for_render(alloc, files, names, words.as_slice())
 }
 
 /// Has it render that file.
 fn render_on_disk<R: Files>(alloc: Global, files: &R, names: &Names) -> Result<Status, Fail> {
     let words = render_words(alloc, names)?;
-    run_on_disk(alloc, files, names, words.as_slice())
+    run_for_render(alloc, files, names, words.as_slice())
 }
 
 /// What the files hold.
@@ -191,5 +226,48 @@ fn a_render_over_real_files_is_that_in_memory(rt: HostRuntime) -> Result<(), Fai
     remove_all(&rt, &names)?;
     let inside = render_inside(alloc, &names, &held)?;
     look_at(&rt, made, ended, &held, &inside);
+    Ok(())
+}
+
+/// Decodes the block of a real file.
+fn decode_on_disk<R: Files>(alloc: Global, files: &R, names: &BlockNames) -> Result<Status, Fail> {
+    fs::write(files, names.block.as_str(), BLOCK)?;
+    let words = list_words(alloc, &["brr", names.block.as_str(), names.wave.as_str()])?;
+    run_on_disk(
+        alloc,
+        files,
+        words.as_slice(),
+        names.report.as_str(),
+        names.complaint.as_str(),
+    )
+}
+
+/// Whether the real files hold the known sound file, its report and no complaint.
+fn hold_the_block<R: Files + AllocGlobal>(files: &R, names: &BlockNames) -> Result<bool, Fail> {
+    Ok(
+        fs::read(files, names.wave.as_str())?.as_slice() == BLOCK_WAV
+            && fs::read(files, names.report.as_str())?.as_slice()
+                == b"blocks 1 samples 16\n".as_slice()
+            && fs::read(files, names.complaint.as_str())?.is_empty(),
+    )
+}
+
+fn remove_block<R: Files>(files: &R, names: &BlockNames) -> Result<(), Fail> {
+    for name in [&names.block, &names.wave, &names.report, &names.complaint] {
+        fs::remove_file(files, name.as_str())?;
+    }
+    Ok(())
+}
+
+/// The known bytes of the sound file are those of the rules, not of a run.
+#[test]
+fn a_block_is_decoded_over_real_files(rt: HostRuntime) -> Result<(), Fail> {
+    let alloc = rt.alloc();
+    let front = front_of(alloc, &rt, std::process::id(rt.process()))?;
+    let names = block_names_of(alloc, front.as_str())?;
+    let ended = decode_on_disk(alloc, &rt, &names)?;
+    let held = hold_the_block(&rt, &names)?;
+    remove_block(&rt, &names)?;
+    assert!(rt; ended == Status::Ok && held);
     Ok(())
 }
