@@ -1,6 +1,7 @@
 use aram_core::{Aram, PageSet, page_of};
 use std::alloc::Global;
 use std::test::Fail;
+use worked_support::has_exactly;
 
 /// A memory whose bytes are all one value.
 fn filled(alloc: Global, value: u8) -> Result<Aram, Fail> {
@@ -49,11 +50,6 @@ fn a_memory_takes_over_another(rt: HostRuntime) -> Result<(), Fail> {
 #[test]
 fn the_page_of_an_address_is_its_high_byte(rt: HostRuntime) {
     assert!(rt; (page_of(0x00FF), page_of(0x0100), page_of(0xFFFF)) == (0x00, 0x01, 0xFF));
-}
-
-/// Whether a set has exactly the pages of these numbers.
-pub fn has_exactly(pages: &PageSet, numbers: &[u8]) -> bool {
-    (0..=255u8).all(|page| pages.has(page) == numbers.contains(&page))
 }
 
 #[test]

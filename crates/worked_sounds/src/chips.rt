@@ -4,13 +4,14 @@ ghost use Rattle.std.specs.Prelude.{◌≤◌};
 
 use crate::sources::{memory_of_a_source, put_all};
 use crate::stage::{SILENCE, Stage, begin_in_silence, have_same_bytes, have_same_registers};
-use aram_core::{Aram, PageSet};
+use aram_core::Aram;
 use dsp_core::Dsp;
 use num_fix::Frame;
 use std::alloc::Global;
 use std::process::Abort;
 use std::test::Fail;
 use trace_form::Record;
+use worked_support::has_exactly;
 
 /// A chip whose voice 0 is set to play one source, with such a KON.
 fn keyed_voice(alloc: Global, key_on: u8) -> Result<Stage, Fail> {
@@ -340,11 +341,6 @@ fn the_echo_goes_round_its_window(rt: HostRuntime) -> Result<(), Fail> {
     play_to(&rt, &mut stage, &[1], 513, 0x800);
     play_to(&rt, &mut stage, &[64; 8], 1025, 0x804);
     Ok(())
-}
-
-/// Whether a set has exactly the pages of these numbers.
-fn has_exactly(pages: &PageSet, numbers: &[u8]) -> bool {
-    (0..=255u8).all(|page| pages.has(page) == numbers.contains(&page))
 }
 
 /// Looks at the pages that the samples to come read and write, and at whether the echo can write what they read.
