@@ -4,13 +4,11 @@ use std::test::Fail;
 // Shift and filter: the least digit under the shifts 12 and 13, and 4096 falling under filter 1.
 #[test]
 fn shifts_and_filters(rt: HostRuntime) -> Result<(), Fail> {
-    let firsts = [
-        kept_sample(0xC0, -8, 0, 0),
-        decode_group(0xC0, 0x80, 0x00, 0, 0)[0],
-        decode_group(0xD0, 0xF7, 0x00, 0, 0)[0],
-        decode_block(b"\xC0\0\0\0\0\0\0\0\x01", 0, 0)[15],
-    ];
-    assert!(rt; firsts == [-32768, -32768, -4096, 4096]);
+    assert!(rt; kept_sample(0xC0, -8, 0, 0) == -32768);
+    assert!(rt; decode_group(0xC0, 0x80, 0x00, 0, 0) == [-32768, 0, 0, 0]);
+    assert!(rt; decode_group(0xD0, 0xF7, 0x00, 0, 0) == [-4096, 0, 0, 0]);
+    let block = decode_block(b"\xC0\0\0\0\0\0\0\0\x01", 0, 0);
+    assert!(rt; block == [0, 0, 0, 0, 0, 0, 0, 0, 0, 0, 0, 0, 0, 0, 0, 4096]);
     let stream = b"\xC0\0\0\0\0\0\0\0\x01\xC4\0\0\0\0\0\0\0\0";
     let samples = decode_stream(rt.alloc(), stream)?;
     assert!(rt; samples.len() == 32);

@@ -17,10 +17,11 @@ fn target_0_means_256(rt: HostRuntime) {
     assert!(rt; io.read(0xFD) == Some(0));
     tick_from(&mut io, 32767, 32768);
     assert!(rt; (io.read(0xFD), io.read(0xFD)) == (Some(1), Some(0)));
-    tick_from(&mut io, 32768, 65536);
+    // 256 ticks more, and one
+    tick_from(&mut io, 32768, 65664);
     let counted = io;
     io.write(0xF1, 0x01);
-    assert!(rt; (io, io.timer0.output) == (counted, 1));
+    assert!(rt; io == counted && (io.timer0.inner, io.timer0.output) == (1, 1));
     io.write(0xF1, 0x00);
     io.write(0xF1, 0x01);
     assert!(rt; (io.timer0.inner, io.timer0.output) == (0, 0));
