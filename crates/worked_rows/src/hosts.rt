@@ -44,10 +44,10 @@ fn an_input_is_read_up_to_its_limit(rt: HostRuntime) -> Result<(), Fail> {
         let mut host = five_bytes(alloc, &[], &[])?;
         match read_whole(alloc, &mut host, name, limit) {
             Ok(bytes) => {
-                assert_eq!(rt; Ok(bytes.len()), wanted, "{name} {limit}");
-                assert_eq!(rt; bytes.as_slice(), b"12345".as_slice());
+                assert!(rt; wanted == Ok(bytes.len()), "{name} {limit}");
+                assert!(rt; bytes.as_slice() == b"12345".as_slice());
             }
-            Err(refusal) => assert_eq!(rt; Err(refusal), wanted, "{name} {limit}"),
+            Err(refusal) => assert!(rt; wanted == Err(refusal), "{name} {limit}"),
         }
     }
     Ok(())
@@ -63,16 +63,14 @@ fn outputs_take_what_they_have_room_for(rt: HostRuntime) -> Result<(), Fail> {
         write_all(&mut host, COMPLAINT, b""),
         write_all(&mut host, COMPLAINT, b"d"),
     ];
-    assert_eq!(rt; notes, [Ok(()), Err(Failed), Ok(()), Err(Failed)]);
-    assert_eq!(rt; host.create("OUT"), Ok(FIRST));
+    assert!(rt; notes == [Ok(()), Err(Failed), Ok(()), Err(Failed)]);
+    assert!(rt; host.create("OUT") == Ok(FIRST));
     let bytes = [write_all(&mut host, FIRST, b"xy"), host.finish(FIRST)];
-    assert_eq!(rt; bytes, [Ok(()), Ok(())]);
-    assert_eq!(rt; host.create("MORE"), Err(Failed));
-    assert_eq!(rt;
-        (host.output(REPORT), host.output(FIRST)),
-        (b"abc".as_slice(), b"xy".as_slice())
-    );
-    assert_eq!(rt; host.calls(), 7);
+    assert!(rt; bytes == [Ok(()), Ok(())]);
+    assert!(rt; host.create("MORE") == Err(Failed));
+    assert!(rt; host.output(REPORT) == b"abc".as_slice());
+    assert!(rt; host.output(FIRST) == b"xy".as_slice());
+    assert!(rt; host.calls() == 7);
     Ok(())
 }
 
@@ -89,9 +87,9 @@ fn second_write(host: &mut MemHost) -> Result<usize, Failed>
 #[test]
 fn a_call_whose_number_is_listed_fails(rt: HostRuntime) -> Result<(), Fail> {
     let mut host = five_bytes(rt.alloc(), &[1], &[3])?;
-    assert_eq!(rt; second_write(&mut host), Err(Failed));
-    assert_eq!(rt; host.calls(), 2);
-    assert_eq!(rt; host.output(REPORT), b"ab".as_slice());
+    assert!(rt; second_write(&mut host) == Err(Failed));
+    assert!(rt; host.calls() == 2);
+    assert!(rt; host.output(REPORT) == b"ab".as_slice());
     Ok(())
 }
 
@@ -100,11 +98,11 @@ fn a_host_may_give_and_take_one_byte_at_a_time(rt: HostRuntime) -> Result<(), Fa
     let alloc = rt.alloc();
     let mut host = DripHost::new(five_bytes(alloc, &[], &[3])?);
     match read_whole(alloc, &mut host, "IN", 5) {
-        Ok(bytes) => assert_eq!(rt; bytes.as_slice(), b"12345".as_slice()),
-        Err(refusal) => assert_eq!(rt; Err(refusal), Ok(())),
+        Ok(bytes) => assert!(rt; bytes.as_slice() == b"12345".as_slice()),
+        Err(refusal) => panic!(rt; "{refusal:?}"),
     }
-    assert_eq!(rt; write_all(&mut host, REPORT, b"abcd"), Err(Failed));
-    assert_eq!(rt; host.inner().output(REPORT), b"abc".as_slice());
-    assert_eq!(rt; host.inner().calls(), 11);
+    assert!(rt; write_all(&mut host, REPORT, b"abcd") == Err(Failed));
+    assert!(rt; host.inner().output(REPORT) == b"abc".as_slice());
+    assert!(rt; host.inner().calls() == 11);
     Ok(())
 }
