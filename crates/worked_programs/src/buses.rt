@@ -1,11 +1,13 @@
 //! Calls of both buses.
 
-use crate::machines::{Emitted, KEYED, SILENCE, SOURCE, chip_of, opening_of};
+use crate::machines::{
+    CountedBus, Emitted, KEYED, SILENCE, SOURCE, open_late, open_plain, opening_of,
+};
 use crate::waits::counts_of;
 use aram_core::Aram;
 use dsp_core::Dsp;
 use gauss_table::GaussTable;
-use sound_bus::{Chip, Counts, DrainedBus, LagBus, PlainBus};
+use sound_bus::{Chip, Counts, DrainedBus};
 use spc700_exec::Bus;
 use std::alloc::Global;
 use std::process::Abort;
@@ -48,42 +50,45 @@ struct Told {
     time: (u32, u8),
 }
 
-/// Calls of the bus that makes each sample at once, over the source and these registers.
-fn call_plain(alloc: Global, registers: &[(usize, u8)], calls: &[Call]) -> Result<Told, Fail> {
+/// Makes calls of a bus, and gives of each what it gave, and the samples that are pending after it.
+fn make_all<B: CountedBus>(
+    alloc: Global,
+    bus: &mut B,
+    calls: &[Call],
+    all: &mut Emitted,
+) -> Result<Vec<(u8, u8)>, Fail> {
     let mut answers = Vec::new(alloc);
-    let mut emitted = Emitted::none(alloc)?;
-    let opening = opening_of(alloc, &SOURCE, registers)?;
-    let chip = chip_of(alloc, &opening)?;
-    let mut bus = PlainBus::open(alloc, opening, chip, 1)?;
     for call in calls {
-        let byte = make(&mut bus, *call, &mut emitted)?;
-        answers.push((byte, bus.pending()))?;
+        let byte = make(bus, *call, all)?;
+        answers.push((byte, bus.waiting()))?;
     }
+    Ok(answers)
+}
+
+/// What comes of calls of a bus.
+fn call_over<B: CountedBus>(alloc: Global, bus: &mut B, calls: &[Call]) -> Result<Told, Fail> {
+    let mut emitted = Emitted::none(alloc)?;
+    let answers = make_all(alloc, bus, calls, &mut emitted)?;
     Ok(Told {
         answers,
         emitted,
-        counts: bus.counts(),
+        counts: bus.batches_of_each(),
         time: (bus.made(), bus.to_sample()),
     })
 }
 
+/// Calls of the bus that makes each sample at once, over the source and these registers.
+fn call_plain(alloc: Global, registers: &[(usize, u8)], calls: &[Call]) -> Result<Told, Fail> {
+    let opening = opening_of(alloc, &SOURCE, registers)?;
+    let mut bus = open_plain(alloc, opening, 1)?;
+    call_over(alloc, &mut bus, calls)
+}
+
 /// Calls of the bus that makes samples late.
 fn call_late(alloc: Global, registers: &[(usize, u8)], calls: &[Call]) -> Result<Told, Fail> {
-    let mut answers = Vec::new(alloc);
-    let mut emitted = Emitted::none(alloc)?;
     let opening = opening_of(alloc, &SOURCE, registers)?;
-    let chip = chip_of(alloc, &opening)?;
-    let mut bus = LagBus::open(alloc, opening, chip, 1)?;
-    for call in calls {
-        let byte = make(&mut bus, *call, &mut emitted)?;
-        answers.push((byte, bus.pending()))?;
-    }
-    Ok(Told {
-        answers,
-        emitted,
-        counts: bus.counts(),
-        time: (bus.made(), bus.to_sample()),
-    })
+    let mut bus = open_late(alloc, opening, 1)?;
+    call_over(alloc, &mut bus, calls)
 }
 
 /// Three samples pass; then a register is read, a byte is written that no sample reads, one that the next samples read, and
@@ -102,28 +107,22 @@ const CALLS: [Call; 11] = [
     Call::Drain,
 ];
 
+/// Whether a record is of voice 0 in this sample.
+fn is_of_voice_0(record: &Record, at: u32) -> bool {
+    match *record {
+        Record::Voice { sample, voice, .. } => sample == at && voice == 0,
+        _ => false,
+    }
+}
+
 /// Whether records are those of voice 0 in the samples 0 to 2.
 fn are_three_of_voice_0(records: &[Record]) -> bool {
-    matches!(
-        records,
-        [
-            Record::Voice {
-                sample: 0,
-                voice: 0,
-                ..
-            },
-            Record::Voice {
-                sample: 1,
-                voice: 0,
-                ..
-            },
-            Record::Voice {
-                sample: 2,
-                voice: 0,
-                ..
-            },
-        ]
-    )
+    match records {
+        [first, second, third] => {
+            is_of_voice_0(first, 0) && is_of_voice_0(second, 1) && is_of_voice_0(third, 2)
+        }
+        _ => false,
+    }
 }
 
 /// Looks at what came of those calls: each has such an answer, and three silent samples were made in such batches.
@@ -175,22 +174,19 @@ fn samples_wait_until_they_are_needed(rt: HostRuntime) -> Result<(), Fail> {
     Ok(())
 }
 
-/// Whether records are those of a voice in samples 0 to 2, a write of a port in sample 3, and then a voice in it.
+/// Whether records are those of voice 0 in samples 0 to 2, a write of a port in sample 3, and then voice 0 in it.
 fn are_in_order(records: &[Record]) -> bool {
-    matches!(
-        records,
-        [
-            Record::Voice { sample: 0, .. },
-            Record::Voice { sample: 1, .. },
-            Record::Voice { sample: 2, .. },
-            Record::Port {
-                sample: 3,
-                port: 0,
-                value: 0x5A
-            },
-            Record::Voice { sample: 3, .. },
-        ]
-    )
+    let write = Record::Port {
+        sample: 3,
+        port: 0,
+        value: 0x5A,
+    };
+    match records {
+        [before @ .., port, after] => {
+            are_three_of_voice_0(before) && *port == write && is_of_voice_0(after, 3)
+        }
+        _ => false,
+    }
 }
 
 /// Once all voices play and the echo is elsewhere, no sample reads page 0. A write of a port between two samples then waits

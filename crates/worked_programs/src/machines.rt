@@ -6,7 +6,7 @@ use aram_core::Aram;
 use dsp_core::Dsp;
 use gauss_table::GaussTable;
 use num_fix::Frame;
-use sound_bus::{Counts, DrainedBus, LagBus, PlainBus};
+use sound_bus::{Chip, Counts, DrainedBus, LagBus, PlainBus};
 use spc_form::OpenState;
 use spc700_exec::{Bus, Cpu, step};
 use std::alloc::Global;
@@ -77,6 +77,47 @@ pub fn chip_of(alloc: Global, opening: &OpenState) -> Result<Dsp, Fail>
     ensures { IfOk result (λ chip. (chip.sample ≡ 0) × (chip.batches ≡ 0)) }
 {
     Ok(Dsp::open(alloc, &opening.dsp, GaussTable::straight(alloc)?)?)
+}
+
+/// The bus that makes each sample at once, with the records of the voices in a mask.
+pub fn open_plain(alloc: Global, opening: OpenState, mask: u8) -> Result<PlainBus<Dsp>, Fail> {
+    let chip = chip_of(alloc, &opening)?;
+    Ok(PlainBus::open(alloc, opening, chip, mask)?)
+}
+
+/// The bus that makes samples late.
+pub fn open_late(alloc: Global, opening: OpenState, mask: u8) -> Result<LagBus<Dsp>, Fail> {
+    let chip = chip_of(alloc, &opening)?;
+    Ok(LagBus::open(alloc, opening, chip, mask)?)
+}
+
+/// What both buses tell by methods of their own.
+pub trait CountedBus: DrainedBus {
+    /// The samples that are pending.
+    fn waiting(&self) -> u8;
+
+    /// How often the chip ran, and why.
+    fn batches_of_each(&self) -> Counts;
+}
+
+impl<C: Chip> CountedBus for PlainBus<C> {
+    fn waiting(&self) -> u8 {
+        self.pending()
+    }
+
+    fn batches_of_each(&self) -> Counts {
+        self.counts()
+    }
+}
+
+impl<C: Chip> CountedBus for LagBus<C> {
+    fn waiting(&self) -> u8 {
+        self.pending()
+    }
+
+    fn batches_of_each(&self) -> Counts {
+        self.counts()
+    }
 }
 
 /// What was emitted, and what the last drain of it gave.
@@ -161,30 +202,26 @@ pub struct Run {
     pub time: (u32, u8),
 }
 
-/// A run over the bus that makes each sample at once.
-pub fn run_plain(alloc: Global, opening: OpenState, samples: u32) -> Result<Run, Fail> {
+/// A run over a bus.
+fn run_over<B: CountedBus>(alloc: Global, bus: &mut B, samples: u32) -> Result<Run, Fail> {
     let mut emitted = Emitted::none(alloc)?;
-    let chip = chip_of(alloc, &opening)?;
-    let mut bus = PlainBus::open(alloc, opening, chip, 0)?;
-    let steps = run_to(&mut bus, samples, &mut emitted)?;
+    let steps = run_to(bus, samples, &mut emitted)?;
     Ok(Run {
         emitted,
-        counts: bus.counts(),
+        counts: bus.batches_of_each(),
         steps,
         time: (bus.made(), bus.to_sample()),
     })
 }
 
+/// A run over the bus that makes each sample at once.
+pub fn run_plain(alloc: Global, opening: OpenState, samples: u32) -> Result<Run, Fail> {
+    let mut bus = open_plain(alloc, opening, 0)?;
+    run_over(alloc, &mut bus, samples)
+}
+
 /// A run over the bus that makes samples late.
 pub fn run_late(alloc: Global, opening: OpenState, samples: u32) -> Result<Run, Fail> {
-    let mut emitted = Emitted::none(alloc)?;
-    let chip = chip_of(alloc, &opening)?;
-    let mut bus = LagBus::open(alloc, opening, chip, 0)?;
-    let steps = run_to(&mut bus, samples, &mut emitted)?;
-    Ok(Run {
-        emitted,
-        counts: bus.counts(),
-        steps,
-        time: (bus.made(), bus.to_sample()),
-    })
+    let mut bus = open_late(alloc, opening, 0)?;
+    run_over(alloc, &mut bus, samples)
 }

@@ -1,6 +1,15 @@
 //! Worked programs over plain memory.
 
-ghost use Rattle.std.specs.Prelude.{◌≡◌, ◌+◌, ◌<◌, ◌≤◌, IfOk};
+ghost use Rattle.std.specs.Prelude.{◌≡◌, ◌+◌, ◌<◌, ◌≤◌, ℕ, [], ◌∷◌, true, false, Some, IfOk};
+ghost use Rattle.spc700_table.specs.Opcodes.{row_of};
+ghost use Rattle.spc700_exec.specs.declared.cpu.Cpu.{Cpu};
+ghost use Rattle.spc700_exec.specs.MemBus.{plain_memory as plain};
+ghost use Rattle.spc700_exec.specs.Operands.{with_next_pc};
+ghost use Rattle.spc700_exec.specs.Instruction.{instruction, step_outcome};
+ghost use Rattle.spc700_exec.specs.Next.{next_action, driven_outcome};
+ghost use Rattle.spc700_exec.specs.Accesses.{Makes, begun, First, OperandRead, DestinationWrite};
+ghost use Rattle.spc700_exec.specs.Forms.{row_suits};
+ghost use Rattle.spc700_exec.specs.Length.{IsShort};
 
 use aram_core::{Aram, OutOfMemory};
 use spc700_exec::{
@@ -192,13 +201,42 @@ fn a_halt_counts_from_its_start(rt: HostRuntime) -> Result<(), Fail> {
     Ok(())
 }
 
-#[test]
-fn the_laws_can_be_called(rt: HostRuntime) -> Result<(), Fail> {
-    let bus = bus_with(rt.alloc(), &[])?;
-    asking_makes_the_step(&bus);
+/// A machine that asks after each access makes a step over plain memory.
+fn asks_over_plain_memory(bus: &MemBus)
+    ensures { (cpu : Cpu) → (n : ℕ) × (driven_outcome n plain bus.now.clock 0 (next_action cpu) [] 0 bus.now ≡ Some (step_outcome plain cpu bus.now)) }
+{
+    asking_makes_the_step(bus);
+}
+
+/// MOV d,A reads the byte of its operand, and then writes to the direct page.
+fn a_move_reads_and_writes()
+    ensures { (cpu : Cpu) → Makes (row_of 0xc4) cpu (begun cpu) (OperandRead First ∷ DestinationWrite First ∷ []) (instruction (row_of 0xc4) cpu) }
+{
     accesses_are_those_of_the_table();
+}
+
+/// The forms of any opcode suit its operation.
+fn forms_suit(op: u8)
+    ensures { row_suits (row_of op) ≡ true }
+{
     forms_suit_their_operations();
+}
+
+/// After its opcode an instruction makes at most 5 accesses.
+fn an_instruction_is_short()
+    ensures { (cpu : Cpu) (op : ℕ) → IsShort 5 (instruction (row_of op) (with_next_pc (record cpu { halted = false }))) }
+{
     steps_are_short();
+}
+
+/// Each of the four functions above has its clause from the law that it calls.
+#[test]
+fn laws_of_steps_say_what_they_are_for(rt: HostRuntime) -> Result<(), Fail> {
+    let bus = bus_with(rt.alloc(), &[])?;
+    asks_over_plain_memory(&bus);
+    a_move_reads_and_writes();
+    forms_suit(0xc4);
+    an_instruction_is_short();
     assert!(rt; bus.clock() == 0);
     Ok(())
 }

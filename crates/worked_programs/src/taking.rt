@@ -1,12 +1,13 @@
 //! Steps that a bus takes by itself, as a render has it do.
 
-use crate::machines::{Emitted, START, chip_of, opening_of};
-use crate::waits::{QUIET, counts_of, driver, writes_of};
-use sound_bus::{Counts, DrainedBus, LagBus, PlainBus};
+use crate::machines::{CountedBus, Emitted, START, open_late, open_plain, opening_of};
+use crate::waits::{QUIET, counts_of, driver};
+use sound_bus::{Counts, DrainedBus};
 use std::alloc::Global;
 use std::process::Abort;
 use std::test::Fail;
 use trace_form::Record;
+use worked_support::writes_of;
 
 /// What a bus emits that takes steps until 100 samples are made or pending, with three rooms more for its calls each time.
 fn take_all<B: DrainedBus>(alloc: Global, bus: &mut B) -> Result<Emitted, Fail> {
@@ -31,30 +32,28 @@ struct Taken {
     made: u32,
 }
 
+/// What comes of steps that a bus takes.
+fn take_over<B: CountedBus>(alloc: Global, bus: &mut B) -> Result<Taken, Fail> {
+    let emitted = take_all(alloc, bus)?;
+    Ok(Taken {
+        emitted,
+        counts: bus.batches_of_each(),
+        made: bus.made(),
+    })
+}
+
 /// A program over the bus that makes each sample at once.
 fn take_plain(alloc: Global, code: &[u8]) -> Result<Taken, Fail> {
     let opening = opening_of(alloc, &[(0x0400, code)], &QUIET)?;
-    let chip = chip_of(alloc, &opening)?;
-    let mut bus = PlainBus::open(alloc, opening, chip, 0)?;
-    let emitted = take_all(alloc, &mut bus)?;
-    Ok(Taken {
-        emitted,
-        counts: bus.counts(),
-        made: bus.made(),
-    })
+    let mut bus = open_plain(alloc, opening, 0)?;
+    take_over(alloc, &mut bus)
 }
 
 /// The same over the bus that makes samples late.
 fn take_late(alloc: Global, code: &[u8]) -> Result<Taken, Fail> {
     let opening = opening_of(alloc, &[(0x0400, code)], &QUIET)?;
-    let chip = chip_of(alloc, &opening)?;
-    let mut bus = LagBus::open(alloc, opening, chip, 0)?;
-    let emitted = take_all(alloc, &mut bus)?;
-    Ok(Taken {
-        emitted,
-        counts: bus.counts(),
-        made: bus.made(),
-    })
+    let mut bus = open_late(alloc, opening, 0)?;
+    take_over(alloc, &mut bus)
 }
 
 /// Looks at what a program comes to over both buses: such records, silence in each sample, and such counts of the bus that makes

@@ -7,6 +7,7 @@ use std::alloc::Global;
 use std::process::Abort;
 use std::test::Fail;
 use trace_form::Record;
+use worked_support::writes_of;
 
 /// Echo writes are off, and no voice is keyed: each reads at block address 0 and is silent.
 pub const QUIET: [(usize, u8); 2] = [(0x6C, 0x60), (0x6D, 0xE0)];
@@ -78,19 +79,6 @@ fn look_at(
 fn are_heard_from_6_on(frames: &[Frame]) -> bool {
     frames.iter().take(6).all(|frame| *frame == SILENCE)
         && frames.iter().skip(6).all(|frame| *frame == LOUD)
-}
-
-/// The records of writes of a byte, to port 0 in these samples.
-pub fn writes_of(alloc: Global, value: u8, places: &[u32]) -> Result<Vec<Record>, Fail> {
-    let mut records = Vec::new(alloc);
-    for sample in places {
-        records.push(Record::Port {
-            sample: *sample,
-            port: 0,
-            value,
-        })?;
-    }
-    Ok(records)
 }
 
 /// A driver at 0400h: it gives a timer a target, enables it, polls its counter in a round of 7 cycles, and writes what it has
