@@ -2,8 +2,9 @@
 ghost use Rattle.std.specs.Prelude.{◌≡◌, ◌≤◌};
 ghost use Rattle.num_fix.specs.Limits.{most_frames};
 
-use crate::openings::{SILENT, SOUND, chip_of, file};
+use crate::openings::{SILENT, chip_of, file};
 use aram_core::Aram;
+use command_tests::FIVE;
 use lock_step::Chip;
 use num_fix::Frame;
 use render_core::{Render, faded};
@@ -126,7 +127,7 @@ fn look_at_eight(rt: &impl Abort, eight: &Given) {
 
 #[test]
 fn a_voice_is_heard_from_sample_six_on(rt: HostRuntime) -> Result<(), Fail> {
-    let eight = rendered(rt.alloc(), &SOUND, &[], 8)?;
+    let eight = rendered(rt.alloc(), FIVE, &[], 8)?;
     look_at_eight(&rt, &eight);
     Ok(())
 }
@@ -140,7 +141,7 @@ fn look_at_200(rt: &impl Abort, long: &Given) {
 
 #[test]
 fn a_voice_is_heard_on_where_the_program_stops(rt: HostRuntime) -> Result<(), Fail> {
-    let long = rendered(rt.alloc(), &SOUND, &[0xFF], 200)?;
+    let long = rendered(rt.alloc(), FIVE, &[0xFF], 200)?;
     look_at_200(&rt, &long);
     Ok(())
 }
@@ -237,7 +238,7 @@ fn zeros(alloc: Global) -> Result<Aram, Fail> {
 fn a_render_is_saved_loaded_and_sent_on(rt: HostRuntime) -> Result<(), Fail> {
     let mut frames = Vec::new(rt.alloc());
     let mut memory = zeros(rt.alloc())?;
-    let playing = file(rt.alloc(), &SOUND, &[])?;
+    let playing = file(rt.alloc(), FIVE, &[])?;
     let chip = chip_of(rt.alloc(), &playing)?;
     let told = go_back_and_on_over(rt.alloc(), &playing, chip, &mut memory, &mut frames)?;
     assert!(rt; told == [(true, 3, 3), (true, 8, 8), (true, 8, 13)]);

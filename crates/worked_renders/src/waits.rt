@@ -10,6 +10,7 @@ use std::alloc::Global;
 use std::process::Abort;
 use std::test::Fail;
 use trace_form::Record;
+use worked_support::writes_of;
 
 /// What comes of a render.
 #[derive(Drop)]
@@ -62,19 +63,6 @@ fn tell(alloc: Global, program: &[u8], samples: u32) -> Result<Told, Fail>
     tell_over(alloc, &file, chip, samples)
 }
 
-/// The records of writes of a 1, to port 0 in these samples.
-fn writes_of(alloc: Global, samples: &[u32]) -> Result<Vec<Record>, Fail> {
-    let mut records = Vec::new(alloc);
-    for sample in samples {
-        records.push(Record::Port {
-            sample: *sample,
-            port: 0,
-            value: 1,
-        })?;
-    }
-    Ok(records)
-}
-
 /// Counts of so many batches: for writes of memory, for 64 pending samples and at the end.
 fn counts_of(batches: u64, memory: u64, full: u64, end: u64) -> Counts {
     Counts {
@@ -95,7 +83,7 @@ fn a_driver_waits_for_its_timer(rt: HostRuntime) -> Result<(), Fail> {
     let samples = [
         5, 11, 16, 20, 26, 30, 36, 40, 46, 51, 55, 61, 65, 71, 75, 81, 86, 90, 96,
     ];
-    let wanted = writes_of(rt.alloc(), &samples)?;
+    let wanted = writes_of(rt.alloc(), 1, &samples)?;
     let program = [
         0x8F, 10, 0xFC, 0x8F, 0x04, 0xF1, 0xE4, 0xFF, 0xF0, 0xFC, 0, 0, 0, 0, 0, 0, 0, 0, 0, 0, 0,
         0, 0xC4, 0xF4, 0x2F, 0xEC,
