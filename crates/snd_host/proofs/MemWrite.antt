@@ -2,7 +2,7 @@
 use Rattle.std.proofs.Common.{◌≡◌, ℕ, ◌≤◌, List, [], length, Some, sym, ◌∙◌, ap}
 use Rattle.std.proofs.lemmas.Option.{same_Some}
 use Rattle.snd_host.specs.Host.{HostState, Given, ChangesOutputs, Writes, given_with, rooms_less}
-use Rattle.snd_host.proofs.Steady.{steady_of, moves}
+use Rattle.snd_host.proofs.Steady.{steady_of, steady_of-change}
 use Rattle.snd_host.proofs.Writes.{given_with-nil, lowered_none}
 
 wrote_here : (file : ℕ) (bytes : List ℕ) (a b : HostState) (before after : Given) (failing : List ℕ) (calls next : ℕ) (mine left : List ℕ) →
@@ -12,7 +12,7 @@ wrote_here file bytes a b before after failing calls next mine left tells_before
   given = λ given told. tells_after ∙ ap (λ (g : Given). Some g) (is ∙ ap (λ (g : Given). given_with g file bytes) (same_Some before given (sym tells_before ∙ told)));
   ended = ended;
   others = others;
-  rooms = λ rooms told. steady_after ∙ moves (λ l. rooms_less l file (length bytes)) failing calls next mine left le less rooms (sym steady_before ∙ told);
+  rooms = λ rooms told. steady_after ∙ steady_of-change (λ l. rooms_less l file (length bytes)) failing calls next mine left le less rooms (sym steady_before ∙ told);
 }
 
 pub wrote_by : (file number : ℕ) (bytes piece : List ℕ) (a b : HostState) (before after : Given) (failing : List ℕ) (calls next : ℕ) (mine left : List ℕ) →

@@ -16,8 +16,9 @@ pub struct OutFile(pub u32);
 
 /// Where a program reads its inputs and writes its outputs.
 ///
-/// A call answers `Failed` only where the count of its kind rises, and it changes nothing else then;
-/// after a failed `open_in` no input is current. What a failed `read` leaves in the buffer is not told.
+/// A call answers `Failed` only where the count of its kind rises. After a failed `open_in` no input is current, and what
+/// is left to be read is not told. Every other failed call changes, of what is told, its count alone; what a failed `read`
+/// leaves in the buffer is not told.
 pub trait Host {
     /// What contracts see of a host at one moment.
     ghost state: { Self → HostState };
