@@ -4,7 +4,9 @@ use Rattle.std.proofs.lemmas.List.{append-nil}
 use Rattle.snd_host.specs.Host.{HostState, Output, Rose, Writes, WritesAll, rooms_less}
 use Rattle.snd_host.proofs.Writes.{index-rooms_less}
 use Rattle.command_frame.proofs.Places.{index-rooms_less_other, ended_are_whole_as}
+use Rattle.command_frame.proofs.Standing.{delivered}
 use Rattle.command_frame.specs.Delivery.{Gains, IsBegun, Delivers}
+use Rattle.command_frame.specs.Stream.{AreDone}
 
 pub gains_nothing : (a b : HostState) → b.given ≡ a.given → b.ended ≡ a.ended → b.holds ≡ a.holds → Gains [] [] [] [] a b
 gains_nothing a b given ended holds = record {
@@ -72,6 +74,11 @@ then_report {T = T} {U = U} {E = E} outputs report a b c x (Err e) d w =
           let ok = w.steady mid.0 mid.1 (omega (arith, fits, mid.2, ap (length {A = ℕ}) d.ok.0)) in absurd (search rules);
       rooms = left {T = T} {E = E} outputs a b c x d w.part.part w.part.wrote;
     }
+
+-- outputs that are done, and then the report
+pub delivers_done : {U E : Type 0} (outputs : List Output) (report piece : List ℕ) (a b c : HostState) (r : Result U E) → AreDone outputs a b → WritesAll 0 piece b c r → piece ≡ report → Delivers outputs report a c r
+delivers_done {U = U} {E = E} outputs report piece a b c r outputs_done wrote same =
+    then_report {E = E} outputs report a b c (tt {0}) r (delivered {E = E} outputs a b (tt {0}) outputs_done) (subst (λ (l : List ℕ). WritesAll {T = U} {E = E} 0 l b c r) same wrote)
 
 -- no outputs
 pub no_outputs : {T E : Type 0} (a : HostState) (x : T) → Delivers {T = T} {E = E} [] [] a a (Ok x)

@@ -109,13 +109,15 @@ module _ {P C : Type 0} (makes : P → Delivery) (answer : Files → Answer C) (
     outputs = d.begun;
     ended = d.ended;
     made = made_after d.reported [] d.begun d.ended x y z p.others d.made;
-    calm_inputs = λ _. d.inputs ∙ calm;
-    calm_outputs = λ _. d.cause.same ∙ p.others.outputs;
+    causes = record {
+      calm_inputs = λ _. d.inputs ∙ calm;
+      calm_outputs = λ _. d.cause.same ∙ p.others.outputs;
+      read = λ wrong. absurd (cc);
+      write = λ wrong. absurd (cc);
+      refused = λ some not_write. absurd (some refl);
+      report_last = λ some. let last = d.report_last some in last.1 ∙ ap all_ended (sym last.0);
+    };
     notes = d.notes ∙ p.others.notes;
-    read = λ wrong. absurd (cc);
-    write = λ wrong. absurd (cc);
-    refused = λ some not_write. absurd (some refl);
-    report_last = λ some. let last = d.report_last some in last.1 ∙ ap all_ended (sym last.0);
     note_room = note_room_kept (makes plan).outputs (makes plan).report x y z (Ok t) p.others d;
     answered = λ files told. subst (λ (a : Answer C). EndsAs a None d.reported d.begun d.ended x z) (sym (p.ok files told)) (all_done (makes plan).outputs (makes plan).report x y z t p.others calm d);
   })
@@ -127,13 +129,15 @@ module _ {P C : Type 0} (makes : P → Delivery) (answer : Files → Answer C) (
     outputs = d.begun;
     ended = d.ended;
     made = made_after d.reported [] d.begun d.ended x y z p.others d.made;
-    calm_inputs = λ _. d.inputs ∙ calm;
-    calm_outputs = λ other. absurd (other refl);
+    causes = record {
+      calm_inputs = λ _. d.inputs ∙ calm;
+      calm_outputs = λ other. absurd (other refl);
+      read = λ wrong. absurd (cc);
+      write = λ _. subst (λ (n : ℕ). Rose n z.faults.outputs) p.others.outputs d.cause.failed;
+      refused = λ some not_write. absurd (not_write refl);
+      report_last = λ some. let last = d.report_last some in last.1 ∙ ap all_ended (sym last.0);
+    };
     notes = d.notes ∙ p.others.notes;
-    read = λ wrong. absurd (cc);
-    write = λ _. subst (λ (n : ℕ). Rose n z.faults.outputs) p.others.outputs d.cause.failed;
-    refused = λ some not_write. absurd (not_write refl);
-    report_last = λ some. let last = d.report_last some in last.1 ∙ ap all_ended (sym last.0);
     note_room = note_room_kept (makes plan).outputs (makes plan).report x y z (Err e) p.others d;
     answered = λ files told. subst (λ (a : Answer C). EndsAs a (Some WriteFault) d.reported d.begun d.ended x z) (sym (p.ok files told)) (part_done (makes plan).outputs (makes plan).report x y z e p.others calm d);
   })
@@ -161,13 +165,15 @@ module _ {P C : Type 0} (makes : P → Delivery) (answer : Files → Answer C) (
     outputs = [];
     ended = [];
     made = gains_nothing x y p.others.given p.others.ended p.others.holds;
-    calm_inputs = λ other. p.calm (λ is. other cc);
-    calm_outputs = λ other. p.others.outputs;
+    causes = record {
+      calm_inputs = λ other. p.calm (λ is. other cc);
+      calm_outputs = λ other. p.others.outputs;
+      read = λ is. (p.read (ap (λ (r : Refusal C). Err r) cc), search rules);
+      write = λ is. absurd (p.no_write (ap (λ (r : Refusal C). Err r) cc));
+      refused = λ some not_write. (refl, refl, refl);
+      report_last = λ some. absurd (some refl);
+    };
     notes = p.others.notes;
-    read = λ is. (p.read (ap (λ (r : Refusal C). Err r) cc), search rules);
-    write = λ is. absurd (p.no_write (ap (λ (r : Refusal C). Err r) cc));
-    refused = λ some not_write. (refl, refl, refl);
-    report_last = λ some. absurd (some refl);
     note_room = λ rooms told. (rooms, p.others.rooms rooms told, refl);
     answered = refused_answer why p;
   }
@@ -181,6 +187,10 @@ module _ {P C : Type 0} (makes : P → Delivery) (answer : Files → Answer C) (
   pub attempts : (prepared : Result P (Refusal C)) (carried refusal : Option (Refusal C)) → Prepares makes answer x y prepared → CarriesOut makes prepared y z carried → carried ≡ refusal → Attempts answer true refusal x z
   attempts prepared carried refusal p c is = subst (λ (r : Option (Refusal C)). Attempts answer true r x z) is (attempts_carried prepared carried p c)
 
+-- what was carried out is what was prepared, or whatever equals it
+pub carries_same : {P C : Type 0} (makes : P → Delivery) (prepared passed : Result P (Refusal C)) (y z : HostState) (refusal : Option (Refusal C)) → CarriesOut makes passed y z refusal → passed ≡ prepared → CarriesOut makes prepared y z refusal
+carries_same {P = P} {C = C} makes prepared passed y z refusal c same = subst (λ (r : Result P (Refusal C)). CarriesOut makes r y z refusal) same c
+
 -- the attempt, and then its complaint
 pub obeys : {C : Type 0} (line : Refusal C → List ℕ) (answer : Files → Answer C) (names : Bool) (refusal : Option (Refusal C)) (x y z : HostState) → Attempts answer names refusal x y → WritesComplaint (line_of line refusal) y z → (refusal ≡ None → z ≡ y) → Obeys line answer names refusal x z
 obeys {C = C} line answer names refusal x y z t c silent = record {
@@ -193,13 +203,15 @@ obeys {C = C} line answer names refusal x y z t c silent = record {
     ended = c.wrote.ended ∙ t.made.ended;
     holds = c.wrote.others.holds ∙ t.made.holds;
   };
-  ok = λ is. (λ i. record { inputs = (inputs ∙ t.calm_inputs (no_read is)) i; notes = (ap (λ (s : HostState). s.faults.notes) (silent is) ∙ t.notes) i; outputs = (c.outputs ∙ t.calm_outputs (no_write is)) i });
-  calm_inputs = λ other. inputs ∙ t.calm_inputs other;
-  calm_outputs = λ other. c.outputs ∙ t.calm_outputs other;
-  read = λ is. let r = t.read is in (subst (λ (n : ℕ). Rose x.faults.inputs n) (sym inputs) r.0, r.1);
-  write = λ is. subst (λ (n : ℕ). Rose x.faults.outputs n) (sym c.outputs) (t.write is);
-  refused = t.refused;
-  report_last = t.report_last;
+  ok = λ is. (λ i. record { inputs = (inputs ∙ t.causes.calm_inputs (no_read is)) i; notes = (ap (λ (s : HostState). s.faults.notes) (silent is) ∙ t.notes) i; outputs = (c.outputs ∙ t.causes.calm_outputs (no_write is)) i });
+  causes = record {
+    calm_inputs = λ other. inputs ∙ t.causes.calm_inputs other;
+    calm_outputs = λ other. c.outputs ∙ t.causes.calm_outputs other;
+    read = λ is. let r = t.causes.read is in (subst (λ (n : ℕ). Rose x.faults.inputs n) (sym inputs) r.0, r.1);
+    write = λ is. subst (λ (n : ℕ). Rose x.faults.outputs n) (sym c.outputs) (t.causes.write is);
+    refused = t.causes.refused;
+    report_last = t.causes.report_last;
+  };
   complains = record {
     part = c.complains.part;
     all = λ calm. c.complains.all (subst (λ (n : ℕ). Rose n z.faults.notes → ⊥) (sym t.notes) calm);
@@ -232,8 +244,8 @@ obeys {C = C} line answer names refusal x y z t c silent = record {
 
     by_cause : (a : Answer C) → NoneRose x z → (refusal ≡ refusal_of a) ⊎ ((refusal ≡ Some ReadFault) ⊎ ((refusal ≡ Some WriteFault) ⊎ (refusal ≡ Some OutOfMemory))) → (refusal ≡ refusal_of a) ⊎ (refusal ≡ Some OutOfMemory)
     by_cause a calm (inl is) = inl is
-    by_cause a calm (inr (inl is)) = absurd (calm.inputs (subst (λ (n : ℕ). Rose x.faults.inputs n) (sym inputs) (t.read is).0))
-    by_cause a calm (inr (inr (inl is))) = absurd (calm.outputs (subst (λ (n : ℕ). Rose x.faults.outputs n) (sym c.outputs) (t.write is)))
+    by_cause a calm (inr (inl is)) = absurd (calm.inputs (subst (λ (n : ℕ). Rose x.faults.inputs n) (sym inputs) (t.causes.read is).0))
+    by_cause a calm (inr (inr (inl is))) = absurd (calm.outputs (subst (λ (n : ℕ). Rose x.faults.outputs n) (sym c.outputs) (t.causes.write is)))
     by_cause a calm (inr (inr (inr is))) = inr is
 
     complete : (a : Answer C) → EndsAs a refusal t.report t.outputs t.ended x y → NoneRose x z → (refusal ≡ refusal_of a) ⊎ (refusal ≡ Some OutOfMemory)
@@ -261,13 +273,15 @@ attempts_usage x = record {
   outputs = [];
   ended = [];
   made = gains_nothing x x refl refl refl;
-  calm_inputs = λ other. refl;
-  calm_outputs = λ other. refl;
+  causes = record {
+    calm_inputs = λ other. refl;
+    calm_outputs = λ other. refl;
+    read = λ wrong. absurd (cc);
+    write = λ wrong. absurd (cc);
+    refused = λ some not_write. (refl, refl, refl);
+    report_last = λ some. absurd (some refl);
+  };
   notes = refl;
-  read = λ wrong. absurd (cc);
-  write = λ wrong. absurd (cc);
-  refused = λ some not_write. (refl, refl, refl);
-  report_last = λ some. absurd (some refl);
   note_room = λ rooms told. (rooms, told, refl);
   answered = λ files told. record {
     settled = λ same. (refl, refl, refl);

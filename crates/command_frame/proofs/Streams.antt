@@ -14,6 +14,9 @@ use Rattle.command_frame.proofs.Standing.{stands_at_first, stands_created, next_
 first_place : (second : Option (List ℕ)) (a : HostState) (targets : Targets) → AreTargets second a targets → targets.first.0 ≡ length a.ended + 2 + 0
 first_place second a targets are = let is = are.first in omega arith
 
+second_place : (targets : Targets) (file : OutFile) (name : List ℕ) (a : HostState) → targets.second ≡ Some file → AreTargets (Some name) a targets → file.0 ≡ length a.ended + 2 + 1
+second_place targets file name a is are = subst (λ (f : Option OutFile). IsSecond (Some name) f (length a.ended + 2)) is are.second_number
+
 first_below : (first : List ℕ) (second : Option (List ℕ)) (us vs : List ℕ) → 0 < length (pair first second us vs)
 first_below first None us vs = omega arith
 first_below first (Some name) us vs = omega arith
@@ -42,23 +45,20 @@ module _ (targets : Targets) (xs ys : List ℕ) (old mid new : HostState) (x : U
   half : (first name us vs : List ℕ) (a : HostState) → AreTargets (Some name) a targets → Stands (pair first (Some name) us vs) (flags_of (Some name) false) [] a old → Stands (pair first (Some name) (us ++ xs) vs) (flags_of (Some name) false) [] a mid
   half first name us vs a are s = stands_written (pair first (Some name) us vs) (flags_of (Some name) false) a old s targets.first.0 0 (first_place (Some name) a targets are) {T = Unit {0}} {E = Failed} mid xs x (first_below first (Some name) us vs) w
 
-  number : (name : List ℕ) (a : HostState) → AreTargets (Some name) a targets → file.0 ≡ length a.ended + 2 + 1
-  number name a are = subst (λ (f : Option OutFile). IsSecond (Some name) f (length a.ended + 2)) is are.second_number
-
   pub put_second : (r : Result (Unit {0}) Failed) → WritesAll {T = Unit {0}} {E = Failed} file.0 ys mid new r → Puts targets xs ys old new r
   put_second (Ok y) v = record { ended = v.wrote.ended ∙ w.wrote.ended; ok = put_it; err = tt }
     where
       put_it : (first : List ℕ) (second : Option (List ℕ)) (us vs : List ℕ) (a : HostState) → AreTargets second a targets → Stands (pair first second us vs) (flags_of second false) [] a old →
           Stands (pair first second (us ++ xs) (vs ++ ys)) (flags_of second false) [] a new
       put_it first None us vs a are s = absurd (subst (λ (f : Option OutFile). IsSecond None f (length a.ended + 2)) is are.second_number)
-      put_it first (Some name) us vs a are s = stands_written (pair first (Some name) (us ++ xs) vs) (flags_of (Some name) false) a mid (half first name us vs a are s) file.0 1 (number name a are) {T = Unit {0}} {E = Failed} new ys y (omega arith) v
+      put_it first (Some name) us vs a are s = stands_written (pair first (Some name) (us ++ xs) vs) (flags_of (Some name) false) a mid (half first name us vs a are s) file.0 1 (second_place targets file name a is are) {T = Unit {0}} {E = Failed} new ys y (omega arith) v
   put_second (Err e) v = record { ended = tt; ok = tt; err = failed }
     where
       failed : (first : List ℕ) (second : Option (List ℕ)) (us vs : List ℕ) (a : HostState) → AreTargets second a targets → Stands (pair first second us vs) (flags_of second false) [] a old →
           (ps qs report : List ℕ) → IsPrefix (us ++ xs) ps → IsPrefix (vs ++ ys) qs → Stops (pair first second ps qs) report a new
       failed first None us vs a are s ps qs report p q = absurd (subst (λ (f : Option OutFile). IsSecond None f (length a.ended + 2)) is are.second_number)
       failed first (Some name) us vs a are s ps qs report p q =
-          stops_written (pair first (Some name) (us ++ xs) vs) (flags_of (Some name) false) a mid (half first name us vs a are s) file.0 1 (number name a are) {T = Unit {0}} {E = Failed} new ys e (pair first (Some name) ps qs) report (omega arith) v (refl, p, (refl, q, tt)) (refl, (refl, tt))
+          stops_written (pair first (Some name) (us ++ xs) vs) (flags_of (Some name) false) a mid (half first name us vs a are s) file.0 1 (second_place targets file name a is are) {T = Unit {0}} {E = Failed} new ys e (pair first (Some name) ps qs) report (omega arith) v (refl, p, (refl, q, tt)) (refl, (refl, tt))
 
 -- nothing was written yet
 puts_nothing : (targets : Targets) (old : HostState) → Puts targets [] [] old old (Ok (tt {0}))
@@ -224,16 +224,13 @@ module _ (targets : Targets) (file : OutFile) (old mid new : HostState) (x : Uni
   half_ended : (first name xs ys : List ℕ) (a : HostState) → AreTargets (Some name) a targets → Stands (pair first (Some name) xs ys) (flags_of (Some name) false) [] a old → Stands (pair first (Some name) xs ys) (true ∷ false ∷ []) [] a mid
   half_ended first name xs ys a are s = stands_ended (pair first (Some name) xs ys) (flags_of (Some name) false) a old s targets.first.0 0 (first_place (Some name) a targets are) {T = Unit {0}} {E = Failed} mid x given ended others notes cause keeps
 
-  second_place : (name : List ℕ) (a : HostState) → AreTargets (Some name) a targets → file.0 ≡ length a.ended + 2 + 1
-  second_place name a are = subst (λ (f : Option OutFile). IsSecond (Some name) f (length a.ended + 2)) is are.second_number
-
   pub ends_second : (r : Result (Unit {0}) Failed) → new.given ≡ mid.given → OnOk r (new.ended ≡ set mid.ended (file.0 - 2) true) → OnErr r (new.ended ≡ mid.ended) → ChangesOutputs mid new → new.faults.notes ≡ mid.faults.notes →
       HasCause mid.faults.outputs new.faults.outputs r → KeepsRooms mid new → (IsSome mid.steady → IsOk r) → Ends targets old new r
   ends_second (Ok y) given2 ended2 kept2 others2 notes2 cause2 keeps2 steady2 = record { ok = all; err = tt }
     where
       all : (first : List ℕ) (second : Option (List ℕ)) (xs ys : List ℕ) (a : HostState) → AreTargets second a targets → Stands (pair first second xs ys) (flags_of second false) [] a old → Stands (pair first second xs ys) (flags_of second true) [] a new
       all first None xs ys a are s = absurd (subst (λ (f : Option OutFile). IsSecond None f (length a.ended + 2)) is are.second_number)
-      all first (Some name) xs ys a are s = stands_ended (pair first (Some name) xs ys) (true ∷ false ∷ []) a mid (half_ended first name xs ys a are s) file.0 1 (second_place name a are) {T = Unit {0}} {E = Failed} new y given2 ended2 others2 notes2 cause2 keeps2
+      all first (Some name) xs ys a are s = stands_ended (pair first (Some name) xs ys) (true ∷ false ∷ []) a mid (half_ended first name xs ys a are s) file.0 1 (second_place targets file name a is are) {T = Unit {0}} {E = Failed} new y given2 ended2 others2 notes2 cause2 keeps2
   ends_second (Err e) given2 ended2 kept2 others2 notes2 cause2 keeps2 steady2 = record { ok = tt; err = failed }
     where
       failed : (first : List ℕ) (second : Option (List ℕ)) (xs ys report : List ℕ) (a : HostState) → AreTargets second a targets → Stands (pair first second xs ys) (flags_of second false) [] a old → Stops (pair first second xs ys) report a new

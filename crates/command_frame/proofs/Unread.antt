@@ -54,13 +54,15 @@ module _ {P C : Type 0} (makes : P → Delivery) (answer : Answer C) where
         outputs = t.outputs;
         ended = t.ended;
         made = t.made;
-        calm_inputs = t.calm_inputs;
-        calm_outputs = t.calm_outputs;
+        causes = record {
+          calm_inputs = t.causes.calm_inputs;
+          calm_outputs = t.causes.calm_outputs;
+          read = λ is. absurd (no_read x z prepared carried p c (same ∙ is));
+          write = t.causes.write;
+          refused = t.causes.refused;
+          report_last = t.causes.report_last;
+        };
         notes = t.notes;
-        read = λ is. absurd (no_read x z prepared carried p c (same ∙ is));
-        write = t.write;
-        refused = t.refused;
-        report_last = t.report_last;
         note_room = t.note_room;
         answered = t.answered;
       }

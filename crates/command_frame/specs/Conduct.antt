@@ -32,21 +32,25 @@ pub record EndsAs {C : Type 0} (a : Answer C) (refusal : Option (Refusal C)) (re
   pub enough : IfTold old.steady (λ rooms. HaveRooms (outputs_of a) rooms (length old.ended + 2) → length (report_of a) ≤ slice_index rooms 0 →
       ((refusal ≡ refusal_of a) ⊎ (refusal ≡ Some OutOfMemory)) × (new.faults.outputs ≡ old.faults.outputs))
 
+-- Whatever is told: a fault comes only where its count rose, and the counts stay where none came. What was refused left nothing.
+pub record HasCauses {C : Type 0} (names_input : Bool) (refusal : Option (Refusal C)) (report : List ℕ) (outputs : List Output) (ended : List Bool)
+    (old new : HostState) : Type 0 where
+  pub calm_inputs : (refusal ≡ Some ReadFault → ⊥) → new.faults.inputs ≡ old.faults.inputs
+  pub calm_outputs : (refusal ≡ Some WriteFault → ⊥) → new.faults.outputs ≡ old.faults.outputs
+  pub read : refusal ≡ Some ReadFault → Rose old.faults.inputs new.faults.inputs × IsTrue names_input
+  pub write : refusal ≡ Some WriteFault → Rose old.faults.outputs new.faults.outputs
+  pub refused : refusal ≢ None → refusal ≢ Some WriteFault → (report ≡ []) × (outputs ≡ []) × (ended ≡ [])
+  -- The report comes last: where some of it was written, all outputs that were created are ended.
+  pub report_last : report ≢ [] → ended ≡ all_ended outputs
+
 -- What a command did before its complaint.
 pub record Attempts {C : Type 0} (answer : Files → Answer C) (names_input : Bool) (refusal : Option (Refusal C)) (old new : HostState) : Type 0 where
   pub report : List ℕ
   pub outputs : List Output
   pub ended : List Bool
   pub made : Gains report [] outputs ended old new
-  -- whatever is told
-  pub calm_inputs : (refusal ≡ Some ReadFault → ⊥) → new.faults.inputs ≡ old.faults.inputs
-  pub calm_outputs : (refusal ≡ Some WriteFault → ⊥) → new.faults.outputs ≡ old.faults.outputs
+  pub causes : HasCauses names_input refusal report outputs ended old new
   pub notes : new.faults.notes ≡ old.faults.notes
-  pub read : refusal ≡ Some ReadFault → Rose old.faults.inputs new.faults.inputs × IsTrue names_input
-  pub write : refusal ≡ Some WriteFault → Rose old.faults.outputs new.faults.outputs
-  pub refused : refusal ≢ None → refusal ≢ Some WriteFault → (report ≡ []) × (outputs ≡ []) × (ended ≡ [])
-  -- The report comes last: where some of it was written, all outputs that were created are ended.
-  pub report_last : report ≢ [] → ended ≡ all_ended outputs
   pub note_room : IfTold old.steady (λ rooms. (after : List ℕ) × (new.steady ≡ Some after) × (slice_index after 1 ≡ slice_index rooms 1))
   -- where it is told what names hold
   pub answered : IfTold old.holds (λ files. EndsAs (answer files) refusal report outputs ended old new)
@@ -72,15 +76,8 @@ pub record Obeys {C : Type 0} (line : Refusal C → List ℕ) (answer : Files �
   pub outputs : List Output
   pub ended : List Bool
   pub made : Gains report complaint outputs ended old new
-  -- whatever is told
+  pub causes : HasCauses names_input refusal report outputs ended old new
   pub ok : refusal ≡ None → new.faults ≡ old.faults
-  pub calm_inputs : (refusal ≡ Some ReadFault → ⊥) → new.faults.inputs ≡ old.faults.inputs
-  pub calm_outputs : (refusal ≡ Some WriteFault → ⊥) → new.faults.outputs ≡ old.faults.outputs
-  pub read : refusal ≡ Some ReadFault → Rose old.faults.inputs new.faults.inputs × IsTrue names_input
-  pub write : refusal ≡ Some WriteFault → Rose old.faults.outputs new.faults.outputs
-  pub refused : refusal ≢ None → refusal ≢ Some WriteFault → (report ≡ []) × (outputs ≡ []) × (ended ≡ [])
-  -- The report comes last: where some of it was written, all outputs that were created are ended.
-  pub report_last : report ≢ [] → ended ≡ all_ended outputs
   pub complains : HasComplaint (line_of line refusal) complaint old new
   -- where it is told what names hold
   pub answered : IfTold old.holds (λ files. EndsAs (answer files) refusal report outputs ended old new)

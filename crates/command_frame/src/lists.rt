@@ -53,6 +53,7 @@ fn fill_all<H: Host, P: Pieces + Drop>(
 }
 
 /// Writes the outputs and then the report.
+#[tactic(auto, using(crate::proofs::Delivering::delivers_done))]
 fn deliver_all<H: Host, P: Pieces + Drop>(host: &mut H, plan: ListPlan<P>) -> Result<(), Failed>
     requires { CanDeliverAll (length plan.outputs.items) (H.state host.old) }
     ensures { let makes = list_makes P.to_come plan in

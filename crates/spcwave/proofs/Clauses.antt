@@ -91,7 +91,7 @@ module _ (command : Command) (r : Option (Refusal Cause)) (x z : HostState) (sta
 
   nothing : r ≢ None → r ≢ Some WriteFault → LeavesNothing x z
   nothing refused not_write =
-      let none = o.refused refused not_write in
+      let none = o.causes.refused refused not_write in
       subst (λ (l : List ℕ). Leaves l [] [] x z) none.0
       (subst (λ (l : List Output). Leaves o.report l [] x z) none.1
       (subst (λ (l : List Bool). Leaves o.report o.outputs l x z) none.2 left))
@@ -129,14 +129,14 @@ module _ (command : Command) (r : Option (Refusal Cause)) (x z : HostState) (sta
 
   pub read_fault : clause.ReadFault command x z status
   read_fault = record {
-    cause = λ same. (o.read (end_of (Some ReadFault) statuses.ReadFault refl same)).0;
-    input = λ same. (o.read (end_of (Some ReadFault) statuses.ReadFault refl same)).1;
+    cause = λ same. (o.causes.read (end_of (Some ReadFault) statuses.ReadFault refl same)).0;
+    input = λ same. (o.causes.read (end_of (Some ReadFault) statuses.ReadFault refl same)).1;
     leaves = λ same. refused_is ReadFault (end_of (Some ReadFault) statuses.ReadFault refl same) (λ wrong. absurd (cc));
   }
 
   pub write_fault : clause.WriteFault command x z status
   write_fault = record {
-    cause = λ same. o.write (end_of (Some WriteFault) statuses.WriteFault refl same);
+    cause = λ same. o.causes.write (end_of (Some WriteFault) statuses.WriteFault refl same);
     accepted = λ same files told. ap status_of ((o.answered files told).written (end_of (Some WriteFault) statuses.WriteFault refl same)).0;
     leaves = λ same files told.
         let written = (o.answered files told).written (end_of (Some WriteFault) statuses.WriteFault refl same) in
@@ -199,9 +199,9 @@ module _ (command : Command) (r : Option (Refusal Cause)) (x z : HostState) (sta
   pub untold : clause.Untold command x z status
   untold = record {
     misread = (λ same. misread.0 (end_of (Some Usage) statuses.Usage refl same), λ words. status_is _ (misread.1 words));
-    unread = λ other. o.calm_inputs (λ same. other (status_is _ same));
-    unwritten = λ other. o.calm_outputs (λ same. other (status_is _ same));
+    unread = λ other. o.causes.calm_inputs (λ same. other (status_is _ same));
+    unwritten = λ other. o.causes.calm_outputs (λ same. other (status_is _ same));
     refused = λ not_ok not_write. nothing (λ none. not_ok (status_is _ none)) (λ write. not_write (status_is _ write));
-    report_last = reports_behind_ended o.report o.complaint o.outputs o.ended x z o.made o.report_last;
+    report_last = reports_behind_ended o.report o.complaint o.outputs o.ended x z o.made o.causes.report_last;
     complaint = λ end plain. complains_of end (plain_is r end (ap plain_end (sym is) ∙ plain));
   }
