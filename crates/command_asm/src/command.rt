@@ -1,5 +1,5 @@
 // The command `asm`: a source to code.
-ghost use Rattle.std.specs.Prelude.{◌≡◌, ◌≤◌, Some, length, IfOk, true};
+ghost use Rattle.std.specs.Prelude.{◌≡◌, ◌≤◌, length, IfOk, true};
 ghost use Rattle.snd_host.specs.Host.{HostState, Files};
 ghost use Rattle.command_frame.specs.Conduct.{Plans, Prepares, Attempts};
 ghost use Rattle.command_frame.specs.Delivery.{CanDeliver};
@@ -39,8 +39,8 @@ fn report(alloc: Global, code: &[u8]) -> Result<Vec<u8>, OutOfMemory>
     Ok(report)
 }
 
-/// Makes the plan for a source of a length that is assembled.
-fn plan_source<'a>(
+/// Makes the plan for an input that was read.
+fn plan<'a>(
     alloc: Global,
     source: &[u8],
     origin: u16,
@@ -69,21 +69,6 @@ fn plan_source<'a>(
         }),
         report,
     })
-}
-
-/// Makes the plan for an input that was read.
-fn plan<'a>(
-    alloc: Global,
-    source: &[u8],
-    origin: u16,
-    output: &'a str,
-) -> Result<Plan<'a>, Refusal<Cause>>
-    ensures { Plans plan_makes (asm_answer origin output.now (Some source.now)) result }
-{
-    if source.len() > INPUT_LIMIT {
-        return Err(Refusal::Input(Cause::InputTooLong));
-    }
-    plan_source(alloc, source, origin, output)
 }
 
 /// Reads the input and makes the plan for it.

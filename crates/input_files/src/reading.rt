@@ -1,5 +1,5 @@
 // The bytes of an input.
-ghost use Rattle.std.specs.Prelude.{◌≡◌, ◌≤◌};
+ghost use Rattle.std.specs.Prelude.{◌≡◌, ◌≤◌, length, IfOk};
 ghost use Rattle.snd_host.specs.Host.{HostState};
 ghost use Rattle.input_files.specs.Reading.{bytes_in, Reads, input_limit, wave_limit};
 
@@ -47,7 +47,8 @@ pub fn read_input<H: Host, C: Drop>(
     too_long: C,
 ) -> Result<InputBytes, Refusal<C>>
     requires { limit ≤ wave_limit }
-    ensures { Reads (λ files. bytes_in limit too_long (files name.now)) (H.state host.old) (H.state host.new) result }
+    ensures reads { Reads (λ files. bytes_in limit too_long (files name.now)) (H.state host.old) (H.state host.new) result }
+    ensures bounded { IfOk result (λ bytes. length bytes ≤ limit) }
 {
     match read_whole(alloc, host, name, limit) {
         Ok(bytes) => Ok(InputBytes { bytes }),

@@ -9,9 +9,9 @@ use Rattle.command_cuts.proofs.list.read_list.Goals as goal
 pub returns-in-Ok : goal.returns-in-Ok
 returns-in-Ok g c =
     reads_accepts (λ (files : Files). bytes_in input_limit (InputTooLong) (files c.args.name.now)) cuts_of (g.H.Host.state c.args.host.now) (g.H.Host.state c.read_input.new.host)
-    c.in-Ok.bytes c.accept_list.result c.in-Ok.ensures (subst (λ (l : List ℕ). Accepts (cuts_of l) c.accept_list.result) c.as_slice.ensures c.accept_list.ensures)
+    c.in-Ok.bytes c.accept_list.result c.in-Ok.ensures.reads (subst (λ (l : List ℕ). Accepts (cuts_of l) c.accept_list.result) c.as_slice.ensures c.accept_list.ensures)
 
 pub returns-in-Err : goal.returns-in-Err
 returns-in-Err g c =
     reads_refused (λ (files : Files). bytes_in input_limit (InputTooLong) (files c.args.name.now)) cuts_of (g.H.Host.state c.args.host.now) (g.H.Host.state c.read_input.new.host)
-    c.in-Err.refusal c.in-Err.ensures
+    c.in-Err.refusal c.in-Err.ensures.reads

@@ -11,10 +11,10 @@ use Rattle.command_dis.proofs.command.prepare.Goals as goal
 pub returns-in-Ok : goal.returns-in-Ok
 returns-in-Ok g c =
     reads_plan plan_makes (λ (files : Files). bytes_in input_limit InputTooLong (files c.args.input.now)) (code_answer c.args.origin c.args.output.now)
-    (g.H.Host.state c.args.host.now) (g.H.Host.state c.read_input.new.host) c.in-Ok.bytes c.plan.result c.in-Ok.ensures
+    (g.H.Host.state c.args.host.now) (g.H.Host.state c.read_input.new.host) c.in-Ok.bytes c.plan.result c.in-Ok.ensures.reads
     (subst (λ (l : List ℕ). Plans plan_makes (code_answer c.args.origin c.args.output.now l) c.plan.result) c.as_slice.ensures c.plan.ensures)
 
 pub returns-in-Err : goal.returns-in-Err
 returns-in-Err g c =
     reads_declined plan_makes (λ (files : Files). bytes_in input_limit InputTooLong (files c.args.input.now)) (λ (files : Files). code_answer c.args.origin c.args.output.now)
-    (g.H.Host.state c.args.host.now) (g.H.Host.state c.read_input.new.host) c.in-Err.refusal c.in-Err.ensures
+    (g.H.Host.state c.args.host.now) (g.H.Host.state c.read_input.new.host) c.in-Err.refusal c.in-Err.ensures.reads

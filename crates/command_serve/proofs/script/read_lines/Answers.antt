@@ -9,9 +9,9 @@ use Rattle.command_serve.proofs.script.read_lines.Goals as goal
 pub returns-in-Ok : goal.returns-in-Ok
 returns-in-Ok g c =
     reads_accepts (λ (files : Files). bytes_in input_limit (InputTooLong) (files c.args.name.now)) script_of (g.H.Host.state c.args.host.now) (g.H.Host.state c.read_input.new.host)
-    c.in-Ok.bytes c.accept_script.result c.in-Ok.ensures (subst (λ (l : List ℕ). Accepts (script_of l) c.accept_script.result) c.as_slice.ensures c.accept_script.ensures)
+    c.in-Ok.bytes c.accept_script.result c.in-Ok.ensures.reads (subst (λ (l : List ℕ). Accepts (script_of l) c.accept_script.result) c.as_slice.ensures c.accept_script.ensures)
 
 pub returns-in-Err : goal.returns-in-Err
 returns-in-Err g c =
     reads_refused (λ (files : Files). bytes_in input_limit (InputTooLong) (files c.args.name.now)) script_of (g.H.Host.state c.args.host.now) (g.H.Host.state c.read_input.new.host)
-    c.in-Err.refusal c.in-Err.ensures
+    c.in-Err.refusal c.in-Err.ensures.reads

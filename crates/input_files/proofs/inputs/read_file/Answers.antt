@@ -9,9 +9,9 @@ use Rattle.input_files.proofs.inputs.read_file.Goals as goal
 pub returns-in-Ok : goal.returns-in-Ok
 returns-in-Ok g c =
     reads_accepts (λ (files : Files). bytes_in input_limit (SpcLength (input_limit + 1)) (files c.args.name.now)) file_of (g.H.Host.state c.args.host.now) (g.H.Host.state c.read_input.new.host)
-    c.in-Ok.bytes c.accept_file.result c.in-Ok.ensures (subst (λ (l : List ℕ). Accepts (file_of l) c.accept_file.result) c.as_slice.ensures c.accept_file.ensures)
+    c.in-Ok.bytes c.accept_file.result c.in-Ok.ensures.reads (subst (λ (l : List ℕ). Accepts (file_of l) c.accept_file.result) c.as_slice.ensures c.accept_file.ensures)
 
 pub returns-in-Err : goal.returns-in-Err
 returns-in-Err g c =
     reads_refused (λ (files : Files). bytes_in input_limit (SpcLength (input_limit + 1)) (files c.args.name.now)) file_of (g.H.Host.state c.args.host.now) (g.H.Host.state c.read_input.new.host)
-    c.in-Err.refusal c.in-Err.ensures
+    c.in-Err.refusal c.in-Err.ensures.reads

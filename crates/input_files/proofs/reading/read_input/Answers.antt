@@ -3,8 +3,8 @@ use Rattle.snd_host.specs.declared.calls.ReadRefusal.{ReadRefusal}
 use Rattle.input_files.proofs.Readings.{too_long_bytes}
 use Rattle.input_files.proofs.reading.read_input.Goals as goal
 
-pub returns-in-Err-TooLong : goal.returns-in-Err-TooLong
-returns-in-Err-TooLong g c =
+pub returns-in-Err-TooLong-clause-reads : goal.returns-in-Err-TooLong-clause-reads
+returns-in-Err-TooLong-clause-reads g c =
     let e = c.in-Err-TooLong.ensures in
     let is = ap (λ (r : ReadRefusal). Err r) c.in-Err-TooLong.field-0-is in
     record {
