@@ -1,7 +1,6 @@
 // A sample that is decoded and written block by block.
 ghost use Rattle.std.specs.Prelude.{◌≡◌, ◌+◌, ◌*◌, ◌<◌, ◌≤◌, ◌++◌, [], length, true, take};
 ghost use Rattle.wav_form.specs.Wave.{sample_bytes, header_of, mono_wave};
-ghost use Rattle.brr_encode.specs.Encoding.{most_blocks};
 ghost use Rattle.sample_rip.specs.Rip.{rip_samples};
 ghost use Rattle.sample_rip.specs.Walk.{samples_ahead};
 ghost use Rattle.command_rip.specs.Pieces.{wave_bytes, held_of, to_come_of, work_of};
@@ -47,7 +46,6 @@ fn wave_bytes(block: [i16; 16]) -> [u8; BLOCK_BYTES]
 impl<'a> RipPieces<'a> {
     /// A source of all samples of a rip.
     pub fn new(memory: &'a Aram, found: &RipFound) -> RipPieces<'a>
-        requires { found.now.blocks ≤ most_blocks }
         ensures { header_of 1 (16 * found.now.blocks) ++ (to_come_of result).first ≡ mono_wave (rip_samples memory.now found.now) }
     {
         RipPieces {

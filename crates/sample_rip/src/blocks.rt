@@ -1,6 +1,5 @@
 // The blocks of a sample in memory.
-ghost use Rattle.std.specs.Prelude.{◌≡◌, ◌≤◌};
-ghost use Rattle.brr_encode.specs.Encoding.{most_blocks};
+ghost use Rattle.std.specs.Prelude.{◌≡◌};
 ghost use Rattle.sample_rip.specs.Blocks.{block_address, block_bytes, ends_at, loops_at};
 
 use aram_core::Aram;
@@ -11,15 +10,13 @@ pub const MOST_BLOCKS: u32 = 7280;
 
 /// The address of a block of the sample that starts at `start`, counted from 0.
 pub fn block_address(start: u16, block: u32) -> u16
-    requires { block ≤ most_blocks }
     ensures { result ≡ block_address start block }
 {
-    ((u32::from(start) + 9 * block) % 65536) as u16
+    ((u64::from(start) + 9 * u64::from(block)) % 65536) as u16
 }
 
 /// Whether a block has its end bit.
 pub fn ends_at(memory: &Aram, start: u16, block: u32) -> bool
-    requires { block ≤ most_blocks }
     ensures { result ≡ ends_at memory.now start block }
 {
     has_end(memory.get(block_address(start, block)))
@@ -27,7 +24,6 @@ pub fn ends_at(memory: &Aram, start: u16, block: u32) -> bool
 
 /// Whether a block has its loop bit.
 pub fn loops_at(memory: &Aram, start: u16, block: u32) -> bool
-    requires { block ≤ most_blocks }
     ensures { result ≡ loops_at memory.now start block }
 {
     has_loop(memory.get(block_address(start, block)))
@@ -35,7 +31,6 @@ pub fn loops_at(memory: &Aram, start: u16, block: u32) -> bool
 
 /// The bytes of a block, which may stand round the end of memory.
 pub fn block_bytes(memory: &Aram, start: u16, block: u32) -> [u8; 9]
-    requires { block ≤ most_blocks }
     ensures { result ≡ block_bytes memory.now start block }
 {
     let at = block_address(start, block);

@@ -31,7 +31,6 @@ fn is_looped(end: RipEnd) -> bool
 
 /// All samples of a rip.
 fn samples_of(alloc: Global, memory: &Aram, found: &RipFound) -> Result<Vec<i16>, OutOfMemory>
-    requires { found.now.blocks ≤ most_blocks }
     ensures { IfOk result (λ samples. samples.items ≡ rip_samples memory.now found.now) }
 {
     let mut samples = Vec::with_capacity(alloc, 16 * found.blocks as usize)?;

@@ -1,6 +1,5 @@
 // A walk over the samples of a rip.
 ghost use Rattle.std.specs.Prelude.{◌≡◌, ◌+◌, ◌<◌, ◌≤◌, ◌↔◌, ◌++◌, [], List, ℕ, IsNone, IfNone, IfSome, MatchOption};
-ghost use Rattle.brr_encode.specs.Encoding.{most_blocks};
 ghost use Rattle.sample_rip.specs.Walk.{walk_start, IsWalkOver, samples_ahead};
 
 use crate::RipFound;
@@ -21,7 +20,6 @@ pub struct RipWalk {
 
 impl Model for RipWalk {
     ghost use Rattle.std.specs.Prelude.{◌≤◌};
-    ghost use Rattle.brr_encode.specs.Encoding.{most_blocks};
     ghost use Rattle.sample_rip.specs.Walk.{WalkState};
 
     ghost Value = { WalkState };
@@ -42,13 +40,12 @@ impl Model for RipWalk {
       before = w.before;
     } };
 
-    ghost invariant = { λ w. (w.passed ≤ w.blocks) × (w.blocks ≤ most_blocks) };
+    ghost invariant = { λ w. w.passed ≤ w.blocks };
 }
 
 impl RipWalk {
     /// A walk at the start of a rip, of which all samples are still to come.
     pub fn new(found: &RipFound) -> RipWalk
-        requires { found.now.blocks ≤ most_blocks }
         ensures start { result ≡ walk_start found.now }
         ensures over { (memory : List ℕ) → IsWalkOver memory result }
     {
