@@ -15,6 +15,10 @@ use Rattle.spc700_exec.specs.Bus.{IsLawful}
 use Rattle.render_core.proofs.RunBySteps.{made-after_run}
 use Rattle.render_core.proofs.LaggingRun.{run_frames-lagging, run_records-lagging, end_of_run-lagging, counts-settled}
 
+-- where a run to so many samples ends
+abbrev end_from : {S : Type 0} → ChipMeaning S → (samples : ℕ) → Cpu → Lagging S → Whole (Lagging S)
+end_from chip samples cpu bus = end_of_run (lagging chip) (lag_emits chip) samples (cpu, bus)
+
 -- where something is to come unless it is the last one, nothing is to come only after the last one
 last_from_none : (is_last : Bool) (frames : List Frame) → (is_last ≡ false → 0 < length frames) → frames ≡ [] → is_last ≡ true
 last_from_none true frames more none = refl
@@ -30,11 +34,8 @@ module _ {S : Type 0} (chip : ChipMeaning S) (samples : ℕ) (cpu next_cpu : Cpu
   abbrev records_from : Cpu → Lagging S → List Record
   records_from cpu bus = run_records (lagging chip) (lag_emits chip) samples (cpu, bus)
 
-  abbrev end_from : Cpu → Lagging S → Whole (Lagging S)
-  end_from cpu bus = end_of_run (lagging chip) (lag_emits chip) samples (cpu, bus)
-
   pub is_next_piece : (frames : frames_from cpu bus ≡ given ++ frames_from next_cpu next) → (records : records_from cpu bus ≡ written ++ records_from next_cpu next)
-      → end_from cpu bus ≡ end_from next_cpu next → IsCountedOn (lagging chip) (lag_emits chip) bus next → MatchesBook bus → MatchesBook next
+      → end_from chip samples cpu bus ≡ end_from chip samples next_cpu next → IsCountedOn (lagging chip) (lag_emits chip) bus next → MatchesBook bus → MatchesBook next
       → (is_last ≡ true → after_run (lagging chip) samples (next_cpu, next) ≡ (next_cpu, next)) → (is_last ≡ true → next.book.pending ≡ 0)
       → (is_last ≡ true → frames_from next_cpu next ≡ []) → (is_last ≡ true → records_from next_cpu next ≡ [])
       → (is_last ≡ false → 0 < length given + length written) → (is_last ≡ false → 0 < length (frames_from next_cpu next))
@@ -67,16 +68,13 @@ module _ {S : Type 0} (chip : ChipMeaning S) (samples : ℕ) (cpu next_cpu : Cpu
 
 -- no more samples are made than wanted
 module _ {S : Type 0} (chip : ChipMeaning S) (lawful : IsLawful (lagging chip)) (samples : ℕ) (cpu next_cpu : Cpu) (bus next : Lagging S) where
-  abbrev last : Cpu → Lagging S → Whole (Lagging S)
-  last cpu bus = end_of_run (lagging chip) (lag_emits chip) samples (cpu, bus)
-
-  pub made_at_most : (is_last : Bool) → bus.machine.clock / 32 ≤ samples → last cpu bus ≡ last next_cpu next
+  pub made_at_most : (is_last : Bool) → bus.machine.clock / 32 ≤ samples → end_from chip samples cpu bus ≡ end_from chip samples next_cpu next
       → (is_last ≡ true → after_run (lagging chip) samples (next_cpu, next) ≡ (next_cpu, next)) → (is_last ≡ false → next.machine.clock < 32 * samples)
       → next.machine.clock / 32 ≤ samples
   made_at_most false few ends over below = let less = below refl in omega arith
   made_at_most true few ends over below =
-      let there : (last next_cpu next).1.machine.clock ≡ next.machine.clock = ap (λ (w : Whole (Lagging S)). w.1.machine.clock) (over refl) in
-      let same : (last cpu bus).1.machine.clock ≡ (last next_cpu next).1.machine.clock = ap (λ (w : Whole (Lagging S)). w.1.machine.clock) ends in
+      let there : (end_from chip samples next_cpu next).1.machine.clock ≡ next.machine.clock = ap (λ (w : Whole (Lagging S)). w.1.machine.clock) (over refl) in
+      let same : (end_from chip samples cpu bus).1.machine.clock ≡ (end_from chip samples next_cpu next).1.machine.clock = ap (λ (w : Whole (Lagging S)). w.1.machine.clock) ends in
       let made : (after_run (lagging chip) samples (cpu, bus)).1.machine.clock / 32 ≡ samples = made-after_run (lagging chip) lawful samples (cpu, bus) few in
       let clock : (after_run (lagging chip) samples (cpu, bus)).1.machine.clock ≡ next.machine.clock = same ∙ there in
       omega arith
