@@ -25,6 +25,10 @@ runs_from book at =
 abbrev pub after_seek : CutBook → (at : ℕ) → CutBook
 after_seek book at = record book { position = at; made = book.made + (at - runs_from book at) }
 
+-- the most samples that are played at once
+abbrev pub most_played : ℕ
+most_played = 64
+
 abbrev pub after_play : CutBook → (count : ℕ) → CutBook
 after_play book count = record book { position = book.position + count; made = book.made + count }
 

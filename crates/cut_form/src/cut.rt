@@ -6,6 +6,12 @@ pub const MOST_FRAMES: u32 = 115_200_000;
 /// The slots of the pool of a list of cuts.
 pub const SLOTS_FOR_CUTS: u32 = 4096;
 
+/// The most live checkpoints.
+pub const MOST_CHECKPOINTS: u32 = 64;
+
+/// The most frames that are played at once.
+pub const MOST_PLAYED: u32 = 64;
+
 /// So many frames of a tune from a sample on, before any fade.
 #[derive(Clone, Copy, Debug, PartialEq, Eq)]
 pub struct Cut {

@@ -7,7 +7,7 @@ ghost use Rattle.lock_step.specs.LockStepEmits.{lock_step_emits};
 ghost use Rattle.render_core.specs.Items.{run_frames};
 ghost use Rattle.render_core.specs.Opening.{opened_whole};
 ghost use Rattle.cut_form.specs.Checkpoints.{most_checkpoints, fewest_pages, slots_free, stands_at};
-ghost use Rattle.cut_form.specs.CutBook.{opened_book, after_seek, after_play, counted_book, needed_here, with_live, with_one_here, without_one};
+ghost use Rattle.cut_form.specs.CutBook.{opened_book, after_seek, most_played, after_play, counted_book, needed_here, with_live, with_one_here, without_one};
 ghost use Rattle.cut_form.specs.Marks.{room_made, mark_here};
 ghost use Rattle.cut_form.specs.Slices.{slice_of};
 ghost use Rattle.cut_server.specs.Server.{lock_step_machines};
@@ -158,7 +158,7 @@ impl<C: Chip> CutServer<C> {
     /// Plays 1 to 64 frames: a slice of those that the run from the opening emits, whatever was called before.
     pub fn play(&mut self, most: u32, frames: &mut Frames)
         requires some { 1 ≤ most }
-        requires few { most ≤ 64 }
+        requires few { most ≤ most_played }
         requires within { (book_of self.old).position + most ≤ most_frames }
         ensures frames { frames.new ≡ slice_of (frames_to C.meaning C.saving self.old) (book_of self.old).position most }
         ensures book { book_of self.new ≡ counted_book (after_play (book_of self.old) most) }

@@ -12,6 +12,7 @@ ghost use Rattle.cut_server.specs.IsServed.{BeginAtOpening};
 use crate::OutOfMemory;
 use crate::pages::{give_all, own_slots, place_all};
 use aram_core::Aram;
+use cut_form::MOST_CHECKPOINTS;
 use page_pool::{Page, PagePool};
 use std::alloc::Global;
 use std::marker::Model;
@@ -92,7 +93,7 @@ impl<S: Copy> Table<S> {
         ensures size { IfOk result (λ table. length table.pool ≡ pages) }
     {
         let pool = PagePool::new(alloc, pages)?;
-        let marks = Vec::with_capacity(alloc, 64)?;
+        let marks = Vec::with_capacity(alloc, MOST_CHECKPOINTS as usize)?;
         let mut table = Table { pool, marks };
         let shared = table.shared_pages(memory);
         table.add(0, state, memory, &shared);
@@ -229,7 +230,8 @@ impl<S: Copy> Table<S> {
     fn has_room(&self, memory: &Aram) -> bool
         ensures { result ≡ has_room (length self.now.pool) (pages_of memory.now) (live_checkpoints self.now) }
     {
-        self.len() < 64 && own_slots(&self.shared_pages(memory)) <= self.free()
+        self.len() < MOST_CHECKPOINTS as usize
+            && own_slots(&self.shared_pages(memory)) <= self.free()
     }
 
     /// Drops the second one, as long as there is one and no room for one of a memory; tells how many. Before each it compares
