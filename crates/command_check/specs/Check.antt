@@ -1,7 +1,7 @@
 -- What `check` answers: sums over the frames of a demo file, rendered over the table of straight lines for ten seconds, and the
 -- counts of the batches in which they were made.
-use Rattle.std.specs.Prelude.{ℕ, ◌+◌, ◌*◌, ◌%◌, ◌^◌, ◌≤◌, ℤ, pos, ◌+ℤ◌, unsigned_abs, List, [], ◌++◌, fold, codes, decimal}
-use Rattle.std.specs.Int.{w32, cast_unsigned}
+use Rattle.std.specs.Prelude.{ℕ, ◌*◌, ◌^◌, ◌≤◌, pos, ◌+ℤ◌, ◌*ℤ◌, unsigned_abs, List, [], ◌++◌, fold, codes, decimal}
+use Rattle.std.specs.Int.{int_rem_euclid}
 use Rattle.std.specs.Fmt.{signed_decimal}
 use Rattle.num_fix.specs.declared.Frame.{Frame}
 use Rattle.lock_step.specs.declared.counts.Counts.{Counts}
@@ -17,13 +17,9 @@ use Rattle.command_check.specs.declared.sums.Sums.{Sums}
 abbrev pub checked_samples : ℕ
 checked_samples = 320000
 
--- a side modulo 2 ^ 32, so that a mix is a natural number, and computed in 64 bits without a sign
-abbrev pub wrapped32 : (side : ℤ) → ℕ
-wrapped32 side = cast_unsigned w32 side
-
--- The mix with one frame more tells the order of the frames too. It is a number below 2 ^ 32.
+-- The mix with one frame more tells the order of the frames too: a sum over whole numbers, modulo 2 ^ 32.
 abbrev pub next_mix : (mix : ℕ) → Frame → ℕ
-next_mix mix frame = (5 * mix + wrapped32 frame.left + 3 * wrapped32 frame.right) % 2 ^ 32
+next_mix mix frame = unsigned_abs (int_rem_euclid (pos (5 * mix) +ℤ frame.left +ℤ pos 3 *ℤ frame.right) (pos (2 ^ 32)))
 
 abbrev pub sums_with : Sums → Frame → Sums
 sums_with sums frame = record {
