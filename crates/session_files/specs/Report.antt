@@ -1,5 +1,5 @@
 -- The replies as text: one a line.
-use Rattle.std.specs.Prelude.{ℕ, List, ◌++◌, codes}
+use Rattle.std.specs.Prelude.{ℕ, ◌+◌, List, ◌++◌, codes}
 use Rattle.std.specs.List.{flat_map}
 use Rattle.cut_form.specs.declared.script.Reply.{Reply}
 use Rattle.cut_form.specs.Session.{reply_text}
@@ -10,6 +10,9 @@ reply_line reply = reply_text reply ++ codes "\n"
 abbrev pub report_on : List Reply → List ℕ
 report_on replies = flat_map reply_line replies
 
--- the most bytes of a line
+-- the most bytes of a reply, and of its line
+abbrev pub most_text_bytes : ℕ
+most_text_bytes = 79
+
 abbrev pub most_reply_bytes : ℕ
-most_reply_bytes = 80
+most_reply_bytes = most_text_bytes + 1

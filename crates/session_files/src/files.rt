@@ -11,7 +11,7 @@ ghost use Rattle.script_text.specs.Playing.{played_frames};
 ghost use Rattle.run_slices.specs.GrowingFrames.{AreOfRun};
 ghost use Rattle.session_files.specs.Player.{left_to_play};
 ghost use Rattle.session_files.specs.Report.{report_on};
-ghost use Rattle.session_files.specs.SessionFiles.{replies_of_server, to_come_of, held_of, report_of, work_of, is_finished, GoesOn};
+ghost use Rattle.session_files.specs.SessionFiles.{most_played_bytes, replies_of_server, to_come_of, held_of, report_of, work_of, is_finished, GoesOn};
 ghost use Rattle.report_text.specs.Room.{room_size};
 
 use crate::OutOfMemory;
@@ -28,7 +28,7 @@ use std::marker::Model;
 use trace_form::Frames;
 
 /// The bytes of the most frames that are played at once.
-const WAVE_PIECE: usize = 256;
+pub const PLAYED_BYTES: usize = 256;
 
 /// The most bytes of a reply's line.
 const REPLY_BYTES: usize = 80;
@@ -132,7 +132,7 @@ impl<C: Chip> SessionFiles<C> {
     /// Plays the next frames of the last line.
     fn play_some(&mut self)
         requires some { 0 < self.old.player.left }
-        requires room { length self.old.wave + 256 ≤ room_size }
+        requires room { length self.old.wave + most_played_bytes ≤ room_size }
         ensures { GoesOn C.meaning C.saving self.old self.new }
     {
         self.player.play_some(&mut self.frames);
@@ -155,7 +155,7 @@ impl<C: Chip> SessionFiles<C> {
     /// Plays the next frames of the last line, or answers the next line.
     fn step(&mut self)
         requires more { is_finished self.old ≡ false }
-        requires room { length self.old.wave + 256 ≤ room_size }
+        requires room { length self.old.wave + most_played_bytes ≤ room_size }
         ensures { GoesOn C.meaning C.saving self.old self.new }
     {
         if self.player.left() > 0 {
@@ -172,7 +172,7 @@ impl<C: Chip> SessionFiles<C> {
         ensures report { report_of C.meaning C.saving self.new ≡ report_of C.meaning C.saving self.old }
         ensures less_work { is_finished self.new ≡ false → work_of self.new < work_of self.old }
     {
-        'lines: while !self.is_finished() && self.wave.has_room(WAVE_PIECE) {
+        'lines: while !self.is_finished() && self.wave.has_room(PLAYED_BYTES) {
             self.step();
         }
     }

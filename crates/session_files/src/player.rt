@@ -2,20 +2,18 @@
 ghost use Rattle.std.specs.Prelude.{◌≡◌, ◌+◌, ◌^◌, ◌≤◌, ◌<◌, ◌++◌, [], length};
 ghost use Rattle.num_fix.specs.Limits.{most_frames};
 ghost use Rattle.cut_form.specs.declared.script.ScriptLine.TheVariants as lines;
+ghost use Rattle.cut_form.specs.CutBook.{most_played};
 ghost use Rattle.cut_server.specs.ServerState.{book_of, slots_of};
 ghost use Rattle.cut_server.specs.Server.{frames_to, pages_at, KeepsTune};
 ghost use Rattle.script_text.specs.Playing.{IsWithinHour};
 ghost use Rattle.run_slices.specs.GrowingFrames.{AreOfRun};
 ghost use Rattle.session_files.specs.Player.{PlayerState, session_of, left_to_play, CanAnswer, Answers};
 
-use cut_form::{MOST_FRAMES, Reply, ScriptLine};
+use cut_form::{MOST_FRAMES, MOST_PLAYED, Reply, ScriptLine};
 use cut_server::CutServer;
 use lock_step::Chip;
 use std::marker::Model;
 use trace_form::Frames;
-
-/// The most frames that are played at once.
-const PIECE: u32 = 64;
 
 /// A session on a server of cuts. No call takes memory.
 #[derive(Drop)]
@@ -139,9 +137,9 @@ impl<C: Chip> Player<C> {
         ensures session { session_of self.new ≡ session_of self.old }
         ensures tune { KeepsTune C.meaning C.saving self.old.server self.new.server }
         ensures less { self.new.left < self.old.left }
-        ensures few { length frames.new ≤ 64 }
+        ensures few { length frames.new ≤ most_played }
     {
-        let most = self.left.min(PIECE);
+        let most = self.left.min(MOST_PLAYED);
         self.server.play(most, frames);
         self.left -= most;
     }
