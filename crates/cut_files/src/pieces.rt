@@ -7,25 +7,21 @@ ghost use Rattle.cut_server.specs.Server.{pages_at, frames_to};
 ghost use Rattle.cut_server.specs.ServerState.{book_of, slots_of};
 ghost use Rattle.run_slices.specs.GrowingFrames.{AreOfRun};
 ghost use Rattle.cut_files.specs.CutFiles.{cuts_report, to_come_of, held_of, report_of, work_of};
+ghost use Rattle.session_files.specs.SessionFiles.{most_played_bytes};
 ghost use Rattle.report_text.specs.Room.{room_size};
 
 use crate::marking::mark_if_room;
 use crate::report::tell;
 use command_frame::{OutOfMemory, Pieces};
+use cut_form::MOST_PLAYED;
 use cut_server::CutServer;
 use cut_text::CutList;
 use lock_step::Chip;
 use report_text::ByteRoom;
-use session_files::put_played;
+use session_files::{PLAYED_BYTES, put_played};
 use std::alloc::Global;
 use std::marker::Model;
 use trace_form::Frames;
-
-/// The most frames of a piece of a cut.
-const PIECE: u32 = 64;
-
-/// The most bytes of such a piece.
-const PIECE_BYTES: usize = 256;
 
 /// Cuts over any chip that are turned into the bytes of a sound file, and then into a report.
 #[derive(Drop)]
@@ -125,12 +121,12 @@ impl<C: Chip> CutFiles<C> {
     /// Plays the next frames of the cut that was begun, 64 at most, and adds their bytes.
     fn play(&mut self)
         requires some { 1 ≤ self.old.left }
-        requires room { length self.old.wave + 256 ≤ room_size }
+        requires room { length self.old.wave + most_played_bytes ≤ room_size }
         ensures first { self.old.wave ++ (to_come_of C.meaning C.saving self.old).first ≡ self.new.wave ++ (to_come_of C.meaning C.saving self.new).first }
         ensures report { report_of C.meaning C.saving self.new ≡ report_of C.meaning C.saving self.old }
         ensures less_work { work_of self.new < work_of self.old }
     {
-        let most = self.left.min(PIECE);
+        let most = self.left.min(MOST_PLAYED);
         self.server.play(most, &mut self.frames);
         put_played(&mut self.wave, &self.frames);
         self.left -= most;
@@ -151,7 +147,7 @@ impl<C: Chip> CutFiles<C> {
                 }
             } else {
                 self.play();
-                if !self.wave.has_room(PIECE_BYTES) {
+                if !self.wave.has_room(PLAYED_BYTES) {
                     return false;
                 }
             }
