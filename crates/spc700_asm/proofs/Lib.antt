@@ -2,6 +2,8 @@
 pub mod Unrolled
 -- so few digits write a small number
 pub mod Powers
+-- the place of the first one that passes a test
+pub mod Positions
 -- the least opcode whose row passes a test
 pub mod LeastOpcode
 -- the size of items, one after another

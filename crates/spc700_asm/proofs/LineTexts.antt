@@ -1,15 +1,15 @@
 -- The text of a line is cut into its mnemonic and its operands.
-use Rattle.std.proofs.Common.{◌≡◌, ℕ, ◌+◌, ◌<◌, Bool, true, false, not, cond, nat_lt, List, [], ◌∷◌, ◌++◌, length, take, drop, refl, ap, sym, ◌∙◌, subst, length-append, append_assoc, arith}
+use Rattle.std.proofs.Common.{◌≡◌, ℕ, ◌+◌, Bool, true, false, not, List, [], ◌∷◌, ◌++◌, length, take, drop, refl, ap, sym, ◌∙◌, subst, length-append, append_assoc, arith}
 use Rattle.std.specs.Prelude.{◌||◌, codes, position, reverse, Some, None, option_and_then}
 use Rattle.std.specs.List.{list_all, prefix_len, position_or_len, before_first, after_first}
 use Rattle.std.specs.Str.{bytes_eq}
-use Rattle.std.proofs.lemmas.Bool.Decides.{nat_tests}
 use Rattle.std.proofs.lemmas.List.{reverse-append, reverse-reverse}
 use Rattle.std.proofs.lemmas.Bool.{and_from, and_parts, not-true}
 use Rattle.spc700_asm.specs.Characters.{is_blank, is_semicolon, is_colon, is_comma, is_line_feed, without_first_blanks, trim, capitals}
 use Rattle.spc700_asm.specs.Operands.{Operand, operand_of}
 use Rattle.spc700_asm.specs.Statements.{code, with_operands, instruction_of, statement_of_word, statement_or_label, text_statement, statement_of}
 use Rattle.spc700_asm.proofs.Fronts.{front_len, take_front}
+use Rattle.spc700_asm.proofs.Positions.{place_within, no_place_within}
 use Rattle.text_parts.proofs.Places.{before_place, after_place, before_none, after_none}
 use Rattle.spc700_asm.proofs.Decoding.{drop_front}
 
@@ -23,14 +23,8 @@ all_len p (x ∷ xs) all =
     let both = and_parts (p x) (list_all p xs) all in
     rw both.0 (omega (arith, all_len p xs both.1))
 
-none_by : (n m : ℕ) → n ≡ m → cond (nat_lt n m) (Some n) None ≡ None
-none_by n m is = grind (arith, nat_tests)
-
 pub no_place : (p : ℕ → Bool) (xs : List ℕ) → fails p xs ≡ true → position p xs ≡ None
-no_place p xs all = none_by (position_or_len p xs) (length xs) (all_len (λ character. not (p character)) xs all)
-
-some_by : (n i m : ℕ) → n ≡ i → i < m → cond (nat_lt n m) (Some n) None ≡ Some i
-some_by n i m is inside = grind (arith, nat_tests)
+no_place p xs all = no_place_within (position_or_len p xs) (length xs) (all_len (λ character. not (p character)) xs all)
 
 not_not : (b : Bool) → b ≡ true → not (not b) ≡ true
 not_not true e = refl
@@ -38,7 +32,7 @@ not_not false e = e
 
 pub place_after : (p : ℕ → Bool) (a : List ℕ) (x : ℕ) (b : List ℕ) → fails p a ≡ true → p x ≡ true → position p (a ++ x ∷ b) ≡ Some (length a)
 place_after p a x b all passes =
-    some_by (position_or_len p (a ++ x ∷ b)) (length a) (length (a ++ x ∷ b)) (front_len (λ character. not (p character)) a (x ∷ b) all (not_not (p x) passes)) (omega (arith, length-append a (x ∷ b)))
+    place_within (position_or_len p (a ++ x ∷ b)) (length a) (length (a ++ x ∷ b)) (front_len (λ character. not (p character)) a (x ∷ b) all (not_not (p x) passes)) (omega (arith, length-append a (x ∷ b)))
 
 -- there is a character
 abbrev pub is_text : List ℕ → Bool
