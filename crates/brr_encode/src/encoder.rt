@@ -24,6 +24,7 @@ pub enum EncodeRefusal {
     Empty,
     /// There are more than 116,480 samples, or 7,280 blocks.
     TooLong,
+    /// There is no memory.
     OutOfMemory,
 }
 
