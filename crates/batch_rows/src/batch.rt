@@ -18,7 +18,7 @@ use dsp_form::registers::ENDX;
 use dsp_form::{ChipState, Settings, put_all_levels};
 use rate_clock::RateClock;
 use trace_form::Frames;
-use voice_unit::UNHEARD;
+use voice_unit::{UNHEARD, Workroom};
 
 /// Makes n samples from a number on by rows: the keys and the noise, each voice over the whole batch, the echo over the rows of
 /// sums, and the registers' results.
@@ -31,6 +31,7 @@ pub fn make_batch(
     settings: &Settings,
     memory: &mut Aram,
     groups: &mut GroupMemory,
+    room: &mut Workroom,
     frames: &mut Frames,
 )
     requires some { 0 < n }
@@ -65,6 +66,7 @@ pub fn make_batch(
         memory,
         &state.table,
         groups,
+        room,
         &mut answers,
         &mut loops,
         &mut sums,

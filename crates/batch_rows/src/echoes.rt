@@ -35,7 +35,5 @@ pub fn play_echo(
         &sums.sent_right,
         memory,
     );
-    for j in 0..n {
-        frames.push(row[usize::from(j)]);
-    }
+    frames.extend(&row[..usize::from(n)]);
 }

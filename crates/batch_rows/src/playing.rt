@@ -95,6 +95,7 @@ pub fn play_voices(
     memory: &Aram,
     table: &GaussTable,
     groups: &mut GroupMemory,
+    room: &mut Workroom,
     answers: &mut [VoiceOut; 8],
     loops: &mut [u8; 64],
     sums: &mut SumRows,
@@ -108,14 +109,13 @@ pub fn play_voices(
 {
     clear_loops(loops);
     sums.clear();
-    let mut room = Workroom::new(table);
     let mut previous = [0; 64];
     let mut row = [0; 64];
     for v in 0..8u8 {
         let place = usize::from(v);
         let mut voice = voices[place];
         let answer = play_voice(
-            &mut voice, v, n, registers, rows, clock, &previous, memory, table, groups, &mut room,
+            &mut voice, v, n, registers, rows, clock, &previous, memory, table, groups, room,
             &mut row, loops,
         );
         let own = volumes[place];

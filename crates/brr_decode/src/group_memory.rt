@@ -29,11 +29,11 @@ fn key_of(header: u8, b0: u8, b1: u8, p1: i16, p2: i16) -> u64
     bytes + 0x1000000 * last + 0x10000000000 * before
 }
 
-/// The place of a key among the remembered groups: the high bits of its product with an odd number.
-fn place_of(key: u64) -> usize
+/// The place of the group at an address among the remembered groups.
+fn place_of(address: u16) -> usize
     ensures { result < 4096 }
 {
-    (key.wrapping_mul(0x9e3779b97f4a7c15) >> 52) as usize
+    usize::from(address / 2 % 4096)
 }
 
 impl RememberedGroup {
@@ -75,13 +75,14 @@ impl GroupMemory {
     }
 
     /// Decodes a group, the four digits of two bytes, unless it is remembered.
-    /// `p1` is the last kept sample and `p2` the kept sample before it. Inlined, so that a group that is remembered costs no call.
+    /// `p1` is the last kept sample and `p2` the kept sample before it. Where the group stands tells where it is remembered and no more, so
+    /// that neighbours in memory are remembered side by side. Inlined, so that a group that is remembered costs no call.
     #[inline(always)]
-    pub fn decode(&mut self, header: u8, b0: u8, b1: u8, p1: i16, p2: i16) -> [i16; 4]
+    pub fn decode(&mut self, address: u16, header: u8, b0: u8, b1: u8, p1: i16, p2: i16) -> [i16; 4]
         ensures { (samples : List ℤ) → EndsWith samples p2 p1 → with_group samples header b0 b1 ≡ samples ++ result }
     {
         let key = key_of(header, b0, b1, p1, p2);
-        let place = place_of(key);
+        let place = place_of(address);
         let known = self.groups[place];
         if known.key == key {
             return known.group;

@@ -27,7 +27,7 @@ use reach_map::ReachPages;
 use std::alloc::Global;
 use std::marker::Model;
 use trace_form::{Frames, Records};
-use voice_unit::{UNHEARD, Voice, VoiceOut};
+use voice_unit::{UNHEARD, Voice, VoiceOut, Workroom};
 
 /// The S-DSP. It runs once for each sample, 32,000 times a second of sound. Beside the chip's state it keeps the groups that it
 /// decoded, of which views and saved states see nothing.
@@ -39,6 +39,7 @@ pub struct Dsp {
     batches: u64,
     total: u64,
     groups: GroupMemory,
+    room: Workroom,
 }
 
 impl Model for Dsp {
@@ -61,6 +62,7 @@ impl Dsp {
         ensures { IfOk result (λ dsp. dsp ≡ record { state = opened_state registers.now table; sample = 0; batches = 0; total = 0 }) }
     {
         let groups = GroupMemory::new(alloc)?;
+        let room = Workroom::new(&table);
         let mut own = [0; 128];
         own.copy_from_slice(registers);
         let hidden = Hidden {
@@ -81,6 +83,7 @@ impl Dsp {
             batches: 0,
             total: 0,
             groups,
+            room,
         })
     }
 
@@ -187,6 +190,7 @@ impl Dsp {
             settings,
             memory,
             &mut self.groups,
+            &mut self.room,
             frames,
         );
         self.number += u32::from(n);

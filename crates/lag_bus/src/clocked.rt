@@ -104,19 +104,8 @@ impl ClockedIo {
         requires clock { self.old.clock + cycles < clock_limit }
         ensures { self.new ≡ record (clocked_after cycles self.old) { calls = self.old.calls + 1 } }
     {
-        self.tick();
         self.clock += u64::from(cycles);
         self.calls += 1;
-    }
-
-    /// Has the timers tick up to the clock, so that it need not be done again each time they are looked at.
-    #[tactic(auto, using(crate::proofs::LateTicks::no_ticks))]
-    fn tick(&mut self)
-        ensures { self.new ≡ self.old }
-    {
-        let (from, to) = (self.ticked, self.clock);
-        tick_through(&mut self.io, from, to - from);
-        self.ticked = to;
     }
 
     /// Lets some cycles pass.

@@ -12,7 +12,7 @@ ghost use Rattle.lag_bus.specs.Waiting.{without_calls};
 ghost use Rattle.lag_bus.specs.Running.{MayFallBehind, running};
 
 use crate::behind::BehindBus;
-use spc700_exec::{Bus, Cpu, step};
+use spc700_exec::{Bus, Cpu, step_awake};
 use std::marker::Model;
 
 /// The most cycles of an instruction that doesn't halt the processor.
@@ -164,13 +164,14 @@ fn step_once<'a, B: BehindBus>(cpu: &mut Cpu, running: &mut RunningBus<'a, B>)
     requires few { running.old.samples ≤ most_frames }
     requires calls { running.old.bus.machine.calls ≤ most_calls_before_step }
     requires more { running.old.bus.machine.clock / 32 < running.old.samples }
+    requires awake { cpu.old.halted ≡ false }
     ensures does { (cpu.new, running.new.bus) ≡ step_outcome (lagging B.C.meaning) cpu.old running.old.bus }
     ensures name { running.new.name ≡ running.old.name }
     ensures samples { running.new.samples ≡ running.old.samples }
     ensures some { running.old.bus.machine.clock < running.new.bus.machine.clock }
 {
     if running.may_fall_behind() {
-        step(cpu, running);
+        step_awake(cpu, running);
     } else {
         running.step_on_bus(cpu);
     }

@@ -1,5 +1,5 @@
 -- Ticks compose, and a counter stays what it is until its inner counter comes to the target.
-use Rattle.std.proofs.Common.{◌≡◌, ℕ, zero, suc, ◌+◌, ◌%◌, ◌<◌, Bool, true, false, ◌==◌, refl, ap, ◌∙◌, arith}
+use Rattle.std.proofs.Common.{◌≡◌, ℕ, zero, suc, ◌+◌, ◌%◌, ◌<◌, Bool, true, false, ◌==◌, refl, ap, sym, ◌∙◌, ◌-◌, arith}
 use Rattle.std.proofs.lemmas.Bool.Decides.{nat_tests}
 use Rattle.ports_timers.specs.declared.timer.Timer.{Timer}
 use Rattle.ports_timers.specs.declared.io.Io.{Io}
@@ -58,6 +58,18 @@ after_ticks-below (suc n) timer small low few =
     let next : ((timer.inner + n) % 256 + 1) % 256 ≡ (timer.inner + suc n) % 256 = omega arith in
     let off : (((timer.inner + n) % 256 + 1) % 256 == timer.target) ≡ false = grind (arith, nat_tests) in
     ap after_tick before ∙ rw off (λ i. record timer { inner = next i })
+
+-- and at them the output counter goes on
+pub after_ticks-count : (timer : Timer) → timer.target < 256 → timer.inner < 256
+    → record timer { inner = 0; output = (timer.output + 1) % 256 % 16 } ≡ after_ticks (ticks_to_count timer) timer
+unfolding after_ticks
+after_ticks-count timer small low =
+    let m : ℕ = (timer.target + 255 - timer.inner) % 256 in
+    let e : ticks_to_count timer ≡ suc m = omega arith in
+    let before = after_ticks-below m timer small low (omega arith) in
+    let on : (((timer.inner + m) % 256 + 1) % 256 == timer.target) ≡ true = grind (arith, nat_tests) in
+    let o : (timer.output + 1) % 16 ≡ (timer.output + 1) % 256 % 16 = omega arith in
+    sym (ap (λ (k : ℕ). after_ticks k timer) e ∙ ap after_tick before ∙ rw on (λ i. record timer { inner = 0; output = o i }))
 
 pub output-stays : (enabled : Bool) (period clock cycles : ℕ) (timer : Timer) → timer.target < 256 → timer.inner < 256
     → stays enabled period clock cycles timer ≡ true → (after_cycles enabled period clock cycles timer).output ≡ timer.output

@@ -1,5 +1,5 @@
 // The ports, the ROM and the timers together.
-ghost use Rattle.std.specs.Prelude.{◌≡◌, ◌<◌, is_some};
+ghost use Rattle.std.specs.Prelude.{◌≡◌, ◌<◌, ◌+◌, ◌^◌, is_some};
 ghost use Rattle.ports_timers.specs.Limits.{clock_limit};
 ghost use Rattle.ports_timers.specs.Io.{is_enabled, first_timer, first_io, answers_read, read_answer, after_read, latches_after_control, timer_after_control, after_control_write, after_write, after_ticks_of};
 
@@ -126,13 +126,13 @@ impl Io {
         }
     }
 
-    /// Does the ticks as the clock goes on by some cycles from `from_clock`, which is below 2 to the 40.
-    pub fn ticks(&mut self, from_clock: u64, cycles: u8)
-        requires { from_clock < clock_limit }
+    /// Does the ticks of any number of cycles from a moment of the clock on.
+    pub(crate) fn tick(&mut self, from_clock: u64, cycles: u64)
+        requires { from_clock + cycles < 2 ^ 64 }
         ensures { self.new ≡ after_ticks_of self.old from_clock cycles }
     {
         // Each tick falls on a multiple of 16.
-        if from_clock % 16 + u64::from(cycles) < 16 {
+        if from_clock % 16 + cycles < 16 {
             return;
         }
         let control = self.control;
@@ -142,6 +142,14 @@ impl Io {
             .pass(has_bit(control, 1), 128, from_clock, cycles);
         self.timer2
             .pass(has_bit(control, 2), 16, from_clock, cycles);
+    }
+
+    /// Does the ticks as the clock goes on by some cycles from `from_clock`, which is below 2 to the 40.
+    pub fn ticks(&mut self, from_clock: u64, cycles: u8)
+        requires { from_clock < clock_limit }
+        ensures { self.new ≡ after_ticks_of self.old from_clock cycles }
+    {
+        self.tick(from_clock, u64::from(cycles));
     }
 
     /// The address of the S-DSP's register that F3h reaches.

@@ -5,20 +5,12 @@ ghost use Rattle.ports_timers.specs.Timer.{tick_count};
 ghost use Rattle.ports_timers.specs.Io.{is_enabled, after_ticks_of};
 ghost use Rattle.ports_timers.specs.Zeros.{ticks_to_count, stays_if_0, zeros_stay, IsTimer, AreTimers};
 
+use crate::timer::ticks_to_count;
 use crate::{Io, Timer};
 use num_fix::has_bit;
 
 /// More cycles than any wait has.
 const LONG: u64 = 0x1_0000_0000;
-
-/// The ticks up to the next count: 1 to 256.
-fn ticks_to_count(timer: Timer) -> u64
-    ensures exact { result ≡ ticks_to_count timer }
-    ensures few { result ≤ 256 }
-    ensures some { 1 ≤ result }
-{
-    u64::from(timer.target.wrapping_sub(timer.inner).wrapping_sub(1)) + 1
-}
 
 /// The cycles that bring fewer ticks than so many, at 128 cycles a tick or at 16.
 fn cycles_below(ticks: u64, slow: bool, clock: u64) -> u64
@@ -64,8 +56,5 @@ pub fn tick_through(io: &mut Io, clock: u64, cycles: u64)
     requires { clock + cycles < clock_limit }
     ensures { io.new ≡ after_ticks_of io.old clock cycles }
 {
-    'parts: for part in 0..cycles / 128 {
-        io.ticks(clock + 128 * part, 128);
-    }
-    io.ticks(clock + cycles / 128 * 128, (cycles % 128) as u8);
+    io.tick(clock, cycles);
 }

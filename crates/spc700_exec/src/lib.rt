@@ -25,4 +25,4 @@ pub use laws::{
     steps_are_short,
 };
 pub use mem_bus::MemBus;
-pub use stepping::step;
+pub use stepping::{step, step_awake};

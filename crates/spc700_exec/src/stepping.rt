@@ -2,7 +2,7 @@
 //!
 //! Its parts are inlined, so that a step goes to the arm of its opcode at once.
 
-ghost use Rattle.std.specs.Prelude.{◌≡◌, ◌+◌, ◌-◌, ◌<◌, ◌≤◌};
+ghost use Rattle.std.specs.Prelude.{◌≡◌, false, ◌+◌, ◌-◌, ◌<◌, ◌≤◌};
 ghost use Rattle.spc700_exec.specs.Bus.{most_calls_before_step, most_samples_of_bus};
 ghost use Rattle.spc700_exec.specs.Instruction.{step_outcome};
 ghost use Rattle.spc700_exec.specs.Pieces.{HasRoom};
@@ -11,6 +11,18 @@ use crate::bus::Bus;
 use crate::cpu::Cpu;
 use crate::opcodes::instruct;
 use crate::operand::fetch;
+
+/// A step of a processor that isn't halted, by its outcome alone.
+// In line in the step.
+#[inline(always)]
+fn advance_awake<B: Bus>(cpu: &mut Cpu, bus: &mut B)
+    requires room { HasRoom 13 B.means bus.old }
+    requires awake { cpu.old.halted ≡ false }
+    ensures { (cpu.new, bus.new) ≡ step_outcome B.means cpu.old bus.old }
+{
+    let op = fetch(cpu, bus);
+    instruct(cpu, bus, op);
+}
 
 /// A step, by its outcome alone.
 // In line in the step.
@@ -24,8 +36,7 @@ fn advance<B: Bus>(cpu: &mut Cpu, bus: &mut B)
         bus.pass(cycles);
         return;
     }
-    let op = fetch(cpu, bus);
-    instruct(cpu, bus, op);
+    advance_awake(cpu, bus);
 }
 
 /// One step of the processor: each access of the instruction at PC passes a cycle and then acts, and the rest of its
@@ -44,4 +55,19 @@ pub fn step<B: Bus>(cpu: &mut Cpu, bus: &mut B)
     ensures sample { B.means.made bus.new ≤ B.means.made bus.old + 1 }
 {
     advance(cpu, bus);
+}
+
+/// One step of a processor that isn't halted, which no test tells.
+#[inline(always)]
+pub fn step_awake<B: Bus>(cpu: &mut Cpu, bus: &mut B)
+    requires room { B.means.calls bus.old ≤ most_calls_before_step }
+    requires time { B.means.made bus.old < most_samples_of_bus - 1 }
+    requires awake { cpu.old.halted ≡ false }
+    ensures does { (cpu.new, bus.new) ≡ step_outcome B.means cpu.old bus.old }
+    ensures calls { B.means.calls bus.new ≤ B.means.calls bus.old + 13 }
+    ensures some { B.means.clock bus.old + 1 ≤ B.means.clock bus.new }
+    ensures short { B.means.clock bus.new ≤ B.means.clock bus.old + 32 }
+    ensures sample { B.means.made bus.new ≤ B.means.made bus.old + 1 }
+{
+    advance_awake(cpu, bus);
 }

@@ -1,5 +1,5 @@
 // Frames and records with a fixed room, so that adding one takes no memory.
-ghost use Rattle.std.specs.Prelude.{◌≡◌, ◌+◌, ◌<◌, ◌++◌, ◌∷◌, [], length, IfOk};
+ghost use Rattle.std.specs.Prelude.{◌≡◌, ◌+◌, ◌<◌, ◌≤◌, ◌++◌, ◌∷◌, [], length, IfOk};
 ghost use Rattle.trace_form.specs.Rooms.{frame_room, record_room};
 
 use crate::{OutOfMemory, Record};
@@ -47,6 +47,14 @@ impl Frames {
         ensures { self.new ≡ self.old ++ item ∷ [] }
     {
         let _ = self.items.push(item);
+    }
+
+    /// Adds frames.
+    pub fn extend(&mut self, items: &[Frame])
+        requires { length self.old + length items.now ≤ frame_room }
+        ensures { self.new ≡ self.old ++ items.now }
+    {
+        let _ = self.items.extend_from_slice(items);
     }
 
     /// Drops all frames.

@@ -44,7 +44,7 @@ pub(crate) fn read_group(
     let address = at.block.wrapping_add(u16::from(at.offset));
     let high = memory.get(address);
     let low = memory.get(address.wrapping_add(1));
-    let group = groups.decode(header, high, low, row[len - 1], row[len - 2]);
+    let group = groups.decode(address, header, high, low, row[len - 1], row[len - 2]);
     put_four(row, len, &group);
 }
 

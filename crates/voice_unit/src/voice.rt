@@ -286,7 +286,7 @@ impl Voice {
         let at = self.block.wrapping_add(u16::from(self.offset));
         let high = memory.get(at);
         let low = memory.get(at.wrapping_add(1));
-        let group = groups.decode(header, high, low, self.samples[11], self.samples[10]);
+        let group = groups.decode(at, header, high, low, self.samples[11], self.samples[10]);
         self.samples = samples_with_group(&self.samples, group);
     }
 

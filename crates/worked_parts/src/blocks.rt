@@ -21,9 +21,9 @@ fn shifts_and_filters(rt: HostRuntime) -> Result<(), Fail> {
 fn remembered_groups(rt: HostRuntime) -> Result<(), Fail> {
     let mut groups = GroupMemory::new(rt.alloc())?;
     for _ in 0..2 {
-        assert!(rt; groups.decode(0xC4, 0, 0, 4096, 0) == [3840, 3600, 3374, 3162]);
-        assert!(rt; groups.decode(0xC4, 0, 0, 0, 4096) == [0, 0, 0, 0]);
-        assert!(rt; groups.decode(0xC0, 0x80, 0x00, 0, 0) == [-32768, 0, 0, 0]);
+        assert!(rt; groups.decode(0x2001, 0xC4, 0, 0, 4096, 0) == [3840, 3600, 3374, 3162]);
+        assert!(rt; groups.decode(0x2001, 0xC4, 0, 0, 0, 4096) == [0, 0, 0, 0]);
+        assert!(rt; groups.decode(0x2001, 0xC0, 0x80, 0x00, 0, 0) == [-32768, 0, 0, 0]);
     }
     Ok(())
 }

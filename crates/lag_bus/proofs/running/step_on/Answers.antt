@@ -13,6 +13,7 @@ steps-init g c = record {
   samples = refl;
   taken = no_steps (lagging g.B.C.Chip.meaning) (lag_emits g.B.C.Chip.meaning) c.args.running.now.samples c.args.cpu.now c.args.running.now.bus;
   calls = c.requires.calls;
+  awake = c.if-cpu.false;
   on = omega arith;
 }
 
@@ -32,6 +33,7 @@ steps-preserved-then-not-has_room g c =
       samples = c.step_once.ensures.samples ∙ c.steps.invariant.samples;
       taken = calls_anew (lagging chip) (lag_emits chip) c.args.running.now.samples c.args.cpu.now c.args.running.now.bus c.step_once.new.cpu c.step_once.new.running.bus (without_calls c.step_once.new.running.bus) taken refl refl refl;
       calls = omega arith;
+      awake = c.if-cpu-2.false;
       on = omega arith;
     })
 
@@ -49,6 +51,7 @@ steps-preserved g c =
       samples = c.step_once.ensures.samples ∙ c.steps.invariant.samples;
       taken = one_step_on chip c.args.running.now.samples c.args.cpu.now c.args.running.now.bus c.steps.cpu c.step_once.new.cpu c.steps.running.bus c.step_once.new.running.bus c.steps.invariant.taken (rw run at more) c.step_once.ensures.does;
       calls = grind (arith, nat_tests);
+      awake = c.if-cpu-2.false;
       on = omega arith;
     }
 

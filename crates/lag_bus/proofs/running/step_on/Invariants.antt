@@ -1,4 +1,4 @@
-use Rattle.std.proofs.Common.{◌≡◌, ◌*◌, ◌-◌, ◌≤◌}
+use Rattle.std.proofs.Common.{◌≡◌, false, ◌*◌, ◌-◌, ◌≤◌}
 use Rattle.lock_step.specs.StepsOfRun.{AreStepsOf}
 use Rattle.lag_bus.specs.Lagging.{lagging}
 use Rattle.lag_bus.specs.LagEmits.{lag_emits}
@@ -11,6 +11,7 @@ invariant-steps g l = record {
   samples : l.running.samples ≡ l.initial.running.samples;
   taken : AreStepsOf (lagging g.B.C.Chip.meaning) (lag_emits g.B.C.Chip.meaning) l.initial.running.samples l.initial.cpu l.initial.running.bus l.cpu l.running.bus;
   calls : l.running.bus.machine.calls ≤ 32;
+  awake : l.cpu.halted ≡ false;
   on : l.initial.running.bus.machine.clock ≤ l.running.bus.machine.clock;
 }
 

@@ -1,0 +1,26 @@
+use Rattle.std.proofs.Common.{◌+◌, ◌≤◌, sym, ap, subst, arith}
+use Rattle.spc700_exec.proofs.Bounds.{calls-step_outcome, clock-step_outcome-least, clock-step_outcome-most}
+use Rattle.spc700_exec.proofs.stepping.step_awake.Goals as goal
+
+pub returns-clause-calls : goal.returns-clause-calls
+returns-clause-calls g c =
+    let bus = g.B.Bus.means in
+    let few = calls-step_outcome bus g.met.B.Bus.lawful c.args.cpu.now c.args.bus.now in
+    subst (λ s. bus.calls s ≤ bus.calls c.args.bus.now + 13) (sym (ap (λ p. p.1) c.advance_awake.ensures)) few
+
+pub returns-clause-some : goal.returns-clause-some
+returns-clause-some g c =
+    let bus = g.B.Bus.means in
+    let least = clock-step_outcome-least bus g.met.B.Bus.lawful c.args.cpu.now c.args.bus.now in
+    subst (λ s. bus.clock c.args.bus.now + 1 ≤ bus.clock s) (sym (ap (λ p. p.1) c.advance_awake.ensures)) least
+
+pub returns-clause-short : goal.returns-clause-short
+returns-clause-short g c =
+    let bus = g.B.Bus.means in
+    let most = clock-step_outcome-most bus g.met.B.Bus.lawful c.args.cpu.now c.args.bus.now in
+    subst (λ s. bus.clock s ≤ bus.clock c.args.bus.now + 32) (sym (ap (λ p. p.1) c.advance_awake.ensures)) most
+
+pub returns-clause-sample : goal.returns-clause-sample
+returns-clause-sample g c =
+    let law = g.met.B.Bus.lawful in
+    omega (arith, returns-clause-short g c, law.samples c.args.bus.now, law.samples c.advance_awake.new.bus)
