@@ -15,11 +15,11 @@ use Rattle.voice_unit.specs.Voice.{VoiceState}
 use Rattle.reach_map.specs.declared.ChainStart.{ChainStart}
 use Rattle.reach_map.specs.Reach.{pages_of_bytes, chain, block_pages, chain_pages, entry_pages, voice_pages, window_pages, reach}
 use Rattle.echo_unit.specs.Flg.{has_echo_writes}
-use Rattle.dsp_form.specs.Reach.{voice_entry, can_start, own_chain, start_chain, voice_starts, entries_from, starts_from, chip_window, chip_reach}
-use Rattle.dsp_form.specs.declared.registers.TheConstants.{FLG}
-use Rattle.dsp_form.specs.declared.state.ChipState.{ChipState}
-use Rattle.dsp_reach.proofs.PageSets.{contains-pages, apart_right, at_page, in_left, in_right, in_either}
-use Rattle.dsp_reach.proofs.ChainPages.{bytes_have}
+use Rattle.dsp_state.specs.Reach.{voice_entry, can_start, own_chain, start_chain, voice_starts, entries_from, starts_from, chip_window, chip_reach}
+use Rattle.dsp_state.specs.declared.registers.TheConstants.{FLG}
+use Rattle.dsp_state.specs.declared.state.ChipState.{ChipState}
+use Rattle.reach_laws.proofs.PageSets.{contains-pages, apart_right, at_page, in_left, in_right, in_either}
+use Rattle.reach_laws.proofs.ChainPages.{bytes_have}
 use Rattle.batch_rows.specs.Afar.{far_pages, far_voice_pages, far_pages_of_chip, window_from, AreApart, IsVoiceApart}
 
 none_has : (p : ℕ) → has_page [] p ≡ true → ⊥

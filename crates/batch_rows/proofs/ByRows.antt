@@ -2,12 +2,12 @@
 use Rattle.std.proofs.Common.{◌≡◌, ℕ, zero, suc, ◌+◌, List, pos, slice_index, refl, ap, sym, ◌∙◌, arith}
 use Rattle.voice_unit.specs.Voice.{VoiceState}
 use Rattle.echo_unit.specs.Echo.{EchoState}
-use Rattle.dsp_form.specs.Samples.{SamplesResult, samples, one_more}
-use Rattle.dsp_form.specs.Sample.{SharedInput, results_from, shared_input, sample, before_voices}
-use Rattle.dsp_form.specs.declared.registers.TheConstants.{FLG}
-use Rattle.dsp_form.specs.declared.state.ChipState.{ChipState}
-use Rattle.dsp_form.proofs.Inputs.{SameInputs, registers-before_voices}
-use Rattle.dsp_reach.proofs.Registers.{same_inputs-samples}
+use Rattle.dsp_state.specs.Samples.{SamplesResult, samples, one_more}
+use Rattle.dsp_state.specs.Sample.{SharedInput, results_from, shared_input, sample, before_voices}
+use Rattle.dsp_state.specs.declared.registers.TheConstants.{FLG}
+use Rattle.dsp_state.specs.declared.state.ChipState.{ChipState}
+use Rattle.dsp_state.proofs.Inputs.{SameInputs, registers-before_voices}
+use Rattle.reach_laws.proofs.Registers.{same_inputs-samples}
 use Rattle.batch_rows.specs.Lane.{lanes, voices_after}
 use Rattle.echo_unit.specs.EchoOverBatch.{EchoOver}
 use Rattle.batch_rows.specs.Rows.{keys_after, inputs, answers, results_after, echo_after, with_parts, by_rows}

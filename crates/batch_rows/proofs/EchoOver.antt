@@ -5,7 +5,7 @@ use Rattle.voice_unit.specs.declared.interface.VoiceOut.{VoiceOut}
 use Rattle.echo_unit.specs.Echo.{EchoState}
 use Rattle.echo_unit.specs.EchoOverBatch.{echo_over}
 use Rattle.echo_unit.specs.declared.regs.EchoRegs.{EchoRegs}
-use Rattle.dsp_form.specs.Results.{next_endx}
+use Rattle.dsp_state.specs.Results.{next_endx}
 use Rattle.batch_rows.specs.Once.{endx_after}
 
 -- rows that agree give the same run

@@ -4,11 +4,11 @@ use Rattle.std.proofs.lemmas.Bool.Decides.{nat_tests}
 use Rattle.std.proofs.lemmas.List.{get_or-replicate}
 use Rattle.rate_clock.specs.Counter.{counter_at, fires, IsQuiet}
 use Rattle.voice_unit.specs.declared.batch.BatchRows.{BatchRows}
-use Rattle.dsp_form.specs.Registers.{noise_rate}
-use Rattle.dsp_form.specs.Results.{without_bits}
-use Rattle.dsp_form.specs.Sample.{after_poll, after_noise, before_voices}
-use Rattle.dsp_form.specs.declared.registers.TheConstants.{FLG}
-use Rattle.dsp_form.specs.declared.state.ChipState.{ChipState}
+use Rattle.dsp_state.specs.Registers.{noise_rate}
+use Rattle.dsp_state.specs.Results.{without_bits}
+use Rattle.dsp_state.specs.Sample.{after_poll, after_noise, before_voices}
+use Rattle.dsp_state.specs.declared.registers.TheConstants.{FLG}
+use Rattle.dsp_state.specs.declared.state.ChipState.{ChipState}
 use Rattle.batch_rows.specs.KeyRows.{AreKeyRows}
 use Rattle.batch_rows.specs.Rows.{keys_after}
 

@@ -3,24 +3,24 @@ use Rattle.std.proofs.Common.{◌≡◌, ℕ, zero, suc, ◌+◌, ◌%◌, ◌==
 use Rattle.std.proofs.lemmas.Bool.{and_parts}
 use Rattle.num_fix.specs.Arithmetic.{has_bit}
 use Rattle.aram_core.specs.Pages.{page_of}
-use Rattle.dsp_form.specs.Samples.{SamplesResult, samples}
+use Rattle.dsp_state.specs.Samples.{SamplesResult, samples}
 use Rattle.echo_unit.specs.Flg.{has_echo_writes}
-use Rattle.dsp_form.specs.Registers.{echo_regs}
-use Rattle.dsp_form.specs.Mix.{sent_frame}
-use Rattle.dsp_form.specs.Volumes.{all_volumes}
-use Rattle.dsp_form.specs.Sample.{SharedInput, VoiceResult, results_from, shared_input, sample, before_voices}
-use Rattle.dsp_form.specs.declared.registers.TheConstants.{FLG}
-use Rattle.dsp_reach.proofs.Registers.{same_inputs-samples}
+use Rattle.dsp_state.specs.Registers.{echo_regs}
+use Rattle.dsp_state.specs.Mix.{sent_frame}
+use Rattle.dsp_state.specs.Volumes.{all_volumes}
+use Rattle.dsp_state.specs.Sample.{SharedInput, VoiceResult, results_from, shared_input, sample, before_voices}
+use Rattle.dsp_state.specs.declared.registers.TheConstants.{FLG}
+use Rattle.reach_laws.proofs.Registers.{same_inputs-samples}
 use Rattle.echo_unit.proofs.OffCell.{echo_memory_still}
-use Rattle.dsp_form.specs.Valid.{is_valid}
-use Rattle.dsp_form.specs.Reach.{chip_reach}
-use Rattle.dsp_form.specs.declared.state.ChipState.{ChipState}
-use Rattle.dsp_form.proofs.Inputs.{registers-before_voices}
-use Rattle.dsp_reach.proofs.Keys.{taken_waited}
-use Rattle.dsp_reach.proofs.ReachOfChip.{voices_unwritten}
-use Rattle.dsp_reach.proofs.Voices.{FindTheSame, results_same}
-use Rattle.dsp_reach.proofs.OneSample.{StaysInReach}
-use Rattle.dsp_reach.proofs.Within.{stays_in_samples}
+use Rattle.dsp_state.specs.Valid.{is_valid}
+use Rattle.dsp_state.specs.Reach.{chip_reach}
+use Rattle.dsp_state.specs.declared.state.ChipState.{ChipState}
+use Rattle.dsp_state.proofs.Inputs.{registers-before_voices}
+use Rattle.reach_laws.proofs.Keys.{taken_waited}
+use Rattle.reach_laws.proofs.ReachOfChip.{voices_unwritten}
+use Rattle.reach_laws.proofs.Voices.{FindTheSame, results_same}
+use Rattle.reach_laws.proofs.OneSample.{StaysInReach}
+use Rattle.reach_laws.proofs.Within.{stays_in_samples}
 use Rattle.batch_rows.specs.Apart.{VoicesReadTheSame}
 
 -- where the reach isn't entangled

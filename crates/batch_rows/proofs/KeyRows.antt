@@ -3,11 +3,11 @@ use Rattle.std.proofs.Common.{◌≡◌, ◌≢◌, ℕ, zero, suc, ◌+◌, ◌
 use Rattle.std.proofs.lemmas.Bool.Decides.{nat_tests}
 use Rattle.std.proofs.lemmas.List.{get_or-set_same, get_or-set_other}
 use Rattle.voice_unit.specs.declared.batch.BatchRows.{BatchRows}
-use Rattle.dsp_form.specs.declared.state.ChipState.{ChipState}
-use Rattle.dsp_form.proofs.EightVoices.{voices-before_voices}
-use Rattle.dsp_form.proofs.Valid.{echo-before_voices}
+use Rattle.dsp_state.specs.declared.state.ChipState.{ChipState}
+use Rattle.dsp_state.proofs.EightVoices.{voices-before_voices}
+use Rattle.dsp_state.proofs.Valid.{echo-before_voices}
 use Rattle.echo_unit.proofs.Entries.{with_entry}
-use Rattle.dsp_form.specs.Sample.{before_voices}
+use Rattle.dsp_state.specs.Sample.{before_voices}
 use Rattle.batch_rows.specs.KeyRows.{AreKeyRows}
 use Rattle.batch_rows.specs.Rows.{keys_after}
 

@@ -4,8 +4,8 @@ use Rattle.std.proofs.lemmas.Bool.Decides.{nat_tests}
 use Rattle.std.proofs.lemmas.Nat.{mod-pow-add, shr-shr, pow-add}
 use Rattle.num_fix.specs.Arithmetic.{has_bit}
 use Rattle.voice_unit.specs.Voice.{VoiceState, voice_answer}
-use Rattle.dsp_form.specs.Results.{bits_from}
-use Rattle.dsp_form.specs.Sample.{SharedInput, voice_in, voice_result, results_from}
+use Rattle.dsp_state.specs.Results.{bits_from}
+use Rattle.dsp_state.specs.Sample.{SharedInput, voice_in, voice_result, results_from}
 
 -- the key-ons of n voices from v on, where the keys are polled
 abbrev key_ons : (poll : Bool) → (taken v n : ℕ) → ℕ

@@ -1,7 +1,7 @@
 -- Voices that samples sample by sample and voices that run one after another give the same.
 use Rattle.std.proofs.Common.{◌≡◌, ℕ, zero, suc, ◌+◌, List, [], ◌∷◌, ℤ, map, refl, ◌<◌, ap, arith}
 use Rattle.voice_unit.specs.Voice.{VoiceState}
-use Rattle.dsp_form.specs.Sample.{SharedInput, VoiceResult, voice_result, results_from}
+use Rattle.dsp_state.specs.Sample.{SharedInput, VoiceResult, voice_result, results_from}
 use Rattle.batch_rows.specs.Lane.{voice_after, lane, outs, voices_after, lanes}
 
 -- before the first sample each voice is as it was

@@ -4,13 +4,13 @@ use Rattle.voice_unit.specs.Voice.{VoiceState}
 use Rattle.voice_unit.specs.declared.batch.BatchRows.{BatchRows}
 use Rattle.voice_unit.specs.declared.interface.VoiceOut.{VoiceOut}
 use Rattle.echo_unit.specs.EchoOverBatch.{echo_over}
-use Rattle.dsp_form.specs.Mix.{main_frame, sent_frame}
-use Rattle.dsp_form.specs.Registers.{echo_regs}
-use Rattle.dsp_form.specs.Results.{bits_from, with_levels_from}
-use Rattle.dsp_form.specs.Sample.{SharedInput, VoiceResult}
-use Rattle.dsp_form.specs.Volumes.{all_volumes}
-use Rattle.dsp_form.specs.declared.registers.TheConstants.{ENDX}
-use Rattle.dsp_form.specs.declared.state.ChipState.{ChipState}
+use Rattle.dsp_state.specs.Mix.{main_frame, sent_frame}
+use Rattle.dsp_state.specs.Registers.{echo_regs}
+use Rattle.dsp_state.specs.Results.{bits_from, with_levels_from}
+use Rattle.dsp_state.specs.Sample.{SharedInput, VoiceResult}
+use Rattle.dsp_state.specs.Volumes.{all_volumes}
+use Rattle.dsp_state.specs.declared.registers.TheConstants.{ENDX}
+use Rattle.dsp_state.specs.declared.state.ChipState.{ChipState}
 use Rattle.batch_rows.specs.KeyRows.{AreKeyRows}
 use Rattle.batch_rows.specs.Lane.{outs, voices_after}
 use Rattle.batch_rows.specs.Once.{endx_after, put_once, AreBits}

@@ -3,15 +3,15 @@ use Rattle.std.proofs.Common.{◌≡◌, ℕ, zero, suc, ◌+◌, ◌%◌, ◌==
 use Rattle.rate_clock.specs.Counter.{counter_at}
 use Rattle.voice_unit.specs.Voice.{VoiceState}
 use Rattle.echo_unit.specs.Echo.{EchoState, next_echo, echo_memory, echo_heard, output_frame}
-use Rattle.dsp_form.specs.Registers.{echo_regs}
-use Rattle.dsp_form.specs.Mix.{main_frame, sent_frame}
-use Rattle.dsp_form.specs.Volumes.{all_volumes}
-use Rattle.dsp_form.specs.Results.{without_bits, registers_after}
-use Rattle.dsp_form.specs.Sample.{VoiceResult, results_from, records_from, shared_input, after_poll, after_noise, sample, before_voices}
-use Rattle.dsp_form.specs.declared.registers.TheConstants.{FLG}
-use Rattle.dsp_form.specs.declared.state.ChipState.{ChipState}
-use Rattle.dsp_form.proofs.EightVoices.{polled_part}
-use Rattle.dsp_form.proofs.Inputs.{SameInputs, registers-before_voices}
+use Rattle.dsp_state.specs.Registers.{echo_regs}
+use Rattle.dsp_state.specs.Mix.{main_frame, sent_frame}
+use Rattle.dsp_state.specs.Volumes.{all_volumes}
+use Rattle.dsp_state.specs.Results.{without_bits, registers_after}
+use Rattle.dsp_state.specs.Sample.{VoiceResult, results_from, records_from, shared_input, after_poll, after_noise, sample, before_voices}
+use Rattle.dsp_state.specs.declared.registers.TheConstants.{FLG}
+use Rattle.dsp_state.specs.declared.state.ChipState.{ChipState}
+use Rattle.dsp_state.proofs.EightVoices.{polled_part}
+use Rattle.dsp_state.proofs.Inputs.{SameInputs, registers-before_voices}
 use Rattle.batch_rows.specs.Rows.{keys_after, with_parts}
 use Rattle.batch_rows.proofs.SameInputs.{same_volumes, same_echo_regs}
 

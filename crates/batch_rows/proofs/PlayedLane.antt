@@ -8,11 +8,11 @@ use Rattle.voice_unit.specs.Play.{lane_of, answer_at, IsPlayed}
 use Rattle.voice_unit.specs.declared.batch.BatchLane.{BatchLane}
 use Rattle.voice_unit.specs.declared.batch.BatchRows.{BatchRows}
 use Rattle.voice_unit.specs.declared.interface.VoiceOut.{VoiceOut}
-use Rattle.dsp_form.specs.Registers.{voice_regs, is_soft_reset}
-use Rattle.dsp_form.specs.Settings.{voice_settings}
-use Rattle.dsp_form.specs.Sample.{voice_in, voice_result}
-use Rattle.dsp_form.specs.declared.registers.TheConstants.{DIR, PMON, NON, KOFF, FLG}
-use Rattle.dsp_form.specs.declared.state.ChipState.{ChipState}
+use Rattle.dsp_state.specs.Registers.{voice_regs, is_soft_reset}
+use Rattle.dsp_state.specs.Settings.{voice_settings}
+use Rattle.dsp_state.specs.Sample.{voice_in, voice_result}
+use Rattle.dsp_state.specs.declared.registers.TheConstants.{DIR, PMON, NON, KOFF, FLG}
+use Rattle.dsp_state.specs.declared.state.ChipState.{ChipState}
 use Rattle.batch_rows.specs.KeyRows.{AreKeyRows}
 use Rattle.batch_rows.specs.Lane.{voice_after, lane}
 use Rattle.batch_rows.specs.PlayedLane.{IsPlayedLane}

@@ -5,10 +5,10 @@ use Rattle.num_fix.specs.Arithmetic.{clamp16, scaled}
 use Rattle.num_fix.specs.SignedWords.{number_at}
 use Rattle.voice_unit.specs.Voice.{VoiceState}
 use Rattle.voice_unit.specs.declared.interface.VoiceOut.{VoiceOut}
-use Rattle.dsp_form.specs.Mix.{shares_at, clamped_sum}
-use Rattle.dsp_form.specs.Results.{bits_from}
-use Rattle.dsp_form.specs.Sample.{SharedInput}
-use Rattle.dsp_form.specs.declared.volumes.Volumes.{Volumes}
+use Rattle.dsp_state.specs.Mix.{shares_at, clamped_sum}
+use Rattle.dsp_state.specs.Results.{bits_from}
+use Rattle.dsp_state.specs.Sample.{SharedInput}
+use Rattle.dsp_state.specs.declared.volumes.Volumes.{Volumes}
 use Rattle.batch_rows.specs.Lane.{lane, outs, voices_after}
 use Rattle.batch_rows.specs.PlayedBatch.{answers_from, sum_of, IsPlayedBatch}
 use Rattle.batch_rows.specs.PlayedLane.{IsPlayedLane}

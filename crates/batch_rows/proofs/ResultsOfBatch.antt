@@ -7,10 +7,10 @@ use Rattle.std.proofs.lemmas.Bool.Decides.{nat_tests}
 use Rattle.std.proofs.lemmas.Nat.{and_le_l}
 use Rattle.rate_clock.proofs.Tables.{list_all-entry}
 use Rattle.voice_unit.specs.declared.interface.VoiceOut.{VoiceOut}
-use Rattle.dsp_form.specs.Results.{without_bits, with_levels_from, next_endx, registers_after}
-use Rattle.dsp_form.specs.Sample.{after_poll, after_noise, before_voices}
-use Rattle.dsp_form.specs.declared.registers.TheConstants.{ENVX, OUTX, ENDX}
-use Rattle.dsp_form.specs.declared.state.ChipState.{ChipState}
+use Rattle.dsp_state.specs.Results.{without_bits, with_levels_from, next_endx, registers_after}
+use Rattle.dsp_state.specs.Sample.{after_poll, after_noise, before_voices}
+use Rattle.dsp_state.specs.declared.registers.TheConstants.{ENVX, OUTX, ENDX}
+use Rattle.dsp_state.specs.declared.state.ChipState.{ChipState}
 use Rattle.batch_rows.specs.Rows.{keys_after, results_after}
 use Rattle.batch_rows.specs.Once.{endx_after, put_once}
 

@@ -9,9 +9,9 @@ use Rattle.voice_unit.specs.Voice.{VoiceState}
 use Rattle.voice_unit.specs.declared.batch.BatchRows.{BatchRows}
 use Rattle.voice_unit.specs.declared.interface.VoiceOut.{VoiceOut}
 use Rattle.voice_unit.specs.declared.out_row.OutRow.{OutRow}
-use Rattle.dsp_form.specs.Registers.{voice_regs}
-use Rattle.dsp_form.specs.Sample.{SharedInput}
-use Rattle.dsp_form.specs.declared.state.ChipState.{ChipState}
+use Rattle.dsp_state.specs.Registers.{voice_regs}
+use Rattle.dsp_state.specs.Sample.{SharedInput}
+use Rattle.dsp_state.specs.declared.state.ChipState.{ChipState}
 use Rattle.batch_rows.specs.KeyRows.{AreKeyRows}
 use Rattle.batch_rows.specs.Lane.{outs, voices_after}
 use Rattle.batch_rows.specs.PlayedBatch.{answers_from}

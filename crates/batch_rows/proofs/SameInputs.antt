@@ -1,15 +1,15 @@
 -- Registers that differ in results alone: voices read the same of them, and so do the sums and the echo.
 use Rattle.std.proofs.Common.{◌≡◌, ℕ, ◌+◌, List, [], ◌∷◌, ℤ, refl, ap}
 use Rattle.voice_unit.specs.Voice.{VoiceState}
-use Rattle.dsp_form.specs.Registers.{voice_regs, echo_regs}
-use Rattle.dsp_form.specs.Settings.{voice_settings, settings_of}
-use Rattle.dsp_form.specs.Volumes.{all_volumes}
-use Rattle.dsp_form.specs.Sample.{SharedInput, VoiceResult, voice_in, voice_result, results_from}
-use Rattle.dsp_form.specs.declared.registers.TheConstants.{DIR, FLG}
-use Rattle.dsp_form.specs.declared.settings.Settings.{Settings}
-use Rattle.dsp_form.specs.declared.voice_settings.VoiceSettings.{VoiceSettings}
-use Rattle.dsp_form.proofs.Inputs.{SameInputs}
-use Rattle.dsp_form.proofs.ReadOnce.{same_settings, same_voice}
+use Rattle.dsp_state.specs.Registers.{voice_regs, echo_regs}
+use Rattle.dsp_state.specs.Settings.{voice_settings, settings_of}
+use Rattle.dsp_state.specs.Volumes.{all_volumes}
+use Rattle.dsp_state.specs.Sample.{SharedInput, VoiceResult, voice_in, voice_result, results_from}
+use Rattle.dsp_state.specs.declared.registers.TheConstants.{DIR, FLG}
+use Rattle.dsp_state.specs.declared.settings.Settings.{Settings}
+use Rattle.dsp_state.specs.declared.voice_settings.VoiceSettings.{VoiceSettings}
+use Rattle.dsp_state.proofs.Inputs.{SameInputs}
+use Rattle.dsp_state.proofs.ReadOnce.{same_settings, same_voice}
 
 module _ (these those : List ℕ) (same : SameInputs these those) where
   same_regs : (v : ℕ) → voice_regs these v ≡ voice_regs those v

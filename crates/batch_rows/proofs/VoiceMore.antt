@@ -3,7 +3,7 @@ use Rattle.std.proofs.Common.{◌≡◌, ℕ, ◌+◌, ◌<◌, List, ◌∷◌,
 use Rattle.std.proofs.lemmas.List.{drop_more, take_more_set, drop-set-lt}
 use Rattle.num_fix.specs.SignedWords.{number_at}
 use Rattle.voice_unit.specs.Voice.{VoiceState}
-use Rattle.dsp_form.specs.Sample.{SharedInput, VoiceResult}
+use Rattle.dsp_state.specs.Sample.{SharedInput, VoiceResult}
 use Rattle.batch_rows.specs.Lane.{voice_after, lane, outs, voices_after}
 use Rattle.batch_rows.specs.PlayedBatch.{answers_from}
 use Rattle.batch_rows.proofs.Lanes.{lanes-rows, voices_after-rows}

@@ -1,8 +1,8 @@
 -- That the voices of a batch read nothing that its echo writes.
 use Rattle.std.specs.Prelude.{◌≡◌, ℕ, ◌+◌, ◌<◌, List, pos}
-use Rattle.dsp_form.specs.Samples.{samples}
-use Rattle.dsp_form.specs.Sample.{before_voices, shared_input, results_from, sample}
-use Rattle.dsp_form.specs.declared.state.ChipState.{ChipState}
+use Rattle.dsp_state.specs.Samples.{samples}
+use Rattle.dsp_state.specs.Sample.{before_voices, shared_input, results_from, sample}
+use Rattle.dsp_state.specs.declared.state.ChipState.{ChipState}
 
 -- in each of n samples from number k on, the voices give what they would give over the memory from before the batch
 abbrev pub VoicesReadTheSame : (n k : ℕ) → ChipState → (memory : List ℕ) → Type 0

@@ -2,7 +2,7 @@
 -- sample's place in the batch, from 0 on.
 use Rattle.std.specs.Prelude.{ℕ, zero, suc, ◌+◌, List, [], ◌∷◌, ℤ}
 use Rattle.voice_unit.specs.Voice.{VoiceState}
-use Rattle.dsp_form.specs.Sample.{SharedInput, VoiceResult, voice_result}
+use Rattle.dsp_state.specs.Sample.{SharedInput, VoiceResult, voice_result}
 
 -- voice v after so many samples of a batch: the row of what all voices read, and the row of the outputs of the voice before
 unfoldable pub voice_after : (shared : ℕ → SharedInput) → (v : ℕ) → (previous : ℕ → ℤ) → VoiceState → (samples : ℕ) → VoiceState

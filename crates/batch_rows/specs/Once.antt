@@ -2,8 +2,8 @@
 use Rattle.std.specs.Prelude.{◌≡◌, ◌<◌, ℕ, zero, suc, List, false, get_or, slice_index, slice_set, if◌then◌else◌}
 use Rattle.voice_unit.specs.declared.batch.BatchRows.{BatchRows}
 use Rattle.voice_unit.specs.declared.interface.VoiceOut.{VoiceOut}
-use Rattle.dsp_form.specs.Results.{bits_from, with_levels_from, next_endx}
-use Rattle.dsp_form.specs.declared.registers.TheConstants.{ENDX}
+use Rattle.dsp_state.specs.Results.{bits_from, with_levels_from, next_endx}
+use Rattle.dsp_state.specs.declared.registers.TheConstants.{ENDX}
 
 -- ENDX after so many samples
 abbrev pub endx_after : (rows : ℕ → List VoiceOut) → (endx samples : ℕ) → ℕ

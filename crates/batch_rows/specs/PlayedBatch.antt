@@ -3,10 +3,10 @@ use Rattle.std.specs.Prelude.{◌≡◌, ℕ, ◌-◌, ◌<◌, List, ℤ, pos, 
 use Rattle.num_fix.specs.SignedWords.{number_at}
 use Rattle.voice_unit.specs.Voice.{VoiceState}
 use Rattle.voice_unit.specs.declared.interface.VoiceOut.{VoiceOut}
-use Rattle.dsp_form.specs.Mix.{shares_at, clamped_sum}
-use Rattle.dsp_form.specs.Results.{bits_from}
-use Rattle.dsp_form.specs.Sample.{SharedInput}
-use Rattle.dsp_form.specs.declared.volumes.Volumes.{Volumes}
+use Rattle.dsp_state.specs.Mix.{shares_at, clamped_sum}
+use Rattle.dsp_state.specs.Results.{bits_from}
+use Rattle.dsp_state.specs.Sample.{SharedInput}
+use Rattle.dsp_state.specs.declared.volumes.Volumes.{Volumes}
 use Rattle.batch_rows.specs.Lane.{lanes, voices_after}
 use Rattle.batch_rows.specs.declared.sums.SumRows.{SumRows}
 

@@ -3,7 +3,7 @@ use Rattle.std.specs.Prelude.{◌≡◌, ℕ, ◌+◌, ◌-◌, ◌^◌, ◌<◌
 use Rattle.num_fix.specs.SignedWords.{number_at}
 use Rattle.voice_unit.specs.Voice.{VoiceState}
 use Rattle.voice_unit.specs.declared.interface.VoiceOut.{VoiceOut}
-use Rattle.dsp_form.specs.Sample.{SharedInput}
+use Rattle.dsp_state.specs.Sample.{SharedInput}
 use Rattle.batch_rows.specs.Lane.{voice_after, lane, outs}
 
 -- voice v, the row of its outputs, its bit in the bytes of the samples in which it loops, and its answer of the last sample

@@ -4,7 +4,7 @@ use Rattle.voice_unit.specs.RunOfVoice.{silent_answer}
 use Rattle.voice_unit.specs.Voice.{VoiceState}
 use Rattle.voice_unit.specs.declared.interface.VoiceOut.{VoiceOut}
 use Rattle.voice_unit.specs.declared.out_row.OutRow.{OutRow}
-use Rattle.dsp_form.specs.Sample.{SharedInput}
+use Rattle.dsp_state.specs.Sample.{SharedInput}
 use Rattle.batch_rows.specs.Lane.{voice_after, lane, voices_after}
 use Rattle.batch_rows.specs.PlayedBatch.{answers_from}
 

@@ -5,13 +5,13 @@ use Rattle.voice_unit.specs.declared.interface.VoiceOut.{VoiceOut}
 use Rattle.echo_unit.specs.Echo.{EchoState}
 use Rattle.echo_unit.specs.EchoOverBatch.{EchoOver, echo_over}
 use Rattle.trace_form.specs.declared.record.Record.{Record}
-use Rattle.dsp_form.specs.Registers.{echo_regs}
-use Rattle.dsp_form.specs.Mix.{main_frame, sent_frame}
-use Rattle.dsp_form.specs.Volumes.{all_volumes}
-use Rattle.dsp_form.specs.Results.{registers_after}
-use Rattle.dsp_form.specs.Samples.{SamplesResult}
-use Rattle.dsp_form.specs.Sample.{SharedInput, before_voices, shared_input, records_from}
-use Rattle.dsp_form.specs.declared.state.ChipState.{ChipState}
+use Rattle.dsp_state.specs.Registers.{echo_regs}
+use Rattle.dsp_state.specs.Mix.{main_frame, sent_frame}
+use Rattle.dsp_state.specs.Volumes.{all_volumes}
+use Rattle.dsp_state.specs.Results.{registers_after}
+use Rattle.dsp_state.specs.Samples.{SamplesResult}
+use Rattle.dsp_state.specs.Sample.{SharedInput, before_voices, shared_input, records_from}
+use Rattle.dsp_state.specs.declared.state.ChipState.{ChipState}
 use Rattle.batch_rows.specs.Lane.{lanes, voices_after}
 
 -- the keys and the noise once so many samples are made, from number k on; all else is as it was

@@ -3,8 +3,8 @@
 ghost use Rattle.std.specs.Prelude.{◌≡◌, ◌≤◌, ◌<◌, ◌+◌, ◌++◌, length, true};
 ghost use Rattle.rate_clock.specs.Counter.{counter_after};
 ghost use Rattle.trace_form.specs.Rooms.{frame_room};
-ghost use Rattle.dsp_form.specs.Limits.{most_samples_of_chip, most_samples_of_batch};
-ghost use Rattle.dsp_form.specs.Settings.{settings_of};
+ghost use Rattle.dsp_state.specs.Limits.{most_samples_of_chip, most_samples_of_batch};
+ghost use Rattle.dsp_state.specs.Settings.{settings_of};
 ghost use Rattle.batch_rows.specs.Rows.{by_rows};
 
 use crate::echoes::play_echo;
@@ -14,8 +14,8 @@ use crate::playing::play_voices;
 use crate::sums::SumRows;
 use aram_core::Aram;
 use brr_decode::GroupMemory;
-use dsp_form::registers::ENDX;
-use dsp_form::{ChipState, Settings, put_all_levels};
+use dsp_state::registers::ENDX;
+use dsp_state::{ChipState, Settings, put_all_levels};
 use rate_clock::RateClock;
 use trace_form::Frames;
 use voice_unit::{UNHEARD, Workroom};

@@ -4,13 +4,13 @@ ghost use Rattle.std.specs.Prelude.{◌≡◌, ◌<◌, ◌≤◌, true, false, 
 ghost use Rattle.aram_core.specs.Pages.{has_page};
 ghost use Rattle.reach_map.specs.Reach.{pages_of_bytes};
 ghost use Rattle.echo_unit.specs.Flg.{has_echo_writes};
-ghost use Rattle.dsp_form.specs.Reach.{chip_reach};
-ghost use Rattle.dsp_form.specs.declared.registers.TheConstants.{FLG};
+ghost use Rattle.dsp_state.specs.Reach.{chip_reach};
+ghost use Rattle.dsp_state.specs.declared.registers.TheConstants.{FLG};
 ghost use Rattle.batch_rows.specs.Afar.{AreApart, IsVoiceApart, far_pages, window_from};
 
 use aram_core::{Aram, page_of};
-use dsp_form::ChipState;
-use dsp_form::registers::{DIR, EDL, ESA, FLG, SRCN, voice_register};
+use dsp_state::ChipState;
+use dsp_state::registers::{DIR, EDL, ESA, FLG, SRCN, voice_register};
 use echo_unit::has_echo_writes;
 use voice_unit::{Voice, entry_address, loop_word, start_word};
 

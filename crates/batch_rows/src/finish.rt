@@ -2,11 +2,11 @@
 
 ghost use Rattle.std.specs.Prelude.{◌≡◌};
 ghost use Rattle.echo_unit.specs.Echo.{next_echo, echo_memory, echo_heard, output_frame};
-ghost use Rattle.dsp_form.specs.Mix.{main_frame, sent_frame};
-ghost use Rattle.dsp_form.specs.Results.{bits_from, registers_after};
+ghost use Rattle.dsp_state.specs.Mix.{main_frame, sent_frame};
+ghost use Rattle.dsp_state.specs.Results.{bits_from, registers_after};
 
 use aram_core::Aram;
-use dsp_form::{ChipState, SILENCE, Settings, put_results, sum_voices};
+use dsp_state::{ChipState, SILENCE, Settings, put_results, sum_voices};
 use num_fix::Frame;
 use voice_unit::VoiceOut;
 

@@ -2,14 +2,14 @@
 
 ghost use Rattle.std.specs.Prelude.{◌≡◌, ◌≤◌, ◌+◌, ◌<◌, ℕ, true, false, get_or, slice_index, replicate};
 ghost use Rattle.rate_clock.specs.Counter.{counter_at, counter_after, IsQuiet};
-ghost use Rattle.dsp_form.specs.Limits.{most_samples_of_chip, most_samples_of_batch};
-ghost use Rattle.dsp_form.specs.Registers.{noise_rate};
-ghost use Rattle.dsp_form.specs.Sample.{is_polled, after_poll, after_noise, before_voices};
-ghost use Rattle.dsp_form.specs.declared.registers.TheConstants.{FLG};
+ghost use Rattle.dsp_state.specs.Limits.{most_samples_of_chip, most_samples_of_batch};
+ghost use Rattle.dsp_state.specs.Registers.{noise_rate};
+ghost use Rattle.dsp_state.specs.Sample.{is_polled, after_poll, after_noise, before_voices};
+ghost use Rattle.dsp_state.specs.declared.registers.TheConstants.{FLG};
 ghost use Rattle.batch_rows.specs.KeyRows.{AreKeyRows};
 ghost use Rattle.batch_rows.specs.Rows.{keys_after};
 
-use dsp_form::ChipState;
+use dsp_state::ChipState;
 use rate_clock::RateClock;
 use voice_unit::BatchRows;
 
@@ -21,7 +21,7 @@ pub fn is_polled(number: u32) -> bool
 }
 
 /// Polls the keys at an even sample.
-#[tactic(auto, unfolding(dsp_form::specs::Sample::after_poll))]
+#[tactic(auto, unfolding(dsp_state::specs::Sample::after_poll))]
 pub fn poll(state: &mut ChipState, number: u32)
     ensures state { state.new ≡ after_poll state.old number }
     ensures registers { state.new.registers ≡ state.old.registers }
@@ -33,7 +33,7 @@ pub fn poll(state: &mut ChipState, number: u32)
 }
 
 /// Lets the noise go on where its rate fires.
-#[tactic(auto, unfolding(dsp_form::specs::Sample::after_noise))]
+#[tactic(auto, unfolding(dsp_state::specs::Sample::after_noise))]
 pub fn step_noise(state: &mut ChipState, rate: u8, clock: &RateClock)
     requires { rate ≡ noise_rate (slice_index state.old.registers FLG) }
     ensures state { state.new ≡ after_noise state.old clock.now }

@@ -3,10 +3,10 @@
 ghost use Rattle.std.specs.Prelude.{◌≡◌, ◌<◌, ℕ, ℤ, pos, ◌+ℤ◌, ◌*ℤ◌, neg_ℤ, ◌≤ℤ◌, ◌<ℤ◌, replicate, unsigned_abs};
 ghost use Rattle.num_fix.specs.Arithmetic.{clamp16, scaled};
 ghost use Rattle.num_fix.specs.SignedWords.{number_at};
-ghost use Rattle.dsp_form.specs.Limits.{most_samples_of_batch};
+ghost use Rattle.dsp_state.specs.Limits.{most_samples_of_batch};
 ghost use Rattle.batch_rows.specs.SumRows.{HasShares};
 
-use dsp_form::{Volumes, with_share};
+use dsp_state::{Volumes, with_share};
 use num_fix::{add_clamped, scaled};
 
 /// The sums of each sample of a batch on both sides: of all voices, and of those that are sent to the echo.

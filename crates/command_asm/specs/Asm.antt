@@ -8,10 +8,10 @@ use Rattle.command_frame.specs.Answer.{Answer, done}
 use Rattle.command_frame.specs.declared.refusals.Refusal.{Refusal}
 use Rattle.command_frame.specs.declared.refusals.Refusal.TheVariants.{Input}
 use Rattle.input_files.specs.Reading.{input_limit, bytes_in, answer_from, refused_by}
-use Rattle.status_lines.specs.declared.cause.LineFault as told
-use Rattle.status_lines.specs.declared.cause.LineFault.TheVariants as complaint
-use Rattle.status_lines.specs.declared.cause.Cause.{Cause}
-use Rattle.status_lines.specs.declared.cause.Cause.TheVariants.{InputTooLong, AsmLine}
+use Rattle.exit_status.specs.declared.cause.LineFault as told
+use Rattle.exit_status.specs.declared.cause.LineFault.TheVariants as complaint
+use Rattle.exit_status.specs.declared.cause.Cause.{Cause}
+use Rattle.exit_status.specs.declared.cause.Cause.TheVariants.{InputTooLong, AsmLine}
 
 -- what is wrong with a line, as the complaint tells it
 abbrev pub fault_told : LineFault → told.LineFault

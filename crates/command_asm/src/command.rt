@@ -8,24 +8,24 @@ ghost use Rattle.command_asm.specs.Asm.{fault_told, asm_report, source_answer, a
 ghost use Rattle.spc700_asm.specs.Assembly.{most_source};
 
 use command_frame::{OutOfMemory, Plan, PlannedOutput, Refusal, carry_out};
+use exit_status::Cause;
 use input_files::{INPUT_LIMIT, read_input};
 use report_text::put_named;
 use snd_host::Host;
 use spc700_asm::{AsmRefusal, LineFault, assemble};
-use status_lines::Cause;
 use std::alloc::Global;
 
 /// What is wrong with a line, as the complaint tells it.
-fn fault_told(fault: LineFault) -> status_lines::LineFault
+fn fault_told(fault: LineFault) -> exit_status::LineFault
     ensures { result ≡ fault_told fault }
 {
     match fault {
-        LineFault::Form => status_lines::LineFault::Form,
-        LineFault::Number => status_lines::LineFault::Number,
-        LineFault::Twice => status_lines::LineFault::Twice,
-        LineFault::Long => status_lines::LineFault::Long,
-        LineFault::Name => status_lines::LineFault::Name,
-        LineFault::Far => status_lines::LineFault::Far,
+        LineFault::Form => exit_status::LineFault::Form,
+        LineFault::Number => exit_status::LineFault::Number,
+        LineFault::Twice => exit_status::LineFault::Twice,
+        LineFault::Long => exit_status::LineFault::Long,
+        LineFault::Name => exit_status::LineFault::Name,
+        LineFault::Far => exit_status::LineFault::Far,
     }
 }
 

@@ -8,8 +8,8 @@ use Rattle.command_frame.specs.Answer.{Answer, done}
 use Rattle.command_frame.specs.declared.refusals.Refusal.{Refusal}
 use Rattle.command_frame.specs.declared.refusals.Refusal.TheVariants.{Input, OutOfMemory}
 use Rattle.input_files.specs.Reading.{input_limit, bytes_in, answer_from, refused_by}
-use Rattle.status_lines.specs.declared.cause.Cause.{Cause}
-use Rattle.status_lines.specs.declared.cause.Cause.TheVariants.{InputTooLong, BrrLength}
+use Rattle.exit_status.specs.declared.cause.Cause.{Cause}
+use Rattle.exit_status.specs.declared.cause.Cause.TheVariants.{InputTooLong, BrrLength}
 
 -- the refusal of bytes that are not decoded
 abbrev pub brr_refusal : BrrRefusal → Refusal Cause

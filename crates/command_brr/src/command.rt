@@ -11,10 +11,10 @@ ghost use Rattle.command_brr.specs.Brr.{decoding_answer, brr_answer};
 use brr_decode::{BrrRefusal, decode_stream};
 use byteorder::{ByteOrder, LittleEndian};
 use command_frame::{OutOfMemory, Plan, PlannedOutput, Refusal, carry_out};
+use exit_status::Cause;
 use input_files::{INPUT_LIMIT, read_input};
 use report_text::put_named;
 use snd_host::Host;
-use status_lines::Cause;
 use std::alloc::Global;
 use wav_form::header;
 

@@ -1,9 +1,9 @@
 // Runs of `brr` over a host in memory.
 use crate::brr;
-use command_tests::{BLOCK, BLOCK_WAV, Outcome, ROOM, host_with};
-use status_lines::Status;
+use exit_status::Status;
 use std::alloc::Global;
 use std::test::Fail;
+use test_support::{BLOCK, BLOCK_WAV, Outcome, ROOM, host_with};
 
 /// What is reported on the block.
 const BLOCK_REPORT: &str = "blocks 1 samples 16\n";

@@ -9,8 +9,8 @@ use Rattle.gauss_table.specs.StraightTable.{straight_table}
 use Rattle.demo_gen.specs.Demo.{demo_bytes}
 use Rattle.command_frame.specs.Answer.{Answer, done}
 use Rattle.render_files.specs.RenderReport.{batch_line}
-use Rattle.tune_render.specs.Tune.{tune_frames, tune_counts}
-use Rattle.status_lines.specs.declared.cause.Cause.{Cause}
+use Rattle.tune_opening.specs.Tune.{tune_frames, tune_counts}
+use Rattle.exit_status.specs.declared.cause.Cause.{Cause}
 use Rattle.command_check.specs.declared.sums.Sums.{Sums}
 
 -- ten seconds

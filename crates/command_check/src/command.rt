@@ -12,15 +12,15 @@ ghost use Rattle.command_check.specs.Check.{checked_samples, sums_of, demo_frame
 use crate::sums::{Sums, sums_with_all};
 use command_frame::{OutOfMemory, Plan, Refusal, carry_out};
 use dsp_core::Dsp;
+use exit_status::Cause;
 use gauss_table::GaussTable;
 use lock_step::Counts;
 use render_core::Render;
 use render_files::put_batches;
 use report_text::{ByteRoom, put_named, put_signed};
 use snd_host::Host;
-use status_lines::Cause;
 use std::alloc::Global;
-use tune_render::open_tune;
+use tune_opening::open_tune;
 
 /// Ten seconds.
 const SAMPLES: u32 = 320000;

@@ -1,8 +1,8 @@
 // Runs of `check` over a host in memory.
 use crate::check;
-use command_tests::{Outcome, ROOM, host_with};
 use std::alloc::Global;
 use std::test::Fail;
+use test_support::{Outcome, ROOM, host_with};
 
 /// Checks the demo file of 3456189438, where the calls of these numbers fail.
 fn check_failing(alloc: Global, failing: &[u32]) -> Result<Outcome, Fail> {

@@ -6,10 +6,10 @@ use Rattle.cut_form.specs.CutBook.{cut_book}
 use Rattle.cut_form.specs.Slices.{cut_frames}
 use Rattle.command_frame.specs.Answer.{Answer, done}
 use Rattle.command_frame.specs.Stream.{pair}
-use Rattle.status_lines.specs.declared.cause.Cause.{Cause}
+use Rattle.exit_status.specs.declared.cause.Cause.{Cause}
 use Rattle.input_files.specs.Reading.{answer_from}
 use Rattle.input_files.specs.Inputs.{file_in, table_in}
-use Rattle.tune_render.specs.Tune.{tune_frames, tune_pages}
+use Rattle.tune_opening.specs.Tune.{tune_frames, tune_pages}
 use Rattle.cut_files.specs.CutFiles.{cuts_report}
 use Rattle.command_cuts.specs.Lists.{cuts_in}
 

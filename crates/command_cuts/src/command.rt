@@ -9,7 +9,7 @@ ghost use Rattle.command_frame.specs.Plan.{stream_makes};
 ghost use Rattle.cut_form.specs.CutBook.{cut_book};
 ghost use Rattle.cut_form.specs.Slices.{cut_frames, cut_samples};
 ghost use Rattle.cut_files.specs.CutFiles.{cuts_report, to_come_of, report_of};
-ghost use Rattle.tune_render.specs.Tune.{tune_frames, tune_pages};
+ghost use Rattle.tune_opening.specs.Tune.{tune_frames, tune_pages};
 ghost use Rattle.command_cuts.specs.Cuts.{list_answer, table_answer, file_answer, cuts_answer};
 
 use crate::list::read_list;
@@ -18,13 +18,13 @@ use cut_files::CutFiles;
 use cut_form::SLOTS_FOR_CUTS;
 use cut_text::CutList;
 use dsp_core::Dsp;
+use exit_status::Cause;
 use gauss_table::GaussTable;
 use input_files::{read_file, read_table};
 use snd_host::Host;
 use spc_form::SpcFile;
-use status_lines::Cause;
 use std::alloc::Global;
-use tune_render::open_server;
+use tune_opening::open_server;
 use wav_form::header;
 
 /// Opens the cuts of a list over a file and a table.

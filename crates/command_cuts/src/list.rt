@@ -6,9 +6,9 @@ ghost use Rattle.command_cuts.specs.Lists.{cuts_of, cuts_in};
 
 use command_frame::Refusal;
 use cut_text::{CutList, TextRefusal, read_cuts};
+use exit_status::Cause;
 use input_files::{INPUT_LIMIT, read_input};
 use snd_host::Host;
-use status_lines::Cause;
 use std::alloc::Global;
 
 /// The cuts of bytes that were read, or the cause for which they are refused.

@@ -1,13 +1,13 @@
 // Lists of cuts over a host in memory.
 use crate::cuts;
-use command_tests::{
-    ENDS_THE_BLOCK, FIVE, Frames, MEMORY, Outcome, Pieces, ROOM, TAGS, file_of, host_with,
-    straight_table, wave_of,
-};
-use status_lines::Status;
+use exit_status::Status;
 use std::alloc::Global;
 use std::process::Abort;
 use std::test::Fail;
+use test_support::{
+    ENDS_THE_BLOCK, FIVE, Frames, MEMORY, Outcome, Pieces, ROOM, TAGS, file_of, host_with,
+    straight_table, wave_of,
+};
 
 /// A program that goes round the pages from 10h on and changes a byte of each, and counts its steps in page 0.
 const CHANGES_241_PAGES: Pieces = &[(

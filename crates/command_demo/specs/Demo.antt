@@ -2,7 +2,7 @@
 use Rattle.std.specs.Prelude.{ℕ, List, [], ◌∷◌, codes}
 use Rattle.demo_gen.specs.Demo.{demo_bytes}
 use Rattle.command_frame.specs.Answer.{Answer, done}
-use Rattle.status_lines.specs.declared.cause.Cause.{Cause}
+use Rattle.exit_status.specs.declared.cause.Cause.{Cause}
 
 abbrev pub demo_answer : (number : ℕ) → (output : List ℕ) → Answer Cause
 demo_answer number output = done (record { name = output; bytes = demo_bytes number } ∷ []) (codes "bytes 66048\n")

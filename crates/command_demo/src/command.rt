@@ -8,9 +8,9 @@ ghost use Rattle.command_frame.specs.Plan.{plan_makes};
 ghost use Rattle.command_demo.specs.Demo.{demo_answer};
 
 use command_frame::{OutOfMemory, Plan, PlannedOutput, Refusal, carry_out};
+use exit_status::Cause;
 use snd_host::Host;
 use spc_form::write_spc;
-use status_lines::Cause;
 use std::alloc::Global;
 
 /// The plan for a file.

@@ -1,9 +1,9 @@
 // Runs of `demo` over a host in memory.
 use crate::demo;
-use command_tests::{Outcome, ROOM, host_with};
-use status_lines::Status;
+use exit_status::Status;
 use std::alloc::Global;
 use std::test::Fail;
+use test_support::{Outcome, ROOM, host_with};
 
 /// Makes the demo file of 7, where the calls of these numbers fail.
 fn demo_of_seven(alloc: Global, failing: &[u32]) -> Result<Outcome, Fail> {

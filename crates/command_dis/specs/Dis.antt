@@ -5,8 +5,8 @@ use Rattle.spc700_asm.specs.Listing.{listing}
 use Rattle.command_frame.specs.Answer.{Answer, done, refused}
 use Rattle.command_frame.specs.declared.refusals.Refusal.TheVariants.{Input}
 use Rattle.input_files.specs.Reading.{input_limit, bytes_in, answer_from}
-use Rattle.status_lines.specs.declared.cause.Cause.{Cause}
-use Rattle.status_lines.specs.declared.cause.Cause.TheVariants.{InputTooLong, CodeLength}
+use Rattle.exit_status.specs.declared.cause.Cause.{Cause}
+use Rattle.exit_status.specs.declared.cause.Cause.TheVariants.{InputTooLong, CodeLength}
 
 -- how many lines a text has, each ended by a line feed
 abbrev pub line_count : (text : List ℕ) → ℕ

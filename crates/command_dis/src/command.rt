@@ -7,11 +7,11 @@ ghost use Rattle.command_frame.specs.Plan.{plan_makes};
 ghost use Rattle.command_dis.specs.Dis.{line_count, dis_report, code_answer, dis_answer};
 
 use command_frame::{OutOfMemory, Plan, PlannedOutput, Refusal, carry_out};
+use exit_status::Cause;
 use input_files::{INPUT_LIMIT, read_input};
 use report_text::put_named;
 use snd_host::Host;
 use spc700_asm::disassemble;
-use status_lines::Cause;
 use std::alloc::Global;
 
 /// The size of the memory.

@@ -1,9 +1,9 @@
 // Runs of `dis` over a host in memory.
 use crate::dis;
-use command_tests::{Outcome, ROOM, host_with};
-use status_lines::Status;
+use exit_status::Status;
 use std::alloc::Global;
 use std::test::Fail;
+use test_support::{Outcome, ROOM, host_with};
 
 /// Lists code from an origin on, where the calls of these numbers fail.
 fn listed(alloc: Global, code: &[u8], origin: u16, failing: &[u32]) -> Result<Outcome, Fail> {

@@ -1,6 +1,6 @@
 -- What `encode` answers.
 use Rattle.std.specs.Prelude.{ℕ, ◌+◌, ℤ, Bool, List, [], ◌∷◌, ◌++◌, length, Option, Result, Ok, Err, codes, decimal}
-use Rattle.number_text.specs.Digits.{two_digits}
+use Rattle.text_form.specs.Digits.{two_digits}
 use Rattle.brr_encode.specs.Encoding.{padded_samples, encoded_samples}
 use Rattle.brr_encode.specs.Report.{reports_of}
 use Rattle.brr_encode.specs.declared.encoder.EncodeRefusal.{EncodeRefusal}
@@ -12,8 +12,8 @@ use Rattle.command_frame.specs.Answer.{Answer, done, refused}
 use Rattle.command_frame.specs.declared.refusals.Refusal.{Refusal}
 use Rattle.command_frame.specs.declared.refusals.Refusal.TheVariants.{Input, OutOfMemory}
 use Rattle.input_files.specs.Reading.{wave_limit, bytes_in, answer_from, refused_by}
-use Rattle.status_lines.specs.declared.cause.Cause.{Cause}
-use Rattle.status_lines.specs.declared.cause.Cause.TheVariants.{WavForm, EncodeSize, InputTooLong}
+use Rattle.exit_status.specs.declared.cause.Cause.{Cause}
+use Rattle.exit_status.specs.declared.cause.Cause.TheVariants.{WavForm, EncodeSize, InputTooLong}
 
 -- the refusal of samples that are not encoded, of which there are so many
 abbrev pub encode_refusal : (count : ℕ) → EncodeRefusal → Refusal Cause

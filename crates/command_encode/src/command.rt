@@ -8,10 +8,10 @@ ghost use Rattle.command_encode.specs.Encode.{block_line, encode_report, encodin
 
 use brr_encode::{BlockReport, EncodeRefusal};
 use command_frame::{OutOfMemory, Plan, PlannedOutput, Refusal, carry_out};
+use exit_status::Cause;
 use input_files::{WAVE_LIMIT, read_input};
 use report_text::{put_named, put_two_digits};
 use snd_host::Host;
-use status_lines::Cause;
 use std::alloc::Global;
 use wav_form::{WavRefusal, read_mono};
 

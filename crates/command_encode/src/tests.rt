@@ -1,9 +1,9 @@
 // Runs of `encode` over a host in memory.
 use crate::encode;
-use command_tests::{MONO, Outcome, ROOM, host_with};
-use status_lines::Status;
+use exit_status::Status;
 use std::alloc::Global;
 use std::test::Fail;
+use test_support::{MONO, Outcome, ROOM, host_with};
 
 /// `MONO` with two channels.
 const STEREO: [u8; 44] =

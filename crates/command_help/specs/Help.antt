@@ -1,7 +1,7 @@
 -- What `help` and `version` answer.
 use Rattle.std.specs.Prelude.{ℕ, List, [], ◌++◌, codes}
 use Rattle.command_frame.specs.Answer.{Answer, done}
-use Rattle.status_lines.specs.declared.cause.Cause.{Cause}
+use Rattle.exit_status.specs.declared.cause.Cause.{Cause}
 
 -- the commands with their words, a line each, and where the formats are described
 abbrev pub help_text : List ℕ

@@ -8,8 +8,8 @@ ghost use Rattle.command_help.specs.Help.{help_text, version_text, help_answer, 
 ghost use Rattle.command_frame.specs.Answer.{done};
 
 use command_frame::{Plan, Refusal, carry_out};
+use exit_status::Cause;
 use snd_host::Host;
-use status_lines::Cause;
 use std::alloc::Global;
 
 /// The commands with their words, a line each, and where the formats are described.

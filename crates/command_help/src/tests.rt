@@ -1,8 +1,8 @@
 // Runs of `help` and `version` over a host in memory.
 use crate::{help, version};
-use command_tests::{Outcome, ROOM, host_with};
 use std::alloc::Global;
 use std::test::Fail;
+use test_support::{Outcome, ROOM, host_with};
 
 /// What is told of the commands.
 const HELP: &str = "\

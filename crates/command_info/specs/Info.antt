@@ -6,12 +6,12 @@ use Rattle.spc_form.specs.Layout.{pc_of}
 use Rattle.spc_form.specs.Tags.{has_tags, text_of}
 use Rattle.spc_form.specs.declared.tags.Tag.{Tag}
 use Rattle.spc_form.specs.declared.tags.Tag.TheVariants.{Title, Game, Dumper, Comments, Date, Seconds, Fade, Artist}
-use Rattle.number_text.specs.Digits.{two_digits, four_digits}
+use Rattle.text_form.specs.Digits.{two_digits, four_digits}
 use Rattle.report_text.specs.Texts.{shown_text}
-use Rattle.status_lines.specs.declared.cause.Cause.{Cause}
+use Rattle.exit_status.specs.declared.cause.Cause.{Cause}
 use Rattle.input_files.specs.Reading.{input_limit, bytes_in, answer_from}
 use Rattle.input_files.specs.Inputs.{file_of}
-use Rattle.status_lines.specs.declared.cause.Cause.TheVariants.{SpcLength}
+use Rattle.exit_status.specs.declared.cause.Cause.TheVariants.{SpcLength}
 
 abbrev pub tag_name : Tag → List ℕ
 tag_name Title = codes "title"

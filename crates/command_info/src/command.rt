@@ -7,11 +7,11 @@ ghost use Rattle.command_frame.specs.Plan.{plan_makes};
 ghost use Rattle.command_info.specs.Info.{tag_name, tag_line, tag_lines, register_text, counter_text, data_text, status_text, register_line, info_report, fields_answer, info_answer};
 
 use command_frame::{OutOfMemory, Plan, Refusal, carry_out};
+use exit_status::Cause;
 use input_files::{INPUT_LIMIT, accept_file, read_input};
 use report_text::{put_number, put_text, put_two_digits, put_word};
 use snd_host::Host;
 use spc_form::{SpcFile, Tag};
-use status_lines::Cause;
 use std::alloc::Global;
 
 /// The tags in the order of their lines.

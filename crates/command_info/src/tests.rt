@@ -1,9 +1,9 @@
 // Runs of `info` over a host in memory.
 use crate::info;
-use command_tests::{Outcome, Pieces, ROOM, file_of, host_with};
-use status_lines::Status;
+use exit_status::Status;
 use std::alloc::Global;
 use std::test::Fail;
+use test_support::{Outcome, Pieces, ROOM, file_of, host_with};
 
 /// The report on the base file of so many bytes with these pieces, where the calls of these numbers fail.
 fn fields(alloc: Global, length: usize, pieces: Pieces, failing: &[u32]) -> Result<Outcome, Fail> {

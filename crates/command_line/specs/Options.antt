@@ -4,7 +4,7 @@ use Rattle.std.specs.Option.{option_map}
 use Rattle.std.specs.Str.{bytes_eq}
 use Rattle.hex.specs.Hex.{decode_sized}
 use Rattle.hex.specs.declared.error.FromHexError.{FromHexError}
-use Rattle.number_text.specs.Decimals.{decimal_value, is_number}
+use Rattle.text_form.specs.Decimals.{decimal_value, is_number}
 use Rattle.num_fix.specs.Limits.{most_frames}
 use Rattle.page_pool.specs.Pool.{most_pages}
 use Rattle.cut_form.specs.Checkpoints.{fewest_pages}

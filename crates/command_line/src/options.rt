@@ -7,7 +7,7 @@ ghost use Rattle.command_line.specs.Options.{is_name, count_in, demo_number_in, 
 
 use command_render::RenderOptions;
 use cut_form::MOST_FRAMES;
-use number_text::{decimal_value, is_number};
+use text_form::{decimal_value, is_number};
 
 /// The greatest number of a demo file.
 const GREATEST_NUMBER: u64 = 4294967295;

@@ -13,8 +13,8 @@ use Rattle.input_files.specs.Inputs.{file_in, table_in}
 use Rattle.command_render.specs.Options.{Options}
 use Rattle.render_files.specs.RenderFiles.{trace_of}
 use Rattle.render_files.specs.RenderReport.{sound_report}
-use Rattle.tune_render.specs.Tune.{tune_frames, tune_records, tune_counts}
-use Rattle.status_lines.specs.declared.cause.Cause.{Cause}
+use Rattle.tune_opening.specs.Tune.{tune_frames, tune_records, tune_counts}
+use Rattle.exit_status.specs.declared.cause.Cause.{Cause}
 
 -- the length of a render and its fade: so many samples without a fade, or as the file's tags say
 abbrev pub length_with : (samples : Option ℕ) → (file : List ℕ) → Length

@@ -6,7 +6,7 @@ mod options;
 #[cfg(test)]
 mod render_tests;
 #[cfg(test)]
-mod test_support;
+mod renders;
 #[cfg(test)]
 mod trace_tests;
 

@@ -1,18 +1,18 @@
 // Renders over a host in memory.
 ghost use Rattle.command_render.specs.Options.{SamplesWithinHour};
 
-use crate::test_support::{
+use crate::renders::{
     Heard, LINES, NO_BATCH, ONE_BATCH, is_rendered, no_options, render_failing, render_tune,
     samples, tune_of, with_trace,
 };
 use crate::{RenderOptions, render};
-use command_tests::{
+use exit_status::Status;
+use std::alloc::Global;
+use std::test::Fail;
+use test_support::{
     DSP, ENDS_THE_BLOCK, FIVE, Frames, MEMORY, Outcome, Pieces, ROOM, TAGS, file_of, host_with,
     straight_table, wave_of,
 };
-use status_lines::Status;
-use std::alloc::Global;
-use std::test::Fail;
 
 /// The program stops.
 const STOP: Pieces = &[(MEMORY + 0x0400, b"\xff")];

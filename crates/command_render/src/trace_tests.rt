@@ -1,10 +1,8 @@
 // Traces of renders over a host in memory.
-use crate::test_support::{
-    LINES, NO_BATCH, ONE_BATCH, Traced, is_rendered, render_tune, with_trace,
-};
-use command_tests::{DSP, FIVE, MEMORY, Outcome, Pieces};
+use crate::renders::{LINES, NO_BATCH, ONE_BATCH, Traced, is_rendered, render_tune, with_trace};
 use std::alloc::Global;
 use std::test::Fail;
+use test_support::{DSP, FIVE, MEMORY, Outcome, Pieces};
 
 const WRITE: Pieces = &[(MEMORY + 0x0400, b"\x8f\x6c\xf2\x8f\x20\xf3\x2f\xfe")];
 

@@ -1,7 +1,7 @@
 -- Hexadecimal digits are characters of ASCII.
 use Rattle.std.proofs.Common.{◌≡◌, ap, ℕ, zero, suc, ◌<◌, ◌/◌, ◌%◌, List, [], ◌∷◌, ◌++◌, get_or, arith, append_assoc}
 use Rattle.hex.specs.Hex.{lower_digits, encode_with}
-use Rattle.number_text.specs.Digits.{two_digits}
+use Rattle.text_form.specs.Digits.{two_digits}
 
 abbrev AreAscii : List ℕ → Type 0
 AreAscii [] = Unit {0}

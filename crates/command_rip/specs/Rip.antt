@@ -1,7 +1,7 @@
 -- What `rip` answers: each wanted entry of the directory as a sound file of one channel, and a line on each.
 use Rattle.std.specs.Prelude.{ℕ, List, ◌++◌, filter, map, length, slice_index, Option, codes, decimal}
 use Rattle.std.specs.List.{flat_map, range_with_len}
-use Rattle.number_text.specs.Digits.{two_digits, four_digits}
+use Rattle.text_form.specs.Digits.{two_digits, four_digits}
 use Rattle.spc_form.specs.Layout.{dsp_of}
 use Rattle.spc_form.specs.Opening.{opening_memory}
 use Rattle.sample_rip.specs.Entries.{most_entries, is_wanted}
@@ -14,7 +14,7 @@ use Rattle.sample_rip.specs.declared.reencoding.RipReport.{RipReport}
 use Rattle.snd_host.specs.Host.{Output}
 use Rattle.wav_form.specs.Wave.{mono_wave}
 use Rattle.command_frame.specs.Answer.{Answer, done}
-use Rattle.status_lines.specs.declared.cause.Cause.{Cause}
+use Rattle.exit_status.specs.declared.cause.Cause.{Cause}
 use Rattle.input_files.specs.Reading.{answer_from}
 use Rattle.input_files.specs.Inputs.{file_in}
 

@@ -15,13 +15,13 @@ use crate::pieces::RipPieces;
 use crate::reports::report_on;
 use aram_core::Aram;
 use command_frame::{ListPlan, ListedOutput, OutOfMemory, Refusal, carry_all};
+use exit_status::Cause;
 use input_files::read_file;
-use number_text::two_digits;
 use sample_rip::wanted;
 use snd_host::Host;
 use spc_form::{OpenState, SpcFile, opening};
-use status_lines::Cause;
 use std::alloc::Global;
+use text_form::two_digits;
 use wav_form::header;
 
 /// The entries that are wanted, in ascending order.

@@ -1,6 +1,6 @@
 // The report on entries.
 ghost use Rattle.std.specs.Prelude.{◌≡◌, ◌++◌, OnOk, IfOk, codes};
-ghost use Rattle.number_text.specs.Digits.{two_digits};
+ghost use Rattle.text_form.specs.Digits.{two_digits};
 ghost use Rattle.command_rip.specs.Rip.{loop_text, found_text, error_text, entry_line, entries_report};
 
 use aram_core::Aram;

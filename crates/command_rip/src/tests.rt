@@ -1,12 +1,12 @@
 // Runs of `rip` over a host in memory.
 use crate::command::entry_name;
 use crate::rip;
-use command_tests::{DSP, FIVE, MEMORY, Outcome, Pieces, STEADY_WAV, file_of};
+use exit_status::Status;
 use snd_host::MemHost;
-use status_lines::Status;
 use std::alloc::Global;
 use std::process::Abort;
 use std::test::Fail;
+use test_support::{DSP, FIVE, MEMORY, Outcome, Pieces, STEADY_WAV, file_of};
 
 /// A file of the base file and these pieces.
 fn files_of(alloc: Global, pieces: (Pieces, Pieces)) -> Result<Vec<(String, Vec<u8>)>, Fail> {

@@ -7,10 +7,10 @@ use Rattle.cut_form.specs.Session.{opened_session, replies, played_cuts}
 use Rattle.cut_form.specs.Slices.{cut_frames}
 use Rattle.command_frame.specs.Answer.{Answer, done}
 use Rattle.command_frame.specs.Stream.{pair}
-use Rattle.status_lines.specs.declared.cause.Cause.{Cause}
+use Rattle.exit_status.specs.declared.cause.Cause.{Cause}
 use Rattle.input_files.specs.Reading.{answer_from}
 use Rattle.input_files.specs.Inputs.{file_in, table_in}
-use Rattle.tune_render.specs.Tune.{tune_frames, tune_pages}
+use Rattle.tune_opening.specs.Tune.{tune_frames, tune_pages}
 use Rattle.session_files.specs.Report.{report_on}
 use Rattle.command_serve.specs.Scripts.{script_in}
 

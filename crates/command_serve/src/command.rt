@@ -10,24 +10,24 @@ ghost use Rattle.command_frame.specs.Delivery.{CanDeliver};
 ghost use Rattle.command_frame.specs.Plan.{stream_makes};
 ghost use Rattle.cut_form.specs.Session.{played_cuts};
 ghost use Rattle.cut_form.specs.Slices.{cut_frames};
-ghost use Rattle.script_text.specs.Playing.{played_frames};
+ghost use Rattle.cut_text.specs.Playing.{played_frames};
 ghost use Rattle.session_files.specs.Report.{report_on};
 ghost use Rattle.session_files.specs.SessionFiles.{to_come_of, report_of};
-ghost use Rattle.tune_render.specs.Tune.{tune_frames};
+ghost use Rattle.tune_opening.specs.Tune.{tune_frames};
 ghost use Rattle.command_serve.specs.Serve.{tune_replies, script_answer, table_answer, file_answer, serve_answer};
 
 use crate::script::read_lines;
 use command_frame::{OutOfMemory, Refusal, StreamedPlan, carry_stream};
+use cut_text::ScriptLines;
 use dsp_core::Dsp;
+use exit_status::Cause;
 use gauss_table::GaussTable;
 use input_files::{read_file, read_table};
-use script_text::ScriptLines;
 use session_files::SessionFiles;
 use snd_host::Host;
 use spc_form::SpcFile;
-use status_lines::Cause;
 use std::alloc::Global;
-use tune_render::open_server;
+use tune_opening::open_server;
 use wav_form::header;
 
 /// Opens the session of a script over a file and a table.

@@ -5,11 +5,10 @@ ghost use Rattle.input_files.specs.Reading.{Accepts, Reads};
 ghost use Rattle.command_serve.specs.Scripts.{script_of, script_in};
 
 use command_frame::Refusal;
-use cut_text::TextRefusal;
+use cut_text::{ScriptLines, TextRefusal, read_script};
+use exit_status::Cause;
 use input_files::{INPUT_LIMIT, read_input};
-use script_text::{ScriptLines, read_script};
 use snd_host::Host;
-use status_lines::Cause;
 use std::alloc::Global;
 
 /// The script of bytes that were read, or the cause for which they are refused.

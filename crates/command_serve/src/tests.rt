@@ -4,13 +4,13 @@ ghost use Rattle.page_pool.specs.Pool.{most_pages};
 ghost use Rattle.cut_form.specs.Checkpoints.{fewest_pages};
 
 use crate::serve;
-use command_tests::{
+use exit_status::Status;
+use std::alloc::Global;
+use std::test::Fail;
+use test_support::{
     ENDS_THE_BLOCK, FIVE, MEMORY, Outcome, Pieces, ROOM, file_of, host_with, straight_table,
     wave_of,
 };
-use status_lines::Status;
-use std::alloc::Global;
-use std::test::Fail;
 
 /// A program that counts at 0700h, 224 times in 70 samples.
 const COUNTS: Pieces = &[(MEMORY + 0x0400, b"\xac\x00\x07\x2f\xfb")];

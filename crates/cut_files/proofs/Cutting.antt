@@ -17,8 +17,8 @@ use Rattle.cut_form.specs.Slices.{slice_of, cut_frames, cut_samples}
 use Rattle.cut_server.specs.ServerState.{book_of, slots_of, pages_after}
 use Rattle.cut_server.specs.Server.{ChipServer, lock_step_machines, pages_at, KeepsTune}
 use Rattle.cut_text.specs.Cuts.{EndWithinHour}
-use Rattle.run_slices.specs.GrowingFrames.{AreOfRun}
-use Rattle.run_slices.proofs.Slices.{slice_none, length-cuts}
+use Rattle.cut_form.specs.GrowingFrames.{AreOfRun}
+use Rattle.cut_form.proofs.Slices.{slice_none, length-cuts}
 use Rattle.cut_files.specs.CutFiles.{IsInBounds, cuts_report}
 
 -- how many frames cuts have

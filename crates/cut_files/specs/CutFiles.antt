@@ -13,7 +13,7 @@ use Rattle.cut_form.specs.CutBook.{CutBook, after_play, after_cut, slots_for_cut
 use Rattle.cut_server.specs.Server.{ChipServer, pages_at, frames_to}
 use Rattle.cut_server.specs.ServerState.{book_of, slots_of}
 use Rattle.command_frame.specs.Stream.{Both}
-use Rattle.run_slices.specs.GrowingFrames.{AreOfRun}
+use Rattle.cut_form.specs.GrowingFrames.{AreOfRun}
 
 pub record FilesState (S V : Type 0) : Type 0 where
   pub server : ChipServer S V

@@ -5,7 +5,7 @@ ghost use Rattle.cut_form.specs.Slices.{cut_frames, cut_samples};
 ghost use Rattle.cut_form.specs.CutBook.{opened_book, cut_book, slots_for_cuts};
 ghost use Rattle.cut_server.specs.Server.{pages_at, frames_to};
 ghost use Rattle.cut_server.specs.ServerState.{book_of, slots_of};
-ghost use Rattle.run_slices.specs.GrowingFrames.{AreOfRun};
+ghost use Rattle.cut_form.specs.GrowingFrames.{AreOfRun};
 ghost use Rattle.cut_files.specs.CutFiles.{cuts_report, to_come_of, held_of, report_of, work_of};
 ghost use Rattle.session_files.specs.SessionFiles.{most_played_bytes};
 ghost use Rattle.report_text.specs.Room.{room_size};

@@ -1,1 +1,3 @@
 mod Rows
+-- Slices: slices of a run, in parts.
+pub mod Slices

@@ -3,6 +3,8 @@
 pub mod TextLines
 -- slices of a run, and cuts
 pub mod Slices
+-- the frames of a run, as they grow sample by sample
+pub mod GrowingFrames
 -- what a list of cuts says
 pub mod CutList
 -- checkpoints, and the slots that they share

@@ -2,7 +2,7 @@
 use Rattle.std.specs.Prelude.{ℕ, ◌==◌, List, [], ◌∷◌, map, if◌then◌else◌, Option, Some, None, Result, Ok, Err}
 use Rattle.std.specs.List.{slice_split}
 use Rattle.std.specs.Str.{byte}
-use Rattle.number_text.specs.Decimals.{decimal_value, is_number}
+use Rattle.text_form.specs.Decimals.{decimal_value, is_number}
 
 -- a line without the carriage return at its end
 abbrev pub without_return : List ℕ → List ℕ

@@ -1,7 +1,7 @@
 -- The render of a server: its whole machine, where it is loaded and where it runs.
 use Rattle.std.proofs.Common.{◌≡◌, ℕ, ◌-◌, ◌^◌, ◌<◌, ◌≤◌, List, [], refl, sym, ap, ◌∙◌, arith}
 use Rattle.num_fix.specs.Limits.{most_frames}
-use Rattle.dsp_form.specs.Samples.{count_after}
+use Rattle.dsp_state.specs.Samples.{count_after}
 use Rattle.lock_step.specs.ChipMeaning.{ChipMeaning}
 use Rattle.lock_step.specs.ChipSaving.{ChipSaving}
 use Rattle.lock_step.specs.SavingLaws.{IsLawfulSaving}

@@ -1,6 +1,6 @@
 -- What a server keeps of its render. No contract that others see cites these words.
 use Rattle.std.specs.Prelude.{◌≡◌, ℕ, ◌-◌, ◌*◌, ◌<◌, ◌≤◌, false}
-use Rattle.dsp_form.specs.Samples.{count_after}
+use Rattle.dsp_state.specs.Samples.{count_after}
 use Rattle.lock_step.specs.ChipMeaning.{ChipMeaning}
 use Rattle.lock_step.specs.ChipSaving.{ChipSaving}
 use Rattle.lock_step.specs.LockStepEmits.{drained_machine}

@@ -5,7 +5,7 @@ use Rattle.std.specs.List.{slice_split}
 use Rattle.std.proofs.lemmas.List.Splits.{length-slice_split}
 use Rattle.std.proofs.lemmas.Grind.{common_steps}
 use Rattle.cut_form.specs.TextLines.{text_lines, without_return, without_empty_last}
-use Rattle.text_parts.specs.Parts.{parts_left}
+use Rattle.text_form.specs.Parts.{parts_left}
 
 -- a part before others is a line
 line_before : (part next : List ℕ) (parts : List (List ℕ)) → without_empty_last (part ∷ (next ∷ parts)) ≡ part ∷ without_empty_last (next ∷ parts)

@@ -4,5 +4,7 @@ pub mod FirstLine
 pub mod Growing
 -- Listed: a list of cuts that grows by the cut of a line.
 pub mod Listed
+-- Said: what the lines of a text say after a list of lines.
+pub mod Said
 -- ThirdWord: a line of more than two words.
 pub mod ThirdWord

@@ -10,7 +10,7 @@ use Rattle.cut_form.specs.declared.cut.Cut.{Cut}
 use Rattle.cut_form.specs.TextLines.{line_words, said_before}
 use Rattle.cut_form.specs.CutList.{most_cuts, cut_of_words, cuts_from}
 use Rattle.cut_form.specs.Slices.{cut_samples}
-use Rattle.text_parts.specs.Parts.{parts_left}
+use Rattle.text_form.specs.Parts.{parts_left}
 use Rattle.cut_text.specs.Cuts.{EndWithinHour, IsListed, fits_after, next_cut}
 use Rattle.cut_text.proofs.Growing.{IsReader}
 use Rattle.cut_text.proofs.ThirdWord.{third_word}

@@ -2,3 +2,7 @@
 pub mod Reading
 -- a list of cuts
 pub mod Cuts
+-- a script that grows line by line
+pub mod Scripts
+-- how many frames a session plays
+pub mod Playing

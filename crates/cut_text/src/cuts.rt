@@ -12,7 +12,7 @@ use crate::{TextRefusal, add};
 use cut_form::{Cut, MOST_FRAMES};
 use std::alloc::Global;
 use std::marker::Model;
-use text_parts::first_part;
+use text_form::first_part;
 
 /// The most cuts.
 const MOST_CUTS: usize = 1000;

@@ -3,8 +3,7 @@ ghost use Rattle.std.specs.Prelude.{◌≡◌, ◌<◌, ◌∷◌, [], length, I
 ghost use Rattle.cut_form.specs.TextLines.{text_lines, without_return, most_digits, number_of_word};
 ghost use Rattle.cut_text.specs.Reading.{number_bound};
 
-use number_text::{decimal_value, is_number};
-use text_parts::first_part;
+use text_form::{decimal_value, first_part, is_number};
 
 /// The most digits of a number.
 const MOST_DIGITS: usize = 9;

@@ -1,6 +1,6 @@
 -- What contracts see of a chip.
 use Rattle.std.specs.Prelude.{ℕ}
-use Rattle.dsp_form.specs.declared.state.ChipState.{ChipState}
+use Rattle.dsp_state.specs.declared.state.ChipState.{ChipState}
 
 -- a chip: its state, the number of the next sample, and how many batches and samples it made in all, those before a load too
 pub record DspView : Type 0 where

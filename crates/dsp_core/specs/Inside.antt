@@ -1,7 +1,7 @@
 -- What holds of the fields of each chip.
 use Rattle.std.specs.Prelude.{◌≡◌, true}
 use Rattle.rate_clock.specs.Counter.{counter_after}
-use Rattle.dsp_form.specs.Valid.{is_valid}
+use Rattle.dsp_state.specs.Valid.{is_valid}
 use Rattle.dsp_core.specs.declared.dsp.Dsp.TheInside.{Inside}
 
 pub record IsDsp (d : Inside) : Type 0 where

@@ -2,7 +2,7 @@
 use Rattle.std.specs.Prelude.{◌≡◌, List, ℤ, true}
 use Rattle.std.proofs.Common.{sym}
 use Rattle.rate_clock.specs.Counter.{counter_after}
-use Rattle.dsp_form.specs.Valid.{is_valid}
+use Rattle.dsp_state.specs.Valid.{is_valid}
 use Rattle.dsp_core.specs.Saved.{SavedDsp}
 use Rattle.dsp_core.specs.declared.saved.DspState.TheInside.{Inside}
 

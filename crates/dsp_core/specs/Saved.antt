@@ -1,7 +1,7 @@
 -- What is saved of a chip, and put back: all but its table.
 use Rattle.std.specs.Prelude.{ℕ, List}
-use Rattle.dsp_form.specs.declared.state.Hidden.{Hidden}
-use Rattle.dsp_form.specs.declared.state.ChipState.{ChipState}
+use Rattle.dsp_state.specs.declared.state.Hidden.{Hidden}
+use Rattle.dsp_state.specs.declared.state.ChipState.{ChipState}
 
 pub record SavedDsp : Type 0 where
   pub registers : List ℕ

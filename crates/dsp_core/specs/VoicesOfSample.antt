@@ -2,10 +2,10 @@
 use Rattle.std.specs.Prelude.{◌≡◌, ℕ, List, ℤ, pos, map}
 use Rattle.voice_unit.specs.Voice.{VoiceState}
 use Rattle.voice_unit.specs.declared.interface.VoiceOut.{VoiceOut}
-use Rattle.dsp_form.specs.Settings.{settings_of}
-use Rattle.dsp_form.specs.Sample.{SharedInput, results_from}
-use Rattle.dsp_form.specs.declared.settings.Settings.{Settings}
-use Rattle.dsp_form.specs.declared.voice_settings.SharedByVoices.{SharedByVoices}
+use Rattle.dsp_state.specs.Settings.{settings_of}
+use Rattle.dsp_state.specs.Sample.{SharedInput, results_from}
+use Rattle.dsp_state.specs.declared.settings.Settings.{Settings}
+use Rattle.dsp_state.specs.declared.voice_settings.SharedByVoices.{SharedByVoices}
 
 -- a fact of what the voices read, whichever registers the settings were read of
 abbrev pub ForInput : Settings → SharedByVoices → (memory : List ℕ) → (table : List ℤ) → (counter : ℕ) → (SharedInput → Type 0) → Type 0

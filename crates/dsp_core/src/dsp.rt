@@ -3,13 +3,13 @@
 ghost use Rattle.std.specs.Prelude.{◌≡◌, ◌≤◌, ◌<◌, ◌+◌, ◌*◌, ◌++◌, ◌∷◌, [], ◌==◌, true, false, length, IfOk, if◌then◌else◌};
 ghost use Rattle.std.specs.List.{filter};
 ghost use Rattle.trace_form.specs.Rooms.{frame_room, record_room};
-ghost use Rattle.dsp_form.specs.Limits.{most_samples_of_chip, most_samples_of_batch};
-ghost use Rattle.dsp_form.specs.Samples.{samples, in_mask, next_count, count_after};
-ghost use Rattle.dsp_form.specs.Sample.{sample};
-ghost use Rattle.dsp_form.specs.Settings.{settings_of};
-ghost use Rattle.dsp_form.specs.Outside.{opened_state, register_read, register_write};
-ghost use Rattle.dsp_form.specs.Valid.{is_valid};
-ghost use Rattle.dsp_form.specs.Reach.{chip_reach};
+ghost use Rattle.dsp_state.specs.Limits.{most_samples_of_chip, most_samples_of_batch};
+ghost use Rattle.dsp_state.specs.Samples.{samples, in_mask, next_count, count_after};
+ghost use Rattle.dsp_state.specs.Sample.{sample};
+ghost use Rattle.dsp_state.specs.Settings.{settings_of};
+ghost use Rattle.dsp_state.specs.Outside.{opened_state, register_read, register_write};
+ghost use Rattle.dsp_state.specs.Valid.{is_valid};
+ghost use Rattle.dsp_state.specs.Reach.{chip_reach};
 ghost use Rattle.dsp_core.specs.Saved.{saved_state, loaded_state};
 
 use crate::OutOfMemory;
@@ -18,8 +18,8 @@ use crate::saved::DspState;
 use aram_core::Aram;
 use batch_rows::{is_echo_apart, make_batch, make_recorded_batch, push_records};
 use brr_decode::GroupMemory;
-use dsp_form::registers::{ENDX, KON};
-use dsp_form::{ChipState, Hidden, Settings, settings_of};
+use dsp_state::registers::{ENDX, KON};
+use dsp_state::{ChipState, Hidden, Settings, settings_of};
 use echo_unit::Echo;
 use gauss_table::GaussTable;
 use rate_clock::{Noise, RateClock};
@@ -56,7 +56,7 @@ impl Model for Dsp {
 
 impl Dsp {
     /// The chip with its registers as a file has them, 128 bytes, and a table of weights, before its first sample.
-    #[tactic(auto, unfolding(dsp_form::specs::Outside::opened_state))]
+    #[tactic(auto, unfolding(dsp_state::specs::Outside::opened_state))]
     pub fn open(alloc: Global, registers: &[u8], table: GaussTable) -> Result<Dsp, OutOfMemory>
         requires { length registers.now ≡ 0x80 }
         ensures { IfOk result (λ dsp. dsp ≡ record { state = opened_state registers.now table; sample = 0; batches = 0; total = 0 }) }
@@ -88,7 +88,7 @@ impl Dsp {
     }
 
     /// The register at an address, taken modulo 128.
-    #[tactic(auto, unfolding(dsp_form::specs::Outside::register_read))]
+    #[tactic(auto, unfolding(dsp_state::specs::Outside::register_read))]
     pub fn reg_read(&self, addr: u8) -> u8
         ensures { result ≡ register_read self.now.state addr }
     {
@@ -97,7 +97,7 @@ impl Dsp {
 
     /// Writes a register. Any byte clears ENDX, and a write of KON lets its key-ons wait for the next
     /// poll in place of those that waited. From 80h on a write has no effect.
-    #[tactic(auto, unfolding(dsp_form::specs::Outside::register_write))]
+    #[tactic(auto, unfolding(dsp_state::specs::Outside::register_write))]
     pub fn reg_write(&mut self, addr: u8, value: u8)
         ensures { self.new ≡ record self.old { state = register_write self.old.state addr value } }
     {

@@ -8,7 +8,7 @@ mod saved;
 mod voices;
 
 pub use dsp::Dsp;
-pub use dsp_form::ChipState;
+pub use dsp_state::ChipState;
 pub use reach_map::ReachPages;
 pub use saved::DspState;
 pub use std::alloc::AllocError as OutOfMemory;

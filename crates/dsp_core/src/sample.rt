@@ -2,13 +2,13 @@
 
 ghost use Rattle.std.specs.Prelude.{◌≡◌, length, map, pos, if◌then◌else◌};
 ghost use Rattle.rate_clock.specs.Counter.{counter_at};
-ghost use Rattle.dsp_form.specs.Sample.{is_polled, sample, results_from, shared_input, records_from};
-ghost use Rattle.dsp_form.specs.Settings.{settings_of};
+ghost use Rattle.dsp_state.specs.Sample.{is_polled, sample, results_from, shared_input, records_from};
+ghost use Rattle.dsp_state.specs.Settings.{settings_of};
 
 use crate::voices::step_voices;
 use aram_core::Aram;
 use batch_rows::{finish_sample, is_polled, poll, step_noise};
-use dsp_form::{ChipState, Settings, SharedByVoices};
+use dsp_state::{ChipState, Settings, SharedByVoices};
 use num_fix::Frame;
 use rate_clock::RateClock;
 use voice_unit::VoiceOut;
@@ -57,7 +57,7 @@ fn step_chip_voices(
 }
 
 /// Makes the sample of a number, at which the clock stands, with the answers of the voices.
-#[tactic(auto, unfolding(dsp_form::specs::Sample::sample))]
+#[tactic(auto, unfolding(dsp_state::specs::Sample::sample))]
 pub fn make_sample(
     state: &mut ChipState,
     number: u32,

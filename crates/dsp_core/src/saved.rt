@@ -1,7 +1,7 @@
 //! What is saved of a chip.
 
-use dsp_form::Hidden;
-use dsp_form::registers::Registers;
+use dsp_state::Hidden;
+use dsp_state::registers::Registers;
 use rate_clock::RateClock;
 use std::marker::Model;
 

@@ -1,12 +1,12 @@
 //! The voices of one sample, one after another.
 
 ghost use Rattle.std.specs.Prelude.{◌≡◌, ◌<◌, ℕ, List};
-ghost use Rattle.dsp_form.specs.Settings.{settings_of};
-ghost use Rattle.dsp_form.specs.Sample.{voice_in, voice_result};
+ghost use Rattle.dsp_state.specs.Settings.{settings_of};
+ghost use Rattle.dsp_state.specs.Sample.{voice_in, voice_result};
 ghost use Rattle.dsp_core.specs.VoicesOfSample.{ForInput, voices_after_step, answers_of};
 
 use aram_core::Aram;
-use dsp_form::{Settings, SharedByVoices};
+use dsp_state::{Settings, SharedByVoices};
 use gauss_table::GaussTable;
 use num_fix::has_bit;
 use rate_clock::RateClock;
@@ -33,7 +33,7 @@ fn voice_in(settings: &Settings, common: &SharedByVoices, v: u8, previous: i16) 
 }
 
 /// One step of voice `v`.
-#[tactic(auto, unfolding(dsp_form::specs::Sample::voice_result))]
+#[tactic(auto, unfolding(dsp_state::specs::Sample::voice_result))]
 fn step_voice(
     voice: &mut Voice,
     settings: &Settings,

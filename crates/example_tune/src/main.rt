@@ -3,11 +3,11 @@
 
 use command_info::info;
 use command_render::{RenderOptions, render};
-use command_tests::{Outcome, ROOM, host_with};
 use spc_form::{Length, SpcRefusal, read_spc};
 use std::alloc::Global;
 use std::rt::Stdout;
 use std::{fs, io};
+use test_support::{Outcome, ROOM, host_with};
 
 /// The tune, the table of weights that it is rendered over, and what a render of it writes.
 const TUNE: &str = "tune.spc";

@@ -8,8 +8,8 @@ use Rattle.gauss_table.specs.declared.refusal.TableRefusal.{TableRefusal}
 use Rattle.gauss_table.specs.declared.refusal.TableRefusal.TheVariants as table
 use Rattle.command_frame.specs.declared.refusals.Refusal.{Refusal}
 use Rattle.command_frame.specs.declared.refusals.Refusal.TheVariants.{Input, OutOfMemory}
-use Rattle.status_lines.specs.declared.cause.Cause.{Cause}
-use Rattle.status_lines.specs.declared.cause.Cause.TheVariants.{SpcLength, SpcSignature, TableLength, InputTooLong}
+use Rattle.exit_status.specs.declared.cause.Cause.{Cause}
+use Rattle.exit_status.specs.declared.cause.Cause.TheVariants.{SpcLength, SpcSignature, TableLength, InputTooLong}
 use Rattle.input_files.specs.Reading.{input_limit, bytes_in, value_from, refused_by}
 
 -- the refusal of bytes that are no SPC file

@@ -6,10 +6,10 @@ ghost use Rattle.input_files.specs.Inputs.{file_of, file_in, table_of, table_in}
 
 use crate::{INPUT_LIMIT, read_input};
 use command_frame::Refusal;
+use exit_status::Cause;
 use gauss_table::{GaussTable, TableRefusal};
 use snd_host::Host;
 use spc_form::{SpcFile, SpcRefusal, read_spc};
-use status_lines::Cause;
 use std::alloc::Global;
 
 /// The SPC file of bytes that were read, or the cause for which they are refused.

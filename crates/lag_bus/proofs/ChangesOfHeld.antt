@@ -9,10 +9,10 @@ use Rattle.std.specs.List.{filter}
 use Rattle.aram_core.specs.Memory.{byte_at, with_byte}
 use Rattle.trace_form.specs.declared.record.Record.{Record}
 use Rattle.trace_form.specs.declared.record.Record.TheVariants.{Reg, Port, Voice}
-use Rattle.dsp_form.specs.Limits.{most_samples_of_chip}
-use Rattle.dsp_form.specs.Results.{is_result}
-use Rattle.dsp_form.specs.Samples.{SampleResult, SamplesResult, samples, in_mask}
-use Rattle.dsp_form.proofs.OneMoreSample.{samples_none, samples_more}
+use Rattle.dsp_state.specs.Limits.{most_samples_of_chip}
+use Rattle.dsp_state.specs.Results.{is_result}
+use Rattle.dsp_state.specs.Samples.{SampleResult, SamplesResult, samples, in_mask}
+use Rattle.dsp_state.proofs.OneMoreSample.{samples_none, samples_more}
 use Rattle.lock_step.specs.ChipMeaning.{ChipMeaning}
 use Rattle.lock_step.specs.ChipLaws.{IsLawfulChip}
 use Rattle.lag_bus.specs.Each.{Each, IsVoiceWithin}

@@ -3,7 +3,7 @@ use Rattle.std.proofs.Common.{◌≡◌, ℕ, zero, suc, ◌+◌, ◌*◌, ◌�
 use Rattle.trace_form.specs.declared.record.Record.{Record}
 use Rattle.trace_form.specs.declared.record.Record.TheVariants.{Reg, Port, Voice}
 use Rattle.std.specs.List.{filter}
-use Rattle.dsp_form.specs.Samples.{SampleResult, SamplesResult, samples, in_mask}
+use Rattle.dsp_state.specs.Samples.{SampleResult, SamplesResult, samples, in_mask}
 use Rattle.lock_step.specs.ChipMeaning.{ChipMeaning}
 use Rattle.lock_step.specs.ChipLaws.{IsLawfulChip, are_voice_records}
 use Rattle.lag_bus.specs.Each.{Each, IsVoiceWithin}

@@ -6,7 +6,7 @@ use Rattle.aram_core.specs.Memory.{byte_at}
 use Rattle.ports_timers.specs.declared.io.Io.{Io}
 use Rattle.ports_timers.specs.Io.{read_answer, after_ticks_of}
 use Rattle.std.specs.List.{filter}
-use Rattle.dsp_form.specs.Samples.{samples, in_mask}
+use Rattle.dsp_state.specs.Samples.{samples, in_mask}
 use Rattle.spc700_exec.specs.declared.cpu.Cpu.{Cpu}
 use Rattle.lag_bus.specs.LagLaws.{next_book}
 use Rattle.lock_step.specs.declared.counts.Counts.{Counts}

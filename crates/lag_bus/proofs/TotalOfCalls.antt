@@ -1,6 +1,6 @@
 -- Over calls that load nothing the chip of a bus that lags counts on.
 use Rattle.std.proofs.Common.{◌≡◌, ◌<◌, ◌≤◌, ◌-◌, ◌/◌, ◌^◌, ℕ, List, [], ◌∷◌, refl, arith}
-use Rattle.dsp_form.specs.Samples.{count_after}
+use Rattle.dsp_state.specs.Samples.{count_after}
 use Rattle.lock_step.specs.ChipMeaning.{ChipMeaning}
 use Rattle.lock_step.specs.ChipSaving.{ChipSaving}
 use Rattle.lock_step.specs.Emits.{CountsOn, IsCountedOn}

@@ -3,8 +3,8 @@ use Rattle.std.specs.Prelude.{◌≡◌, ℕ, ◌+◌, ◌-◌, ◌^◌, ◌<◌
 use Rattle.std.specs.FinSet as set
 use Rattle.aram_core.specs.Pages.{page_of}
 use Rattle.reach_map.specs.declared.ReachPages.{ReachPages}
-use Rattle.dsp_form.specs.Results.{is_result}
-use Rattle.dsp_form.specs.Samples.{next_count, count_after}
+use Rattle.dsp_state.specs.Results.{is_result}
+use Rattle.dsp_state.specs.Samples.{next_count, count_after}
 use Rattle.lock_step.specs.declared.counts.Counts.{Counts}
 use Rattle.lag_bus.specs.declared.cause.Cause.{Cause}
 use Rattle.lag_bus.specs.declared.cause.Cause.TheVariants.{Register, Memory, Echo, Full, Events, End}
@@ -12,7 +12,7 @@ use Rattle.lock_step.specs.ChipMeaning.{ChipMeaning}
 use Rattle.lock_step.specs.Machine.{Machine}
 use Rattle.lock_step.specs.LockStep.{writes_register, writes_port}
 use Rattle.trace_form.specs.Rooms.{event_room}
-use Rattle.dsp_form.specs.Limits.{most_samples_of_batch}
+use Rattle.dsp_state.specs.Limits.{most_samples_of_batch}
 
 pub record Book : Type 0 where
   -- the samples that the chip hasn't made yet

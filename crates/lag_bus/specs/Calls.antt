@@ -6,7 +6,7 @@ use Rattle.lock_step.specs.ChipMeaning.{ChipMeaning}
 use Rattle.lock_step.specs.ChipSaving.{ChipSaving}
 use Rattle.lock_step.specs.Machine.{Machine}
 use Rattle.lock_step.specs.LockStep.{lock_step}
-use Rattle.dsp_form.specs.Samples.{count_after}
+use Rattle.dsp_state.specs.Samples.{count_after}
 use Rattle.lag_bus.specs.Lagging.{Lagging, lagging, with_book, after_settle, MatchesBook}
 use Rattle.lag_bus.specs.LagEmits.{after_drain}
 use Rattle.lag_bus.specs.Ready.{ready_frames}

@@ -6,7 +6,7 @@ use Rattle.spc700_exec.specs.Bus.{IsLawful}
 use Rattle.spc700_exec.specs.Emitting.{IsEmitting}
 use Rattle.lag_bus.specs.declared.cause.Cause.{Cause}
 use Rattle.lag_bus.specs.declared.cause.Cause.TheVariants.{Full, End}
-use Rattle.dsp_form.specs.Samples.{count_after}
+use Rattle.dsp_state.specs.Samples.{count_after}
 use Rattle.lock_step.specs.ChipMeaning.{ChipMeaning}
 use Rattle.lock_step.specs.Machine.{Machine}
 use Rattle.lock_step.specs.LockStep.{lock_step, crosses_sample, after_bus_read, after_bus_write, after_bus_pass}

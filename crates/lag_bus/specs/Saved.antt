@@ -1,6 +1,6 @@
 -- What is saved of a bus beside its memory, and a bus once that is loaded.
 use Rattle.std.specs.Prelude.{◌≡◌, ◌≤◌, ℕ, ◌/◌, List, []}
-use Rattle.dsp_form.specs.Limits.{most_samples_of_chip}
+use Rattle.dsp_state.specs.Limits.{most_samples_of_chip}
 use Rattle.lock_step.specs.ChipMeaning.{ChipMeaning}
 use Rattle.lock_step.specs.ChipSaving.{ChipSaving}
 use Rattle.lock_step.specs.Machine.{Machine}

@@ -3,7 +3,7 @@ ghost use Rattle.std.specs.Prelude.{◌≡◌};
 ghost use Rattle.lag_bus.specs.Book.{may_be_read, may_be_written, cause_of_read, cause_of_write};
 
 use aram_core::page_of;
-use dsp_form::is_result;
+use dsp_state::is_result;
 use lock_step::{writes_port, writes_register};
 use reach_map::ReachPages;
 

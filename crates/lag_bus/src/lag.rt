@@ -2,11 +2,11 @@
 ghost use Rattle.std.specs.Prelude.{◌≡◌, ◌+◌, ◌*◌, ◌/◌, ◌-◌, ◌<◌, ◌≤◌, ◌%◌, ◌++◌, ◌∷◌, [], ◌==◌, unwrap_or, ◌||◌, not, true, false, length, if◌then◌else◌, IfOk};
 ghost use Rattle.aram_core.specs.Memory.{byte_at, with_byte};
 ghost use Rattle.spc700_exec.specs.Bus.{most_calls};
-ghost use Rattle.dsp_form.specs.Results.{is_result};
-ghost use Rattle.dsp_form.specs.Samples.{next_count, count_after};
+ghost use Rattle.dsp_state.specs.Results.{is_result};
+ghost use Rattle.dsp_state.specs.Samples.{next_count, count_after};
 ghost use Rattle.trace_form.specs.Rooms.{record_room, event_room};
 ghost use Rattle.num_fix.specs.Limits.{most_frames};
-ghost use Rattle.dsp_form.specs.Limits.{most_samples_of_batch};
+ghost use Rattle.dsp_state.specs.Limits.{most_samples_of_batch};
 ghost use Rattle.lock_step.specs.Machine.{opened_machine};
 ghost use Rattle.lock_step.specs.LockStep.{writes_register, writes_port, write_records};
 ghost use Rattle.lag_bus.specs.Ready.{ready_frames, ready_records};

@@ -2,13 +2,13 @@
 ghost use Rattle.std.specs.Prelude.{ℕ, ◌≡◌, ◌&&◌, ◌+◌, ◌-◌, ◌*◌, ◌^◌, ◌<◌, ◌≤◌, ◌++◌, ◌∷◌, [], ◌==◌, true, false, length, if◌then◌else◌, ◌||◌, not};
 ghost use Rattle.std.specs.List.{filter};
 ghost use Rattle.aram_core.specs.Memory.{byte_at, with_byte};
-ghost use Rattle.dsp_form.specs.Results.{is_result};
-ghost use Rattle.dsp_form.specs.Samples.{samples, in_mask, next_count, count_after};
+ghost use Rattle.dsp_state.specs.Results.{is_result};
+ghost use Rattle.dsp_state.specs.Samples.{samples, in_mask, next_count, count_after};
 ghost use Rattle.lag_bus.specs.Book.{may_be_read, may_be_written, cause_of_read, cause_of_write};
 ghost use Rattle.lag_bus.specs.Held.{IsPlain};
 ghost use Rattle.lag_bus.specs.Late.{late_with_sample, AreWritesWithin, AreReadsWithin};
 ghost use Rattle.trace_form.specs.Rooms.{frame_room, record_room, event_room};
-ghost use Rattle.dsp_form.specs.Limits.{most_samples_of_batch, most_samples_of_chip};
+ghost use Rattle.dsp_state.specs.Limits.{most_samples_of_batch, most_samples_of_chip};
 ghost use Rattle.lock_step.specs.SampleNumbers.{sample_number};
 ghost use Rattle.lag_bus.specs.Ready.{is_before_sample, ready_frames, waiting_frames, ready_records, waiting_records, NoneIsReady};
 

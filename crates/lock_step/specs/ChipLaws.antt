@@ -2,8 +2,8 @@
 use Rattle.std.specs.Prelude.{◌≡◌, ℕ, ◌+◌, ◌<◌, List, [], ◌∷◌, Bool, true, false, not, ◌&&◌, ◌==◌, nat_le}
 use Rattle.trace_form.specs.declared.record.Record.{Record}
 use Rattle.trace_form.specs.declared.record.Record.TheVariants.{Reg, Port, Voice}
-use Rattle.dsp_form.specs.Limits.{most_samples_of_batch}
-use Rattle.dsp_form.specs.ReachLaws.{WritesInside, ReadsInside, ReachStays, RegistersStay}
+use Rattle.dsp_state.specs.Limits.{most_samples_of_batch}
+use Rattle.dsp_state.specs.ReachLaws.{WritesInside, ReadsInside, ReachStays, RegistersStay}
 use Rattle.lock_step.specs.ChipMeaning.{ChipMeaning}
 
 -- whether records are those of the voices from v to 7 in order, in the sample of number k

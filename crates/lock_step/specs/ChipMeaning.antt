@@ -1,7 +1,7 @@
 -- What contracts see of a chip: functions on its states. S is the type of the states.
 use Rattle.std.specs.Prelude.{ℕ, List, Bool}
 use Rattle.reach_map.specs.declared.ReachPages.{ReachPages}
-use Rattle.dsp_form.specs.Samples.{SampleResult}
+use Rattle.dsp_state.specs.Samples.{SampleResult}
 
 pub record ChipMeaning (S : Type 0) : Type 0 where
   -- the register at an address

@@ -1,9 +1,9 @@
 -- The S-DSP as a chip.
-use Rattle.dsp_form.specs.declared.state.ChipState.{ChipState}
-use Rattle.dsp_form.specs.Sample.{sample}
-use Rattle.dsp_form.specs.Outside.{register_read, register_write}
-use Rattle.dsp_form.specs.Reach.{chip_reach}
-use Rattle.dsp_form.specs.Valid.{is_valid}
+use Rattle.dsp_state.specs.declared.state.ChipState.{ChipState}
+use Rattle.dsp_state.specs.Sample.{sample}
+use Rattle.dsp_state.specs.Outside.{register_read, register_write}
+use Rattle.dsp_state.specs.Reach.{chip_reach}
+use Rattle.dsp_state.specs.Valid.{is_valid}
 use Rattle.dsp_core.specs.Saved.{SavedDsp, saved_state, loaded_state}
 use Rattle.lock_step.specs.ChipMeaning.{ChipMeaning}
 use Rattle.lock_step.specs.ChipSaving.{ChipSaving}

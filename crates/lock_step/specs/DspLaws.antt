@@ -4,16 +4,16 @@ use Rattle.std.proofs.lemmas.Bool.{eq-eqb}
 use Rattle.std.proofs.lemmas.List.{length-map}
 use Rattle.voice_unit.specs.declared.interface.VoiceOut.{VoiceOut}
 use Rattle.voice_unit.specs.Voice.{VoiceState}
-use Rattle.dsp_form.specs.declared.state.ChipState.{ChipState}
-use Rattle.dsp_form.specs.Outside.{register_write}
-use Rattle.dsp_form.specs.Results.{without_bits}
-use Rattle.dsp_form.specs.Sample.{VoiceResult, results_from, records_from, shared_input, is_polled, after_poll, after_noise, before_voices, sample}
-use Rattle.dsp_form.specs.Valid.{is_valid}
-use Rattle.dsp_form.proofs.EightVoices.{polled_part, length-results_from, voices-before_voices}
-use Rattle.dsp_form.proofs.Valid.{valid_of, is_valid-sample, is_valid-register_write}
-use Rattle.dsp_reach.proofs.Registers.{registers_stay}
-use Rattle.dsp_reach.proofs.Starts.{reach_stays}
-use Rattle.dsp_reach.proofs.Within.{writes_inside, reads_inside}
+use Rattle.dsp_state.specs.declared.state.ChipState.{ChipState}
+use Rattle.dsp_state.specs.Outside.{register_write}
+use Rattle.dsp_state.specs.Results.{without_bits}
+use Rattle.dsp_state.specs.Sample.{VoiceResult, results_from, records_from, shared_input, is_polled, after_poll, after_noise, before_voices, sample}
+use Rattle.dsp_state.specs.Valid.{is_valid}
+use Rattle.dsp_state.proofs.EightVoices.{polled_part, length-results_from, voices-before_voices}
+use Rattle.dsp_state.proofs.Valid.{valid_of, is_valid-sample, is_valid-register_write}
+use Rattle.reach_laws.proofs.Registers.{registers_stay}
+use Rattle.reach_laws.proofs.Starts.{reach_stays}
+use Rattle.reach_laws.proofs.Within.{writes_inside, reads_inside}
 use Rattle.lock_step.specs.ChipLaws.{IsLawfulChip, are_voice_records}
 use Rattle.lock_step.specs.SavingLaws.{IsLawfulSaving}
 use Rattle.lock_step.specs.DspChip.{dsp_chip, dsp_saving}

@@ -1,13 +1,13 @@
 // The sound chip that a bus is handed.
 ghost use Rattle.std.specs.Prelude.{◌≡◌, ℕ, ◌+◌, ◌*◌, ◌≤◌, ◌++◌, ◌==◌, true, length, if◌then◌else◌};
 ghost use Rattle.std.specs.List.{filter};
-ghost use Rattle.dsp_form.specs.Samples.{samples, in_mask, next_count, count_after};
+ghost use Rattle.dsp_state.specs.Samples.{samples, in_mask, next_count, count_after};
 ghost use Rattle.lock_step.specs.ChipMeaning.{ChipMeaning};
 ghost use Rattle.lock_step.specs.ChipSaving.{ChipSaving};
 ghost use Rattle.lock_step.specs.ChipLaws.{IsLawfulChip};
 ghost use Rattle.lock_step.specs.SavingLaws.{IsLawfulSaving};
 ghost use Rattle.trace_form.specs.Rooms.{frame_room, record_room};
-ghost use Rattle.dsp_form.specs.Limits.{most_samples_of_batch, most_samples_of_chip};
+ghost use Rattle.dsp_state.specs.Limits.{most_samples_of_batch, most_samples_of_chip};
 
 use aram_core::Aram;
 use reach_map::ReachPages;

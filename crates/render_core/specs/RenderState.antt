@@ -9,7 +9,7 @@ use Rattle.lag_bus.specs.Lagging.{Lagging}
 use Rattle.lock_step.specs.Machine.{Machine}
 use Rattle.lock_step.specs.LockStep.{lock_step, samples_made}
 use Rattle.lock_step.specs.LockStepEmits.{lock_step_emits}
-use Rattle.dsp_form.specs.Samples.{count_after}
+use Rattle.dsp_state.specs.Samples.{count_after}
 use Rattle.render_core.specs.MachineRun.{Whole}
 use Rattle.render_core.specs.Items.{run_frames, run_records, end_of_run}
 use Rattle.render_core.specs.RunCounts.{run_counts}

@@ -1,7 +1,7 @@
 -- How reports print texts.
 use Rattle.std.specs.Prelude.{ℕ, ◌==◌, ◌&&◌, not, List, [], ◌∷◌, ◌++◌, codes, nat_le, if◌then◌else◌}
 use Rattle.std.specs.List.{flat_map}
-use Rattle.number_text.specs.Digits.{two_digits}
+use Rattle.text_form.specs.Digits.{two_digits}
 
 -- a byte of a text: a printable character of ASCII as itself, the backslash and every other byte as `\x` and two digits
 abbrev pub shown_byte : ℕ → List ℕ

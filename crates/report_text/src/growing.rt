@@ -1,11 +1,11 @@
 // Reports that grow.
 ghost use Rattle.std.specs.Prelude.{◌≡◌, ◌++◌, OnOk, decimal};
 ghost use Rattle.std.specs.Fmt.{signed_decimal};
-ghost use Rattle.number_text.specs.Digits.{two_digits, four_digits};
+ghost use Rattle.text_form.specs.Digits.{two_digits, four_digits};
 ghost use Rattle.report_text.specs.Texts.{shown_byte, shown_text};
 
 use crate::OutOfMemory;
-use number_text::{four_digits, two_digits};
+use text_form::{four_digits, two_digits};
 
 /// Prints a number in decimal digits.
 pub fn put_number(report: &mut Vec<u8>, number: usize) -> Result<(), OutOfMemory>

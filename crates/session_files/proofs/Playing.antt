@@ -14,9 +14,9 @@ use Rattle.cut_form.specs.declared.script.ScriptLine.TheVariants.{Seek, Play, Ma
 use Rattle.cut_form.specs.Checkpoints.{stands_at}
 use Rattle.cut_form.specs.CutBook.{after_play, without_one}
 use Rattle.cut_form.specs.Session.{Session, LineOutcome, after_line, replies, played_cuts}
-use Rattle.script_text.specs.Playing.{played_frames}
-use Rattle.run_slices.specs.GrowingFrames.{AreOfRun}
-use Rattle.run_slices.proofs.Slices.{length-cuts}
+use Rattle.cut_text.specs.Playing.{played_frames}
+use Rattle.cut_form.specs.GrowingFrames.{AreOfRun}
+use Rattle.cut_form.proofs.Slices.{length-cuts}
 
 -- a list from an entry on
 pub drop_at : {A : Type 0} (xs : List A) (i : ℕ) (x : A) → slice_get xs i ≡ Some x → drop i xs ≡ x ∷ drop (i + 1) xs

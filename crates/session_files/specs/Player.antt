@@ -11,7 +11,7 @@ use Rattle.cut_form.specs.Session.{Session, after_line, played_cuts}
 use Rattle.cut_form.specs.Slices.{slice_of, cut_frames}
 use Rattle.cut_server.specs.ServerState.{book_of, slots_of}
 use Rattle.cut_server.specs.Server.{ChipServer, pages_at, frames_to, KeepsTune}
-use Rattle.run_slices.specs.GrowingFrames.{AreOfRun}
+use Rattle.cut_form.specs.GrowingFrames.{AreOfRun}
 
 pub record PlayerState (S V : Type 0) : Type 0 where
   pub server : ChipServer S V

@@ -5,8 +5,8 @@ ghost use Rattle.cut_form.specs.declared.script.ScriptLine.TheVariants as lines;
 ghost use Rattle.cut_form.specs.CutBook.{most_played};
 ghost use Rattle.cut_server.specs.ServerState.{book_of, slots_of};
 ghost use Rattle.cut_server.specs.Server.{frames_to, pages_at, KeepsTune};
-ghost use Rattle.script_text.specs.Playing.{IsWithinHour};
-ghost use Rattle.run_slices.specs.GrowingFrames.{AreOfRun};
+ghost use Rattle.cut_text.specs.Playing.{IsWithinHour};
+ghost use Rattle.cut_form.specs.GrowingFrames.{AreOfRun};
 ghost use Rattle.session_files.specs.Player.{PlayerState, session_of, left_to_play, CanAnswer, Answers};
 
 use cut_form::{MOST_FRAMES, MOST_PLAYED, Reply, ScriptLine};

@@ -1,9 +1,9 @@
 // A bus that makes each sample at once.
 ghost use Rattle.std.specs.Prelude.{◌≡◌, ◌+◌, ◌*◌, ◌/◌, ◌<◌, ◌≤◌, ◌++◌, ◌∷◌, [], true, length, IfOk};
 ghost use Rattle.std.specs.List.{filter};
-ghost use Rattle.dsp_form.specs.Samples.{in_mask};
+ghost use Rattle.dsp_state.specs.Samples.{in_mask};
 ghost use Rattle.trace_form.specs.Rooms.{frame_room, record_room};
-ghost use Rattle.dsp_form.specs.Limits.{most_samples_of_chip};
+ghost use Rattle.dsp_state.specs.Limits.{most_samples_of_chip};
 ghost use Rattle.lock_step.specs.Machine.{opened_machine};
 ghost use Rattle.lock_step.specs.LockStep.{bus_answer, after_bus_read, after_bus_write, after_bus_pass, lock_step};
 ghost use Rattle.lock_step.specs.LockStepEmits.{drained_machine, lock_step_emits, lock_step_counts};
@@ -34,7 +34,7 @@ pub struct PlainBus<C: Chip> {
 
 impl<C: Chip> Model for PlainBus<C> {
     ghost use Rattle.std.specs.Prelude.{◌≡◌, ◌+◌, ◌*◌, ◌/◌, ◌<◌, ◌≤◌, length};
-    ghost use Rattle.dsp_form.specs.Limits.{most_samples_of_chip};
+    ghost use Rattle.dsp_state.specs.Limits.{most_samples_of_chip};
     ghost use Rattle.lock_step.specs.Machine.{Machine};
 
     ghost Value = { Machine C.State };

@@ -6,7 +6,7 @@ use Rattle.std.specs.List.{flat_map, slice_split, after_first}
 use Rattle.spc700_asm.specs.Listing.{byte_text}
 use Rattle.spc700_asm.specs.Characters.{is_blank, is_semicolon, is_colon, is_comma, trim, number_of}
 use Rattle.spc700_asm.specs.Statements.{Bytes, all_of, items_of, statement_of_word, statement_of}
-use Rattle.text_parts.proofs.Places.{split_at_place, split_none, before_place, after_place}
+use Rattle.text_form.proofs.Places.{split_at_place, split_none, before_place, after_place}
 use Rattle.spc700_asm.proofs.NumberTexts.{number_of_byte}
 use Rattle.spc700_asm.proofs.Fronts.{take_front}
 use Rattle.spc700_asm.proofs.LineTexts.{is_text, fails, all_append, plain, no_place, place_after, trim_between, trim_word, drop_after, statement_is}

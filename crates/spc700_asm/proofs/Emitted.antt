@@ -11,7 +11,7 @@ use Rattle.spc700_asm.specs.Statements.{Statement, statement_of}
 use Rattle.spc700_asm.specs.Labels.{Labels, size_of, size_of_line, labels_of, end_of}
 use Rattle.spc700_asm.specs.Faults.{LineRefusal, has_great_number, defines_again, first_fault, refusal_or, first_refusal}
 use Rattle.spc700_asm.specs.Assembly.{line_bytes, with_front, line_then_lines, bytes_of_lines, Refuses}
-use Rattle.text_parts.specs.Parts.{parts_left}
+use Rattle.text_form.specs.Parts.{parts_left}
 use Rattle.spc700_asm.specs.Refusals.{refusal_at}
 use Rattle.spc700_asm.specs.Names.{Holds, Adds, IsBytesFault, IsFine, AreFine}
 use Rattle.spc700_asm.proofs.LabelsAppend.{end_of_append}

@@ -10,7 +10,7 @@ use Rattle.spc700_asm.specs.Operands.{Operand, operand_of}
 use Rattle.spc700_asm.specs.Statements.{code, with_operands, instruction_of, statement_of_word, statement_or_label, text_statement, statement_of}
 use Rattle.spc700_asm.proofs.Fronts.{front_len, take_front}
 use Rattle.spc700_asm.proofs.Positions.{place_within, no_place_within}
-use Rattle.text_parts.proofs.Places.{before_place, after_place, before_none, after_none}
+use Rattle.text_form.proofs.Places.{before_place, after_place, before_none, after_none}
 use Rattle.spc700_asm.proofs.Decoding.{drop_front}
 
 -- a test fails of each character

@@ -14,7 +14,7 @@ use Rattle.spc700_asm.specs.Statements.{Statement, Nothing, Bytes, Code, stateme
 use Rattle.spc700_asm.specs.Faults.{LineRefusal, has_great_number}
 use Rattle.spc700_asm.specs.Assembly.{instruction_bytes, line_bytes, lines_of, assembly}
 use Rattle.spc700_asm.proofs.Unrolled.{all_there}
-use Rattle.text_parts.proofs.Places.{split_at_place}
+use Rattle.text_form.proofs.Places.{split_at_place}
 use Rattle.spc700_asm.proofs.LineTexts.{fails, plain, place_after, drop_after}
 use Rattle.spc700_asm.proofs.Fronts.{take_front}
 use Rattle.spc700_asm.proofs.TextCharacters.{byte_characters}

@@ -7,7 +7,7 @@ use Rattle.std.proofs.lemmas.Bool.Decides.{nat_tests}
 use Rattle.std.proofs.lemmas.Option.{same_Some}
 use Rattle.spc700_asm.specs.Statements.{Statement, all_of}
 use Rattle.spc700_asm.specs.Seen.{within}
-use Rattle.text_parts.specs.Parts.{parts_left}
+use Rattle.text_form.specs.Parts.{parts_left}
 
 next_size : (each size k m all : ℕ) → size + each * k ≡ all → k ≡ suc m → size + each + each * m ≡ all
 next_size each size k m all is more =

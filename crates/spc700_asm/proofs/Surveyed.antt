@@ -10,7 +10,7 @@ use Rattle.spc700_asm.specs.Faults.{LineRefusal, first_fault, refusal_or, first_
 use Rattle.spc700_asm.specs.declared.refusal.LineError.{LineError}
 use Rattle.spc700_asm.specs.declared.refusal.LineError.TheVariants as error
 use Rattle.spc700_asm.specs.Seen.{length_left}
-use Rattle.text_parts.specs.Parts.{parts_left}
+use Rattle.text_form.specs.Parts.{parts_left}
 use Rattle.spc700_asm.specs.Refusals.{refusal_at}
 use Rattle.spc700_asm.specs.Names.{Holds, IsFault, IsRefusal}
 use Rattle.spc700_asm.proofs.LabelsAppend.{end_of_append, labels_of_append}

@@ -4,7 +4,7 @@ use Rattle.std.specs.List.{list_all}
 use Rattle.std.specs.Char.{is_ascii_digit, is_ascii_alphanumeric, to_ascii_uppercase}
 use Rattle.std.specs.Str.{byte}
 use Rattle.hex.specs.Hex.{hex_digit_value}
-use Rattle.number_text.specs.Decimals.{is_number, decimal_value}
+use Rattle.text_form.specs.Decimals.{is_number, decimal_value}
 
 -- a blank: a space, a tab or a carriage return
 abbrev pub is_blank : ℕ → Bool

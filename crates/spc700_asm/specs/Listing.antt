@@ -1,7 +1,7 @@
 -- The line of an instruction, and the listing of bytes (own).
 use Rattle.std.specs.Prelude.{ℕ, zero, suc, ◌+◌, ◌/◌, ◌%◌, List, [], ◌∷◌, ◌++◌, length, drop, codes, decimal, Option, Some, None, if◌then◌else◌}
 use Rattle.std.specs.List.{flat_map}
-use Rattle.number_text.specs.Digits.{two_digits, four_digits}
+use Rattle.text_form.specs.Digits.{two_digits, four_digits}
 use Rattle.spc700_table.specs.declared.Form.{Form}
 use Rattle.spc700_table.specs.Opcodes.{row_of, length_of}
 use Rattle.spc700_table.specs.Mnemonics.{mnemonic_of}

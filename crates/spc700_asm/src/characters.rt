@@ -5,7 +5,7 @@ ghost use Rattle.std.specs.Str.{bytes_eq};
 ghost use Rattle.hex.specs.Hex.{hex_digit_value};
 ghost use Rattle.spc700_asm.specs.Characters.{is_blank, is_semicolon, is_name_character, is_name, trim, without_first_blanks, capitals, hex_number, decimal_number, number_of_hex_digits, number_of};
 
-use number_text::{decimal_value, is_number};
+use text_form::{decimal_value, is_number};
 
 /// A blank: a space, a tab or a carriage return.
 pub fn is_blank(character: u8) -> bool

@@ -23,7 +23,7 @@ use crate::refusal::{AsmRefusal, LineError, LineFault};
 use crate::statement::{Statement, statement_in};
 use spc700_table::{Form, OpRow, byte_count, is_in_text_order, length, row};
 use std::alloc::Global;
-use text_parts::first_part;
+use text_form::first_part;
 
 /// How far a target is ahead.
 fn distance_ahead(next: u32, target: u16) -> u32

@@ -18,7 +18,7 @@ use crate::pattern::{Slot, pattern_for};
 use crate::refusal::LineFault;
 use crate::statement::Statement;
 use spc700_table::{Form, length, row};
-use text_parts::first_part;
+use text_form::first_part;
 
 /// Whether a number is above the greatest of its place.
 pub fn is_above(greatest: u32, value: Written) -> bool

@@ -8,9 +8,9 @@ use crate::OutOfMemory;
 use crate::instruction::{Instruction, instruction_at};
 use crate::pattern::{Slot, pattern_for};
 use itoa::Buffer;
-use number_text::{four_digits, two_digits};
 use spc700_table::{Form, length, mnemonic, row};
 use std::alloc::Global;
+use text_form::{four_digits, two_digits};
 
 /// Adds a byte.
 fn push_byte(out: &mut Vec<u8>, byte: u8) -> Result<(), OutOfMemory>

@@ -6,7 +6,7 @@ ghost use Rattle.spc700_asm.specs.Statements.{all_of, items_of};
 
 use crate::characters::{number, trim};
 use crate::operand::written_in;
-use text_parts::first_part;
+use text_form::first_part;
 
 /// Whether items between commas are numbers.
 pub fn are_numbers(items: &[u8]) -> bool

@@ -14,7 +14,7 @@ use crate::operand::{Operand, Written, operand_in};
 use crate::parts::{are_numbers, are_words};
 use crate::pattern::{Pattern, Slot, pattern_for};
 use spc700_table::{Form, OpRow, mnemonic, row};
-use text_parts::place_of;
+use text_form::place_of;
 
 /// What a line says.
 #[derive(Clone, Copy, Debug)]

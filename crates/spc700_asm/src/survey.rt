@@ -12,7 +12,7 @@ use crate::names::Names;
 use crate::refusal::{AsmRefusal, LineError, LineFault};
 use crate::statement::{Statement, statement_in};
 use std::alloc::Global;
-use text_parts::first_part;
+use text_form::first_part;
 
 /// Defines the name of a statement at an address, where it is one.
 fn define_label<'a>(

@@ -2,7 +2,7 @@
 use Rattle.std.specs.Prelude.{ℕ, ◌+◌, ◌*◌, ◌==◌, List, take, drop, slice_index, Bool, ◌&&◌, nat_lt, if◌then◌else◌, Option, Some, None, unwrap_or}
 use Rattle.std.specs.List.{before_first, list_all, prefix_len}
 use Rattle.std.specs.Char.{is_ascii_digit}
-use Rattle.number_text.specs.Decimals.{decimal_value}
+use Rattle.text_form.specs.Decimals.{decimal_value}
 use Rattle.spc_form.specs.Layout.{part_of}
 use Rattle.spc_form.specs.declared.tags.Tag.{Tag}
 use Rattle.spc_form.specs.declared.tags.Tag.TheVariants.{Title, Game, Dumper, Comments, Date, Seconds, Fade, Artist}

@@ -7,8 +7,7 @@ ghost use Rattle.spc_form.specs.Tags.{most_told_frames, field_start, field_size,
 
 use crate::SpcFile;
 use crate::parts::part;
-use number_text::decimal_value;
-use text_parts::place_of;
+use text_form::{decimal_value, place_of};
 
 /// The tags of a file (SPC file format text v0.30).
 #[derive(Clone, Copy, Debug, PartialEq, Eq)]

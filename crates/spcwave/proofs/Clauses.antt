@@ -9,14 +9,14 @@ use Rattle.command_frame.specs.Leaves.{Leaves, LeavesNothing, LeavesAll, Complai
 use Rattle.command_frame.specs.declared.refusals.Refusal.{Refusal}
 use Rattle.command_frame.specs.declared.refusals.Refusal.TheVariants.{Usage, ReadFault, WriteFault, OutOfMemory, Input}
 use Rattle.command_frame.proofs.Leaving.{leaves, complains, reports_last, reports_behind_ended}
-use Rattle.status_lines.specs.declared.cause.Cause.{Cause}
-use Rattle.status_lines.specs.declared.cause.Cause.TheVariants.{SpcLength, SpcSignature, TableLength, BrrLength, WavForm, EncodeSize, InputTooLong, AsmLine, CodeLength, CutList, Script}
-use Rattle.status_lines.specs.declared.status.Status.{Status}
-use Rattle.status_lines.specs.declared.status.Status.TheVariants as statuses
+use Rattle.exit_status.specs.declared.cause.Cause.{Cause}
+use Rattle.exit_status.specs.declared.cause.Cause.TheVariants.{SpcLength, SpcSignature, TableLength, BrrLength, WavForm, EncodeSize, InputTooLong, AsmLine, CodeLength, CutList, Script}
+use Rattle.exit_status.specs.declared.status.Status.{Status}
+use Rattle.exit_status.specs.declared.status.Status.TheVariants as statuses
 use Rattle.command_line.specs.Command.{Command, usage, names_input}
 use Rattle.spcwave.specs.Answers.{answer_of}
-use Rattle.status_lines.specs.Statuses.{status_of, answer_status, plain_end}
-use Rattle.status_lines.specs.Lines.{end_line, refusal_line}
+use Rattle.exit_status.specs.Statuses.{status_of, answer_status, plain_end}
+use Rattle.exit_status.specs.Lines.{end_line, refusal_line}
 use Rattle.spcwave.specs.RunClauses as clause
 
 -- a status without numbers tells its end

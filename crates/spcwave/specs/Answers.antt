@@ -2,7 +2,7 @@
 use Rattle.snd_host.specs.Host.{Files}
 use Rattle.command_frame.specs.Answer.{Answer, refused}
 use Rattle.command_frame.specs.declared.refusals.Refusal.TheVariants.{Usage}
-use Rattle.status_lines.specs.declared.cause.Cause.{Cause}
+use Rattle.exit_status.specs.declared.cause.Cause.{Cause}
 use Rattle.command_brr.specs.Brr.{brr_answer}
 use Rattle.command_encode.specs.Encode.{encode_answer}
 use Rattle.command_check.specs.Check.{check_answer}

@@ -3,10 +3,10 @@ use Rattle.std.specs.Prelude.{◌≡◌, ℕ, Some, map, string_bytes}
 use Rattle.snd_host.specs.Host.{HostState}
 use Rattle.command_frame.specs.Conduct.{WritesComplaint}
 use Rattle.command_frame.specs.declared.refusals.Refusal.TheVariants.{OutOfMemory}
-use Rattle.status_lines.specs.declared.status.Status.{Status}
-use Rattle.status_lines.specs.declared.status.Status.TheVariants as statuses
-use Rattle.status_lines.specs.Lines.{end_line}
-use Rattle.status_lines.specs.Statuses.{code_of}
+use Rattle.exit_status.specs.declared.status.Status.{Status}
+use Rattle.exit_status.specs.declared.status.Status.TheVariants as statuses
+use Rattle.exit_status.specs.Lines.{end_line}
+use Rattle.exit_status.specs.Statuses.{code_of}
 use Rattle.command_line.specs.Command.{Command, usage, command_of}
 use Rattle.spcwave.specs.RunClauses.{Content, ReadFault, WriteFault, Memory, IsTruthful, CompletesCalmly, CompletesInputs, CompletesOutputs, CompletesComplaint, Untold}
 use Rattle.spcwave.specs.declared.given.Given.{Given}

@@ -5,12 +5,12 @@ use Rattle.command_frame.specs.Answer.{outputs_of, report_of}
 use Rattle.command_frame.specs.Conduct.{NoneRose}
 use Rattle.command_frame.specs.Delivery.{HaveRooms}
 use Rattle.command_frame.specs.Leaves.{LeavesNothing, LeavesAll, LeavesPart, ReportsLast, ReportsAfterEnded, Complains}
-use Rattle.status_lines.specs.declared.status.Status.{Status}
-use Rattle.status_lines.specs.declared.status.Status.TheVariants as statuses
+use Rattle.exit_status.specs.declared.status.Status.{Status}
+use Rattle.exit_status.specs.declared.status.Status.TheVariants as statuses
 use Rattle.command_line.specs.Command.{Command, usage, names_input}
 use Rattle.spcwave.specs.Answers.{answer_of}
-use Rattle.status_lines.specs.Statuses.{answer_status, plain_end}
-use Rattle.status_lines.specs.Lines.{end_line, status_line}
+use Rattle.exit_status.specs.Statuses.{answer_status, plain_end}
+use Rattle.exit_status.specs.Lines.{end_line, status_line}
 
 -- a run is begun on a host on which fewer outputs were created than this: what it creates is far below what is left
 abbrev pub most_outputs_before : ℕ

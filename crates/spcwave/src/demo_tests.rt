@@ -1,10 +1,10 @@
 // Demo files, made and checked by the program over a host in memory.
-use crate::test_support::{render_straight, run_words};
-use command_tests::{Outcome, ROOM};
-use status_lines::Status;
+use crate::runs::{render_straight, run_words};
+use exit_status::Status;
 use std::alloc::Global;
 use std::process::Abort;
 use std::test::Fail;
+use test_support::{Outcome, ROOM};
 
 /// Sums over the frames of a sound file.
 #[derive(Clone, Copy)]

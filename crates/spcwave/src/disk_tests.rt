@@ -3,16 +3,16 @@ ghost use Rattle.std.specs.Prelude.{◌≡◌, [], IfOk};
 ghost use Rattle.snd_host.specs.Memory.{memory_state};
 
 use crate::run::run;
-use crate::test_support::list_words;
-use command_tests::{BLOCK, BLOCK_WAV, Outcome, straight_table};
+use crate::runs::list_words;
 use disk_host::DiskHost;
+use exit_status::Status;
 use snd_host::MemHost;
-use status_lines::Status;
 use std::alloc::Global;
 use std::process::Abort;
 use std::rt::{Env, Files};
 use std::test::Fail;
 use std::{env, fs};
+use test_support::{BLOCK, BLOCK_WAV, Outcome, straight_table};
 
 /// The room for a trace of eight voices over a thousand samples: 8,000 lines of at most 28 bytes, and a few of what the program
 /// writes.

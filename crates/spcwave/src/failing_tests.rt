@@ -1,8 +1,8 @@
 // Each call of each command may fail.
-use crate::test_support::{list_words, run_failing};
-use command_tests::{FIVE, Frames, MONO, Outcome, STEADY_WAV, file_of, straight_table, wave_of};
+use crate::runs::{list_words, run_failing};
 use std::alloc::Global;
 use std::test::Fail;
+use test_support::{FIVE, Frames, MONO, Outcome, STEADY_WAV, file_of, straight_table, wave_of};
 
 /// The first output of a command.
 enum First {

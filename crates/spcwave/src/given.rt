@@ -7,8 +7,8 @@ ghost use Rattle.spcwave.specs.Given.{EndsAsGiven, ExitsWith};
 
 use crate::run::run;
 use command_frame::{Refusal, complain};
+use exit_status::{Cause, Status, status_for};
 use snd_host::Host;
-use status_lines::{Cause, Status, status_for};
 use std::alloc::Global;
 use std::io::{self, ErrorKind};
 

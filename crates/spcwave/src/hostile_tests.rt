@@ -1,16 +1,14 @@
 // Damaged files, awkward programs and outputs without room: each run over a host in memory, and over one that gives and
 // takes one byte at a time.
-use crate::test_support::{
-    Dripped, drips_alike, list_words, render_straight, run_dripping, run_over,
-};
-use command_tests::{
-    DSP, ENDS_THE_BLOCK, FIVE, Frames, MEMORY, MONO, Outcome, Pieces, ROOM, file_of,
-    straight_table, wave_of,
-};
-use status_lines::Status;
+use crate::runs::{Dripped, drips_alike, list_words, render_straight, run_dripping, run_over};
+use exit_status::Status;
 use std::alloc::Global;
 use std::process::Abort;
 use std::test::Fail;
+use test_support::{
+    DSP, ENDS_THE_BLOCK, FIVE, Frames, MEMORY, MONO, Outcome, Pieces, ROOM, file_of,
+    straight_table, wave_of,
+};
 
 /// A run over an SPC file `SPC` and a table `TABLE`, and how it ends.
 #[derive(Drop)]

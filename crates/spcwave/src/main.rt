@@ -12,7 +12,7 @@ mod given;
 mod hostile_tests;
 mod run;
 #[cfg(test)]
-mod test_support;
+mod runs;
 #[cfg(test)]
 mod tests;
 

@@ -20,8 +20,8 @@ use command_line::{Command, read_words};
 use command_render::render;
 use command_rip::rip;
 use command_serve::serve;
+use exit_status::{Cause, Status, status_for};
 use snd_host::Host;
-use status_lines::{Cause, Status, status_for};
 use std::alloc::Global;
 
 /// Does what the words say, but for the complaint.

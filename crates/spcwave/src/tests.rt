@@ -1,11 +1,11 @@
 // Words, and one run of each command that they say.
 use crate::given::Given;
-use crate::test_support::{give, list_words, run_failing, run_words, serve_free};
-use command_tests::{BLOCK, Outcome};
-use status_lines::Status;
+use crate::runs::{give, list_words, run_failing, run_words, serve_free};
+use exit_status::Status;
 use std::alloc::Global;
 use std::process::Abort;
 use std::test::Fail;
+use test_support::{BLOCK, Outcome};
 
 /// Whether the words were found to be no command, and nothing was read.
 fn is_usage(outcome: &Outcome) -> bool {

@@ -1,7 +1,7 @@
 -- The line of a record in a trace: text with decimals without leading zeros and hexadecimal numbers in lower case.
 use Rattle.std.specs.Prelude.{ℕ, List, ◌++◌, flat_map, codes, decimal, Bool, if◌then◌else◌}
 use Rattle.std.specs.Fmt.{signed_decimal}
-use Rattle.number_text.specs.Digits.{two_digits, four_digits}
+use Rattle.text_form.specs.Digits.{two_digits, four_digits}
 use Rattle.trace_form.specs.declared.record.Record.{Record}
 use Rattle.trace_form.specs.declared.record.Record.TheVariants.{Reg, Port, Voice}
 

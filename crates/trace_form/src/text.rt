@@ -1,12 +1,12 @@
 // The line of a record in a trace.
 ghost use Rattle.std.specs.Prelude.{◌≡◌, ◌+◌, ◌≤◌, ◌++◌, [], length};
-ghost use Rattle.number_text.specs.Digits.{two_digits, four_digits};
+ghost use Rattle.text_form.specs.Digits.{two_digits, four_digits};
 ghost use Rattle.trace_form.specs.Line.{letter_or_dash, line_of};
 
 use crate::Record;
 use itoa::{Buffer, Integer};
-use number_text::{four_digits, two_digits};
 use std::marker::Model;
+use text_form::{four_digits, two_digits};
 
 /// A line of a trace, with its line feed: at most 48 bytes.
 #[derive(Debug, Drop)]

@@ -1,7 +1,7 @@
 // The lines and the numbers of the statuses.
 use command_frame::{Refusal, complain};
+use exit_status::{Cause, LineFault, Status, status_for};
 use snd_host::{MemHost, OutFile};
-use status_lines::{Cause, LineFault, Status, status_for};
 use std::alloc::Global;
 use std::test::Fail;
 

@@ -1,7 +1,9 @@
-//! Worked rows of the file forms, of cut lists and scripts, and of what reports and complaints say. A crate with tests is
-//! proved once more for them, so the tests of these stand here, where that costs nothing.
+//! Worked rows of the file forms, of cut lists, scripts and assembly text, of the hosts in memory, and of what reports and
+//! complaints say. A crate with tests is proved once more for them, so the tests of these stand here, where that costs nothing.
 #![tactic(auto)]
 
+#[cfg(test)]
+mod assembly;
 #[cfg(test)]
 mod complaints;
 #[cfg(test)]
@@ -12,6 +14,8 @@ mod demos;
 mod encodings;
 #[cfg(test)]
 mod entries;
+#[cfg(test)]
+mod hosts;
 #[cfg(test)]
 mod reports;
 #[cfg(test)]

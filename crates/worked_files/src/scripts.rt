@@ -1,6 +1,5 @@
 // Scripts, and their first wrong lines.
-use cut_text::TextRefusal;
-use script_text::read_script;
+use cut_text::{TextRefusal, read_script};
 use std::alloc::Global;
 use std::test::Fail;
 

@@ -4,7 +4,7 @@ use aram_core::Aram;
 use reach_map::{ChainStart, Window, reach};
 use std::alloc::Global;
 use std::test::Fail;
-use worked_support::has_exactly;
+use test_support::has_exactly;
 
 /// A memory of zeros in which one block, at 0601h, has its end bit.
 fn memory(alloc: Global) -> Result<Aram, Fail> {

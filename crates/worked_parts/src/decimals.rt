@@ -1,4 +1,4 @@
-use number_text::{decimal_value, four_digits, is_number, two_digits};
+use text_form::{decimal_value, four_digits, is_number, two_digits};
 
 #[test]
 fn digits_of_bytes_and_words(rt: HostRuntime) {

@@ -1,7 +1,7 @@
 use aram_core::{Aram, PageSet, page_of};
 use std::alloc::Global;
 use std::test::Fail;
-use worked_support::has_exactly;
+use test_support::has_exactly;
 
 /// A memory whose bytes are all one value.
 fn filled(alloc: Global, value: u8) -> Result<Aram, Fail> {

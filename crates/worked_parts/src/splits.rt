@@ -1,4 +1,4 @@
-use text_parts::{first_part, place_of};
+use text_form::{first_part, place_of};
 
 #[test]
 fn parts_before_and_after_a_character(rt: HostRuntime) {

@@ -6,8 +6,8 @@ use sound_bus::{Counts, DrainedBus};
 use std::alloc::Global;
 use std::process::Abort;
 use std::test::Fail;
+use test_support::writes_of;
 use trace_form::Record;
-use worked_support::writes_of;
 
 /// What a bus emits that takes steps until 100 samples are made or pending, with three rooms more for its calls each time.
 fn take_all<B: DrainedBus>(alloc: Global, bus: &mut B) -> Result<Emitted, Fail> {

@@ -6,8 +6,8 @@ use sound_bus::Counts;
 use std::alloc::Global;
 use std::process::Abort;
 use std::test::Fail;
+use test_support::writes_of;
 use trace_form::Record;
-use worked_support::writes_of;
 
 /// Echo writes are off, and no voice is keyed: each reads at block address 0 and is silent.
 pub const QUIET: [(usize, u8); 2] = [(0x6C, 0x60), (0x6D, 0xE0)];

@@ -1,13 +1,13 @@
 //! What the tests share: files and their chips.
 ghost use Rattle.std.specs.Prelude.{◌≡◌, IfOk};
 
-use command_tests::{MEMORY, file_of};
 use dsp_core::Dsp;
 use gauss_table::GaussTable;
 use num_fix::Frame;
 use spc_form::{SpcFile, read_spc};
 use std::alloc::Global;
 use std::test::Fail;
+use test_support::{MEMORY, file_of};
 
 /// The base file with these pieces, and with a program at 0400h.
 pub fn file(alloc: Global, sound: &[(usize, &[u8])], program: &[u8]) -> Result<SpcFile, Fail> {

@@ -4,7 +4,6 @@ ghost use Rattle.num_fix.specs.Limits.{most_frames};
 
 use crate::openings::{SILENT, chip_of, file};
 use aram_core::Aram;
-use command_tests::FIVE;
 use lock_step::Chip;
 use num_fix::Frame;
 use render_core::{Render, faded};
@@ -12,6 +11,7 @@ use spc_form::SpcFile;
 use std::alloc::Global;
 use std::process::Abort;
 use std::test::Fail;
+use test_support::FIVE;
 use trace_form::Record;
 
 /// All frames and records of a render, the number of its batches, and the samples that its chip made.

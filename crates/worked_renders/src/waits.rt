@@ -9,8 +9,8 @@ use spc_form::SpcFile;
 use std::alloc::Global;
 use std::process::Abort;
 use std::test::Fail;
+use test_support::writes_of;
 use trace_form::Record;
-use worked_support::writes_of;
 
 /// What comes of a render.
 #[derive(Drop)]

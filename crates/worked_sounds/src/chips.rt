@@ -10,8 +10,8 @@ use num_fix::Frame;
 use std::alloc::Global;
 use std::process::Abort;
 use std::test::Fail;
+use test_support::has_exactly;
 use trace_form::Record;
-use worked_support::has_exactly;
 
 /// A chip whose voice 0 is set to play one source, with such a KON.
 fn keyed_voice(alloc: Global, key_on: u8) -> Result<Stage, Fail> {

@@ -1,10 +1,10 @@
 use Rattle.std.proofs.Common.{rules, ◌≡◌, ◌<◌, ℕ, length, slice_index, refl, ap, sym, ◌∙◌}
-use Rattle.dsp_form.specs.Registers.{echo_regs}
-use Rattle.dsp_form.specs.Settings.{settings_of}
-use Rattle.dsp_form.specs.Volumes.{all_volumes}
-use Rattle.dsp_form.specs.declared.settings.Settings.{Settings}
-use Rattle.dsp_form.specs.declared.registers.TheConstants.{ENDX}
-use Rattle.dsp_form.specs.declared.state.ChipState.{ChipState}
+use Rattle.dsp_state.specs.Registers.{echo_regs}
+use Rattle.dsp_state.specs.Settings.{settings_of}
+use Rattle.dsp_state.specs.Volumes.{all_volumes}
+use Rattle.dsp_state.specs.declared.settings.Settings.{Settings}
+use Rattle.dsp_state.specs.declared.registers.TheConstants.{ENDX}
+use Rattle.dsp_state.specs.declared.state.ChipState.{ChipState}
 use Rattle.batch_rows.specs.Rows.{by_rows, answers}
 use Rattle.batch_rows.specs.Once.{endx_after}
 use Rattle.batch_rows.proofs.KeyRows.{voices-keys_after, echo-keys_after}

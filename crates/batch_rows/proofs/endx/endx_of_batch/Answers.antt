@@ -1,5 +1,5 @@
 use Rattle.std.proofs.Common.{◌<◌, refl}
-use Rattle.dsp_form.specs.Results.{next_endx}
+use Rattle.dsp_state.specs.Results.{next_endx}
 use Rattle.batch_rows.proofs.EchoOver.{endx_after-more}
 use Rattle.batch_rows.proofs.endx.endx_of_batch.Goals as goal
 

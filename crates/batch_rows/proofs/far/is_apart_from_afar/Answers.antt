@@ -3,8 +3,8 @@ use Rattle.std.proofs.lemmas.List.{drop_more}
 use Rattle.std.proofs.Math.ListN.{drop_of_length-le}
 use Rattle.voice_unit.specs.Voice.{VoiceState}
 use Rattle.reach_map.specs.declared.Window.{Window}
-use Rattle.dsp_form.specs.Reach.{chip_window}
-use Rattle.dsp_form.specs.declared.state.ChipState.{ChipState}
+use Rattle.dsp_state.specs.Reach.{chip_window}
+use Rattle.dsp_state.specs.declared.state.ChipState.{ChipState}
 use Rattle.batch_rows.specs.Afar.{window_from, IsVoiceApart}
 use Rattle.batch_rows.proofs.Afar.{voices_apart, none_apart, apart_from_afar}
 use Rattle.batch_rows.proofs.far.is_apart_from_afar.Goals as goal

@@ -1,5 +1,5 @@
 use Rattle.std.proofs.Common.{◌≡◌, ◌⊎◌, drop, length}
-use Rattle.dsp_form.specs.Reach.{entries_from, starts_from}
+use Rattle.dsp_state.specs.Reach.{entries_from, starts_from}
 use Rattle.batch_rows.specs.Afar.{far_voice_pages, window_from, AreApart}
 use Rattle.batch_rows.proofs.far.is_apart_from_afar.Given as goal
 

@@ -1,7 +1,7 @@
 use Rattle.std.proofs.Common.{rules, ◌≡◌, true, false, List, ℕ, sym, ◌∙◌}
 use Rattle.std.proofs.lemmas.Bool.{true≢false}
 use Rattle.reach_map.specs.Reach.{entry_pages}
-use Rattle.dsp_form.specs.Reach.{voice_entry, own_chain, start_chain}
+use Rattle.dsp_state.specs.Reach.{voice_entry, own_chain, start_chain}
 use Rattle.batch_rows.specs.Afar.{far_pages, window_from, AreApart}
 use Rattle.batch_rows.proofs.Afar.{voice_apart}
 use Rattle.batch_rows.proofs.far.is_voice_off.Goals as goal

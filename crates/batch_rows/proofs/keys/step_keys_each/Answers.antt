@@ -1,7 +1,7 @@
 use Rattle.std.proofs.Common.{rules, ◌≡◌, ◌+◌, ◌<◌, refl, ap, sym, ◌∙◌, arith}
 use Rattle.std.proofs.lemmas.List.{length-set}
-use Rattle.dsp_form.specs.declared.state.ChipState.{ChipState}
-use Rattle.dsp_form.specs.Sample.{before_voices}
+use Rattle.dsp_state.specs.declared.state.ChipState.{ChipState}
+use Rattle.dsp_state.specs.Sample.{before_voices}
 use Rattle.batch_rows.specs.Rows.{keys_after}
 use Rattle.batch_rows.proofs.KeyRows.{keys_after-none, keys_after-more, no_rows, one_more_row_of_keys, below_bound}
 use Rattle.batch_rows.proofs.keys.step_keys_each.Goals as goal

@@ -1,5 +1,5 @@
 use Rattle.std.proofs.Common.{◌≡◌}
-use Rattle.dsp_form.specs.Registers.{voice_regs}
+use Rattle.dsp_state.specs.Registers.{voice_regs}
 use Rattle.batch_rows.proofs.PlayedLane.{lane_registers, played_lane}
 use Rattle.batch_rows.proofs.playing.play_voice.Goals as goal
 

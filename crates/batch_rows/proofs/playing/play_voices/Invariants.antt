@@ -1,6 +1,6 @@
 use Rattle.std.proofs.Common.{◌≡◌, ◌<◌, ◌^◌, ℕ, length, slice_index}
 use Rattle.rate_clock.specs.Counter.{counter_at}
-use Rattle.dsp_form.specs.declared.state.ChipState.{ChipState}
+use Rattle.dsp_state.specs.declared.state.ChipState.{ChipState}
 use Rattle.batch_rows.specs.KeyRows.{AreKeyRows}
 use Rattle.batch_rows.specs.Rows.{inputs}
 use Rattle.batch_rows.proofs.Remains.{Remains}

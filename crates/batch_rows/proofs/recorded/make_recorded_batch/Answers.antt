@@ -1,11 +1,11 @@
 use Rattle.std.proofs.Common.{◌≡◌, ℕ, length, refl, ap, sym, ◌∙◌, append_assoc, length-append, add-one, arith}
 use Rattle.std.proofs.lemmas.List.{append-nil}
 use Rattle.std.proofs.lemmas.List.Elements.{filter-append}
-use Rattle.dsp_form.specs.Registers.{echo_regs}
-use Rattle.dsp_form.specs.Settings.{settings_of}
-use Rattle.dsp_form.specs.Volumes.{all_volumes}
-use Rattle.dsp_form.specs.declared.settings.Settings.{Settings}
-use Rattle.dsp_form.specs.declared.state.ChipState.{ChipState}
+use Rattle.dsp_state.specs.Registers.{echo_regs}
+use Rattle.dsp_state.specs.Settings.{settings_of}
+use Rattle.dsp_state.specs.Volumes.{all_volumes}
+use Rattle.dsp_state.specs.declared.settings.Settings.{Settings}
+use Rattle.dsp_state.specs.declared.state.ChipState.{ChipState}
 use Rattle.batch_rows.specs.Rows.{by_rows, echo_after, answers}
 use Rattle.batch_rows.proofs.KeyRows.{voices-keys_after, echo-keys_after}
 use Rattle.batch_rows.proofs.MakeBatch.{keyed_are}

@@ -1,6 +1,6 @@
 use Rattle.std.proofs.Common.{◌≡◌}
 use Rattle.voice_unit.specs.RunOfVoice.{outs_of}
-use Rattle.dsp_form.specs.Registers.{voice_regs}
+use Rattle.dsp_state.specs.Registers.{voice_regs}
 use Rattle.batch_rows.proofs.PlayedLane.{lane_registers}
 use Rattle.batch_rows.proofs.RunLane.{run_lane}
 use Rattle.batch_rows.proofs.recorded.run_voice.Goals as goal

@@ -1,6 +1,6 @@
 use Rattle.snd_host.specs.Host.{Files}
 use Rattle.command_frame.specs.Plan.{plan_makes}
-use Rattle.status_lines.specs.declared.cause.Cause.TheVariants.{InputTooLong}
+use Rattle.exit_status.specs.declared.cause.Cause.TheVariants.{InputTooLong}
 use Rattle.input_files.specs.Reading.{input_limit, bytes_in}
 use Rattle.input_files.proofs.Readings.{reads_plan, reads_declined}
 use Rattle.std.proofs.Common.{List, ℕ, subst}

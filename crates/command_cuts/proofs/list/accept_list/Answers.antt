@@ -1,5 +1,5 @@
 use Rattle.cut_form.specs.CutList.{cut_list}
-use Rattle.status_lines.specs.declared.cause.Cause.TheVariants.{CutList}
+use Rattle.exit_status.specs.declared.cause.Cause.TheVariants.{CutList}
 use Rattle.input_files.proofs.Readings.{accepts_value, declines_input}
 use Rattle.command_cuts.specs.Lists.{list_refusal}
 use Rattle.command_cuts.proofs.list.accept_list.Goals as goal

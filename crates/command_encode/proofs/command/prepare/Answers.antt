@@ -2,7 +2,7 @@ use Rattle.std.proofs.Common.{List, ℕ, subst}
 use Rattle.snd_host.specs.Host.{Files}
 use Rattle.command_frame.specs.Conduct.{Plans}
 use Rattle.command_frame.specs.Plan.{plan_makes}
-use Rattle.status_lines.specs.declared.cause.Cause.TheVariants.{InputTooLong}
+use Rattle.exit_status.specs.declared.cause.Cause.TheVariants.{InputTooLong}
 use Rattle.input_files.specs.Reading.{wave_limit, bytes_in}
 use Rattle.input_files.proofs.Readings.{reads_plan, reads_declined}
 use Rattle.command_encode.specs.Encode.{wave_answer}

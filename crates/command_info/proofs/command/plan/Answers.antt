@@ -4,7 +4,7 @@ use Rattle.command_frame.specs.Plan.{plan_makes}
 use Rattle.command_info.specs.Info.{info_report}
 use Rattle.input_files.specs.Reading.{answer_from}
 use Rattle.input_files.specs.Inputs.{file_of}
-use Rattle.status_lines.specs.declared.cause.Cause.{Cause}
+use Rattle.exit_status.specs.declared.cause.Cause.{Cause}
 use Rattle.input_files.proofs.Readings.{plans_declined}
 use Rattle.command_info.proofs.command.plan.Goals as goal
 

@@ -1,6 +1,6 @@
 use Rattle.std.proofs.Common.{◌≡◌, ◌∙◌, sym, ap, subst, ℕ, ◌<◌, List, [], ◌∷◌, ◌++◌, get_or, string_bytes}
 use Rattle.std.specs.Prelude.{codes}
-use Rattle.number_text.specs.Digits.{two_digits}
+use Rattle.text_form.specs.Digits.{two_digits}
 use Rattle.command_rip.proofs.Digits.{high_ascii, low_ascii, with_digits}
 use Rattle.command_rip.proofs.command.entry_name.Goals as goal
 

@@ -1,5 +1,5 @@
 use Rattle.cut_form.specs.Script.{script_lines}
-use Rattle.status_lines.specs.declared.cause.Cause.TheVariants.{Script}
+use Rattle.exit_status.specs.declared.cause.Cause.TheVariants.{Script}
 use Rattle.input_files.proofs.Readings.{accepts_value, declines_input}
 use Rattle.command_serve.specs.Scripts.{script_refusal}
 use Rattle.command_serve.proofs.script.accept_script.Goals as goal

@@ -1,6 +1,6 @@
 use Rattle.std.proofs.Common.{List, ℕ, subst}
 use Rattle.snd_host.specs.Host.{Files}
-use Rattle.status_lines.specs.declared.cause.Cause.TheVariants.{InputTooLong}
+use Rattle.exit_status.specs.declared.cause.Cause.TheVariants.{InputTooLong}
 use Rattle.input_files.specs.Reading.{Accepts, input_limit, bytes_in}
 use Rattle.input_files.proofs.Readings.{reads_refused, reads_accepts}
 use Rattle.command_serve.specs.Scripts.{script_of}

@@ -1,12 +1,12 @@
 use Rattle.std.proofs.Common.{◌≡◌, ap, refl, rules, ◌<◌, ◌%◌, ◌==◌, if◌then◌else◌, length, map, pos, List, sym, ◌∙◌}
 use Rattle.std.proofs.lemmas.List.{length-map}
 use Rattle.voice_unit.specs.Voice.{VoiceState}
-use Rattle.dsp_form.specs.Sample.{SharedInput, VoiceResult, results_from, sample, before_voices, shared_input}
-use Rattle.dsp_form.specs.Registers.{echo_regs}
-use Rattle.dsp_form.specs.Settings.{settings_of}
-use Rattle.dsp_form.specs.Volumes.{all_volumes}
-use Rattle.dsp_form.specs.declared.settings.Settings.{Settings}
-use Rattle.dsp_form.proofs.EightVoices.{length-results_from}
+use Rattle.dsp_state.specs.Sample.{SharedInput, VoiceResult, results_from, sample, before_voices, shared_input}
+use Rattle.dsp_state.specs.Registers.{echo_regs}
+use Rattle.dsp_state.specs.Settings.{settings_of}
+use Rattle.dsp_state.specs.Volumes.{all_volumes}
+use Rattle.dsp_state.specs.declared.settings.Settings.{Settings}
+use Rattle.dsp_state.proofs.EightVoices.{length-results_from}
 use Rattle.batch_rows.proofs.Keyed.{keyed_bits}
 use Rattle.dsp_core.proofs.sample.make_sample.Goals as goal
 

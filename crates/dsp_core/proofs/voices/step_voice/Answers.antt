@@ -1,8 +1,8 @@
 use Rattle.std.proofs.Common.{◌≡◌, ◌<◌, to_z, of_z, rules, refl}
 use Rattle.std.specs.Int.{w16}
-use Rattle.dsp_form.specs.Settings.{voice_settings}
-use Rattle.dsp_form.specs.Sample.{voice_result}
-use Rattle.dsp_form.proofs.ReadOnce.{voice_at}
+use Rattle.dsp_state.specs.Settings.{voice_settings}
+use Rattle.dsp_state.specs.Sample.{voice_result}
+use Rattle.dsp_state.proofs.ReadOnce.{voice_at}
 use Rattle.dsp_core.proofs.voices.step_voice.Goals as goal
 
 pub returns-clause-voice : goal.returns-clause-voice

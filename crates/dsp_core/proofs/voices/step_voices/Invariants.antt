@@ -1,6 +1,6 @@
 use Rattle.std.proofs.Common.{◌≡◌, ℕ, List, ◌++◌, pos, take, drop, map, length}
-use Rattle.dsp_form.specs.Settings.{settings_of}
-use Rattle.dsp_form.specs.Sample.{SharedInput, VoiceResult, results_from}
+use Rattle.dsp_state.specs.Settings.{settings_of}
+use Rattle.dsp_state.specs.Sample.{SharedInput, VoiceResult, results_from}
 use Rattle.dsp_core.proofs.voices.step_voices.Given as goal
 
 abbrev pub invariant-loop-v : goal.invariant-loop-v

@@ -1,8 +1,8 @@
 use Rattle.std.proofs.Common.{◌≡◌, ◌<◌, to_z, of_z, rules, refl}
 use Rattle.std.specs.Int.{w16}
-use Rattle.dsp_form.specs.Settings.{settings_of, voice_settings}
-use Rattle.dsp_form.specs.Sample.{voice_in}
-use Rattle.dsp_form.proofs.ReadOnce.{voice_at}
+use Rattle.dsp_state.specs.Settings.{settings_of, voice_settings}
+use Rattle.dsp_state.specs.Sample.{voice_in}
+use Rattle.dsp_state.proofs.ReadOnce.{voice_at}
 use Rattle.dsp_core.proofs.voices.voice_in.Goals as goal
 
 pub returns-clause-value : goal.returns-clause-value

@@ -4,7 +4,7 @@ use Rattle.spc700_asm.specs.Characters.{trim, number_of}
 use Rattle.spc700_asm.specs.Statements.{all_of, items_of}
 use Rattle.spc700_asm.specs.Assembly.{with_front, number_bytes}
 use Rattle.spc700_asm.specs.Seen.{length_left}
-use Rattle.text_parts.specs.Parts.{parts_left}
+use Rattle.text_form.specs.Parts.{parts_left}
 use Rattle.spc700_asm.proofs.emission.push_bytes.Given as goal
 
 -- what was added and the bytes of the items that are left

@@ -6,7 +6,7 @@ use Rattle.spc700_asm.specs.Statements.{all_of, items_of}
 use Rattle.spc700_asm.specs.Labels.{Labels}
 use Rattle.spc700_asm.specs.Assembly.{with_front, number_written, number_bytes}
 use Rattle.spc700_asm.specs.Seen.{length_left}
-use Rattle.text_parts.specs.Parts.{parts_left}
+use Rattle.text_form.specs.Parts.{parts_left}
 use Rattle.spc700_asm.specs.Names.{Holds}
 use Rattle.spc700_asm.proofs.emission.push_words.Given as goal
 

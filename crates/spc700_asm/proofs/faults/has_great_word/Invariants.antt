@@ -5,7 +5,7 @@ use Rattle.spc700_asm.specs.Characters.{trim}
 use Rattle.spc700_asm.specs.Operands.{written_of, is_above}
 use Rattle.spc700_asm.specs.Statements.{all_of, items_of}
 use Rattle.spc700_asm.specs.Seen.{length_left}
-use Rattle.text_parts.specs.Parts.{parts_left}
+use Rattle.text_form.specs.Parts.{parts_left}
 use Rattle.spc700_asm.proofs.faults.has_great_word.Given as goal
 
 abbrev pub invariant-items : goal.invariant-items

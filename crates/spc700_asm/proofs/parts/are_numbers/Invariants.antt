@@ -3,7 +3,7 @@ use Rattle.std.specs.Prelude.{is_some, option_copied}
 use Rattle.spc700_asm.specs.Characters.{trim, number_of}
 use Rattle.spc700_asm.specs.Statements.{all_of, items_of}
 use Rattle.spc700_asm.specs.Seen.{length_left}
-use Rattle.text_parts.specs.Parts.{parts_left}
+use Rattle.text_form.specs.Parts.{parts_left}
 use Rattle.spc700_asm.proofs.parts.are_numbers.Given as goal
 
 abbrev pub invariant-items : goal.invariant-items

@@ -1,5 +1,5 @@
 use Rattle.std.proofs.Common.{sym}
-use Rattle.text_parts.proofs.Places.{before_place, before_none}
+use Rattle.text_form.proofs.Places.{before_place, before_none}
 use Rattle.spc_form.proofs.tags.before_zero.Goals as goal
 
 pub returns-in-Some-clause-text : goal.returns-in-Some-clause-text

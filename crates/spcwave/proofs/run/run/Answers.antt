@@ -1,5 +1,5 @@
 use Rattle.command_frame.proofs.Obeying.{obeys}
-use Rattle.status_lines.specs.Lines.{refusal_line}
+use Rattle.exit_status.specs.Lines.{refusal_line}
 use Rattle.spcwave.proofs.Clauses as clauses
 use Rattle.spcwave.proofs.run.run.Goals as goal
 

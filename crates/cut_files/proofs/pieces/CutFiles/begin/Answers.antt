@@ -8,7 +8,7 @@ use Rattle.cut_form.specs.CutBook.{after_seek, with_one_if_room, slots_for_cuts}
 use Rattle.cut_server.specs.Server.{pages_at, KeepsTune}
 use Rattle.cut_server.specs.ServerState.{book_of}
 use Rattle.cut_text.specs.Cuts.{EndWithinHour}
-use Rattle.run_slices.specs.GrowingFrames.{AreOfRun}
+use Rattle.cut_form.specs.GrowingFrames.{AreOfRun}
 use Rattle.session_files.proofs.Playing.{drop_at}
 use Rattle.session_files.proofs.Going.{frames_kept}
 use Rattle.cut_files.specs.CutFiles.{IsInBounds, report_of}

@@ -4,7 +4,7 @@ use Rattle.cut_form.specs.CutBook.{CutBook, after_play}
 use Rattle.cut_form.specs.Slices.{slice_of, cut_frames}
 use Rattle.cut_server.specs.Server.{frames_to}
 use Rattle.cut_server.specs.ServerState.{book_of}
-use Rattle.run_slices.proofs.Slices.{played_part}
+use Rattle.cut_form.proofs.Slices.{played_part}
 use Rattle.session_files.proofs.Going.{moved, frames_kept}
 use Rattle.cut_files.proofs.Cutting.{counted_same, report_played}
 use Rattle.cut_files.proofs.pieces.CutFiles.play.Goals as goal

@@ -1,5 +1,5 @@
 use Rattle.std.proofs.Common.{rules}
-use Rattle.dsp_form.proofs.Valid.{is_valid-sample}
+use Rattle.dsp_state.proofs.Valid.{is_valid-sample}
 use Rattle.dsp_core.proofs.dsp.Dsp.make_one.Goals as goal
 
 pub invariant_of-self : goal.invariant_of-self

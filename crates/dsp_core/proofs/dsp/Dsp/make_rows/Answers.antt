@@ -1,6 +1,6 @@
 use Rattle.std.proofs.Common.{◌≡◌, false, refl}
-use Rattle.dsp_form.specs.Reach.{chip_reach}
-use Rattle.dsp_form.specs.declared.state.ChipState.{ChipState}
+use Rattle.dsp_state.specs.Reach.{chip_reach}
+use Rattle.dsp_state.specs.declared.state.ChipState.{ChipState}
 use Rattle.dsp_core.proofs.Batches.{by_rows-samples, is_valid-samples}
 use Rattle.dsp_core.proofs.dsp.Dsp.make_rows.Goals as goal
 

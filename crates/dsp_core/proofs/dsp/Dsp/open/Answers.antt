@@ -1,5 +1,5 @@
 use Rattle.std.proofs.Common.{rules, refl}
-use Rattle.dsp_form.specs.Valid.{is_valid}
+use Rattle.dsp_state.specs.Valid.{is_valid}
 use Rattle.dsp_core.proofs.dsp.Dsp.open.Goals as goal
 
 pub invariant_of-result : goal.invariant_of-result

@@ -1,5 +1,5 @@
 use Rattle.std.proofs.Common.{rules}
-use Rattle.dsp_form.specs.Valid.{is_valid}
+use Rattle.dsp_state.specs.Valid.{is_valid}
 use Rattle.dsp_core.proofs.dsp.Dsp.reg_write.Goals as goal
 
 pub invariant_of-self : goal.invariant_of-self

@@ -1,4 +1,4 @@
-use Rattle.dsp_form.specs.Valid.{is_valid}
+use Rattle.dsp_state.specs.Valid.{is_valid}
 use Rattle.dsp_core.proofs.dsp.Dsp.save.Goals as goal
 
 pub invariant_of-result : goal.invariant_of-result

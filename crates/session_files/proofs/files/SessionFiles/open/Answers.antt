@@ -4,9 +4,9 @@ use Rattle.cut_form.specs.Session.{opened_session, replies, played_cuts}
 use Rattle.cut_form.specs.Slices.{cut_frames}
 use Rattle.cut_server.specs.ServerState.{book_of, slots_of}
 use Rattle.cut_server.specs.Server.{pages_at, frames_to}
-use Rattle.script_text.specs.Playing.{played_frames}
+use Rattle.cut_text.specs.Playing.{played_frames}
 use Rattle.session_files.specs.Report.{report_on}
-use Rattle.run_slices.proofs.Slices.{slice_none}
+use Rattle.cut_form.proofs.Slices.{slice_none}
 use Rattle.session_files.proofs.Playing.{length-session}
 use Rattle.session_files.proofs.Going.{whole_wave}
 use Rattle.session_files.proofs.files.SessionFiles.open.Goals as goal

@@ -1,7 +1,7 @@
 use Rattle.std.proofs.Common.{ap, arith}
 use Rattle.cut_server.specs.Server.{frames_to}
 use Rattle.cut_server.specs.ServerState.{book_of}
-use Rattle.run_slices.proofs.Slices.{played_part}
+use Rattle.cut_form.proofs.Slices.{played_part}
 use Rattle.session_files.proofs.Going.{frames_kept}
 use Rattle.session_files.proofs.player.Player.play_some.Goals as goal
 

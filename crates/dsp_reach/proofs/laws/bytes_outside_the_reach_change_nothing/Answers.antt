@@ -1,9 +1,0 @@
-use Rattle.dsp_reach.proofs.Starts.{reach_stays}
-use Rattle.dsp_reach.proofs.Within.{reads_inside}
-use Rattle.dsp_reach.proofs.laws.bytes_outside_the_reach_change_nothing.Goals as goal
-
-pub returns-clause-samples : goal.returns-clause-samples
-returns-clause-samples c = reads_inside
-
-pub returns-clause-reach : goal.returns-clause-reach
-returns-clause-reach c = λ s memory at value _ free. reach_stays s memory at value free

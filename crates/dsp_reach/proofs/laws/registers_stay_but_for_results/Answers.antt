@@ -1,5 +1,0 @@
-use Rattle.dsp_reach.proofs.Registers.{registers_stay}
-use Rattle.dsp_reach.proofs.laws.registers_stay_but_for_results.Goals as goal
-
-pub returns : goal.returns
-returns c = λ n k s memory address _ free. registers_stay n k s memory address free

@@ -1,0 +1,86 @@
+//! The pages that the samples to come can read and write.
+
+ghost use Rattle.std.specs.Prelude.{◌≡◌, ◌≤◌, ◌<◌, ◌+◌, ◌++◌};
+ghost use Rattle.arrayvec.specs.ArrayVec.{array_vec_len};
+ghost use Rattle.dsp_state.specs.Reach.{can_start, chip_reach, entries_from, starts_from, voice_starts};
+
+use crate::registers::{DIR, EDL, ESA, FLG, SRCN, voice_register};
+use crate::state::ChipState;
+use aram_core::Aram;
+use arrayvec::ArrayVec;
+use echo_unit::has_echo_writes;
+use num_fix::has_bit;
+use reach_map::{ChainStart, ReachPages};
+use voice_unit::{Voice, entry_address, loop_word, start_word};
+
+/// Where eight voices can be: each at its block, or at the start of its sample.
+type Starts = ArrayVec<ChainStart, 16>;
+
+impl ChipState {
+    /// The directory's entries of all voices.
+    fn entries(&self) -> [u16; 8]
+        ensures { result ≡ entries_from self.now.registers 0 self.now.hidden.voices }
+    {
+        let mut entries = [0; 8];
+        for v in 0..8u8 {
+            let srcn = voice_register(&self.registers, v, SRCN);
+            entries[usize::from(v)] = entry_address(self.registers[DIR], srcn);
+        }
+        entries
+    }
+
+    /// Whether voice `v` can go to the start of its sample: its key on waits, or its delay after a key on is not over.
+    pub fn can_start(&self, v: u8, voice: &Voice) -> bool
+        requires { v < 8 }
+        ensures { result ≡ can_start self.now v voice.now }
+    {
+        has_bit(self.hidden.waiting, v) || voice.delay() != 0
+    }
+
+    /// Adds where voice `v` can be.
+    fn add_voice_starts(&self, starts: &mut Starts, memory: &Aram, v: u8, voice: &Voice)
+        requires voice { v < 8 }
+        requires room { array_vec_len starts.old + 2 ≤ 16 }
+        ensures starts { starts.new.items ≡ starts.old.items ++ voice_starts self.now memory.now v voice.now }
+        ensures count { array_vec_len starts.new ≤ array_vec_len starts.old + 2 }
+    {
+        let dir = self.registers[DIR];
+        let srcn = voice_register(&self.registers, v, SRCN);
+        let loop_word = loop_word(dir, srcn, memory);
+        starts.push(ChainStart {
+            block: voice.block(),
+            loop_word,
+        });
+        if self.can_start(v, voice) {
+            starts.push(ChainStart {
+                block: start_word(dir, srcn, memory),
+                loop_word,
+            });
+        }
+    }
+
+    /// Where the voices can be.
+    fn starts(&self, memory: &Aram) -> Starts
+        ensures { result.items ≡ starts_from self.now memory.now 0 self.now.hidden.voices }
+    {
+        let mut starts = ArrayVec::new();
+        for v in 0..8u8 {
+            let voice = &self.hidden.voices[usize::from(v)];
+            self.add_voice_starts(&mut starts, memory, v, voice);
+        }
+        starts
+    }
+
+    /// The reach over a memory.
+    #[tactic(auto, unfolding(crate::specs::Reach::chip_reach))]
+    pub fn reach(&self, memory: &Aram) -> ReachPages
+        ensures { result ≡ chip_reach self.now memory.now }
+    {
+        let starts = self.starts(memory);
+        let entries = self.entries();
+        let echo = &self.hidden.echo;
+        let window = echo.window(self.registers[ESA], self.registers[EDL]);
+        let writes_on = has_echo_writes(self.registers[FLG]);
+        reach_map::reach(memory, starts.as_slice(), &entries, window, writes_on)
+    }
+}

@@ -1,2 +1,0 @@
--- Slices: slices of a run, in parts.
-pub mod Slices

@@ -1,2 +1,0 @@
--- the frames of a run, as they grow
-pub mod GrowingFrames

@@ -1,2 +1,0 @@
-//! The frames of a run, as they grow sample by sample, and its slices.
-#![tactic(auto)]

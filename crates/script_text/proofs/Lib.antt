@@ -1,2 +1,0 @@
--- Said: what the lines of a text say after a list of lines.
-pub mod Said

@@ -1,4 +1,0 @@
--- how many frames a session plays
-pub mod Playing
--- a list of lines that grows line by line
-pub mod Lines

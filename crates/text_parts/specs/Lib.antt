@@ -1,2 +1,0 @@
--- what is left of a text, in parts
-pub mod Parts

@@ -1,0 +1,231 @@
+// Worked cuts and marks of a tune that changes one page of its memory after 63 samples.
+ghost use Rattle.std.specs.Prelude.{◌≡◌, ◌≤◌};
+ghost use Rattle.page_pool.specs.Pool.{most_pages};
+ghost use Rattle.cut_form.specs.Checkpoints.{fewest_pages};
+
+use cut_server::{CutServer, Marked, NoPages};
+use dsp_core::Dsp;
+use gauss_table::GaussTable;
+use lock_step::Chip;
+use num_fix::Frame;
+use spc_form::{SpcFile, read_spc};
+use std::alloc::Global;
+use std::test::Fail;
+use test_support::{ENDS_THE_BLOCK, FIVE, Pieces, file_of};
+use trace_form::Frames;
+
+/// A file whose voice 0 plays a block that repeats itself, with these pieces more.
+fn file(alloc: Global, more: Pieces) -> Result<SpcFile, Fail> {
+    let image = file_of(alloc, 66048, FIVE, more)?;
+    Ok(read_spc(alloc, &image)?)
+}
+
+/// A call of a server.
+#[derive(Clone, Copy)]
+enum Call {
+    Seek(u32),
+    Play(u32),
+    Checkpoint,
+    Mark,
+    Drop(u32),
+}
+
+/// Where a server stands: its position, live checkpoints, free pages, and the samples made.
+type Standing = (u32, u32, u32, u64);
+
+/// What came of calls.
+#[derive(Drop)]
+struct Told {
+    frames: Vec<Frame>,
+    marks: Vec<Marked>,
+    standing: Standing,
+    /// The samples below 100 at which a checkpoint stands.
+    live: Vec<u32>,
+}
+
+/// Makes a call, where it may be made.
+fn make<C: Chip>(
+    alloc: Global,
+    server: &mut CutServer<C>,
+    call: Call,
+    told: &mut Told,
+) -> Result<(), Fail> {
+    match call {
+        Call::Seek(at) if at <= 1000 => server.seek(at),
+        Call::Play(most) if (1..=64).contains(&most) && server.at() <= 1000 => {
+            let mut frames = Frames::new(alloc)?;
+            server.play(most, &mut frames);
+            told.frames.extend_from_slice(frames.as_slice())?;
+        }
+        Call::Checkpoint if !server.has(server.at()) && server.count() < 64 => {
+            if let Err(NoPages { need, free }) = server.checkpoint() {
+                told.marks.push(Marked::NoPages {
+                    gave: 0,
+                    need,
+                    free,
+                })?;
+            }
+        }
+        Call::Mark => told.marks.push(server.mark())?,
+        Call::Drop(sample) if sample > 0 && server.has(sample) => server.drop_at(sample),
+        _ => {}
+    }
+    told.standing = (server.at(), server.count(), server.free(), server.work());
+    Ok(())
+}
+
+/// Makes calls of a server, and sees at which of the first samples a checkpoint then stands.
+fn make_all<C: Chip>(
+    alloc: Global,
+    server: &mut CutServer<C>,
+    calls: &[Call],
+    told: &mut Told,
+) -> Result<(), Fail> {
+    for call in calls {
+        make(alloc, server, *call, told)?;
+    }
+    for sample in 0..100 {
+        if server.has(sample) {
+            told.live.push(sample)?;
+        }
+    }
+    Ok(())
+}
+
+/// Makes calls of a server of a file over a chip, with so many pages.
+fn serve<C: Chip>(
+    alloc: Global,
+    file: &SpcFile,
+    chip: C,
+    pages: u32,
+    calls: &[Call],
+    told: &mut Told,
+) -> Result<(), Fail>
+    requires enough { fewest_pages ≤ pages }
+    requires few { pages ≤ most_pages }
+    requires sample { C.sample chip ≡ 0 }
+    requires batches { C.batches chip ≡ 0 }
+    requires total { C.total chip ≡ 0 }
+{
+    let mut server = CutServer::open(alloc, file, chip, pages)?;
+    make_all(alloc, &mut server, calls, told)
+}
+
+/// Makes calls of a server of a file with these pieces more, with so many pages.
+fn served(alloc: Global, more: Pieces, pages: u32, calls: &[Call]) -> Result<Told, Fail>
+    requires enough { fewest_pages ≤ pages }
+    requires few { pages ≤ most_pages }
+{
+    let mut told = Told {
+        frames: Vec::new(alloc),
+        marks: Vec::new(alloc),
+        standing: (0, 0, 0, 0),
+        live: Vec::new(alloc),
+    };
+    let file = file(alloc, more)?;
+    let chip = Dsp::open(alloc, file.dsp(), GaussTable::straight(alloc)?)?;
+    serve(alloc, &file, chip, pages, calls, &mut told)?;
+    Ok(told)
+}
+
+const SILENT: Frame = Frame { left: 0, right: 0 };
+
+const LOUD: Frame = Frame {
+    left: 4000,
+    right: 4000,
+};
+
+#[test]
+fn cuts_of_three_checkpoints(rt: HostRuntime) -> Result<(), Fail> {
+    let calls = [
+        Call::Seek(0),
+        Call::Play(1),
+        Call::Seek(70),
+        Call::Checkpoint,
+        Call::Seek(70),
+        Call::Play(1),
+        Call::Seek(60),
+        Call::Checkpoint,
+        Call::Seek(60),
+        Call::Play(2),
+    ];
+    let told = served(rt.alloc(), ENDS_THE_BLOCK, 4096, &calls)?;
+    assert!(rt; told.frames.as_slice() == [SILENT, SILENT, LOUD, LOUD].as_slice());
+    assert!(rt; told.standing == (62, 3, 4096 - 258, 133));
+    assert!(rt; told.live.as_slice() == [0, 60, 70].as_slice());
+    Ok(())
+}
+
+/// The first mark takes the last page, the second finds its checkpoint there, and the third gives that one up.
+#[test]
+fn a_mark_gives_up_another_one(rt: HostRuntime) -> Result<(), Fail> {
+    let calls = [
+        Call::Seek(70),
+        Call::Mark,
+        Call::Mark,
+        Call::Seek(60),
+        Call::Mark,
+    ];
+    let told = served(rt.alloc(), ENDS_THE_BLOCK, 257, &calls)?;
+    let wanted = [
+        Marked::Taken { gave: 0 },
+        Marked::Kept,
+        Marked::Taken { gave: 1 },
+    ];
+    assert!(rt; told.marks.as_slice() == wanted.as_slice());
+    assert!(rt; told.standing == (60, 2, 1, 130));
+    assert!(rt; told.live.as_slice() == [0, 60].as_slice());
+    Ok(())
+}
+
+#[test]
+fn a_mark_is_dropped(rt: HostRuntime) -> Result<(), Fail> {
+    let calls = [Call::Seek(60), Call::Mark, Call::Drop(60)];
+    let told = served(rt.alloc(), ENDS_THE_BLOCK, 257, &calls)?;
+    assert!(rt; told.standing == (60, 1, 1, 60));
+    Ok(())
+}
+
+#[test]
+fn a_mark_without_pages(rt: HostRuntime) -> Result<(), Fail> {
+    let calls = [Call::Seek(70), Call::Mark, Call::Checkpoint];
+    let told = served(rt.alloc(), ENDS_THE_BLOCK, 256, &calls)?;
+    let wanted = Marked::NoPages {
+        gave: 0,
+        need: 1,
+        free: 0,
+    };
+    assert!(rt; told.marks.as_slice() == [wanted; 2].as_slice());
+    assert!(rt; told.standing == (70, 1, 0, 70));
+    Ok(())
+}
+
+/// A mark at each of the samples 1 to 64.
+fn calls_of_64_marks(alloc: Global) -> Result<Vec<Call>, Fail> {
+    let mut calls = Vec::new(alloc);
+    for sample in 1..=64 {
+        calls.push(Call::Seek(sample))?;
+        calls.push(Call::Mark)?;
+    }
+    Ok(calls)
+}
+
+/// Whether 64 marks were taken, the last of which alone gave one up.
+fn are_64_taken(marks: &[Marked]) -> bool {
+    marks.len() == 64
+        && marks.iter().enumerate().all(|(place, marked)| {
+            let gave = if place < 63 { 0 } else { 1 };
+            *marked == Marked::Taken { gave }
+        })
+}
+
+/// The last mark gives up the first.
+#[test]
+fn a_mark_after_64(rt: HostRuntime) -> Result<(), Fail> {
+    let calls = calls_of_64_marks(rt.alloc())?;
+    let told = served(rt.alloc(), &[], 256, calls.as_slice())?;
+    assert!(rt; are_64_taken(told.marks.as_slice()));
+    assert!(rt; told.standing == (64, 64, 0, 64));
+    assert!(rt; told.live.get(1) == Some(&2));
+    Ok(())
+}
