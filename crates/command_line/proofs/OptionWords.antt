@@ -1,7 +1,7 @@
 -- The options of `render`, word by word.
-use Rattle.std.proofs.Common.{◌≡◌, sym, ℕ, ◌-◌, ◌<◌, ◌≤◌, List, [], ◌∷◌, length, take, drop, map, get_or, Some, arith}
+use Rattle.std.proofs.Common.{◌≡◌, sym, ℕ, ◌-◌, ◌≤◌, List, [], ◌∷◌, length, take, drop, map, get_or, Some, arith}
 use Rattle.std.proofs.lemmas.List.{take_rest}
-use Rattle.command_render.specs.Options.{Options}
+use Rattle.render_options.specs.Options.{Options}
 use Rattle.command_line.specs.Options.{options_with, options_from}
 
 -- two words more are one option more

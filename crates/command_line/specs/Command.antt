@@ -1,7 +1,7 @@
 -- The commands of the program, as its words say them.
 use Rattle.std.specs.Prelude.{ℕ, ◌&&◌, ◌||◌, Bool, true, false, List, [], ◌∷◌, Option, Some, None, codes, if◌then◌else◌}
 use Rattle.std.specs.Str.{bytes_eq}
-use Rattle.command_render.specs.Options.{Options}
+use Rattle.render_options.specs.Options.{Options}
 use Rattle.command_line.specs.Options.{is_name, options_in, demo_number_in, origin_in, range_in, usual_pages, pages_in}
 
 -- a command with its names

@@ -3,7 +3,7 @@ use Rattle.std.specs.Prelude.{◌≤◌}
 use Rattle.page_pool.specs.Pool.{most_pages}
 use Rattle.command_line.specs.Command as command
 use Rattle.cut_form.specs.Checkpoints.{fewest_pages}
-use Rattle.command_render.specs.Options.{options_of, SamplesWithinHour}
+use Rattle.render_options.specs.Options.{options_of, SamplesWithinHour}
 use Rattle.command_line.specs.declared.words.Command.{Command}
 use Rattle.command_line.specs.declared.words.Command.TheVariants.{Usage, Help, Version, Brr, Info, Encode, Render, Demo, Check, Asm, Dis, Rip, Cuts, Serve}
 

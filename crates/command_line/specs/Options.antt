@@ -9,7 +9,7 @@ use Rattle.num_fix.specs.Limits.{most_frames}
 use Rattle.page_pool.specs.Pool.{most_pages}
 use Rattle.cut_form.specs.Checkpoints.{fewest_pages}
 use Rattle.cut_form.specs.CutBook.{slots_for_cuts}
-use Rattle.command_render.specs.Options.{Options}
+use Rattle.render_options.specs.Options.{Options}
 
 abbrev pub no_options : Options
 no_options = record { samples = None; trace = None; voices = None }

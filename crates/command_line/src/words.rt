@@ -1,12 +1,12 @@
 // The words of the command line.
 ghost use Rattle.std.specs.Prelude.{◌≡◌, map, string_bytes, option_map, IfSome};
 ghost use Rattle.command_line.specs.Command.{command_of, alone, brr_command, info_command, encode_command, have_same_name, render_with, render_command, demo_command, check_command, asm_command, dis_command, rip_with, rip_over, rip_command};
-ghost use Rattle.command_render.specs.Options.{options_of, SamplesWithinHour};
+ghost use Rattle.render_options.specs.Options.{options_of, SamplesWithinHour};
 ghost use Rattle.command_line.specs.Meaning.{meaning_of, AreInRange};
 
 use crate::cut_words::{read_cuts_command, read_serve_command};
 use crate::options::{demo_number_in, is_name, origin_in, range_in, read_options};
-use command_render::RenderOptions;
+use render_options::RenderOptions;
 
 /// A command with its names.
 #[derive(Clone, Copy)]

@@ -1,4 +1,2 @@
--- the options of `render`
-pub mod Options
 -- what `render` answers
 pub mod Render

@@ -10,7 +10,7 @@ use Rattle.command_frame.specs.Answer.{Answer, done}
 use Rattle.command_frame.specs.Stream.{pair}
 use Rattle.input_files.specs.Reading.{answer_from}
 use Rattle.input_files.specs.Inputs.{file_in, table_in}
-use Rattle.command_render.specs.Options.{Options}
+use Rattle.render_options.specs.Options.{Options}
 use Rattle.render_files.specs.RenderFiles.{trace_of}
 use Rattle.render_files.specs.RenderReport.{sound_report}
 use Rattle.tune_opening.specs.Tune.{tune_frames, tune_records, tune_counts}

@@ -11,16 +11,16 @@ ghost use Rattle.render_files.specs.RenderReport.{sound_report};
 ghost use Rattle.num_fix.specs.Limits.{most_frames};
 ghost use Rattle.render_files.specs.RenderFiles.{trace_of, to_come_of, report_of};
 ghost use Rattle.tune_opening.specs.Tune.{tune_frames, tune_records, tune_counts};
-ghost use Rattle.command_render.specs.Options.{options_of, SamplesWithinHour};
+ghost use Rattle.render_options.specs.Options.{options_of, SamplesWithinHour};
 ghost use Rattle.command_render.specs.Render.{length_with, traced_voices, rendering_answer, file_answer, render_answer};
 
-use crate::RenderOptions;
 use command_frame::{OutOfMemory, Refusal, StreamedPlan, carry_stream};
 use dsp_core::Dsp;
 use exit_status::Cause;
 use gauss_table::GaussTable;
 use input_files::{read_file, read_table};
 use render_files::RenderFiles;
+use render_options::RenderOptions;
 use snd_host::Host;
 use spc_form::{Length, SpcFile};
 use std::alloc::Global;

@@ -2,7 +2,6 @@
 #![tactic(auto)]
 
 mod command;
-mod options;
 #[cfg(test)]
 mod render_tests;
 #[cfg(test)]
@@ -11,4 +10,3 @@ mod renders;
 mod trace_tests;
 
 pub use command::render;
-pub use options::RenderOptions;

@@ -1,12 +1,13 @@
 // Renders over a host in memory.
-ghost use Rattle.command_render.specs.Options.{SamplesWithinHour};
+ghost use Rattle.render_options.specs.Options.{SamplesWithinHour};
 
+use crate::render;
 use crate::renders::{
     Heard, LINES, NO_BATCH, ONE_BATCH, is_rendered, no_options, render_failing, render_tune,
     samples, tune_of, with_trace,
 };
-use crate::{RenderOptions, render};
 use exit_status::Status;
+use render_options::RenderOptions;
 use std::alloc::Global;
 use std::test::Fail;
 use test_support::{

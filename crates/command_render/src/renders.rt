@@ -1,8 +1,9 @@
 // What the tests of `render` share: renders over a host in memory, and what they have.
 ghost use Rattle.std.specs.Prelude.{◌≡◌, Some, None};
-ghost use Rattle.command_render.specs.Options.{SamplesWithinHour};
+ghost use Rattle.render_options.specs.Options.{SamplesWithinHour};
 
-use crate::{RenderOptions, render};
+use crate::render;
+use render_options::RenderOptions;
 use std::alloc::Global;
 use std::test::Fail;
 use test_support::{Frames, Outcome, Pieces, ROOM, file_of, host_with, straight_table, wave_of};

@@ -2,23 +2,22 @@
 ghost use Rattle.std.specs.Prelude.{◌≡◌, ◌+◌, ◌*◌, ◌<◌, ◌≤◌, ◌++◌, [], true, false, length, IfOk};
 ghost use Rattle.wav_form.specs.Wave.{header_of, stereo_wave};
 ghost use Rattle.cut_form.specs.Slices.{cut_frames, cut_samples};
-ghost use Rattle.cut_form.specs.CutBook.{opened_book, cut_book, slots_for_cuts};
+ghost use Rattle.cut_form.specs.CutBook.{opened_book, cut_book, most_played_bytes, slots_for_cuts};
 ghost use Rattle.cut_server.specs.Server.{pages_at, frames_to};
 ghost use Rattle.cut_server.specs.ServerState.{book_of, slots_of};
 ghost use Rattle.cut_form.specs.GrowingFrames.{AreOfRun};
 ghost use Rattle.cut_files.specs.CutFiles.{cuts_report, to_come_of, held_of, report_of, work_of};
-ghost use Rattle.session_files.specs.SessionFiles.{most_played_bytes};
 ghost use Rattle.report_text.specs.Room.{room_size};
 
 use crate::marking::mark_if_room;
 use crate::report::tell;
 use command_frame::{OutOfMemory, Pieces};
-use cut_form::MOST_PLAYED;
+use cut_form::{MOST_PLAYED, PLAYED_BYTES};
 use cut_server::CutServer;
 use cut_text::CutList;
 use lock_step::Chip;
+use render_files::put_frames;
 use report_text::ByteRoom;
-use session_files::{PLAYED_BYTES, put_played};
 use std::alloc::Global;
 use std::marker::Model;
 use trace_form::Frames;
@@ -128,7 +127,7 @@ impl<C: Chip> CutFiles<C> {
     {
         let most = self.left.min(MOST_PLAYED);
         self.server.play(most, &mut self.frames);
-        put_played(&mut self.wave, &self.frames);
+        put_frames(&mut self.wave, self.frames.as_slice());
         self.left -= most;
     }
 

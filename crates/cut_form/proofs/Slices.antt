@@ -1,7 +1,9 @@
 -- Slices of a run, in parts.
-use Rattle.std.proofs.Common.{◌≡◌, ◌∙◌, sym, ap, ℕ, ◌+◌, ◌-◌, ◌≤◌, List, [], ◌∷◌, ◌++◌, length, take, drop, arith}
+use Rattle.std.proofs.Common.{◌≡◌, ◌∙◌, sym, ap, ℕ, suc, ◌+◌, ◌-◌, ◌≤◌, List, [], ◌∷◌, ◌++◌, length, take, drop, Some, arith, add-one, drop-cons}
 use Rattle.std.proofs.lemmas.List.{drop-append-le, take-append-drop, drop_all, length-append, length-drop}
 use Rattle.std.proofs.lemmas.List.Concat.{flat_map-cons}
+use Rattle.std.specs.List.{slice_get}
+use Rattle.std.proofs.lemmas.Option.{slice_get_within, get_or_from_slice_get}
 use Rattle.cut_form.specs.declared.cut.Cut.{Cut}
 use Rattle.cut_form.specs.Slices.{slice_of, cut_frames}
 use Rattle.cut_form.specs.GrowingFrames.{AreOfRun}
@@ -40,3 +42,7 @@ length-cuts f run cut cuts =
     ap length (flat_map-cons (λ (c : Cut). slice_of f c.start c.count) cut cuts)
     ∙ length-append (slice_of f cut.start cut.count) (cut_frames f cuts)
     ∙ ap (λ (n : ℕ). n + length (cut_frames f cuts)) (length-slice f cut.start cut.count run)
+
+-- a list from an entry on
+pub drop_at : {A : Type 0} (xs : List A) (i : ℕ) (x : A) → slice_get xs i ≡ Some x → drop i xs ≡ x ∷ drop (i + 1) xs
+drop_at {A} xs i x is = rw (add-one, drop-cons xs i x (slice_get_within xs i x is)) (ap (λ (y : A). y ∷ drop (suc i) xs) (get_or_from_slice_get xs i x x is))

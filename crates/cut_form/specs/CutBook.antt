@@ -1,6 +1,6 @@
 -- The book of a server: where it stands, its checkpoints, and how many samples it made (own). `pages_at k` are the pages of the
 -- memory that the run from the opening has once k samples are made.
-use Rattle.std.specs.Prelude.{ℕ, ◌+◌, ◌-◌, ◌^◌, min, not, ◌&&◌, nat_le, if◌then◌else◌, List, [], fold}
+use Rattle.std.specs.Prelude.{ℕ, ◌+◌, ◌-◌, ◌*◌, ◌^◌, min, not, ◌&&◌, nat_le, if◌then◌else◌, List, [], fold}
 use Rattle.cut_form.specs.declared.cut.Cut.{Cut}
 use Rattle.cut_form.specs.Checkpoints.{Checkpoint, with_checkpoint, without_checkpoint, slots_needed, has_room, stands_at, nearest}
 
@@ -28,6 +28,10 @@ after_seek book at = record book { position = at; made = book.made + (at - runs_
 -- the most samples that are played at once
 abbrev pub most_played : ℕ
 most_played = 64
+
+-- the bytes of these samples in a sound file
+abbrev pub most_played_bytes : ℕ
+most_played_bytes = 4 * most_played
 
 abbrev pub after_play : CutBook → (count : ℕ) → CutBook
 after_play book count = record book { position = book.position + count; made = book.made + count }

@@ -9,5 +9,6 @@ pub mod Placing
 pub mod Removing
 pub mod Renders
 pub mod Rooms
+pub mod SameTune
 pub mod Serving
 pub mod Shared

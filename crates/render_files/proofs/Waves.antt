@@ -35,3 +35,14 @@ whole_wave to_come frames samples fade same count =
     ap (λ (l : List Frame). header_of 2 samples ++ flat_map frame_bytes (faded_from 0 samples fade l)) same
     ∙ ap (λ (n : ℕ). header_of 2 n ++ flat_map frame_bytes (faded_from 0 n fade frames)) (sym count ∙ ap length same)
     ∙ ap (λ (n : ℕ). header_of 2 n ++ flat_map frame_bytes (faded_from 0 (length frames) fade frames)) (sym (length-faded_from frames 0 (length frames) fade))
+
+-- frames that were played stand with those that were made before
+pub moved : (wave now : List ℕ) (played before after rest later : List Frame) → now ≡ wave ++ flat_map frame_bytes played → played ++ after ≡ before → later ≡ rest
+    → wave ++ flat_map frame_bytes (before ++ rest) ≡ now ++ flat_map frame_bytes (after ++ later)
+moved wave now played before after rest later added split same =
+    ap (λ (l : List Frame). wave ++ flat_map frame_bytes (l ++ rest)) (sym split)
+    ∙ ap (λ (l : List Frame). wave ++ flat_map frame_bytes l) (append_assoc played after rest)
+    ∙ ap (λ (l : List ℕ). wave ++ l) (flat_map-append frame_bytes played (after ++ rest))
+    ∙ sym (append_assoc wave (flat_map frame_bytes played) (flat_map frame_bytes (after ++ rest)))
+    ∙ ap (λ (l : List ℕ). l ++ flat_map frame_bytes (after ++ rest)) (sym added)
+    ∙ ap (λ (l : List Frame). now ++ flat_map frame_bytes (after ++ l)) (sym same)

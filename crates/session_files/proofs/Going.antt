@@ -18,18 +18,9 @@ use Rattle.cut_server.specs.Server.{ChipServer, lock_step_machines, pages_at, fr
 use Rattle.session_files.specs.Player.{session_of, left_to_play, Answers}
 use Rattle.session_files.specs.Report.{reply_line, report_on}
 use Rattle.session_files.specs.SessionFiles.{FilesState, replies_to_come, frames_left, GoesOn}
+use Rattle.cut_server.proofs.SameTune.{frames_kept}
+use Rattle.render_files.proofs.Waves.{moved}
 use Rattle.session_files.proofs.Playing.{frames_first}
-
--- frames that were played stand with those that were made before
-pub moved : (wave now : List ℕ) (played before after rest later : List Frame) → now ≡ wave ++ flat_map frame_bytes played → played ++ after ≡ before → later ≡ rest
-    → wave ++ flat_map frame_bytes (before ++ rest) ≡ now ++ flat_map frame_bytes (after ++ later)
-moved wave now played before after rest later added split same =
-    ap (λ (l : List Frame). wave ++ flat_map frame_bytes (l ++ rest)) (sym split)
-    ∙ ap (λ (l : List Frame). wave ++ flat_map frame_bytes l) (append_assoc played after rest)
-    ∙ ap (λ (l : List ℕ). wave ++ l) (flat_map-append frame_bytes played (after ++ rest))
-    ∙ sym (append_assoc wave (flat_map frame_bytes played) (flat_map frame_bytes (after ++ rest)))
-    ∙ ap (λ (l : List ℕ). l ++ flat_map frame_bytes (after ++ rest)) (sym added)
-    ∙ ap (λ (l : List Frame). now ++ flat_map frame_bytes (after ++ l)) (sym same)
 
 -- before the first line the header and what is to come are the whole file
 pub whole_wave : (f : ℕ → List Frame) (told now : List Reply) (left : List Frame) (count : ℕ) → left ≡ [] → now ≡ told → count ≡ length (cut_frames f (played_cuts told))
@@ -40,9 +31,6 @@ whole_wave f told now left count none same is =
     ∙ ap (λ (n : ℕ). header_of 2 n ++ flat_map frame_bytes (cut_frames f (played_cuts told))) is
 
 module _ {S V : Type 0} (chip : ChipMeaning S) (saving : ChipSaving S V) where
-  pub frames_kept : {old new : ChipServer S V} → KeepsTune chip saving old new → frames_to chip saving new ≡ frames_to chip saving old
-  frames_kept tune = ap (frames_after (lock_step_machines chip saving)) tune.start
-
   told_kept : {old new : ChipServer S V} → KeepsTune chip saving old new → (a b : Session) (k l : List ScriptLine) → b ≡ a → l ≡ k
       → replies (slots_of new) (pages_at chip saving new) b l ≡ replies (slots_of old) (pages_at chip saving old) a k
   told_kept {old} {new} tune a b k l same lines =

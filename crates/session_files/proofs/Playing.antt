@@ -18,10 +18,6 @@ use Rattle.cut_text.specs.Playing.{played_frames}
 use Rattle.cut_form.specs.GrowingFrames.{AreOfRun}
 use Rattle.cut_form.proofs.Slices.{length-cuts}
 
--- a list from an entry on
-pub drop_at : {A : Type 0} (xs : List A) (i : ℕ) (x : A) → slice_get xs i ≡ Some x → drop i xs ≡ x ∷ drop (i + 1) xs
-drop_at {A} xs i x is = rw (add-one, drop-cons xs i x (slice_get_within xs i x is)) (ap (λ (y : A). y ∷ drop (suc i) xs) (get_or_from_slice_get xs i x x is))
-
 -- the cuts that replies tell: those of the first, and then of the others
 cuts_first : (reply : Reply) (rest : List Reply) → played_cuts (reply ∷ rest) ≡ played_cuts (reply ∷ []) ++ played_cuts rest
 cuts_first (At at) rest = refl

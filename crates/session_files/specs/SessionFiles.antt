@@ -8,7 +8,6 @@ use Rattle.lock_step.specs.ChipMeaning.{ChipMeaning}
 use Rattle.lock_step.specs.ChipSaving.{ChipSaving}
 use Rattle.cut_form.specs.declared.script.ScriptLine.{ScriptLine}
 use Rattle.cut_form.specs.declared.script.Reply.{Reply}
-use Rattle.cut_form.specs.CutBook.{most_played}
 use Rattle.cut_form.specs.Session.{opened_session, replies, played_cuts}
 use Rattle.cut_form.specs.Slices.{cut_frames}
 use Rattle.cut_server.specs.ServerState.{slots_of}
@@ -16,10 +15,6 @@ use Rattle.cut_server.specs.Server.{ChipServer, pages_at, frames_to}
 use Rattle.command_frame.specs.Stream.{Both}
 use Rattle.session_files.specs.Player.{PlayerState, session_of, left_to_play}
 use Rattle.session_files.specs.Report.{report_on, most_reply_bytes}
-
--- the bytes of the most frames that are played at once
-abbrev pub most_played_bytes : ℕ
-most_played_bytes = 4 * most_played
 
 pub record FilesState (S V : Type 0) : Type 0 where
   pub player : PlayerState S V

@@ -2,7 +2,7 @@
 ghost use Rattle.std.specs.Prelude.{◌≡◌, ◌+◌, ◌*◌, ◌<◌, ◌≤◌, ◌++◌, [], length, true, false, IfOk};
 ghost use Rattle.std.specs.List.{flat_map};
 ghost use Rattle.wav_form.specs.Wave.{frame_bytes, header_of, stereo_wave};
-ghost use Rattle.cut_form.specs.CutBook.{opened_book};
+ghost use Rattle.cut_form.specs.CutBook.{opened_book, most_played_bytes};
 ghost use Rattle.cut_form.specs.Session.{played_cuts};
 ghost use Rattle.cut_form.specs.Slices.{cut_frames};
 ghost use Rattle.cut_server.specs.ServerState.{book_of};
@@ -11,13 +11,14 @@ ghost use Rattle.cut_text.specs.Playing.{played_frames};
 ghost use Rattle.cut_form.specs.GrowingFrames.{AreOfRun};
 ghost use Rattle.session_files.specs.Player.{left_to_play};
 ghost use Rattle.session_files.specs.Report.{report_on};
-ghost use Rattle.session_files.specs.SessionFiles.{most_played_bytes, replies_of_server, to_come_of, held_of, report_of, work_of, is_finished, GoesOn};
+ghost use Rattle.session_files.specs.SessionFiles.{replies_of_server, to_come_of, held_of, report_of, work_of, is_finished, GoesOn};
 ghost use Rattle.report_text.specs.Room.{room_size};
 
 use crate::OutOfMemory;
 use crate::player::Player;
 use crate::replies::put_line;
 use command_frame::Pieces;
+use cut_form::PLAYED_BYTES;
 use cut_server::CutServer;
 use cut_text::ScriptLines;
 use lock_step::Chip;
@@ -26,9 +27,6 @@ use report_text::ByteRoom;
 use std::alloc::Global;
 use std::marker::Model;
 use trace_form::Frames;
-
-/// The bytes of the most frames that are played at once.
-pub const PLAYED_BYTES: usize = 256;
 
 /// The most bytes of a reply's line.
 const REPLY_BYTES: usize = 80;
@@ -61,7 +59,7 @@ impl<C: Chip> Model for SessionFiles<C> {
 }
 
 /// Adds the bytes of the frames that were played.
-pub fn put_played(wave: &mut ByteRoom, frames: &Frames)
+fn put_played(wave: &mut ByteRoom, frames: &Frames)
     requires { length wave.old + 4 * length frames.now ≤ room_size }
     ensures { wave.new ≡ wave.old ++ flat_map frame_bytes frames.now }
 {

@@ -5,5 +5,5 @@ mod files;
 mod player;
 mod replies;
 
-pub use files::{PLAYED_BYTES, SessionFiles, put_played};
+pub use files::SessionFiles;
 pub use std::alloc::AllocError as OutOfMemory;

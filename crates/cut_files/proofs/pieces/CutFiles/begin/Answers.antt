@@ -9,8 +9,8 @@ use Rattle.cut_server.specs.Server.{pages_at, KeepsTune}
 use Rattle.cut_server.specs.ServerState.{book_of}
 use Rattle.cut_text.specs.Cuts.{EndWithinHour}
 use Rattle.cut_form.specs.GrowingFrames.{AreOfRun}
-use Rattle.session_files.proofs.Playing.{drop_at}
-use Rattle.session_files.proofs.Going.{frames_kept}
+use Rattle.cut_form.proofs.Slices.{drop_at}
+use Rattle.cut_server.proofs.SameTune.{frames_kept}
 use Rattle.cut_files.specs.CutFiles.{IsInBounds, report_of}
 use Rattle.cut_files.proofs.Cutting.{ends_within, kept_twice, server_begun, bounds_begun, report_begun}
 use Rattle.cut_files.proofs.pieces.CutFiles.begin.Goals as goal

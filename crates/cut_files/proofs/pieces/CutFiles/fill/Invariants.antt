@@ -1,6 +1,6 @@
 use Rattle.std.proofs.Common.{◌≡◌, ◌+◌, ◌≤◌, ◌++◌, length}
 use Rattle.report_text.specs.Room.{room_size}
-use Rattle.session_files.specs.SessionFiles.{most_played_bytes}
+use Rattle.cut_form.specs.CutBook.{most_played_bytes}
 use Rattle.cut_files.specs.CutFiles.{to_come_of, report_of, work_of}
 use Rattle.cut_files.proofs.pieces.CutFiles.fill.Given as goal
 

@@ -1,5 +1,5 @@
 use Rattle.std.proofs.Common.{refl}
-use Rattle.session_files.proofs.Playing.{drop_at}
+use Rattle.cut_form.proofs.Slices.{drop_at}
 use Rattle.session_files.proofs.Going.{answered}
 use Rattle.session_files.proofs.files.SessionFiles.answer_next.Goals as goal
 

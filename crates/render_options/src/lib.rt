@@ -1,6 +1,7 @@
-// The options of `render`.
+//! The options of a render, as the words of a command line say them and as the command `render` takes them.
+#![tactic(auto)]
 
-/// The options of `render`, each with its value where it is given.
+/// The options of a render, each with its value where it is given.
 #[derive(Clone, Copy)]
 pub struct RenderOptions<'a> {
     /// The number of samples. Without it the tags of the file say the length, and a fade.

@@ -2,7 +2,7 @@
 use Rattle.std.specs.Prelude.{ℕ, ◌≤◌, List, Option, IfSome}
 use Rattle.std.specs.Option.{option_map}
 use Rattle.num_fix.specs.Limits.{most_frames}
-use Rattle.command_render.specs.declared.options.RenderOptions.{RenderOptions}
+use Rattle.render_options.specs.declared.RenderOptions.{RenderOptions}
 
 -- each option with its value, where it was given
 pub record Options : Type 0 where

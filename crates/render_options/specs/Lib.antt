@@ -1,0 +1,2 @@
+-- the options of a render
+pub mod Options
