@@ -1,15 +1,15 @@
-//! The branches. Each gives its cycles.
-//!
-//! Everything here is inlined into the arm of its opcode, where the row is a constant: no form is told apart there at run time.
+//! The branches.
 
 ghost use Rattle.std.specs.Prelude.{◌≡◌, true};
 ghost use Rattle.spc700_exec.specs.Script.{End, Cycles};
+ghost use Rattle.spc700_exec.specs.Operations as operations;
 ghost use Rattle.spc700_exec.specs.Operations.{flag_is};
-ghost use Rattle.spc700_exec.specs.Lines.{branch_end, branch_line, bit_branch_line, compare_branch_line, count_branch_line};
-ghost use Rattle.spc700_exec.specs.Pieces.{HasRoom, IsRow, IsTime, IsInstruction};
+ghost use Rattle.spc700_exec.specs.Lines.{branch_end};
+ghost use Rattle.spc700_exec.specs.Pieces.{IsRow, IsTime};
 
 use crate::bus::Bus;
 use crate::cpu::Cpu;
+use crate::execute::Execute;
 use crate::operand::{address_both, bit_number, fetch, load, store};
 use spc700_alu::flags::is_set;
 use spc700_table::{OpRow, branch_target};
@@ -30,66 +30,86 @@ fn branch_if(cpu: &mut Cpu, row: OpRow, taken: bool, r: u8) -> u8
 }
 
 /// A branch where a flag is set, or where it is clear.
-#[inline(always)]
-pub fn branch_on_flag<B: Bus>(cpu: &mut Cpu, bus: &mut B, row: OpRow, mask: u8, on: bool) -> u8
-    requires room { HasRoom 12 B.means bus.old }
-    requires row { IsRow row }
-    ensures { IsInstruction B.means (branch_line (flag_is mask on) row cpu.old) bus.old cpu.new result bus.new }
-{
-    let r = fetch(cpu, bus);
-    let taken = is_set(cpu.psw, mask) == on;
-    branch_if(cpu, row, taken, r)
+#[derive(Clone, Copy)]
+pub struct BranchOnFlag {
+    /// The bit of the flag.
+    pub mask: u8,
+    /// Whether it is to be set.
+    pub on: bool,
+}
+
+impl Execute for BranchOnFlag {
+    ghost operation = { λ branch. operations.Branch (flag_is branch.mask branch.on) };
+
+    #[inline(always)]
+    fn execute<B: Bus>(self, cpu: &mut Cpu, bus: &mut B, row: OpRow) -> u8 {
+        let r = fetch(cpu, bus);
+        let taken = is_set(cpu.psw, self.mask) == self.on;
+        branch_if(cpu, row, taken, r)
+    }
 }
 
 /// BRA.
-#[inline(always)]
-pub fn branch_always<B: Bus>(cpu: &mut Cpu, bus: &mut B, row: OpRow) -> u8
-    requires room { HasRoom 12 B.means bus.old }
-    requires row { IsRow row }
-    ensures { IsInstruction B.means (branch_line (λ _. true) row cpu.old) bus.old cpu.new result bus.new }
-{
-    let r = fetch(cpu, bus);
-    branch_if(cpu, row, true, r)
+#[derive(Clone, Copy)]
+pub struct BranchAlways;
+
+impl Execute for BranchAlways {
+    ghost operation = { λ _. operations.Branch (λ _. true) };
+
+    #[inline(always)]
+    fn execute<B: Bus>(self, cpu: &mut Cpu, bus: &mut B, row: OpRow) -> u8 {
+        let r = fetch(cpu, bus);
+        branch_if(cpu, row, true, r)
+    }
 }
 
-/// BBS, or BBC where `on` is false.
-#[inline(always)]
-pub fn branch_on_bit<B: Bus>(cpu: &mut Cpu, bus: &mut B, row: OpRow, on: bool) -> u8
-    requires room { HasRoom 12 B.means bus.old }
-    requires row { IsRow row }
-    ensures { IsInstruction B.means (bit_branch_line on row cpu.old) bus.old cpu.new result bus.new }
-{
-    let both = address_both(cpu, bus, row);
-    let byte = load(cpu, bus, both.first);
-    let r = load(cpu, bus, both.second);
-    let taken = is_set(byte, 1 << bit_number(both.first)) == on;
-    branch_if(cpu, row, taken, r)
+/// BBS, or BBC where it is false.
+#[derive(Clone, Copy)]
+pub struct BranchOnBit(pub bool);
+
+impl Execute for BranchOnBit {
+    ghost operation = { λ branch. operations.BitBranch branch.0 };
+
+    #[inline(always)]
+    fn execute<B: Bus>(self, cpu: &mut Cpu, bus: &mut B, row: OpRow) -> u8 {
+        let both = address_both(cpu, bus, row);
+        let byte = load(cpu, bus, both.first);
+        let r = load(cpu, bus, both.second);
+        let taken = is_set(byte, 1 << bit_number(both.first)) == self.0;
+        branch_if(cpu, row, taken, r)
+    }
 }
 
 /// CBNE.
-#[inline(always)]
-pub fn branch_if_different<B: Bus>(cpu: &mut Cpu, bus: &mut B, row: OpRow) -> u8
-    requires room { HasRoom 12 B.means bus.old }
-    requires row { IsRow row }
-    ensures { IsInstruction B.means (compare_branch_line row cpu.old) bus.old cpu.new result bus.new }
-{
-    let both = address_both(cpu, bus, row);
-    let byte = load(cpu, bus, both.first);
-    let r = load(cpu, bus, both.second);
-    branch_if(cpu, row, cpu.a != byte, r)
+#[derive(Clone, Copy)]
+pub struct BranchIfDifferent;
+
+impl Execute for BranchIfDifferent {
+    ghost operation = { λ _. operations.CompareBranch };
+
+    #[inline(always)]
+    fn execute<B: Bus>(self, cpu: &mut Cpu, bus: &mut B, row: OpRow) -> u8 {
+        let both = address_both(cpu, bus, row);
+        let byte = load(cpu, bus, both.first);
+        let r = load(cpu, bus, both.second);
+        branch_if(cpu, row, cpu.a != byte, r)
+    }
 }
 
 /// DBNZ.
-#[inline(always)]
-pub fn count_down<B: Bus>(cpu: &mut Cpu, bus: &mut B, row: OpRow) -> u8
-    requires room { HasRoom 12 B.means bus.old }
-    requires row { IsRow row }
-    ensures { IsInstruction B.means (count_branch_line row cpu.old) bus.old cpu.new result bus.new }
-{
-    let both = address_both(cpu, bus, row);
-    let byte = load(cpu, bus, both.first);
-    let r = load(cpu, bus, both.second);
-    let less = byte.wrapping_sub(1);
-    store(cpu, bus, both.first, less);
-    branch_if(cpu, row, less != 0, r)
+#[derive(Clone, Copy)]
+pub struct CountDown;
+
+impl Execute for CountDown {
+    ghost operation = { λ _. operations.CountBranch };
+
+    #[inline(always)]
+    fn execute<B: Bus>(self, cpu: &mut Cpu, bus: &mut B, row: OpRow) -> u8 {
+        let both = address_both(cpu, bus, row);
+        let byte = load(cpu, bus, both.first);
+        let r = load(cpu, bus, both.second);
+        let less = byte.wrapping_sub(1);
+        store(cpu, bus, both.first, less);
+        branch_if(cpu, row, less != 0, r)
+    }
 }

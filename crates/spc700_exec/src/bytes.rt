@@ -1,15 +1,13 @@
-//! The instructions on bytes. Each gives its cycles.
-//!
-//! Everything here is inlined into the arm of its opcode, where the row is a constant: no form is told apart there at run time.
+//! The instructions on bytes.
 
 ghost use Rattle.std.specs.Prelude.{◌≡◌, ℕ};
-ghost use Rattle.spc700_exec.specs.Operations.{xcn_of};
-ghost use Rattle.spc700_exec.specs.Lines.{a_line, with_nz_of_move, move_line, calculate_line, compare_line, modify_line};
+ghost use Rattle.spc700_exec.specs.Operations as operations;
+ghost use Rattle.spc700_exec.specs.Lines.{with_nz_of_move};
 ghost use Rattle.spc700_exec.specs.Calculations.{calculation, modification};
-ghost use Rattle.spc700_exec.specs.Pieces.{HasRoom, IsRow, IsInstruction};
 
 use crate::bus::Bus;
 use crate::cpu::Cpu;
+use crate::execute::Execute;
 use crate::operand::{Operand, address, address_both, load, store};
 use spc700_alu::flags::put_nz;
 use spc700_alu::{LogicKind, Out8, ShiftKind, adc, bump, cmp, logic, sbc, shift};
@@ -72,73 +70,65 @@ fn show_move(cpu: &mut Cpu, target: Operand, value: u8)
     }
 }
 
-/// The digits of A change places.
-#[inline(always)]
-pub fn exchange(a: u8, psw: u8) -> Out8
-    ensures { result ≡ xcn_of a psw }
-{
-    let value = a % 0x10 * 0x10 + a / 0x10;
-    Out8 {
-        value,
-        psw: put_nz(psw, value),
+/// MOV.
+#[derive(Clone, Copy)]
+pub struct Move;
+
+impl Execute for Move {
+    ghost operation = { λ _. operations.Move };
+
+    #[inline(always)]
+    fn execute<B: Bus>(self, cpu: &mut Cpu, bus: &mut B, row: OpRow) -> u8 {
+        let both = address_both(cpu, bus, row);
+        let value = load(cpu, bus, both.second);
+        store(cpu, bus, both.first, value);
+        show_move(cpu, both.first, value);
+        row.cycles
     }
 }
 
-/// MOV.
-#[inline(always)]
-pub fn mov<B: Bus>(cpu: &mut Cpu, bus: &mut B, row: OpRow) -> u8
-    requires room { HasRoom 12 B.means bus.old }
-    requires row { IsRow row }
-    ensures { IsInstruction B.means (move_line row cpu.old) bus.old cpu.new result bus.new }
-{
-    let both = address_both(cpu, bus, row);
-    let value = load(cpu, bus, both.second);
-    store(cpu, bus, both.first, value);
-    show_move(cpu, both.first, value);
-    row.cycles
-}
+impl Execute for Calculation {
+    ghost operation = { λ kind. operations.Calculate (calculation kind) };
 
-/// OR, AND, EOR, ADC and SBC.
-#[inline(always)]
-pub fn calculate<B: Bus>(cpu: &mut Cpu, bus: &mut B, row: OpRow, kind: Calculation) -> u8
-    requires room { HasRoom 12 B.means bus.old }
-    requires row { IsRow row }
-    ensures { IsInstruction B.means (calculate_line (calculation kind) row cpu.old) bus.old cpu.new result bus.new }
-{
-    let both = address_both(cpu, bus, row);
-    let b = load(cpu, bus, both.second);
-    let a = load(cpu, bus, both.first);
-    let out = byte_result(kind, a, b, cpu.psw);
-    cpu.psw = out.psw;
-    store(cpu, bus, both.first, out.value);
-    row.cycles
+    #[inline(always)]
+    fn execute<B: Bus>(self, cpu: &mut Cpu, bus: &mut B, row: OpRow) -> u8 {
+        let both = address_both(cpu, bus, row);
+        let b = load(cpu, bus, both.second);
+        let a = load(cpu, bus, both.first);
+        let out = byte_result(self, a, b, cpu.psw);
+        cpu.psw = out.psw;
+        store(cpu, bus, both.first, out.value);
+        row.cycles
+    }
 }
 
 /// CMP.
-#[inline(always)]
-pub fn compare<B: Bus>(cpu: &mut Cpu, bus: &mut B, row: OpRow) -> u8
-    requires room { HasRoom 12 B.means bus.old }
-    requires row { IsRow row }
-    ensures { IsInstruction B.means (compare_line row cpu.old) bus.old cpu.new result bus.new }
-{
-    let both = address_both(cpu, bus, row);
-    let b = load(cpu, bus, both.second);
-    let a = load(cpu, bus, both.first);
-    cpu.psw = cmp(a, b, cpu.psw);
-    row.cycles
+#[derive(Clone, Copy)]
+pub struct Compare;
+
+impl Execute for Compare {
+    ghost operation = { λ _. operations.Compare };
+
+    #[inline(always)]
+    fn execute<B: Bus>(self, cpu: &mut Cpu, bus: &mut B, row: OpRow) -> u8 {
+        let both = address_both(cpu, bus, row);
+        let b = load(cpu, bus, both.second);
+        let a = load(cpu, bus, both.first);
+        cpu.psw = cmp(a, b, cpu.psw);
+        row.cycles
+    }
 }
 
-/// The shifts, INC and DEC.
-#[inline(always)]
-pub fn modify<B: Bus>(cpu: &mut Cpu, bus: &mut B, row: OpRow, kind: Modification) -> u8
-    requires room { HasRoom 12 B.means bus.old }
-    requires row { IsRow row }
-    ensures { IsInstruction B.means (modify_line (modification kind) row cpu.old) bus.old cpu.new result bus.new }
-{
-    let operand = address(cpu, bus, row.first);
-    let byte = load(cpu, bus, operand);
-    let out = modification_result(kind, byte, cpu.psw);
-    cpu.psw = out.psw;
-    store(cpu, bus, operand, out.value);
-    row.cycles
+impl Execute for Modification {
+    ghost operation = { λ kind. operations.Modify (modification kind) };
+
+    #[inline(always)]
+    fn execute<B: Bus>(self, cpu: &mut Cpu, bus: &mut B, row: OpRow) -> u8 {
+        let operand = address(cpu, bus, row.first);
+        let byte = load(cpu, bus, operand);
+        let out = modification_result(self, byte, cpu.psw);
+        cpu.psw = out.psw;
+        store(cpu, bus, operand, out.value);
+        row.cycles
+    }
 }

@@ -8,6 +8,7 @@ mod branches;
 pub mod bus;
 mod bytes;
 pub mod cpu;
+mod execute;
 mod jumps;
 mod laws;
 pub mod mem_bus;

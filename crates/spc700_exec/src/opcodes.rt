@@ -3,51 +3,33 @@
 //! opcodes are inlined into `instruct`, and that into the step, so that a step goes to its arm at once.
 #![tactic(auto, unfolding(spc700_table::specs::Opcodes::row_of, spc700_table::specs::Opcodes::columns, spc700_table::specs::Cycles::printed_cycles, spc700_table::specs::Cycles::cycle_map))]
 
-ghost use Rattle.std.specs.Prelude.{◌≡◌, ◌+◌, ◌<◌, false};
+ghost use Rattle.std.specs.Prelude.{◌≡◌, ◌+◌, ◌<◌};
 ghost use Rattle.spc700_table.specs.Opcodes.{row_of};
-ghost use Rattle.spc700_exec.specs.Pieces.{HasRoom, IsRow, IsWholeInstruction, halts};
+ghost use Rattle.spc700_exec.specs.Pieces.{HasRoom, IsWholeInstruction};
 
-use crate::access_counts::end_instruction;
-use crate::bits::{bit_in_place, bit_to_carry, test_and_clear, test_and_set};
-use crate::branches::{
-    branch_always, branch_if_different, branch_on_bit, branch_on_flag, count_down,
-};
+use crate::bits::{BitInPlace, BitToCarry, TestAndClear, TestAndSet};
+use crate::branches::{BranchAlways, BranchIfDifferent, BranchOnBit, BranchOnFlag, CountDown};
 use crate::bus::Bus;
 use crate::bytes::Calculation::{Adc, Logic, Sbc};
 use crate::bytes::Modification::{Down, Shift, Up};
-use crate::bytes::{calculate, compare, exchange, modify, mov};
+use crate::bytes::{Compare, Move};
 use crate::cpu::Cpu;
-use crate::jumps::{brk, call, halt, jump, pop_register, push_register, ret, reti, table_call};
-use crate::registers::{clear_overflow, nop, put_a, put_flag, put_ya, turn_carry};
-use crate::word_instructions::{WordCalculation, move_word, word, word_down, word_on_ya, word_up};
+use crate::execute::execute_whole;
+use crate::jumps::{Break, Call, InterruptReturn, Jump, Pop, Push, Return, TableCall, halt};
+use crate::registers::{
+    AdjustDifference, AdjustSum, ClearOverflow, Divide, Exchange, Multiply, Nop, PutFlag, TurnCarry,
+};
+use crate::word_instructions::{MoveWord, WordCalculation, WordDown, WordUp};
 use spc700_alu::flags::{CARRY, INTERRUPT, NEGATIVE, OVERFLOW, PAGE, ZERO};
-use spc700_alu::{BitKind, LogicKind, ShiftKind, daa, das, div, mul};
-use spc700_table::{OpRow, row};
+use spc700_alu::{BitKind, LogicKind, ShiftKind};
 
-/// The row of an opcode, with what every row keeps.
-#[inline(always)]
-fn fitting_row(op: u8) -> OpRow
-    ensures row { result ≡ row_of op }
-    ensures fits { halts result.kind ≡ false → IsRow result }
-{
-    row(op)
-}
-
-/// Makes the instruction of an opcode by its low digit, and passes the rest of its cycles. Each arm is given the row of its opcode. The
-/// last arm is that of the digit F: as no other digit is left, none is tested for.
+/// The instruction of an opcode by its low digit: a line for the digits of each operation. The last arm is that of the digit F: as no
+/// other digit is left, none is tested for.
 macro_rules! instruction_of {
-    ($bus:ident, $high:literal, $low:ident, $row:ident, $($digit:literal => $instruction:expr,)* _ => $last:expr) => {
+    ($cpu:ident, $bus:ident, $high:literal, $low:ident, $($($digit:literal)|+ => $operation:expr,)* _ => $last:expr) => {
         match $low {
-            $($digit => {
-                let $row = fitting_row($high + $digit);
-                let cycles = $instruction;
-                end_instruction($bus, $high + $digit, cycles);
-            })*
-            _ => {
-                let $row = fitting_row($high + 0xF);
-                let cycles = $last;
-                end_instruction($bus, $high + 0xF, cycles);
-            }
+            $($($digit => execute_whole($cpu, $bus, $high + $digit, $operation),)+)*
+            _ => $last,
         }
     };
 }
@@ -59,23 +41,17 @@ fn from_00<B: Bus>(cpu: &mut Cpu, bus: &mut B, low: u8)
     requires digit { low < 16 }
     ensures { IsWholeInstruction B.means (row_of (0x00 + low)) cpu.old bus.old cpu.new bus.new }
 {
-    instruction_of!(bus, 0x00, low, row,
-        0x0 => nop(row),
-        0x1 => table_call(cpu, bus, row),
-        0x2 => bit_in_place(cpu, bus, row, BitKind::Set),
-        0x3 => branch_on_bit(cpu, bus, row, true),
-        0x4 => calculate(cpu, bus, row, Logic(LogicKind::Or)),
-        0x5 => calculate(cpu, bus, row, Logic(LogicKind::Or)),
-        0x6 => calculate(cpu, bus, row, Logic(LogicKind::Or)),
-        0x7 => calculate(cpu, bus, row, Logic(LogicKind::Or)),
-        0x8 => calculate(cpu, bus, row, Logic(LogicKind::Or)),
-        0x9 => calculate(cpu, bus, row, Logic(LogicKind::Or)),
-        0xA => bit_to_carry(cpu, bus, row, BitKind::Or),
-        0xB => modify(cpu, bus, row, Shift(ShiftKind::Asl)),
-        0xC => modify(cpu, bus, row, Shift(ShiftKind::Asl)),
-        0xD => push_register(cpu, bus, row),
-        0xE => test_and_set(cpu, bus, row),
-        _ => brk(cpu, bus, row)
+    instruction_of!(cpu, bus, 0x00, low,
+        0x0 => Nop,
+        0x1 => TableCall,
+        0x2 => BitInPlace(BitKind::Set),
+        0x3 => BranchOnBit(true),
+        0x4 | 0x5 | 0x6 | 0x7 | 0x8 | 0x9 => Logic(LogicKind::Or),
+        0xA => BitToCarry(BitKind::Or),
+        0xB | 0xC => Shift(ShiftKind::Asl),
+        0xD => Push,
+        0xE => TestAndSet,
+        _ => execute_whole(cpu, bus, 0x0F, Break)
     )
 }
 
@@ -86,23 +62,17 @@ fn from_10<B: Bus>(cpu: &mut Cpu, bus: &mut B, low: u8)
     requires digit { low < 16 }
     ensures { IsWholeInstruction B.means (row_of (0x10 + low)) cpu.old bus.old cpu.new bus.new }
 {
-    instruction_of!(bus, 0x10, low, row,
-        0x0 => branch_on_flag(cpu, bus, row, NEGATIVE, false),
-        0x1 => table_call(cpu, bus, row),
-        0x2 => bit_in_place(cpu, bus, row, BitKind::Clear),
-        0x3 => branch_on_bit(cpu, bus, row, false),
-        0x4 => calculate(cpu, bus, row, Logic(LogicKind::Or)),
-        0x5 => calculate(cpu, bus, row, Logic(LogicKind::Or)),
-        0x6 => calculate(cpu, bus, row, Logic(LogicKind::Or)),
-        0x7 => calculate(cpu, bus, row, Logic(LogicKind::Or)),
-        0x8 => calculate(cpu, bus, row, Logic(LogicKind::Or)),
-        0x9 => calculate(cpu, bus, row, Logic(LogicKind::Or)),
-        0xA => word_down(cpu, bus, row),
-        0xB => modify(cpu, bus, row, Shift(ShiftKind::Asl)),
-        0xC => modify(cpu, bus, row, Shift(ShiftKind::Asl)),
-        0xD => modify(cpu, bus, row, Down),
-        0xE => compare(cpu, bus, row),
-        _ => jump(cpu, bus, row)
+    instruction_of!(cpu, bus, 0x10, low,
+        0x0 => BranchOnFlag { mask: NEGATIVE, on: false },
+        0x1 => TableCall,
+        0x2 => BitInPlace(BitKind::Clear),
+        0x3 => BranchOnBit(false),
+        0x4 | 0x5 | 0x6 | 0x7 | 0x8 | 0x9 => Logic(LogicKind::Or),
+        0xA => WordDown,
+        0xB | 0xC => Shift(ShiftKind::Asl),
+        0xD => Down,
+        0xE => Compare,
+        _ => execute_whole(cpu, bus, 0x1F, Jump)
     )
 }
 
@@ -113,23 +83,17 @@ fn from_20<B: Bus>(cpu: &mut Cpu, bus: &mut B, low: u8)
     requires digit { low < 16 }
     ensures { IsWholeInstruction B.means (row_of (0x20 + low)) cpu.old bus.old cpu.new bus.new }
 {
-    instruction_of!(bus, 0x20, low, row,
-        0x0 => put_flag(cpu, row, PAGE, false),
-        0x1 => table_call(cpu, bus, row),
-        0x2 => bit_in_place(cpu, bus, row, BitKind::Set),
-        0x3 => branch_on_bit(cpu, bus, row, true),
-        0x4 => calculate(cpu, bus, row, Logic(LogicKind::And)),
-        0x5 => calculate(cpu, bus, row, Logic(LogicKind::And)),
-        0x6 => calculate(cpu, bus, row, Logic(LogicKind::And)),
-        0x7 => calculate(cpu, bus, row, Logic(LogicKind::And)),
-        0x8 => calculate(cpu, bus, row, Logic(LogicKind::And)),
-        0x9 => calculate(cpu, bus, row, Logic(LogicKind::And)),
-        0xA => bit_to_carry(cpu, bus, row, BitKind::OrNot),
-        0xB => modify(cpu, bus, row, Shift(ShiftKind::Rol)),
-        0xC => modify(cpu, bus, row, Shift(ShiftKind::Rol)),
-        0xD => push_register(cpu, bus, row),
-        0xE => branch_if_different(cpu, bus, row),
-        _ => branch_always(cpu, bus, row)
+    instruction_of!(cpu, bus, 0x20, low,
+        0x0 => PutFlag { mask: PAGE, on: false },
+        0x1 => TableCall,
+        0x2 => BitInPlace(BitKind::Set),
+        0x3 => BranchOnBit(true),
+        0x4 | 0x5 | 0x6 | 0x7 | 0x8 | 0x9 => Logic(LogicKind::And),
+        0xA => BitToCarry(BitKind::OrNot),
+        0xB | 0xC => Shift(ShiftKind::Rol),
+        0xD => Push,
+        0xE => BranchIfDifferent,
+        _ => execute_whole(cpu, bus, 0x2F, BranchAlways)
     )
 }
 
@@ -140,23 +104,17 @@ fn from_30<B: Bus>(cpu: &mut Cpu, bus: &mut B, low: u8)
     requires digit { low < 16 }
     ensures { IsWholeInstruction B.means (row_of (0x30 + low)) cpu.old bus.old cpu.new bus.new }
 {
-    instruction_of!(bus, 0x30, low, row,
-        0x0 => branch_on_flag(cpu, bus, row, NEGATIVE, true),
-        0x1 => table_call(cpu, bus, row),
-        0x2 => bit_in_place(cpu, bus, row, BitKind::Clear),
-        0x3 => branch_on_bit(cpu, bus, row, false),
-        0x4 => calculate(cpu, bus, row, Logic(LogicKind::And)),
-        0x5 => calculate(cpu, bus, row, Logic(LogicKind::And)),
-        0x6 => calculate(cpu, bus, row, Logic(LogicKind::And)),
-        0x7 => calculate(cpu, bus, row, Logic(LogicKind::And)),
-        0x8 => calculate(cpu, bus, row, Logic(LogicKind::And)),
-        0x9 => calculate(cpu, bus, row, Logic(LogicKind::And)),
-        0xA => word_up(cpu, bus, row),
-        0xB => modify(cpu, bus, row, Shift(ShiftKind::Rol)),
-        0xC => modify(cpu, bus, row, Shift(ShiftKind::Rol)),
-        0xD => modify(cpu, bus, row, Up),
-        0xE => compare(cpu, bus, row),
-        _ => call(cpu, bus, row)
+    instruction_of!(cpu, bus, 0x30, low,
+        0x0 => BranchOnFlag { mask: NEGATIVE, on: true },
+        0x1 => TableCall,
+        0x2 => BitInPlace(BitKind::Clear),
+        0x3 => BranchOnBit(false),
+        0x4 | 0x5 | 0x6 | 0x7 | 0x8 | 0x9 => Logic(LogicKind::And),
+        0xA => WordUp,
+        0xB | 0xC => Shift(ShiftKind::Rol),
+        0xD => Up,
+        0xE => Compare,
+        _ => execute_whole(cpu, bus, 0x3F, Call)
     )
 }
 
@@ -167,23 +125,17 @@ fn from_40<B: Bus>(cpu: &mut Cpu, bus: &mut B, low: u8)
     requires digit { low < 16 }
     ensures { IsWholeInstruction B.means (row_of (0x40 + low)) cpu.old bus.old cpu.new bus.new }
 {
-    instruction_of!(bus, 0x40, low, row,
-        0x0 => put_flag(cpu, row, PAGE, true),
-        0x1 => table_call(cpu, bus, row),
-        0x2 => bit_in_place(cpu, bus, row, BitKind::Set),
-        0x3 => branch_on_bit(cpu, bus, row, true),
-        0x4 => calculate(cpu, bus, row, Logic(LogicKind::Eor)),
-        0x5 => calculate(cpu, bus, row, Logic(LogicKind::Eor)),
-        0x6 => calculate(cpu, bus, row, Logic(LogicKind::Eor)),
-        0x7 => calculate(cpu, bus, row, Logic(LogicKind::Eor)),
-        0x8 => calculate(cpu, bus, row, Logic(LogicKind::Eor)),
-        0x9 => calculate(cpu, bus, row, Logic(LogicKind::Eor)),
-        0xA => bit_to_carry(cpu, bus, row, BitKind::And),
-        0xB => modify(cpu, bus, row, Shift(ShiftKind::Lsr)),
-        0xC => modify(cpu, bus, row, Shift(ShiftKind::Lsr)),
-        0xD => push_register(cpu, bus, row),
-        0xE => test_and_clear(cpu, bus, row),
-        _ => call(cpu, bus, row)
+    instruction_of!(cpu, bus, 0x40, low,
+        0x0 => PutFlag { mask: PAGE, on: true },
+        0x1 => TableCall,
+        0x2 => BitInPlace(BitKind::Set),
+        0x3 => BranchOnBit(true),
+        0x4 | 0x5 | 0x6 | 0x7 | 0x8 | 0x9 => Logic(LogicKind::Eor),
+        0xA => BitToCarry(BitKind::And),
+        0xB | 0xC => Shift(ShiftKind::Lsr),
+        0xD => Push,
+        0xE => TestAndClear,
+        _ => execute_whole(cpu, bus, 0x4F, Call)
     )
 }
 
@@ -194,23 +146,17 @@ fn from_50<B: Bus>(cpu: &mut Cpu, bus: &mut B, low: u8)
     requires digit { low < 16 }
     ensures { IsWholeInstruction B.means (row_of (0x50 + low)) cpu.old bus.old cpu.new bus.new }
 {
-    instruction_of!(bus, 0x50, low, row,
-        0x0 => branch_on_flag(cpu, bus, row, OVERFLOW, false),
-        0x1 => table_call(cpu, bus, row),
-        0x2 => bit_in_place(cpu, bus, row, BitKind::Clear),
-        0x3 => branch_on_bit(cpu, bus, row, false),
-        0x4 => calculate(cpu, bus, row, Logic(LogicKind::Eor)),
-        0x5 => calculate(cpu, bus, row, Logic(LogicKind::Eor)),
-        0x6 => calculate(cpu, bus, row, Logic(LogicKind::Eor)),
-        0x7 => calculate(cpu, bus, row, Logic(LogicKind::Eor)),
-        0x8 => calculate(cpu, bus, row, Logic(LogicKind::Eor)),
-        0x9 => calculate(cpu, bus, row, Logic(LogicKind::Eor)),
-        0xA => word_on_ya(cpu, bus, row, WordCalculation::Compare),
-        0xB => modify(cpu, bus, row, Shift(ShiftKind::Lsr)),
-        0xC => modify(cpu, bus, row, Shift(ShiftKind::Lsr)),
-        0xD => mov(cpu, bus, row),
-        0xE => compare(cpu, bus, row),
-        _ => jump(cpu, bus, row)
+    instruction_of!(cpu, bus, 0x50, low,
+        0x0 => BranchOnFlag { mask: OVERFLOW, on: false },
+        0x1 => TableCall,
+        0x2 => BitInPlace(BitKind::Clear),
+        0x3 => BranchOnBit(false),
+        0x4 | 0x5 | 0x6 | 0x7 | 0x8 | 0x9 => Logic(LogicKind::Eor),
+        0xA => WordCalculation::Compare,
+        0xB | 0xC => Shift(ShiftKind::Lsr),
+        0xD => Move,
+        0xE => Compare,
+        _ => execute_whole(cpu, bus, 0x5F, Jump)
     )
 }
 
@@ -221,23 +167,17 @@ fn from_60<B: Bus>(cpu: &mut Cpu, bus: &mut B, low: u8)
     requires digit { low < 16 }
     ensures { IsWholeInstruction B.means (row_of (0x60 + low)) cpu.old bus.old cpu.new bus.new }
 {
-    instruction_of!(bus, 0x60, low, row,
-        0x0 => put_flag(cpu, row, CARRY, false),
-        0x1 => table_call(cpu, bus, row),
-        0x2 => bit_in_place(cpu, bus, row, BitKind::Set),
-        0x3 => branch_on_bit(cpu, bus, row, true),
-        0x4 => compare(cpu, bus, row),
-        0x5 => compare(cpu, bus, row),
-        0x6 => compare(cpu, bus, row),
-        0x7 => compare(cpu, bus, row),
-        0x8 => compare(cpu, bus, row),
-        0x9 => compare(cpu, bus, row),
-        0xA => bit_to_carry(cpu, bus, row, BitKind::AndNot),
-        0xB => modify(cpu, bus, row, Shift(ShiftKind::Ror)),
-        0xC => modify(cpu, bus, row, Shift(ShiftKind::Ror)),
-        0xD => push_register(cpu, bus, row),
-        0xE => count_down(cpu, bus, row),
-        _ => ret(cpu, bus, row)
+    instruction_of!(cpu, bus, 0x60, low,
+        0x0 => PutFlag { mask: CARRY, on: false },
+        0x1 => TableCall,
+        0x2 => BitInPlace(BitKind::Set),
+        0x3 => BranchOnBit(true),
+        0x4 | 0x5 | 0x6 | 0x7 | 0x8 | 0x9 => Compare,
+        0xA => BitToCarry(BitKind::AndNot),
+        0xB | 0xC => Shift(ShiftKind::Ror),
+        0xD => Push,
+        0xE => CountDown,
+        _ => execute_whole(cpu, bus, 0x6F, Return)
     )
 }
 
@@ -248,23 +188,16 @@ fn from_70<B: Bus>(cpu: &mut Cpu, bus: &mut B, low: u8)
     requires digit { low < 16 }
     ensures { IsWholeInstruction B.means (row_of (0x70 + low)) cpu.old bus.old cpu.new bus.new }
 {
-    instruction_of!(bus, 0x70, low, row,
-        0x0 => branch_on_flag(cpu, bus, row, OVERFLOW, true),
-        0x1 => table_call(cpu, bus, row),
-        0x2 => bit_in_place(cpu, bus, row, BitKind::Clear),
-        0x3 => branch_on_bit(cpu, bus, row, false),
-        0x4 => compare(cpu, bus, row),
-        0x5 => compare(cpu, bus, row),
-        0x6 => compare(cpu, bus, row),
-        0x7 => compare(cpu, bus, row),
-        0x8 => compare(cpu, bus, row),
-        0x9 => compare(cpu, bus, row),
-        0xA => word_on_ya(cpu, bus, row, WordCalculation::Add),
-        0xB => modify(cpu, bus, row, Shift(ShiftKind::Ror)),
-        0xC => modify(cpu, bus, row, Shift(ShiftKind::Ror)),
-        0xD => mov(cpu, bus, row),
-        0xE => compare(cpu, bus, row),
-        _ => reti(cpu, bus, row)
+    instruction_of!(cpu, bus, 0x70, low,
+        0x0 => BranchOnFlag { mask: OVERFLOW, on: true },
+        0x1 => TableCall,
+        0x2 => BitInPlace(BitKind::Clear),
+        0x3 => BranchOnBit(false),
+        0x4 | 0x5 | 0x6 | 0x7 | 0x8 | 0x9 | 0xE => Compare,
+        0xA => WordCalculation::Add,
+        0xB | 0xC => Shift(ShiftKind::Ror),
+        0xD => Move,
+        _ => execute_whole(cpu, bus, 0x7F, InterruptReturn)
     )
 }
 
@@ -275,23 +208,17 @@ fn from_80<B: Bus>(cpu: &mut Cpu, bus: &mut B, low: u8)
     requires digit { low < 16 }
     ensures { IsWholeInstruction B.means (row_of (0x80 + low)) cpu.old bus.old cpu.new bus.new }
 {
-    instruction_of!(bus, 0x80, low, row,
-        0x0 => put_flag(cpu, row, CARRY, true),
-        0x1 => table_call(cpu, bus, row),
-        0x2 => bit_in_place(cpu, bus, row, BitKind::Set),
-        0x3 => branch_on_bit(cpu, bus, row, true),
-        0x4 => calculate(cpu, bus, row, Adc),
-        0x5 => calculate(cpu, bus, row, Adc),
-        0x6 => calculate(cpu, bus, row, Adc),
-        0x7 => calculate(cpu, bus, row, Adc),
-        0x8 => calculate(cpu, bus, row, Adc),
-        0x9 => calculate(cpu, bus, row, Adc),
-        0xA => bit_to_carry(cpu, bus, row, BitKind::Eor),
-        0xB => modify(cpu, bus, row, Down),
-        0xC => modify(cpu, bus, row, Down),
-        0xD => mov(cpu, bus, row),
-        0xE => pop_register(cpu, bus, row),
-        _ => mov(cpu, bus, row)
+    instruction_of!(cpu, bus, 0x80, low,
+        0x0 => PutFlag { mask: CARRY, on: true },
+        0x1 => TableCall,
+        0x2 => BitInPlace(BitKind::Set),
+        0x3 => BranchOnBit(true),
+        0x4 | 0x5 | 0x6 | 0x7 | 0x8 | 0x9 => Adc,
+        0xA => BitToCarry(BitKind::Eor),
+        0xB | 0xC => Down,
+        0xD => Move,
+        0xE => Pop,
+        _ => execute_whole(cpu, bus, 0x8F, Move)
     )
 }
 
@@ -302,23 +229,17 @@ fn from_90<B: Bus>(cpu: &mut Cpu, bus: &mut B, low: u8)
     requires digit { low < 16 }
     ensures { IsWholeInstruction B.means (row_of (0x90 + low)) cpu.old bus.old cpu.new bus.new }
 {
-    instruction_of!(bus, 0x90, low, row,
-        0x0 => branch_on_flag(cpu, bus, row, CARRY, false),
-        0x1 => table_call(cpu, bus, row),
-        0x2 => bit_in_place(cpu, bus, row, BitKind::Clear),
-        0x3 => branch_on_bit(cpu, bus, row, false),
-        0x4 => calculate(cpu, bus, row, Adc),
-        0x5 => calculate(cpu, bus, row, Adc),
-        0x6 => calculate(cpu, bus, row, Adc),
-        0x7 => calculate(cpu, bus, row, Adc),
-        0x8 => calculate(cpu, bus, row, Adc),
-        0x9 => calculate(cpu, bus, row, Adc),
-        0xA => word_on_ya(cpu, bus, row, WordCalculation::Subtract),
-        0xB => modify(cpu, bus, row, Down),
-        0xC => modify(cpu, bus, row, Down),
-        0xD => mov(cpu, bus, row),
-        0xE => put_ya(cpu, row, div(word(cpu), cpu.x, cpu.psw)),
-        _ => put_a(cpu, row, exchange(cpu.a, cpu.psw))
+    instruction_of!(cpu, bus, 0x90, low,
+        0x0 => BranchOnFlag { mask: CARRY, on: false },
+        0x1 => TableCall,
+        0x2 => BitInPlace(BitKind::Clear),
+        0x3 => BranchOnBit(false),
+        0x4 | 0x5 | 0x6 | 0x7 | 0x8 | 0x9 => Adc,
+        0xA => WordCalculation::Subtract,
+        0xB | 0xC => Down,
+        0xD => Move,
+        0xE => Divide,
+        _ => execute_whole(cpu, bus, 0x9F, Exchange)
     )
 }
 
@@ -329,23 +250,17 @@ fn from_a0<B: Bus>(cpu: &mut Cpu, bus: &mut B, low: u8)
     requires digit { low < 16 }
     ensures { IsWholeInstruction B.means (row_of (0xA0 + low)) cpu.old bus.old cpu.new bus.new }
 {
-    instruction_of!(bus, 0xA0, low, row,
-        0x0 => put_flag(cpu, row, INTERRUPT, true),
-        0x1 => table_call(cpu, bus, row),
-        0x2 => bit_in_place(cpu, bus, row, BitKind::Set),
-        0x3 => branch_on_bit(cpu, bus, row, true),
-        0x4 => calculate(cpu, bus, row, Sbc),
-        0x5 => calculate(cpu, bus, row, Sbc),
-        0x6 => calculate(cpu, bus, row, Sbc),
-        0x7 => calculate(cpu, bus, row, Sbc),
-        0x8 => calculate(cpu, bus, row, Sbc),
-        0x9 => calculate(cpu, bus, row, Sbc),
-        0xA => bit_to_carry(cpu, bus, row, BitKind::Load),
-        0xB => modify(cpu, bus, row, Up),
-        0xC => modify(cpu, bus, row, Up),
-        0xD => compare(cpu, bus, row),
-        0xE => pop_register(cpu, bus, row),
-        _ => mov(cpu, bus, row)
+    instruction_of!(cpu, bus, 0xA0, low,
+        0x0 => PutFlag { mask: INTERRUPT, on: true },
+        0x1 => TableCall,
+        0x2 => BitInPlace(BitKind::Set),
+        0x3 => BranchOnBit(true),
+        0x4 | 0x5 | 0x6 | 0x7 | 0x8 | 0x9 => Sbc,
+        0xA => BitToCarry(BitKind::Load),
+        0xB | 0xC => Up,
+        0xD => Compare,
+        0xE => Pop,
+        _ => execute_whole(cpu, bus, 0xAF, Move)
     )
 }
 
@@ -356,23 +271,17 @@ fn from_b0<B: Bus>(cpu: &mut Cpu, bus: &mut B, low: u8)
     requires digit { low < 16 }
     ensures { IsWholeInstruction B.means (row_of (0xB0 + low)) cpu.old bus.old cpu.new bus.new }
 {
-    instruction_of!(bus, 0xB0, low, row,
-        0x0 => branch_on_flag(cpu, bus, row, CARRY, true),
-        0x1 => table_call(cpu, bus, row),
-        0x2 => bit_in_place(cpu, bus, row, BitKind::Clear),
-        0x3 => branch_on_bit(cpu, bus, row, false),
-        0x4 => calculate(cpu, bus, row, Sbc),
-        0x5 => calculate(cpu, bus, row, Sbc),
-        0x6 => calculate(cpu, bus, row, Sbc),
-        0x7 => calculate(cpu, bus, row, Sbc),
-        0x8 => calculate(cpu, bus, row, Sbc),
-        0x9 => calculate(cpu, bus, row, Sbc),
-        0xA => word_on_ya(cpu, bus, row, WordCalculation::Load),
-        0xB => modify(cpu, bus, row, Up),
-        0xC => modify(cpu, bus, row, Up),
-        0xD => mov(cpu, bus, row),
-        0xE => put_a(cpu, row, das(cpu.a, cpu.psw)),
-        _ => mov(cpu, bus, row)
+    instruction_of!(cpu, bus, 0xB0, low,
+        0x0 => BranchOnFlag { mask: CARRY, on: true },
+        0x1 => TableCall,
+        0x2 => BitInPlace(BitKind::Clear),
+        0x3 => BranchOnBit(false),
+        0x4 | 0x5 | 0x6 | 0x7 | 0x8 | 0x9 => Sbc,
+        0xA => WordCalculation::Load,
+        0xB | 0xC => Up,
+        0xD => Move,
+        0xE => AdjustDifference,
+        _ => execute_whole(cpu, bus, 0xBF, Move)
     )
 }
 
@@ -383,23 +292,16 @@ fn from_c0<B: Bus>(cpu: &mut Cpu, bus: &mut B, low: u8)
     requires digit { low < 16 }
     ensures { IsWholeInstruction B.means (row_of (0xC0 + low)) cpu.old bus.old cpu.new bus.new }
 {
-    instruction_of!(bus, 0xC0, low, row,
-        0x0 => put_flag(cpu, row, INTERRUPT, false),
-        0x1 => table_call(cpu, bus, row),
-        0x2 => bit_in_place(cpu, bus, row, BitKind::Set),
-        0x3 => branch_on_bit(cpu, bus, row, true),
-        0x4 => mov(cpu, bus, row),
-        0x5 => mov(cpu, bus, row),
-        0x6 => mov(cpu, bus, row),
-        0x7 => mov(cpu, bus, row),
-        0x8 => compare(cpu, bus, row),
-        0x9 => mov(cpu, bus, row),
-        0xA => bit_in_place(cpu, bus, row, BitKind::Store),
-        0xB => mov(cpu, bus, row),
-        0xC => mov(cpu, bus, row),
-        0xD => mov(cpu, bus, row),
-        0xE => pop_register(cpu, bus, row),
-        _ => put_ya(cpu, row, mul(cpu.y, cpu.a, cpu.psw))
+    instruction_of!(cpu, bus, 0xC0, low,
+        0x0 => PutFlag { mask: INTERRUPT, on: false },
+        0x1 => TableCall,
+        0x2 => BitInPlace(BitKind::Set),
+        0x3 => BranchOnBit(true),
+        0x4 | 0x5 | 0x6 | 0x7 | 0x9 | 0xB | 0xC | 0xD => Move,
+        0x8 => Compare,
+        0xA => BitInPlace(BitKind::Store),
+        0xE => Pop,
+        _ => execute_whole(cpu, bus, 0xCF, Multiply)
     )
 }
 
@@ -410,23 +312,16 @@ fn from_d0<B: Bus>(cpu: &mut Cpu, bus: &mut B, low: u8)
     requires digit { low < 16 }
     ensures { IsWholeInstruction B.means (row_of (0xD0 + low)) cpu.old bus.old cpu.new bus.new }
 {
-    instruction_of!(bus, 0xD0, low, row,
-        0x0 => branch_on_flag(cpu, bus, row, ZERO, false),
-        0x1 => table_call(cpu, bus, row),
-        0x2 => bit_in_place(cpu, bus, row, BitKind::Clear),
-        0x3 => branch_on_bit(cpu, bus, row, false),
-        0x4 => mov(cpu, bus, row),
-        0x5 => mov(cpu, bus, row),
-        0x6 => mov(cpu, bus, row),
-        0x7 => mov(cpu, bus, row),
-        0x8 => mov(cpu, bus, row),
-        0x9 => mov(cpu, bus, row),
-        0xA => move_word(cpu, bus, row),
-        0xB => mov(cpu, bus, row),
-        0xC => modify(cpu, bus, row, Down),
-        0xD => mov(cpu, bus, row),
-        0xE => branch_if_different(cpu, bus, row),
-        _ => put_a(cpu, row, daa(cpu.a, cpu.psw))
+    instruction_of!(cpu, bus, 0xD0, low,
+        0x0 => BranchOnFlag { mask: ZERO, on: false },
+        0x1 => TableCall,
+        0x2 => BitInPlace(BitKind::Clear),
+        0x3 => BranchOnBit(false),
+        0x4 | 0x5 | 0x6 | 0x7 | 0x8 | 0x9 | 0xB | 0xD => Move,
+        0xA => MoveWord,
+        0xC => Down,
+        0xE => BranchIfDifferent,
+        _ => execute_whole(cpu, bus, 0xDF, AdjustSum)
     )
 }
 
@@ -437,23 +332,16 @@ fn from_e0<B: Bus>(cpu: &mut Cpu, bus: &mut B, low: u8)
     requires digit { low < 16 }
     ensures { IsWholeInstruction B.means (row_of (0xE0 + low)) cpu.old bus.old cpu.new bus.new }
 {
-    instruction_of!(bus, 0xE0, low, row,
-        0x0 => clear_overflow(cpu, row),
-        0x1 => table_call(cpu, bus, row),
-        0x2 => bit_in_place(cpu, bus, row, BitKind::Set),
-        0x3 => branch_on_bit(cpu, bus, row, true),
-        0x4 => mov(cpu, bus, row),
-        0x5 => mov(cpu, bus, row),
-        0x6 => mov(cpu, bus, row),
-        0x7 => mov(cpu, bus, row),
-        0x8 => mov(cpu, bus, row),
-        0x9 => mov(cpu, bus, row),
-        0xA => bit_in_place(cpu, bus, row, BitKind::Not),
-        0xB => mov(cpu, bus, row),
-        0xC => mov(cpu, bus, row),
-        0xD => turn_carry(cpu, row),
-        0xE => pop_register(cpu, bus, row),
-        _ => halt(cpu, bus)
+    instruction_of!(cpu, bus, 0xE0, low,
+        0x0 => ClearOverflow,
+        0x1 => TableCall,
+        0x2 => BitInPlace(BitKind::Set),
+        0x3 => BranchOnBit(true),
+        0x4 | 0x5 | 0x6 | 0x7 | 0x8 | 0x9 | 0xB | 0xC => Move,
+        0xA => BitInPlace(BitKind::Not),
+        0xD => TurnCarry,
+        0xE => Pop,
+        _ => halt(cpu, bus, 0xEF)
     )
 }
 
@@ -464,23 +352,15 @@ fn from_f0<B: Bus>(cpu: &mut Cpu, bus: &mut B, low: u8)
     requires digit { low < 16 }
     ensures { IsWholeInstruction B.means (row_of (0xF0 + low)) cpu.old bus.old cpu.new bus.new }
 {
-    instruction_of!(bus, 0xF0, low, row,
-        0x0 => branch_on_flag(cpu, bus, row, ZERO, true),
-        0x1 => table_call(cpu, bus, row),
-        0x2 => bit_in_place(cpu, bus, row, BitKind::Clear),
-        0x3 => branch_on_bit(cpu, bus, row, false),
-        0x4 => mov(cpu, bus, row),
-        0x5 => mov(cpu, bus, row),
-        0x6 => mov(cpu, bus, row),
-        0x7 => mov(cpu, bus, row),
-        0x8 => mov(cpu, bus, row),
-        0x9 => mov(cpu, bus, row),
-        0xA => mov(cpu, bus, row),
-        0xB => mov(cpu, bus, row),
-        0xC => modify(cpu, bus, row, Up),
-        0xD => mov(cpu, bus, row),
-        0xE => count_down(cpu, bus, row),
-        _ => halt(cpu, bus)
+    instruction_of!(cpu, bus, 0xF0, low,
+        0x0 => BranchOnFlag { mask: ZERO, on: true },
+        0x1 => TableCall,
+        0x2 => BitInPlace(BitKind::Clear),
+        0x3 => BranchOnBit(false),
+        0x4 | 0x5 | 0x6 | 0x7 | 0x8 | 0x9 | 0xA | 0xB | 0xD => Move,
+        0xC => Up,
+        0xE => CountDown,
+        _ => halt(cpu, bus, 0xFF)
     )
 }
 
