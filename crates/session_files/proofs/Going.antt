@@ -42,7 +42,7 @@ module _ {S V : Type 0} (chip : ChipMeaning S) (saving : ChipSaving S V) where
   rest_kept : {old new : ChipServer S V} → KeepsTune chip saving old new → (now told : List Reply) → now ≡ told
       → cut_frames (frames_to chip saving new) (played_cuts now) ≡ cut_frames (frames_to chip saving old) (played_cuts told)
   rest_kept {old} {new} tune now told same =
-      ap (λ (h : ℕ → List Frame). cut_frames h (played_cuts now)) (frames_kept tune)
+      ap (λ (h : ℕ → List Frame). cut_frames h (played_cuts now)) (frames_kept chip saving tune)
       ∙ ap (λ (r : List Reply). cut_frames (frames_to chip saving old) (played_cuts r)) same
 
   -- frames were played

@@ -2,7 +2,7 @@ use Rattle.std.proofs.Common.{ap, arith}
 use Rattle.cut_server.specs.Server.{frames_to}
 use Rattle.cut_server.specs.ServerState.{book_of}
 use Rattle.cut_form.proofs.Slices.{played_part}
-use Rattle.session_files.proofs.Going.{frames_kept}
+use Rattle.cut_server.proofs.SameTune.{frames_kept}
 use Rattle.session_files.proofs.player.Player.play_some.Goals as goal
 
 pub returns-clause-frames : goal.returns-clause-frames
