@@ -2,7 +2,7 @@
 use Rattle.std.proofs.Common.{◌≡◌, ℕ, zero, suc, ◌+◌, List, pos, slice_index, refl, ap, sym, ◌∙◌, arith}
 use Rattle.voice_unit.specs.Voice.{VoiceState}
 use Rattle.echo_unit.specs.Echo.{EchoState}
-use Rattle.dsp_state.specs.Samples.{SamplesResult, samples, one_more}
+use Rattle.chip_form.specs.Samples.{SamplesResult, samples, one_more}
 use Rattle.dsp_state.specs.Sample.{SharedInput, results_from, shared_input, sample, before_voices}
 use Rattle.dsp_state.specs.declared.registers.TheConstants.{FLG}
 use Rattle.dsp_state.specs.declared.state.ChipState.{ChipState}

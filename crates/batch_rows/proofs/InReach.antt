@@ -3,7 +3,7 @@ use Rattle.std.proofs.Common.{◌≡◌, ℕ, zero, suc, ◌+◌, ◌%◌, ◌==
 use Rattle.std.proofs.lemmas.Bool.{and_parts}
 use Rattle.num_fix.specs.Arithmetic.{has_bit}
 use Rattle.aram_core.specs.Pages.{page_of}
-use Rattle.dsp_state.specs.Samples.{SamplesResult, samples}
+use Rattle.chip_form.specs.Samples.{SamplesResult, samples}
 use Rattle.echo_unit.specs.Flg.{has_echo_writes}
 use Rattle.dsp_state.specs.Registers.{echo_regs}
 use Rattle.dsp_state.specs.Mix.{sent_frame}

@@ -5,7 +5,7 @@ use Rattle.std.proofs.Math.Nat.{zero-div}
 use Rattle.std.specs.List.{filter}
 use Rattle.num_fix.specs.Arithmetic.{has_bit}
 use Rattle.voice_unit.specs.declared.interface.VoiceOut.{VoiceOut}
-use Rattle.dsp_state.specs.Samples.{samples, in_mask}
+use Rattle.chip_form.specs.Samples.{samples, in_mask}
 use Rattle.dsp_state.specs.declared.state.ChipState.{ChipState}
 use Rattle.dsp_state.specs.Sample.{records_from, sample}
 

@@ -1,6 +1,6 @@
 -- That the voices of a batch read nothing that its echo writes.
 use Rattle.std.specs.Prelude.{◌≡◌, ℕ, ◌+◌, ◌<◌, List, pos}
-use Rattle.dsp_state.specs.Samples.{samples}
+use Rattle.chip_form.specs.Samples.{samples}
 use Rattle.dsp_state.specs.Sample.{before_voices, shared_input, results_from, sample}
 use Rattle.dsp_state.specs.declared.state.ChipState.{ChipState}
 

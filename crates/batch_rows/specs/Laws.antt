@@ -5,10 +5,10 @@ use Rattle.aram_core.specs.Pages.{have_common_page}
 use Rattle.voice_unit.specs.declared.interface.VoiceOut.{VoiceOut}
 use Rattle.echo_unit.specs.Flg.{has_echo_writes}
 use Rattle.reach_map.specs.Reach.{window_pages}
-use Rattle.dsp_state.specs.Limits.{most_samples_of_batch}
+use Rattle.chip_form.specs.Limits.{most_samples_of_batch}
 use Rattle.dsp_state.specs.Reach.{chip_window, chip_reach}
 use Rattle.dsp_state.specs.Sample.{is_polled, sample}
-use Rattle.dsp_state.specs.Samples.{samples}
+use Rattle.chip_form.specs.Samples.{samples}
 use Rattle.dsp_state.specs.Valid.{is_valid}
 use Rattle.dsp_state.specs.declared.registers.TheConstants.{FLG, ENDX}
 use Rattle.dsp_state.specs.declared.state.ChipState.{ChipState}

@@ -9,7 +9,7 @@ use Rattle.dsp_state.specs.Registers.{echo_regs}
 use Rattle.dsp_state.specs.Mix.{main_frame, sent_frame}
 use Rattle.dsp_state.specs.Volumes.{all_volumes}
 use Rattle.dsp_state.specs.Results.{registers_after}
-use Rattle.dsp_state.specs.Samples.{SamplesResult}
+use Rattle.chip_form.specs.Samples.{SamplesResult}
 use Rattle.dsp_state.specs.Sample.{SharedInput, before_voices, shared_input, records_from}
 use Rattle.dsp_state.specs.declared.state.ChipState.{ChipState}
 use Rattle.batch_rows.specs.Lane.{lanes, voices_after}

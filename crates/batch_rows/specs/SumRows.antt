@@ -4,7 +4,7 @@ use Rattle.num_fix.specs.Arithmetic.{clamp16, scaled}
 use Rattle.num_fix.specs.SignedWords.{number_at}
 use Rattle.num_fix.specs.declared.Frame.{Frame}
 use Rattle.echo_unit.specs.EchoOverBatch.{pair_of}
-use Rattle.dsp_state.specs.Limits.{most_samples_of_batch}
+use Rattle.chip_form.specs.Limits.{most_samples_of_batch}
 use Rattle.batch_rows.specs.declared.sums.SumRows.{SumRows}
 
 -- each sum has the share of an output at a volume added, limited to 16 bits

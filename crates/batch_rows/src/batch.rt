@@ -3,7 +3,7 @@
 ghost use Rattle.std.specs.Prelude.{◌≡◌, ◌≤◌, ◌<◌, ◌+◌, ◌++◌, length, true};
 ghost use Rattle.rate_clock.specs.Counter.{counter_after};
 ghost use Rattle.trace_form.specs.Rooms.{frame_room};
-ghost use Rattle.dsp_state.specs.Limits.{most_samples_of_chip, most_samples_of_batch};
+ghost use Rattle.chip_form.specs.Limits.{most_samples_of_chip, most_samples_of_batch};
 ghost use Rattle.dsp_state.specs.Settings.{settings_of};
 ghost use Rattle.batch_rows.specs.Rows.{by_rows};
 

@@ -3,7 +3,7 @@
 ghost use Rattle.std.specs.Prelude.{◌≡◌, ◌≤◌, ◌+◌, ◌++◌, length};
 ghost use Rattle.trace_form.specs.Rooms.{frame_room};
 ghost use Rattle.echo_unit.specs.EchoOverBatch.{echo_over};
-ghost use Rattle.dsp_state.specs.Limits.{most_samples_of_batch};
+ghost use Rattle.chip_form.specs.Limits.{most_samples_of_batch};
 ghost use Rattle.batch_rows.specs.SumRows.{main_of, sent_of};
 
 use crate::sums::SumRows;

@@ -2,7 +2,7 @@
 
 ghost use Rattle.std.specs.Prelude.{◌≡◌, ◌≤◌, ◌<◌, ℕ, List, false, get_or, slice_index, if◌then◌else◌};
 ghost use Rattle.voice_unit.specs.declared.interface.VoiceOut.{VoiceOut};
-ghost use Rattle.dsp_state.specs.Limits.{most_samples_of_batch};
+ghost use Rattle.chip_form.specs.Limits.{most_samples_of_batch};
 ghost use Rattle.batch_rows.specs.Once.{endx_after, AreBits};
 
 use dsp_state::next_endx;

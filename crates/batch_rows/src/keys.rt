@@ -2,7 +2,7 @@
 
 ghost use Rattle.std.specs.Prelude.{◌≡◌, ◌≤◌, ◌+◌, ◌<◌, ℕ, true, false, get_or, slice_index, replicate};
 ghost use Rattle.rate_clock.specs.Counter.{counter_at, counter_after, IsQuiet};
-ghost use Rattle.dsp_state.specs.Limits.{most_samples_of_chip, most_samples_of_batch};
+ghost use Rattle.chip_form.specs.Limits.{most_samples_of_chip, most_samples_of_batch};
 ghost use Rattle.dsp_state.specs.Registers.{noise_rate};
 ghost use Rattle.dsp_state.specs.Sample.{is_polled, after_poll, after_noise, before_voices};
 ghost use Rattle.dsp_state.specs.declared.registers.TheConstants.{FLG};

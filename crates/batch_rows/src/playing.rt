@@ -3,7 +3,7 @@
 ghost use Rattle.std.specs.Prelude.{◌≡◌, ◌<◌, ◌≤◌, ◌+◌, ◌-◌, ◌^◌, ℕ, pos, List, map, length, replicate, slice_index};
 ghost use Rattle.num_fix.specs.SignedWords.{number_at};
 ghost use Rattle.rate_clock.specs.Counter.{counter_at};
-ghost use Rattle.dsp_state.specs.Limits.{most_samples_of_batch};
+ghost use Rattle.chip_form.specs.Limits.{most_samples_of_batch};
 ghost use Rattle.dsp_state.specs.Registers.{is_soft_reset};
 ghost use Rattle.dsp_state.specs.declared.registers.TheConstants.{DIR, PMON, NON, KOFF, FLG};
 ghost use Rattle.dsp_state.specs.declared.state.ChipState.{ChipState};

@@ -3,7 +3,7 @@
 ghost use Rattle.std.specs.Prelude.{◌≡◌, ◌≤◌, ◌<◌, ◌+◌, ◌++◌, ◌∷◌, [], length};
 ghost use Rattle.std.specs.List.{filter};
 ghost use Rattle.trace_form.specs.Rooms.{record_room};
-ghost use Rattle.dsp_state.specs.Samples.{in_mask};
+ghost use Rattle.chip_form.specs.Samples.{in_mask};
 ghost use Rattle.dsp_state.specs.Sample.{records_from};
 
 use num_fix::has_bit;

@@ -3,7 +3,7 @@
 ghost use Rattle.std.specs.Prelude.{◌≡◌, ◌<◌, ℕ, ℤ, pos, ◌+ℤ◌, ◌*ℤ◌, neg_ℤ, ◌≤ℤ◌, ◌<ℤ◌, replicate, unsigned_abs};
 ghost use Rattle.num_fix.specs.Arithmetic.{clamp16, scaled};
 ghost use Rattle.num_fix.specs.SignedWords.{number_at};
-ghost use Rattle.dsp_state.specs.Limits.{most_samples_of_batch};
+ghost use Rattle.chip_form.specs.Limits.{most_samples_of_batch};
 ghost use Rattle.batch_rows.specs.SumRows.{HasShares};
 
 use dsp_state::{Volumes, with_share};

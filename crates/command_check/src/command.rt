@@ -1,6 +1,6 @@
 // The command `check`: sums over the frames of a demo file, and the counts of its batches.
 ghost use Rattle.std.specs.Prelude.{◌≡◌, ◌≤◌, IfOk, length, false};
-ghost use Rattle.lock_step.specs.DspChip.{dsp_chip};
+ghost use Rattle.dsp_core.specs.DspChip.{dsp_chip};
 ghost use Rattle.render_core.specs.RenderState.{frames_to_come, counts_to_come};
 ghost use Rattle.snd_host.specs.Host.{HostState, Files};
 ghost use Rattle.command_frame.specs.Answer.{done};

@@ -1,7 +1,7 @@
 // The command `cuts`: the cuts of a list, each a slice of a tune's run.
 ghost use Rattle.std.specs.Prelude.{◌≡◌, ◌++◌, IfOk, true};
 ghost use Rattle.wav_form.specs.Wave.{header_of, stereo_wave};
-ghost use Rattle.lock_step.specs.DspChip.{dsp_chip, dsp_saving};
+ghost use Rattle.dsp_core.specs.DspChip.{dsp_chip, dsp_saving};
 ghost use Rattle.snd_host.specs.Host.{HostState, Files};
 ghost use Rattle.command_frame.specs.Conduct.{Plans, Prepares, Attempts};
 ghost use Rattle.command_frame.specs.Delivery.{CanDeliver};

@@ -2,7 +2,7 @@
 ghost use Rattle.std.specs.Prelude.{◌≡◌, ◌≤◌, ◌++◌, IfOk, true, is_some, unwrap_or};
 ghost use Rattle.wav_form.specs.Wave.{header_of, stereo_wave};
 ghost use Rattle.render_core.specs.Fade.{faded_frames};
-ghost use Rattle.lock_step.specs.DspChip.{dsp_chip};
+ghost use Rattle.dsp_core.specs.DspChip.{dsp_chip};
 ghost use Rattle.snd_host.specs.Host.{HostState, Files};
 ghost use Rattle.command_frame.specs.Conduct.{Plans, Prepares, Attempts};
 ghost use Rattle.command_frame.specs.Delivery.{CanDeliver};

@@ -1,7 +1,7 @@
 // The command `serve`: a session over a tune.
 ghost use Rattle.std.specs.Prelude.{◌≡◌, ◌≤◌, ◌++◌, IfOk, true};
 ghost use Rattle.wav_form.specs.Wave.{header_of, stereo_wave};
-ghost use Rattle.lock_step.specs.DspChip.{dsp_chip, dsp_saving};
+ghost use Rattle.dsp_core.specs.DspChip.{dsp_chip, dsp_saving};
 ghost use Rattle.page_pool.specs.Pool.{most_pages};
 ghost use Rattle.cut_form.specs.Checkpoints.{fewest_pages};
 ghost use Rattle.snd_host.specs.Host.{HostState, Files};

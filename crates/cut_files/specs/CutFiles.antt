@@ -4,8 +4,8 @@ use Rattle.std.specs.List.{flat_map}
 use Rattle.num_fix.specs.declared.Frame.{Frame}
 use Rattle.num_fix.specs.Limits.{most_frames}
 use Rattle.wav_form.specs.Wave.{frame_bytes}
-use Rattle.lock_step.specs.ChipMeaning.{ChipMeaning}
-use Rattle.lock_step.specs.ChipSaving.{ChipSaving}
+use Rattle.chip_form.specs.ChipMeaning.{ChipMeaning}
+use Rattle.chip_form.specs.ChipSaving.{ChipSaving}
 use Rattle.cut_form.specs.declared.cut.Cut.{Cut}
 use Rattle.cut_form.specs.Checkpoints.{slots_used}
 use Rattle.cut_form.specs.Slices.{slice_of, cut_frames, cut_samples}

@@ -4,9 +4,9 @@ ghost use Rattle.cut_form.specs.CutBook.{with_one_if_room};
 ghost use Rattle.cut_server.specs.ServerState.{book_of, slots_of};
 ghost use Rattle.cut_server.specs.Server.{pages_at, KeepsTune};
 
+use chip_form::Chip;
 use cut_form::MOST_CHECKPOINTS;
 use cut_server::CutServer;
-use lock_step::Chip;
 
 /// Takes a checkpoint where none stands, fewer than 64 are live and there are pages enough.
 pub(crate) fn mark_if_room<C: Chip>(server: &mut CutServer<C>)

@@ -11,11 +11,11 @@ ghost use Rattle.report_text.specs.Room.{room_size};
 
 use crate::marking::mark_if_room;
 use crate::report::tell;
+use chip_form::Chip;
 use command_frame::{OutOfMemory, Pieces};
 use cut_form::{MOST_PLAYED, PLAYED_BYTES};
 use cut_server::CutServer;
 use cut_text::CutList;
-use lock_step::Chip;
 use render_files::put_frames;
 use report_text::ByteRoom;
 use std::alloc::Global;

@@ -7,10 +7,10 @@ ghost use Rattle.cut_form.specs.Slices.{cut_samples};
 ghost use Rattle.cut_server.specs.ServerState.{book_of, slots_of};
 ghost use Rattle.cut_files.specs.CutFiles.{cuts_report};
 
+use chip_form::Chip;
 use cut_form::SLOTS_FOR_CUTS;
 use cut_server::CutServer;
 use cut_text::CutList;
-use lock_step::Chip;
 use report_text::{ByteRoom, put_count};
 
 /// Writes the report on cuts that were played, by the server that played them.

@@ -1,10 +1,10 @@
 -- The render of a server: its whole machine, where it is loaded and where it runs.
 use Rattle.std.proofs.Common.{◌≡◌, ℕ, ◌-◌, ◌^◌, ◌<◌, ◌≤◌, List, [], refl, sym, ap, ◌∙◌, arith}
 use Rattle.num_fix.specs.Limits.{most_frames}
-use Rattle.dsp_state.specs.Samples.{count_after}
-use Rattle.lock_step.specs.ChipMeaning.{ChipMeaning}
-use Rattle.lock_step.specs.ChipSaving.{ChipSaving}
-use Rattle.lock_step.specs.SavingLaws.{IsLawfulSaving}
+use Rattle.chip_form.specs.Samples.{count_after}
+use Rattle.chip_form.specs.ChipMeaning.{ChipMeaning}
+use Rattle.chip_form.specs.ChipSaving.{ChipSaving}
+use Rattle.chip_form.specs.SavingLaws.{IsLawfulSaving}
 use Rattle.lock_step.specs.Machine.{Machine}
 use Rattle.lock_step.specs.LockStep.{lock_step}
 use Rattle.lock_step.specs.LockStepEmits.{lock_step_emits, drained_machine}

@@ -1,7 +1,7 @@
 -- What a server that keeps its tune keeps with it.
 use Rattle.std.proofs.Common.{◌≡◌, ap}
-use Rattle.lock_step.specs.ChipMeaning.{ChipMeaning}
-use Rattle.lock_step.specs.ChipSaving.{ChipSaving}
+use Rattle.chip_form.specs.ChipMeaning.{ChipMeaning}
+use Rattle.chip_form.specs.ChipSaving.{ChipSaving}
 use Rattle.cut_server.specs.ServerState.{frames_after}
 use Rattle.cut_server.specs.Server.{ChipServer, lock_step_machines, frames_to, KeepsTune}
 

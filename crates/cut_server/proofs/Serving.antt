@@ -2,9 +2,9 @@
 use Rattle.std.proofs.Common.{◌≡◌, ℕ, ◌+◌, ◌/◌, ◌<◌, ◌≤◌, true, List, [], ◌∷◌, ◌++◌, length, ap, ◌∙◌, arith, Some}
 use Rattle.std.specs.List.{slice_get, remove_range}
 use Rattle.num_fix.specs.Limits.{most_frames}
-use Rattle.lock_step.specs.ChipMeaning.{ChipMeaning}
-use Rattle.lock_step.specs.ChipSaving.{ChipSaving}
-use Rattle.lock_step.specs.SavingLaws.{IsLawfulSaving}
+use Rattle.chip_form.specs.ChipMeaning.{ChipMeaning}
+use Rattle.chip_form.specs.ChipSaving.{ChipSaving}
+use Rattle.chip_form.specs.SavingLaws.{IsLawfulSaving}
 use Rattle.lock_step.specs.Machine.{Machine}
 use Rattle.lock_step.specs.LockStep.{lock_step}
 use Rattle.lock_step.specs.LockStepEmits.{lock_step_emits, drained_machine}

@@ -1,8 +1,8 @@
 -- What a server keeps of its render. No contract that others see cites these words.
 use Rattle.std.specs.Prelude.{◌≡◌, ℕ, ◌-◌, ◌*◌, ◌<◌, ◌≤◌, false}
-use Rattle.dsp_state.specs.Samples.{count_after}
-use Rattle.lock_step.specs.ChipMeaning.{ChipMeaning}
-use Rattle.lock_step.specs.ChipSaving.{ChipSaving}
+use Rattle.chip_form.specs.Samples.{count_after}
+use Rattle.chip_form.specs.ChipMeaning.{ChipMeaning}
+use Rattle.chip_form.specs.ChipSaving.{ChipSaving}
 use Rattle.lock_step.specs.LockStepEmits.{drained_machine}
 use Rattle.render_core.specs.declared.saved.PlayState.{PlayState}
 use Rattle.render_core.specs.RenderState.{RenderState, is_at_length, whole_at_length}

@@ -1,8 +1,8 @@
 -- What contracts see of a server of cuts.
 use Rattle.std.specs.Prelude.{ℕ, ◌/◌, List}
 use Rattle.num_fix.specs.declared.Frame.{Frame}
-use Rattle.lock_step.specs.ChipMeaning.{ChipMeaning}
-use Rattle.lock_step.specs.ChipSaving.{ChipSaving}
+use Rattle.chip_form.specs.ChipMeaning.{ChipMeaning}
+use Rattle.chip_form.specs.ChipSaving.{ChipSaving}
 use Rattle.lock_step.specs.Machine.{Machine}
 use Rattle.render_core.specs.declared.saved.PlayState.{PlayState}
 use Rattle.render_core.specs.MachineRun.{Whole}

@@ -1,9 +1,9 @@
 -- Samples whose echo can't write what the voices read are those by rows; and samples keep a state valid.
 use Rattle.std.proofs.Common.{◌≡◌, ℕ, zero, suc, ◌+◌, ◌≤◌, List, true, false, sym}
-use Rattle.dsp_state.specs.Limits.{most_samples_of_batch}
+use Rattle.chip_form.specs.Limits.{most_samples_of_batch}
 use Rattle.dsp_state.specs.Reach.{chip_reach}
 use Rattle.dsp_state.specs.Sample.{sample}
-use Rattle.dsp_state.specs.Samples.{samples}
+use Rattle.chip_form.specs.Samples.{samples}
 use Rattle.dsp_state.specs.Valid.{is_valid}
 use Rattle.dsp_state.specs.declared.state.ChipState.{ChipState}
 use Rattle.dsp_state.proofs.Valid.{is_valid-sample}

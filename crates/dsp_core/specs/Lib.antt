@@ -1,10 +1,14 @@
 -- Chip: what contracts see of a chip.
 -- Saved: what is saved of a chip, and put back.
+-- DspChip: the S-DSP as a chip.
+-- DspLaws: it keeps the laws of a chip.
 -- VoicesOfSample: the voices of a sample, by the settings that the chip has read.
 -- Inside: what holds of the fields of each chip.
 -- InsideSaved: and of all that is saved of one.
 pub mod Chip
 pub mod Saved
+pub mod DspChip
+pub mod DspLaws
 pub mod VoicesOfSample
 pub mod Inside
 pub mod InsideSaved

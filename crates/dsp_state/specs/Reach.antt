@@ -8,7 +8,7 @@ use Rattle.reach_map.specs.Window.{echo_window}
 use Rattle.reach_map.specs.Reach.{reach}
 use Rattle.reach_map.specs.declared.Window.{Window}
 use Rattle.reach_map.specs.declared.ChainStart.{ChainStart}
-use Rattle.reach_map.specs.declared.ReachPages.{ReachPages}
+use Rattle.chip_form.specs.declared.pages.ReachPages.{ReachPages}
 use Rattle.dsp_state.specs.Registers.{voice_register}
 use Rattle.dsp_state.specs.declared.registers.TheConstants.{SRCN, DIR, FLG, ESA, EDL}
 use Rattle.dsp_state.specs.declared.state.ChipState.{ChipState}

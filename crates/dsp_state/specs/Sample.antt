@@ -14,7 +14,7 @@ use Rattle.dsp_state.specs.Mix.{main_frame, sent_frame}
 use Rattle.dsp_state.specs.Settings.{voice_settings}
 use Rattle.dsp_state.specs.Volumes.{all_volumes}
 use Rattle.dsp_state.specs.Results.{without_bits, registers_after}
-use Rattle.dsp_state.specs.Samples.{SampleResult}
+use Rattle.chip_form.specs.Samples.{SampleResult}
 use Rattle.dsp_state.specs.declared.registers.TheConstants.{DIR, FLG}
 use Rattle.dsp_state.specs.declared.state.ChipState.{ChipState}
 use Rattle.dsp_state.specs.declared.voice_settings.SharedByVoices.{SharedByVoices}

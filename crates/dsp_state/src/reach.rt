@@ -8,9 +8,10 @@ use crate::registers::{DIR, EDL, ESA, FLG, SRCN, voice_register};
 use crate::state::ChipState;
 use aram_core::Aram;
 use arrayvec::ArrayVec;
+use chip_form::ReachPages;
 use echo_unit::has_echo_writes;
 use num_fix::has_bit;
-use reach_map::{ChainStart, ReachPages};
+use reach_map::ChainStart;
 use voice_unit::{Voice, entry_address, loop_word, start_word};
 
 /// Where eight voices can be: each at its block, or at the start of its sample.

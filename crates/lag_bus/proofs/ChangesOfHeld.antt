@@ -9,12 +9,11 @@ use Rattle.std.specs.List.{filter}
 use Rattle.aram_core.specs.Memory.{byte_at, with_byte}
 use Rattle.trace_form.specs.declared.record.Record.{Record}
 use Rattle.trace_form.specs.declared.record.Record.TheVariants.{Reg, Port, Voice}
-use Rattle.dsp_state.specs.Limits.{most_samples_of_chip}
-use Rattle.dsp_state.specs.Results.{is_result}
-use Rattle.dsp_state.specs.Samples.{SampleResult, SamplesResult, samples, in_mask}
-use Rattle.dsp_state.proofs.OneMoreSample.{samples_none, samples_more}
-use Rattle.lock_step.specs.ChipMeaning.{ChipMeaning}
-use Rattle.lock_step.specs.ChipLaws.{IsLawfulChip}
+use Rattle.chip_form.specs.Limits.{most_samples_of_chip}
+use Rattle.chip_form.specs.Samples.{SampleResult, SamplesResult, samples, in_mask}
+use Rattle.chip_form.proofs.OneMoreSample.{samples_none, samples_more}
+use Rattle.chip_form.specs.ChipMeaning.{ChipMeaning}
+use Rattle.chip_form.specs.ChipLaws.{IsLawfulChip}
 use Rattle.lag_bus.specs.Each.{Each, IsVoiceWithin}
 use Rattle.lag_bus.specs.Merge.{merge}
 use Rattle.lock_step.specs.SampleNumbers.{sample_number}
@@ -23,7 +22,8 @@ use Rattle.lag_bus.specs.Book.{may_be_read, may_be_written}
 use Rattle.lag_bus.specs.Late.{late_with_sample}
 use Rattle.lag_bus.specs.Held.{Held, IsHeld, pending_samples, late_of}
 use Rattle.lag_bus.proofs.MergedRecords.{Each-append, Each-map, Each-filter, Each-merge, merge_voices, merge_event, merge_nothing, length-merge, number_before, later_before, event_after, voice_before, voice_after, voice_number, filter_all, filter_none}
-use Rattle.lag_bus.proofs.LawfulSamples.{frame_count_of_samples, voices_within, is_valid-samples, voices_within-samples, voices_of_mask}
+use Rattle.chip_form.proofs.LawfulSamples.{frame_count_of_samples, is_valid-samples, voices_of_mask}
+use Rattle.lag_bus.proofs.VoicesWithin.{voices_within, voices_within-samples}
 
 -- the voices of a sample have its number
 number_of_voice : (k : ℕ) (item : Record) → IsVoiceWithin k (k + 1) item → sample_number item ≡ k
@@ -59,7 +59,7 @@ module _ {S : Type 0} {chip : ChipMeaning S} (laws : IsLawfulChip chip) where
       laws.writes_inside (suc n) k s memory at few valid (not-true _ (rw some at free))
 
   register_stays : (n k : ℕ) (s : S) (memory : List ℕ) (address : ℕ) → n ≤ 64 → chip.is_valid s ≡ true
-      → (n == 0 || not (is_result address)) ≡ true
+      → (n == 0 || not (chip.is_result address)) ≡ true
       → chip.register_read (samples chip.sample n k s memory).state address ≡ chip.register_read s address
   register_stays zero k s memory address few valid free = rw samples_none refl
   register_stays (suc n) k s memory address few valid free =
@@ -88,7 +88,7 @@ module _ {S : Type 0} {chip : ChipMeaning S} (laws : IsLawfulChip chip) where
         → byte_at h.memory at ≡ byte_at (late_of chip h).memory at
     late_get at free = sym (byte_stays h.pending h.number h.state h.memory at is.pending is.is_valid free)
 
-    pub late_register : (address : ℕ) → (h.pending == 0 || not (is_result address)) ≡ true
+    pub late_register : (address : ℕ) → (h.pending == 0 || not (chip.is_result address)) ≡ true
         → chip.register_read h.state address ≡ chip.register_read (late_of chip h).chip address
     late_register address free = sym (register_stays h.pending h.number h.state h.memory address is.pending is.is_valid free)
 

@@ -2,8 +2,8 @@
 pub mod SameMachine
 -- MergedRecords: what a merge of records of voices and events has, and how it grows
 pub mod MergedRecords
--- LawfulSamples: what samples of a lawful chip keep and give, one after another
-pub mod LawfulSamples
+-- VoicesWithin: the records of samples are of voices, with their numbers
+pub mod VoicesWithin
 -- ChangesOfHeld: what a chip some samples late comes to, after each change of what is held
 pub mod ChangesOfHeld
 -- WritesToCome: samples to come read and write where the reach says

@@ -3,7 +3,7 @@ use Rattle.std.proofs.Common.{◌≡◌, ℕ, ◌+◌, ◌-◌, ◌<◌, ◌≤�
 use Rattle.std.proofs.lemmas.Bool.Decides.{nat_tests}
 use Rattle.ports_timers.specs.declared.io.Io.{Io}
 use Rattle.ports_timers.specs.Io.{is_within, read_answer, after_read, after_write, after_ticks_of}
-use Rattle.lock_step.specs.ChipMeaning.{ChipMeaning}
+use Rattle.chip_form.specs.ChipMeaning.{ChipMeaning}
 use Rattle.lag_bus.specs.Held.{IsPlain}
 use Rattle.lag_bus.specs.Lagging.{Lagging, lagging, with_book, MatchesBook}
 use Rattle.lag_bus.specs.Waiting.{with_due}

@@ -1,7 +1,7 @@
 -- The machine with its lag book passes cycles in which it is only looked at.
 use Rattle.std.proofs.Common.{◌≡◌, ℕ, ◌+◌, ◌-◌, ◌/◌, ◌<◌, ◌≤◌, Bool, true, false, refl, sym, ap, ◌∙◌, arith}
 use Rattle.ports_timers.specs.Io.{after_ticks_of}
-use Rattle.lock_step.specs.ChipMeaning.{ChipMeaning}
+use Rattle.chip_form.specs.ChipMeaning.{ChipMeaning}
 use Rattle.lock_step.specs.LockStep.{crosses_sample}
 use Rattle.lag_bus.specs.Lagging.{Lagging, lagging}
 use Rattle.lag_bus.specs.Waiting.{samples_in, with_due, after_wait, without_calls, IsKept}

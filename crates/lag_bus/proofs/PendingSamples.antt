@@ -2,8 +2,8 @@
 use Rattle.std.proofs.Common.{◌≡◌, ℕ, ◌+◌, ◌*◌, refl, arith, append_assoc}
 use Rattle.std.proofs.lemmas.List.{append-nil}
 use Rattle.std.proofs.lemmas.List.Elements.{filter-append}
-use Rattle.dsp_state.proofs.OneMoreSample.{samples_none, samples_more}
-use Rattle.lock_step.specs.ChipMeaning.{ChipMeaning}
+use Rattle.chip_form.proofs.OneMoreSample.{samples_none, samples_more}
+use Rattle.chip_form.specs.ChipMeaning.{ChipMeaning}
 use Rattle.lag_bus.specs.Late.{Late, late_with_sample, late_with_samples}
 
 pub late_with_samples-none : {S : Type 0} (chip : ChipMeaning S) (late : Late S) → late_with_samples chip late 0 ≡ late

@@ -6,7 +6,7 @@ use Rattle.aram_core.specs.Memory.{byte_at}
 use Rattle.ports_timers.specs.declared.io.Io.{Io}
 use Rattle.ports_timers.specs.Io.{read_answer, after_ticks_of}
 use Rattle.std.specs.List.{filter}
-use Rattle.dsp_state.specs.Samples.{samples, in_mask}
+use Rattle.chip_form.specs.Samples.{samples, in_mask}
 use Rattle.spc700_exec.specs.declared.cpu.Cpu.{Cpu}
 use Rattle.lag_bus.specs.LagLaws.{next_book}
 use Rattle.lock_step.specs.declared.counts.Counts.{Counts}
@@ -15,7 +15,7 @@ use Rattle.lag_bus.specs.Late.{Late, late_with_samples}
 use Rattle.lag_bus.specs.IsLagging.{lagging_of}
 use Rattle.lock_step.specs.Emits.{CountsOn}
 use Rattle.lock_step.specs.WaitOfRounds.{IsWaitOf}
-use Rattle.lock_step.specs.ChipMeaning.{ChipMeaning}
+use Rattle.chip_form.specs.ChipMeaning.{ChipMeaning}
 use Rattle.lock_step.specs.Machine.{Machine}
 use Rattle.lock_step.specs.LockStep.{bus_answer, after_bus_read}
 use Rattle.lag_bus.specs.Book.{may_be_written, cause_of_read, after_cause}
@@ -53,7 +53,7 @@ module _ {S : Type 0} (chip : ChipMeaning S) where
 
   read-without_calls : (s : Lagging S) (at : ℕ) → without_calls ((lagging chip).read s at).1 ≡ without_calls ((lagging chip).read (without_calls s) at).1
   read-without_calls s at =
-      let cause = cause_of_read s.book.reach s.machine.io.dsp_address at in
+      let cause = cause_of_read chip s.book.reach s.machine.io.dsp_address at in
       let same = next_book chip cause (after_bus_read s.machine at) (after_bus_read (without_calls s).machine at) s.book refl refl in
       λ i. without_calls (with_book (after_bus_read (without_calls s).machine at) (same i))
 
@@ -70,7 +70,7 @@ module _ {S : Type 0} (chip : ChipMeaning S) where
         ∙ (λ i. unwrap_or (io i) (memory i))
         ∙ sym (answer-elsewhere bus.machine at look.elsewhere)
 
-    no_cause : (dsp_address at : ℕ) → (at == 0xF3) ≡ false → may_be_written bus.book.reach at ≡ false → cause_of_read bus.book.reach dsp_address at ≡ None
+    no_cause : (dsp_address at : ℕ) → (at == 0xF3) ≡ false → may_be_written bus.book.reach at ≡ false → cause_of_read chip bus.book.reach dsp_address at ≡ None
     no_cause dsp_address at other unwritten = rw (other, unwritten) refl
 
     read-wait : (n at : ℕ) → n ≤ most → only_looks bus.book.reach bus.machine.io at ≡ true

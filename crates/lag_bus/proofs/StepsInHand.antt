@@ -5,7 +5,7 @@ use Rattle.spc700_exec.specs.declared.cpu.Cpu.{Cpu}
 use Rattle.spc700_exec.specs.Bus.{BusMeaning, byte_read, after_read, after_write}
 use Rattle.spc700_exec.specs.Script.{Script, Read, Write, End, cycles_at, outcome}
 use Rattle.spc700_exec.specs.Instruction.{script, step_outcome}
-use Rattle.lock_step.specs.ChipMeaning.{ChipMeaning}
+use Rattle.chip_form.specs.ChipMeaning.{ChipMeaning}
 use Rattle.lock_step.specs.StepsOfRun.{AreStepsOf}
 use Rattle.lock_step.proofs.StepsTaken.{one_step_more}
 use Rattle.lag_bus.specs.Lagging.{Lagging, lagging}

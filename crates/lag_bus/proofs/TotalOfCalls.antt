@@ -1,8 +1,8 @@
 -- Over calls that load nothing the chip of a bus that lags counts on.
 use Rattle.std.proofs.Common.{◌≡◌, ◌<◌, ◌≤◌, ◌-◌, ◌/◌, ◌^◌, ℕ, List, [], ◌∷◌, refl, arith}
-use Rattle.dsp_state.specs.Samples.{count_after}
-use Rattle.lock_step.specs.ChipMeaning.{ChipMeaning}
-use Rattle.lock_step.specs.ChipSaving.{ChipSaving}
+use Rattle.chip_form.specs.Samples.{count_after}
+use Rattle.chip_form.specs.ChipMeaning.{ChipMeaning}
+use Rattle.chip_form.specs.ChipSaving.{ChipSaving}
 use Rattle.lock_step.specs.Emits.{CountsOn, IsCountedOn}
 use Rattle.lock_step.proofs.ChipCounts.{counts_on_none, counts_on_then}
 use Rattle.lag_bus.specs.Lagging.{Lagging, lagging}

@@ -3,10 +3,10 @@ use Rattle.std.proofs.Common.{◌≡◌, ℕ, zero, suc, ◌+◌, ◌≤◌, ◌
 use Rattle.std.proofs.lemmas.Bool.{or_parts}
 use Rattle.std.proofs.lemmas.List.{append-nil, append_cancel_left}
 use Rattle.aram_core.specs.Memory.{byte_at, with_byte}
-use Rattle.dsp_state.specs.Samples.{SampleResult, SamplesResult, samples, one_more}
-use Rattle.dsp_state.proofs.OneMoreSample.{samples_none, samples_more}
-use Rattle.lock_step.specs.ChipMeaning.{ChipMeaning}
-use Rattle.lock_step.specs.ChipLaws.{IsLawfulChip}
+use Rattle.chip_form.specs.Samples.{SampleResult, SamplesResult, samples, one_more}
+use Rattle.chip_form.proofs.OneMoreSample.{samples_none, samples_more}
+use Rattle.chip_form.specs.ChipMeaning.{ChipMeaning}
+use Rattle.chip_form.specs.ChipLaws.{IsLawfulChip}
 use Rattle.lag_bus.specs.Late.{AreWritesWithin, AreReadsWithin}
 use Rattle.lag_bus.specs.Held.{Held, IsHeld, pending_samples, late_of}
 

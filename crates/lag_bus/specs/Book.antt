@@ -1,18 +1,17 @@
 -- The lag book: what of the machine in lock step is still to be done by the chip, when the chip does it, and how often (own).
-use Rattle.std.specs.Prelude.{◌≡◌, ℕ, ◌+◌, ◌-◌, ◌^◌, ◌<◌, Bool, ◌&&◌, ◌||◌, nat_lt, ◌==◌, if◌then◌else◌, Option, Some, None}
+use Rattle.std.specs.Prelude.{◌≡◌, ℕ, ◌+◌, ◌-◌, ◌%◌, ◌^◌, ◌<◌, Bool, ◌&&◌, ◌||◌, nat_lt, ◌==◌, if◌then◌else◌, Option, Some, None}
 use Rattle.std.specs.FinSet as set
 use Rattle.aram_core.specs.Pages.{page_of}
-use Rattle.reach_map.specs.declared.ReachPages.{ReachPages}
-use Rattle.dsp_state.specs.Results.{is_result}
-use Rattle.dsp_state.specs.Samples.{next_count, count_after}
+use Rattle.chip_form.specs.declared.pages.ReachPages.{ReachPages}
+use Rattle.chip_form.specs.Samples.{next_count, count_after}
 use Rattle.lock_step.specs.declared.counts.Counts.{Counts}
 use Rattle.lag_bus.specs.declared.cause.Cause.{Cause}
 use Rattle.lag_bus.specs.declared.cause.Cause.TheVariants.{Register, Memory, Echo, Full, Events, End}
-use Rattle.lock_step.specs.ChipMeaning.{ChipMeaning}
+use Rattle.chip_form.specs.ChipMeaning.{ChipMeaning}
 use Rattle.lock_step.specs.Machine.{Machine}
 use Rattle.lock_step.specs.LockStep.{writes_register, writes_port}
 use Rattle.trace_form.specs.Rooms.{event_room}
-use Rattle.dsp_state.specs.Limits.{most_samples_of_batch}
+use Rattle.chip_form.specs.Limits.{most_samples_of_batch}
 
 pub record Book : Type 0 where
   -- the samples that the chip hasn't made yet
@@ -26,8 +25,8 @@ pub record Book : Type 0 where
   -- the samples that the chip made in all, those before a load too
   pub total : ℕ
 
--- A write to an address has pending samples made first: they may read it, or the echo can write what a voice reads, and then
--- every address counts.
+-- A write to an address has pending samples made first: they may read it, or the reach is entangled, and then every address
+-- counts.
 abbrev pub may_be_read : ReachPages → (at : ℕ) → Bool
 may_be_read reach at = reach.entangled || set.contains reach.read_pages (page_of at)
 
@@ -36,9 +35,9 @@ abbrev pub may_be_written : ReachPages → (at : ℕ) → Bool
 may_be_written reach at = set.contains reach.write_pages (page_of at)
 
 -- the cause for which a read has pending samples made first: a register that they write, or memory that they may write
-abbrev pub cause_of_read : ReachPages → (dsp_address at : ℕ) → Option Cause
-cause_of_read reach dsp_address at =
-    if at == 0xF3 && is_result dsp_address then Some Register
+abbrev pub cause_of_read : {S : Type 0} → ChipMeaning S → ReachPages → (dsp_address at : ℕ) → Option Cause
+cause_of_read chip reach dsp_address at =
+    if at == 0xF3 && chip.is_result (dsp_address % 0x80) then Some Register
     else if may_be_written reach at then Some Echo
     else None
 

@@ -2,11 +2,11 @@
 use Rattle.std.specs.Prelude.{◌≡◌, ◌≤◌, ℕ, ◌-◌, List, [], ◌∷◌, ◌++◌, length, drop}
 use Rattle.trace_form.specs.declared.record.Record.{Record}
 use Rattle.spc700_exec.specs.Bus.{BusMeaning}
-use Rattle.lock_step.specs.ChipMeaning.{ChipMeaning}
-use Rattle.lock_step.specs.ChipSaving.{ChipSaving}
+use Rattle.chip_form.specs.ChipMeaning.{ChipMeaning}
+use Rattle.chip_form.specs.ChipSaving.{ChipSaving}
 use Rattle.lock_step.specs.Machine.{Machine}
 use Rattle.lock_step.specs.LockStep.{lock_step}
-use Rattle.dsp_state.specs.Samples.{count_after}
+use Rattle.chip_form.specs.Samples.{count_after}
 use Rattle.lag_bus.specs.Lagging.{Lagging, lagging, with_book, after_settle, MatchesBook}
 use Rattle.lag_bus.specs.LagEmits.{after_drain}
 use Rattle.lag_bus.specs.Ready.{ready_frames}

@@ -5,11 +5,11 @@ use Rattle.std.specs.FinSet as set
 use Rattle.num_fix.specs.declared.Frame.{Frame}
 use Rattle.trace_form.specs.declared.record.Record.{Record}
 use Rattle.ports_timers.specs.Io.{is_within}
-use Rattle.reach_map.specs.declared.ReachPages.{ReachPages}
-use Rattle.dsp_state.specs.Samples.{SamplesResult, samples, in_mask}
-use Rattle.lock_step.specs.ChipMeaning.{ChipMeaning}
+use Rattle.chip_form.specs.declared.pages.ReachPages.{ReachPages}
+use Rattle.chip_form.specs.Samples.{SamplesResult, samples, in_mask}
+use Rattle.chip_form.specs.ChipMeaning.{ChipMeaning}
 use Rattle.trace_form.specs.Rooms.{frame_room, record_room}
-use Rattle.dsp_state.specs.Limits.{most_samples_of_batch, most_samples_of_chip}
+use Rattle.chip_form.specs.Limits.{most_samples_of_batch, most_samples_of_chip}
 use Rattle.lag_bus.specs.Each.{Each}
 use Rattle.lag_bus.specs.Merge.{merge}
 use Rattle.lock_step.specs.SampleNumbers.{sample_number}

@@ -3,7 +3,7 @@ use Rattle.std.specs.Prelude.{◌≡◌, ℕ, ◌+◌, ◌-◌, ◌*◌, ◌/◌
 use Rattle.ports_timers.specs.declared.io.Io.{Io}
 use Rattle.lock_step.specs.declared.counts.Counts.{Counts}
 use Rattle.trace_form.specs.Rooms.{event_room}
-use Rattle.dsp_state.specs.Limits.{most_samples_of_batch, most_samples_of_chip}
+use Rattle.chip_form.specs.Limits.{most_samples_of_batch, most_samples_of_chip}
 use Rattle.lag_bus.specs.Book.{AddsUp}
 use Rattle.lag_bus.specs.Lagging.{Lagging}
 use Rattle.lag_bus.specs.Late.{Late}

@@ -1,7 +1,7 @@
 -- What the bus emits that lags, and hands over.
 use Rattle.lock_step.specs.LockStepEmits.{drained_machine}
 use Rattle.lock_step.specs.Emits.{Emits}
-use Rattle.lock_step.specs.ChipMeaning.{ChipMeaning}
+use Rattle.chip_form.specs.ChipMeaning.{ChipMeaning}
 use Rattle.lag_bus.specs.Lagging.{Lagging, with_book, after_settle}
 use Rattle.lag_bus.specs.Ready.{waiting_frames, waiting_records}
 

@@ -6,8 +6,8 @@ use Rattle.spc700_exec.specs.Bus.{IsLawful}
 use Rattle.spc700_exec.specs.Emitting.{IsEmitting}
 use Rattle.lag_bus.specs.declared.cause.Cause.{Cause}
 use Rattle.lag_bus.specs.declared.cause.Cause.TheVariants.{Full, End}
-use Rattle.dsp_state.specs.Samples.{count_after}
-use Rattle.lock_step.specs.ChipMeaning.{ChipMeaning}
+use Rattle.chip_form.specs.Samples.{count_after}
+use Rattle.chip_form.specs.ChipMeaning.{ChipMeaning}
 use Rattle.lock_step.specs.Machine.{Machine}
 use Rattle.lock_step.specs.LockStep.{lock_step, crosses_sample, after_bus_read, after_bus_write, after_bus_pass}
 use Rattle.lag_bus.specs.Book.{Book, cause_of_read, cause_of_write, settled_book, with_reach_of, after_cause, with_event, with_sample}
@@ -48,7 +48,7 @@ module _ {S : Type 0} (chip : ChipMeaning S) where
 
   read_next : (bus : Lagging S) (at : ℕ) → without_items ((lagging chip).read bus at).1 ≡ without_items ((lagging chip).read (without_items bus) at).1
   read_next bus at =
-      let cause = cause_of_read bus.book.reach bus.machine.io.dsp_address at in
+      let cause = cause_of_read chip bus.book.reach bus.machine.io.dsp_address at in
       let same = next_book cause (after_bus_read bus.machine at) (after_bus_read (drained_machine bus.machine) at) bus.book refl refl in
       λ i. with_book (drained_machine (after_bus_read bus.machine at)) (same i)
 
@@ -133,7 +133,7 @@ module _ {S : Type 0} (chip : ChipMeaning S) where
 
   pub counting : IsCounting (lagging chip) (lag_emits chip)
   counting = record {
-    read_counts = λ bus at. counts-cause (bus.machine.clock / 32) (cause_of_read bus.book.reach bus.machine.io.dsp_address at) (after_bus_read bus.machine at) bus.book;
+    read_counts = λ bus at. counts-cause (bus.machine.clock / 32) (cause_of_read chip bus.book.reach bus.machine.io.dsp_address at) (after_bus_read bus.machine at) bus.book;
     write_counts = λ bus at value.
         let cause = cause_of_write bus.book.reach bus.machine.io.dsp_address at bus.book.pending bus.book.events in
         counts-write (bus.machine.clock / 32) cause (after_bus_write chip bus.machine at value) at bus.book;

@@ -2,7 +2,7 @@
 use Rattle.std.specs.Prelude.{◌≡◌, ◌<◌, ◌≤◌, ℕ, ◌-◌, ◌^◌, ◌==◌, if◌then◌else◌}
 use Rattle.spc700_exec.specs.Bus.{BusMeaning}
 use Rattle.lag_bus.specs.declared.cause.Cause.TheVariants.{End}
-use Rattle.lock_step.specs.ChipMeaning.{ChipMeaning}
+use Rattle.chip_form.specs.ChipMeaning.{ChipMeaning}
 use Rattle.lock_step.specs.Machine.{Machine}
 use Rattle.lock_step.specs.LockStep.{samples_made, bus_answer, after_bus_read, after_bus_write, after_bus_pass, crosses_sample}
 use Rattle.lag_bus.specs.Book.{Book, cause_of_read, cause_of_write, after_cause, with_event, with_sample, settled_book, with_reach_of, opened_lag_book}
@@ -41,7 +41,7 @@ opened_lagging chip machine total = with_book machine (opened_lag_book chip mach
 -- the book after each of the calls
 abbrev pub book_after_read : {S : Type 0} → ChipMeaning S → Lagging S → (at : ℕ) → Book
 book_after_read chip bus at =
-    let cause = cause_of_read bus.book.reach bus.machine.io.dsp_address at in
+    let cause = cause_of_read chip bus.book.reach bus.machine.io.dsp_address at in
     after_cause chip cause (after_bus_read bus.machine at) bus.book
 
 abbrev pub book_after_write : {S : Type 0} → ChipMeaning S → Lagging S → (at value : ℕ) → Book

@@ -4,10 +4,10 @@ use Rattle.std.specs.List.{filter}
 use Rattle.aram_core.specs.Memory.{byte_at, with_byte}
 use Rattle.num_fix.specs.declared.Frame.{Frame}
 use Rattle.trace_form.specs.declared.record.Record.{Record}
-use Rattle.reach_map.specs.declared.ReachPages.{ReachPages}
-use Rattle.dsp_state.specs.Samples.{samples, in_mask}
-use Rattle.lock_step.specs.ChipMeaning.{ChipMeaning}
-use Rattle.dsp_state.specs.Limits.{most_samples_of_batch}
+use Rattle.chip_form.specs.declared.pages.ReachPages.{ReachPages}
+use Rattle.chip_form.specs.Samples.{samples, in_mask}
+use Rattle.chip_form.specs.ChipMeaning.{ChipMeaning}
+use Rattle.chip_form.specs.Limits.{most_samples_of_batch}
 use Rattle.lag_bus.specs.Book.{may_be_read, may_be_written}
 
 pub record Late (S : Type 0) : Type 0 where

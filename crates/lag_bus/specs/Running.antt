@@ -2,8 +2,8 @@
 use Rattle.std.specs.Prelude.{◌≤◌, ◌<◌, ◌⊎◌, ℕ, ◌+◌, ◌-◌, ◌*◌, ◌/◌}
 use Rattle.spc700_exec.specs.Bus.{BusMeaning}
 use Rattle.ports_timers.specs.Io.{after_ticks_of}
-use Rattle.dsp_state.specs.Limits.{most_samples_of_batch, most_samples_of_chip}
-use Rattle.lock_step.specs.ChipMeaning.{ChipMeaning}
+use Rattle.chip_form.specs.Limits.{most_samples_of_batch, most_samples_of_chip}
+use Rattle.chip_form.specs.ChipMeaning.{ChipMeaning}
 use Rattle.lock_step.specs.LockStep.{samples_made}
 use Rattle.lag_bus.specs.Lagging.{Lagging}
 use Rattle.lag_bus.specs.Late.{AreWritesWithin, AreReadsWithin}

@@ -1,8 +1,8 @@
 -- What is saved of a bus beside its memory, and a bus once that is loaded.
 use Rattle.std.specs.Prelude.{◌≡◌, ◌≤◌, ℕ, ◌/◌, List, []}
-use Rattle.dsp_state.specs.Limits.{most_samples_of_chip}
-use Rattle.lock_step.specs.ChipMeaning.{ChipMeaning}
-use Rattle.lock_step.specs.ChipSaving.{ChipSaving}
+use Rattle.chip_form.specs.Limits.{most_samples_of_chip}
+use Rattle.chip_form.specs.ChipMeaning.{ChipMeaning}
+use Rattle.chip_form.specs.ChipSaving.{ChipSaving}
 use Rattle.lock_step.specs.Machine.{Machine}
 use Rattle.lock_step.specs.LockStep.{samples_made}
 use Rattle.lag_bus.specs.declared.saved.BusState.{BusState}

@@ -1,16 +1,16 @@
 -- The machine with its lag book after cycles in which it is only looked at.
 use Rattle.std.specs.Prelude.{◌≡◌, ◌≤◌, ◌<◌, ℕ, ◌+◌, ◌-◌, ◌*◌, ◌/◌, ◌++◌, Bool, true, not, ◌&&◌, ◌==◌, if◌then◌else◌, Option, Some, None}
 use Rattle.std.specs.List.{filter}
-use Rattle.reach_map.specs.declared.ReachPages.{ReachPages}
+use Rattle.chip_form.specs.declared.pages.ReachPages.{ReachPages}
 use Rattle.ports_timers.specs.declared.io.Io.{Io}
 use Rattle.ports_timers.specs.Io.{after_ticks_of}
-use Rattle.dsp_state.specs.Samples.{samples, in_mask}
-use Rattle.lock_step.specs.ChipMeaning.{ChipMeaning}
+use Rattle.chip_form.specs.Samples.{samples, in_mask}
+use Rattle.chip_form.specs.ChipMeaning.{ChipMeaning}
 use Rattle.lock_step.specs.LockStep.{samples_made, bus_answer}
 use Rattle.lag_bus.specs.Book.{may_be_written}
 use Rattle.lag_bus.specs.Lagging.{Lagging, lagging, with_book}
 use Rattle.lag_bus.specs.Late.{AreWritesWithin}
-use Rattle.dsp_state.specs.Limits.{most_samples_of_batch}
+use Rattle.chip_form.specs.Limits.{most_samples_of_batch}
 use Rattle.ports_timers.specs.Zeros.{counter_is_0, zeros_stay, AreTimers}
 use Rattle.idle_rounds.specs.Looking.{look_of_steps, after_n_steps}
 use Rattle.spc700_exec.specs.declared.cpu.Cpu.{Cpu}

@@ -1,7 +1,7 @@
 // A bus that may be behind what runs on it.
 ghost use Rattle.std.specs.Prelude.{◌≡◌, ◌+◌, ◌-◌, ◌*◌, ◌/◌, ◌<◌, ◌≤◌, true, false};
 ghost use Rattle.aram_core.specs.Memory.{byte_at, with_byte};
-ghost use Rattle.dsp_state.specs.Limits.{most_samples_of_batch, most_samples_of_chip};
+ghost use Rattle.chip_form.specs.Limits.{most_samples_of_batch, most_samples_of_chip};
 ghost use Rattle.spc700_exec.specs.Bus.{most_calls, most_calls_before_step};
 ghost use Rattle.spc700_exec.specs.Instruction.{step_outcome};
 ghost use Rattle.lock_step.specs.LockStep.{samples_made};
@@ -11,7 +11,7 @@ ghost use Rattle.lag_bus.specs.Lagging.{Lagging, lagging, MatchesBook};
 ghost use Rattle.lag_bus.specs.Waiting.{without_calls};
 ghost use Rattle.lag_bus.specs.Running.{caught_up, IsBehind, IsDrained, WritesWithin, ReadsWithin};
 
-use lock_step::Chip;
+use chip_form::Chip;
 use spc700_exec::Cpu;
 
 /// A bus that may be behind what runs on it, by cycles in which fewer samples fall due than a batch has room for. A call that needs its clock

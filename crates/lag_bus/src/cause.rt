@@ -3,9 +3,8 @@ ghost use Rattle.std.specs.Prelude.{◌≡◌};
 ghost use Rattle.lag_bus.specs.Book.{may_be_read, may_be_written, cause_of_read, cause_of_write};
 
 use aram_core::page_of;
-use dsp_state::is_result;
+use chip_form::{Chip, ReachPages};
 use lock_step::{writes_port, writes_register};
-use reach_map::ReachPages;
 
 /// The most events that wait for pending samples.
 const EVENT_ROOM: usize = 256;
@@ -13,7 +12,7 @@ const EVENT_ROOM: usize = 256;
 /// Why pending samples are made.
 #[derive(Clone, Copy, Debug, PartialEq, Eq)]
 pub enum Cause {
-    /// A write of a register, or a read of one that samples write: ENVX, OUTX or ENDX.
+    /// A write of a register, or a read of one that samples write.
     Register,
     /// A write of memory that they may read.
     Memory,
@@ -44,10 +43,15 @@ pub fn may_be_written(reach: &ReachPages, at: u16) -> bool
 }
 
 /// The cause for which a read has pending samples made first.
-pub fn cause_of_read(reach: &ReachPages, dsp_address: u8, at: u16) -> Option<Cause>
-    ensures { result ≡ cause_of_read reach.now dsp_address at }
+pub fn cause_of_read<C: Chip>(
+    chip: &C,
+    reach: &ReachPages,
+    dsp_address: u8,
+    at: u16,
+) -> Option<Cause>
+    ensures { result ≡ cause_of_read C.meaning reach.now dsp_address at }
 {
-    if at == 0xF3 && is_result(dsp_address) {
+    if at == 0xF3 && chip.is_result(dsp_address % 0x80) {
         Some(Cause::Register)
     } else if may_be_written(reach, at) {
         Some(Cause::Echo)

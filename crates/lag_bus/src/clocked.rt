@@ -126,7 +126,7 @@ impl ClockedIo {
         io
     }
 
-    /// The address of the S-DSP's register that F3h reaches.
+    /// The address of the chip's register that F3h reaches.
     pub fn dsp_address(&self) -> u8
         ensures { result ≡ self.now.io.dsp_address }
     {

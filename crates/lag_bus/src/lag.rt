@@ -2,11 +2,10 @@
 ghost use Rattle.std.specs.Prelude.{◌≡◌, ◌+◌, ◌*◌, ◌/◌, ◌-◌, ◌<◌, ◌≤◌, ◌%◌, ◌++◌, ◌∷◌, [], ◌==◌, unwrap_or, ◌||◌, not, true, false, length, if◌then◌else◌, IfOk};
 ghost use Rattle.aram_core.specs.Memory.{byte_at, with_byte};
 ghost use Rattle.spc700_exec.specs.Bus.{most_calls};
-ghost use Rattle.dsp_state.specs.Results.{is_result};
-ghost use Rattle.dsp_state.specs.Samples.{next_count, count_after};
+ghost use Rattle.chip_form.specs.Samples.{next_count, count_after};
 ghost use Rattle.trace_form.specs.Rooms.{record_room, event_room};
 ghost use Rattle.num_fix.specs.Limits.{most_frames};
-ghost use Rattle.dsp_state.specs.Limits.{most_samples_of_batch};
+ghost use Rattle.chip_form.specs.Limits.{most_samples_of_batch};
 ghost use Rattle.lock_step.specs.Machine.{opened_machine};
 ghost use Rattle.lock_step.specs.LockStep.{writes_register, writes_port, write_records};
 ghost use Rattle.lag_bus.specs.Ready.{ready_frames, ready_records};
@@ -29,8 +28,9 @@ use crate::running::take_steps;
 use crate::saved::BusState;
 use crate::waiting::{counter_is_0, pend_all};
 use aram_core::Aram;
+use chip_form::Chip;
 use idle_rounds::{Looks, try_round};
-use lock_step::{Chip, Counts, DrainedBus, writes_port, writes_register};
+use lock_step::{Counts, DrainedBus, writes_port, writes_register};
 use ports_timers::{Io, cycles_of_zeros};
 use spc_form::OpenState;
 use spc700_exec::{Bus, Cpu, step};
@@ -278,7 +278,7 @@ fn is_plain(addr: u16) -> bool
 /// The answer of a read for which no pending sample is needed, by what the ports and timers tell, if they do.
 fn answer_of<C: Chip>(late: &LateChip<C>, address: u8, told: Option<u8>, at: u16) -> u8
     requires memory { (late.now.pending == 0 || not (may_be_written late.now.reach at)) ≡ true }
-    requires register { at ≡ 0xF3 → (late.now.pending == 0 || not (is_result address)) ≡ true }
+    requires register { at ≡ 0xF3 → (late.now.pending == 0 || not (C.meaning.is_result (address % 0x80))) ≡ true }
     ensures { result ≡ if at == 0xF3 then C.meaning.register_read late.now.chip (address % 0x80) else unwrap_or told (byte_at late.now.memory at) }
 {
     if at == 0xF3 {

@@ -1,14 +1,12 @@
 // A chip with its memory and its output, some samples late. What each access of the bus asks is inlined into it.
 ghost use Rattle.std.specs.Prelude.{ℕ, ◌≡◌, ◌&&◌, ◌+◌, ◌-◌, ◌*◌, ◌^◌, ◌<◌, ◌≤◌, ◌++◌, ◌∷◌, [], ◌==◌, true, false, length, if◌then◌else◌, ◌||◌, not};
-ghost use Rattle.std.specs.List.{filter};
 ghost use Rattle.aram_core.specs.Memory.{byte_at, with_byte};
-ghost use Rattle.dsp_state.specs.Results.{is_result};
-ghost use Rattle.dsp_state.specs.Samples.{samples, in_mask, next_count, count_after};
+ghost use Rattle.chip_form.specs.Samples.{samples, AddsSamples, next_count, count_after};
 ghost use Rattle.lag_bus.specs.Book.{may_be_read, may_be_written, cause_of_read, cause_of_write};
 ghost use Rattle.lag_bus.specs.Held.{IsPlain};
 ghost use Rattle.lag_bus.specs.Late.{late_with_sample, AreWritesWithin, AreReadsWithin};
 ghost use Rattle.trace_form.specs.Rooms.{frame_room, record_room, event_room};
-ghost use Rattle.dsp_state.specs.Limits.{most_samples_of_batch, most_samples_of_chip};
+ghost use Rattle.chip_form.specs.Limits.{most_samples_of_batch, most_samples_of_chip};
 ghost use Rattle.lock_step.specs.SampleNumbers.{sample_number};
 ghost use Rattle.lag_bus.specs.Ready.{is_before_sample, ready_frames, waiting_frames, ready_records, waiting_records, NoneIsReady};
 
@@ -16,8 +14,7 @@ use crate::cause::{self, Cause};
 use crate::merging::merge_into;
 use crate::taken::TakenReach;
 use aram_core::Aram;
-use lock_step::Chip;
-use reach_map::ReachPages;
+use chip_form::{Chip, ReachPages};
 use std::marker::Model;
 use trace_form::{EventRing, Frames, Record, Records};
 
@@ -109,14 +106,11 @@ fn make_batch<C: Chip>(
     requires few { n ≤ most_samples_of_batch }
     requires number { C.sample chip.old + n ≤ most_samples_of_chip }
     requires room { length frames.old + n ≤ frame_room }
-    ensures state { C.state chip.new ≡ (samples C.meaning.sample n (C.sample chip.old) (C.state chip.old) memory.old).state }
+    ensures made { let made = samples C.meaning.sample n (C.sample chip.old) (C.state chip.old) memory.old in
+        AddsSamples mask made (C.state chip.new) memory.new frames.old frames.new [] voice_records.new }
     ensures sample { C.sample chip.new ≡ C.sample chip.old + n }
     ensures batches { C.batches chip.new ≡ (if n == 0 then C.batches chip.old else next_count (C.batches chip.old)) }
     ensures total { C.total chip.new ≡ count_after (C.total chip.old) n }
-    ensures memory { memory.new ≡ (samples C.meaning.sample n (C.sample chip.old) (C.state chip.old) memory.old).memory }
-    ensures frames { frames.new ≡ frames.old ++ (samples C.meaning.sample n (C.sample chip.old) (C.state chip.old) memory.old).frames }
-    ensures voice_records { let made = samples C.meaning.sample n (C.sample chip.old) (C.state chip.old) memory.old in
-        voice_records.new ≡ filter (in_mask mask) made.records }
 {
     voice_records.clear();
     chip.advance(n, memory, mask, frames, voice_records);
@@ -230,12 +224,15 @@ impl<C: Chip> LateChip<C> {
 
     /// The cause for which a read has the pending samples made first.
     pub fn cause_of_read(&mut self, dsp_address: u8, at: u16) -> Option<Cause>
-        ensures cause { result ≡ cause_of_read self.old.reach dsp_address at }
+        ensures cause { result ≡ cause_of_read C.meaning self.old.reach dsp_address at }
         ensures rest { self.new ≡ self.old }
     {
         match self.taken.reach() {
-            Some(reach) => cause::cause_of_read(&reach, dsp_address, at),
-            None => cause::cause_of_read(&self.take_reach(), dsp_address, at),
+            Some(reach) => cause::cause_of_read(&self.chip, &reach, dsp_address, at),
+            None => {
+                let reach = self.take_reach();
+                cause::cause_of_read(&self.chip, &reach, dsp_address, at)
+            }
         }
     }
 
@@ -253,7 +250,7 @@ impl<C: Chip> LateChip<C> {
 
     /// The register at an address. Where it is a result of samples, none is pending.
     pub fn reg_read(&self, address: u8) -> u8
-        requires { (self.now.pending == 0 || not (is_result address)) ≡ true }
+        requires { (self.now.pending == 0 || not (C.meaning.is_result address)) ≡ true }
         ensures { result ≡ C.meaning.register_read self.now.chip address }
     {
         self.chip.reg_read(address)

@@ -2,7 +2,7 @@
 ghost use Rattle.lag_bus.specs.Calls.{HasMachineInLockStep, AnswersInLockStep, DrainsFromFront, TotalsSamplesMade};
 ghost use Rattle.lag_bus.specs.Waiting.{LeavesCyclesOfRounds};
 
-use lock_step::Chip;
+use chip_form::Chip;
 
 /// After every list of calls, of reads, writes, passes, settlings, drains and loads, a bus that lags has the machine in lock
 /// step, and a read after them has its answer. Its drains are such calls.

@@ -5,7 +5,7 @@ ghost use Rattle.lag_bus.specs.Held.{plain_end, IsPlain};
 
 use crate::cause;
 use aram_core::page_of;
-use reach_map::ReachPages;
+use chip_form::ReachPages;
 use std::marker::Model;
 
 /// A reach, if one was taken, and marks of the pages that no sample writes by it, and of those that none reads. The mark of a
@@ -21,7 +21,7 @@ impl Model for TakenReach {
     ghost use Rattle.std.specs.Prelude.{Option};
     ghost use Rattle.std.specs.Coded.{codes};
     ghost use Rattle.aram_core.specs.contracts.page_set.PageSet as page_set;
-    ghost use Rattle.reach_map.specs.declared.ReachPages.{ReachPages};
+    ghost use Rattle.chip_form.specs.declared.pages.ReachPages.{ReachPages};
     ghost use Rattle.lag_bus.specs.Held.{IsUnwritten, IsUnread, AreMarks};
 
     ghost Value = { Option ReachPages };

@@ -3,10 +3,10 @@ ghost use Rattle.std.specs.Prelude.{◌≡◌, ◌+◌, ◌*◌, ◌≤◌};
 ghost use Rattle.ports_timers.specs.Zeros.{counter_is_0};
 ghost use Rattle.lag_bus.specs.Late.{late_with_samples};
 ghost use Rattle.trace_form.specs.Rooms.{frame_room, record_room};
-ghost use Rattle.dsp_state.specs.Limits.{most_samples_of_batch, most_samples_of_chip};
+ghost use Rattle.chip_form.specs.Limits.{most_samples_of_batch, most_samples_of_chip};
 
 use crate::late::LateChip;
-use lock_step::Chip;
+use chip_form::Chip;
 use ports_timers::Io;
 
 /// Counts some samples more.

@@ -1,5 +1,3 @@
--- RecordCounts: how many records a sample gives
-pub mod RecordCounts
 -- NoWait: a bus that made no round at once
 pub mod NoWait
 -- ChipCounts: a chip counts on over nothing, and over one stretch after another

@@ -3,7 +3,7 @@ use Rattle.std.specs.Prelude.{◌≡◌, ℕ, ◌+◌, ◌-◌, ◌^◌, ◌<◌
 use Rattle.num_fix.specs.declared.Frame.{Frame}
 use Rattle.trace_form.specs.declared.record.Record.{Record}
 use Rattle.spc700_exec.specs.Bus.{BusMeaning}
-use Rattle.dsp_state.specs.Samples.{count_after}
+use Rattle.chip_form.specs.Samples.{count_after}
 
 pub record Emits (B : Type 0) : Type 0 where
   -- the frames and the records emitted since the last drain, and the bus without them and without the number of its calls

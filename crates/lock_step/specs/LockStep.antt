@@ -8,8 +8,8 @@ use Rattle.ports_timers.specs.declared.io.Io.{Io}
 use Rattle.spc700_exec.specs.Bus.{BusMeaning}
 use Rattle.trace_form.specs.declared.record.Record.{Record}
 use Rattle.trace_form.specs.declared.record.Record.TheVariants.{Reg, Port}
-use Rattle.dsp_state.specs.Samples.{in_mask}
-use Rattle.lock_step.specs.ChipMeaning.{ChipMeaning}
+use Rattle.chip_form.specs.Samples.{in_mask}
+use Rattle.chip_form.specs.ChipMeaning.{ChipMeaning}
 use Rattle.lock_step.specs.Machine.{Machine}
 
 -- the samples made so far: one every 32 cycles

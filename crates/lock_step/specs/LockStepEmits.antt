@@ -1,6 +1,6 @@
 -- What the bus emits and counts that makes each sample at once.
 use Rattle.std.specs.Prelude.{[]}
-use Rattle.dsp_state.specs.Samples.{count_after}
+use Rattle.chip_form.specs.Samples.{count_after}
 use Rattle.lock_step.specs.declared.counts.Counts.{Counts}
 use Rattle.lock_step.specs.Machine.{Machine}
 use Rattle.lock_step.specs.LockStep.{samples_made}

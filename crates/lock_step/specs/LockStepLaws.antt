@@ -6,10 +6,10 @@ use Rattle.std.proofs.lemmas.Bool.Decides.{nat_tests}
 use Rattle.ports_timers.specs.Io.{after_ticks_of}
 use Rattle.spc700_exec.specs.Bus.{IsLawful}
 use Rattle.spc700_exec.specs.Emitting.{IsEmitting}
-use Rattle.lock_step.specs.ChipMeaning.{ChipMeaning}
+use Rattle.chip_form.specs.ChipMeaning.{ChipMeaning}
 use Rattle.lock_step.specs.Machine.{Machine}
 use Rattle.lock_step.specs.LockStep.{lock_step, after_sample, crosses_sample}
-use Rattle.dsp_state.specs.Samples.{count_after}
+use Rattle.chip_form.specs.Samples.{count_after}
 use Rattle.lock_step.specs.Emits.{IsFrameEach, CountsOn, IsCounting, IsBeside}
 use Rattle.lock_step.specs.LockStepEmits.{drained_machine, lock_step_emits}
 

@@ -4,7 +4,7 @@
 pub struct Counts {
     /// All batches.
     pub batches: u64,
-    /// Before a write of a register, or a read of one that samples write: ENVX, OUTX or ENDX.
+    /// Before a write of a register, or a read of one that samples write.
     pub register: u64,
     /// Before a write of memory that the pending samples may read.
     pub memory: u64,

@@ -1,4 +1,3 @@
--- AfterSamples: laws on n samples from facts on one.
 -- Registers: samples leave every register but those of their results.
 -- Keys: a key-on that is taken has waited.
 -- EchoPlace: where the echo stands after samples.
@@ -12,7 +11,6 @@
 -- ChainPages: what a voice on its chains reads lies on their pages.
 -- Voices: the same of all voices.
 -- Starts: a byte put off the read pages leaves the reach as it is.
-pub mod AfterSamples
 pub mod Registers
 pub mod Keys
 pub mod EchoPlace

@@ -1,7 +1,7 @@
 -- Samples leave every register but those of their results.
 use Rattle.std.proofs.Common.{◌≡◌, ℕ, zero, suc, ◌+◌, ◌%◌, List, false, refl, ◌∙◌, arith}
 use Rattle.dsp_state.specs.Results.{is_result}
-use Rattle.dsp_state.specs.Samples.{samples}
+use Rattle.chip_form.specs.Samples.{samples}
 use Rattle.dsp_state.specs.Sample.{sample}
 use Rattle.dsp_state.specs.Outside.{register_read}
 use Rattle.dsp_state.specs.declared.state.ChipState.{ChipState}

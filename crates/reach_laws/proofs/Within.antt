@@ -4,11 +4,11 @@ use Rattle.std.specs.FinSet as set
 use Rattle.aram_core.specs.Memory.{byte_at, with_byte}
 use Rattle.aram_core.specs.Pages.{page_of}
 use Rattle.dsp_state.specs.Reach.{chip_reach}
-use Rattle.dsp_state.specs.Samples.{samples}
+use Rattle.chip_form.specs.Samples.{samples}
 use Rattle.dsp_state.specs.Sample.{sample}
 use Rattle.dsp_state.specs.Valid.{is_valid}
 use Rattle.dsp_state.specs.declared.state.ChipState.{ChipState}
-use Rattle.reach_laws.proofs.AfterSamples.{samples_keep, samples_apart}
+use Rattle.chip_form.proofs.AfterSamples.{samples_keep, samples_apart}
 use Rattle.reach_laws.proofs.OneSample.{StaysInReach, stays_at_start, stays_in_reach, reads_in_reach}
 
 -- what holds after n samples

@@ -4,10 +4,10 @@ use Rattle.voice_unit.specs.Voice.{VoiceState, is_at_group}
 use Rattle.reach_map.specs.Reach.{chain_entry}
 use Rattle.reach_map.specs.declared.ChainStart.{ChainStart}
 use Rattle.dsp_state.specs.declared.state.ChipState.{ChipState}
-use Rattle.dsp_state.specs.Limits.{most_samples_of_batch}
+use Rattle.chip_form.specs.Limits.{most_samples_of_batch}
 use Rattle.dsp_state.specs.Reach.{can_start, own_chain, start_chain, chip_reach}
 use Rattle.dsp_state.specs.Sample.{sample}
-use Rattle.dsp_state.specs.Samples.{samples}
+use Rattle.chip_form.specs.Samples.{samples}
 use Rattle.dsp_state.specs.Valid.{is_valid}
 
 -- After j samples a voice is at a group of one of the blocks of a chain, and has read no more groups than samples were made

@@ -2,7 +2,8 @@
 ghost use Rattle.std.specs.Prelude.{true};
 ghost use Rattle.dsp_state.specs.Outside.{register_read};
 ghost use Rattle.dsp_state.specs.Reach.{chip_reach};
-ghost use Rattle.dsp_state.specs.ReachLaws.{WritesInside, ReadsInside, ReachStays, RegistersStay};
+ghost use Rattle.chip_form.specs.ReachLaws.{WritesInside, ReadsInside, ReachStays, RegistersStay};
+ghost use Rattle.dsp_state.specs.Results.{is_result};
 ghost use Rattle.dsp_state.specs.Sample.{sample};
 ghost use Rattle.dsp_state.specs.Valid.{is_valid};
 ghost use Rattle.reach_laws.specs.Chain.{VoicesStayOnChains};
@@ -21,7 +22,7 @@ pub fn bytes_outside_the_reach_change_nothing()
 
 /// Samples change no register but those of their results: ENVX and OUTX of the voices, and ENDX.
 pub fn registers_stay_but_for_results()
-    ensures { RegistersStay sample register_read (λ n s. true) }
+    ensures { RegistersStay sample register_read is_result (λ n s. true) }
 {}
 
 /// From a valid state whose echo can't write what its voices read, each voice stays on its chains for 64 samples.

@@ -7,7 +7,7 @@ use Rattle.aram_core.specs.Pages.{page_of, have_common_page}
 use Rattle.brr_decode.specs.Header.{next_block}
 use Rattle.reach_map.specs.declared.Window.{Window}
 use Rattle.reach_map.specs.declared.ChainStart.{ChainStart}
-use Rattle.reach_map.specs.declared.ReachPages.{ReachPages}
+use Rattle.chip_form.specs.declared.pages.ReachPages.{ReachPages}
 
 -- the pages of so many bytes from an address on
 abbrev pub pages_of_bytes : (start count : ℕ) → List ℕ

@@ -10,6 +10,7 @@ ghost use Rattle.reach_map.specs.Reach.{reach};
 use crate::pages::window_pages;
 use crate::voices::voice_pages;
 use aram_core::{Aram, PageSet};
+pub use chip_form::ReachPages;
 
 /// A part of memory: `len` bytes from `start` on, which go on at 0000h after FFFFh.
 #[derive(Clone, Copy, Debug, PartialEq, Eq)]
@@ -23,15 +24,6 @@ pub struct Window {
 pub struct ChainStart {
     pub block: u16,
     pub loop_word: u16,
-}
-
-/// The pages that the samples to come can read and those that they can write, and whether a voice can read what the echo
-/// writes.
-#[derive(Clone, Copy, Debug)]
-pub struct ReachPages {
-    pub read_pages: PageSet,
-    pub write_pages: PageSet,
-    pub entangled: bool,
 }
 
 /// The reach of voices at the starts of chains, with their entries of the directory, and of an echo with its window, which

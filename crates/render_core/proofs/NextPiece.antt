@@ -3,7 +3,7 @@ use Rattle.std.proofs.Common.{◌≡◌, ℕ, ◌+◌, ◌*◌, ◌/◌, ◌^◌
 use Rattle.num_fix.specs.declared.Frame.{Frame}
 use Rattle.trace_form.specs.declared.record.Record.{Record}
 use Rattle.spc700_exec.specs.declared.cpu.Cpu.{Cpu}
-use Rattle.lock_step.specs.ChipMeaning.{ChipMeaning}
+use Rattle.chip_form.specs.ChipMeaning.{ChipMeaning}
 use Rattle.lock_step.specs.Emits.{IsCountedOn}
 use Rattle.lag_bus.specs.Lagging.{Lagging, lagging, after_settle, MatchesBook}
 use Rattle.lag_bus.specs.LagEmits.{lag_emits}

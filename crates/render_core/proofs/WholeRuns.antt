@@ -6,9 +6,9 @@ use Rattle.std.proofs.lemmas.List.{append-nil}
 use Rattle.spc700_exec.specs.Bus.{BusMeaning, IsLawful, byte_read, after_read, after_write}
 use Rattle.spc700_exec.specs.Script.{Script, Read, Write, End, cycles_at, outcome}
 use Rattle.spc700_exec.specs.Instruction.{script}
-use Rattle.lock_step.specs.ChipMeaning.{ChipMeaning}
-use Rattle.lock_step.specs.ChipSaving.{ChipSaving}
-use Rattle.lock_step.specs.SavingLaws.{IsLawfulSaving}
+use Rattle.chip_form.specs.ChipMeaning.{ChipMeaning}
+use Rattle.chip_form.specs.ChipSaving.{ChipSaving}
+use Rattle.chip_form.specs.SavingLaws.{IsLawfulSaving}
 use Rattle.lock_step.specs.Machine.{Machine}
 use Rattle.lock_step.specs.LockStep.{lock_step, after_sample, crosses_sample, writes_register}
 use Rattle.lock_step.specs.LockStepEmits.{drained_machine}

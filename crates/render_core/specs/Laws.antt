@@ -4,7 +4,7 @@ use Rattle.num_fix.specs.declared.Frame.{Frame}
 use Rattle.trace_form.specs.declared.record.Record.{Record}
 use Rattle.spc700_exec.specs.declared.cpu.Cpu.{Cpu}
 use Rattle.spc700_exec.specs.Bus.{BusMeaning}
-use Rattle.lock_step.specs.ChipMeaning.{ChipMeaning}
+use Rattle.chip_form.specs.ChipMeaning.{ChipMeaning}
 use Rattle.lock_step.specs.Emits.{Emits}
 use Rattle.render_core.specs.MachineRun.{Whole, after_step, after_run}
 use Rattle.render_core.specs.Items.{run_frames, run_records, records_before}

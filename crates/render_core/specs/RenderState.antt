@@ -3,13 +3,13 @@ use Rattle.std.specs.Prelude.{◌≡◌, ℕ, ◌+◌, ◌-◌, ◌*◌, ◌<◌
 use Rattle.num_fix.specs.declared.Frame.{Frame}
 use Rattle.trace_form.specs.declared.record.Record.{Record}
 use Rattle.spc700_exec.specs.declared.cpu.Cpu.{Cpu}
-use Rattle.lock_step.specs.ChipMeaning.{ChipMeaning}
+use Rattle.chip_form.specs.ChipMeaning.{ChipMeaning}
 use Rattle.lock_step.specs.declared.counts.Counts.{Counts}
 use Rattle.lag_bus.specs.Lagging.{Lagging}
 use Rattle.lock_step.specs.Machine.{Machine}
 use Rattle.lock_step.specs.LockStep.{lock_step, samples_made}
 use Rattle.lock_step.specs.LockStepEmits.{lock_step_emits}
-use Rattle.dsp_state.specs.Samples.{count_after}
+use Rattle.chip_form.specs.Samples.{count_after}
 use Rattle.render_core.specs.MachineRun.{Whole}
 use Rattle.render_core.specs.Items.{run_frames, run_records, end_of_run}
 use Rattle.render_core.specs.RunCounts.{run_counts}

@@ -1,7 +1,7 @@
 -- How often the chip makes samples in a run, and why.
 use Rattle.std.specs.Prelude.{ℕ}
 use Rattle.lock_step.specs.declared.counts.Counts.{Counts}
-use Rattle.lock_step.specs.ChipMeaning.{ChipMeaning}
+use Rattle.chip_form.specs.ChipMeaning.{ChipMeaning}
 use Rattle.lock_step.specs.Machine.{Machine}
 use Rattle.lag_bus.specs.Lagging.{Lagging, opened_lagging, after_settle, lagging}
 use Rattle.render_core.specs.MachineRun.{Whole, after_run}

@@ -1,8 +1,8 @@
 -- What is saved of a whole machine beside its memory, and a render once that is loaded.
 use Rattle.std.specs.Prelude.{◌≤◌, ℕ, List}
 use Rattle.num_fix.specs.Limits.{most_frames}
-use Rattle.lock_step.specs.ChipMeaning.{ChipMeaning}
-use Rattle.lock_step.specs.ChipSaving.{ChipSaving}
+use Rattle.chip_form.specs.ChipMeaning.{ChipMeaning}
+use Rattle.chip_form.specs.ChipSaving.{ChipSaving}
 use Rattle.lock_step.specs.Machine.{Machine}
 use Rattle.lag_bus.specs.Saved.{CanBeLoaded, saved_bus, loaded_lagging}
 use Rattle.render_core.specs.declared.saved.PlayState.{PlayState}

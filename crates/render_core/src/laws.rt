@@ -4,7 +4,8 @@ ghost use Rattle.render_core.specs.Laws.{DrainTakesFrames, DrainTakesRecords, Is
 ghost use Rattle.render_core.specs.Laws.{AreFadedAtTheirPlaces, AreAsManyFaded};
 ghost use Rattle.render_core.specs.Whole.{IsPlayedLawfully};
 
-use lock_step::{Chip, DrainedBus};
+use chip_form::Chip;
+use lock_step::DrainedBus;
 use spc700_exec::Bus;
 
 /// A run takes steps as long as samples are to be made, and then no more; no step makes two samples.

@@ -7,7 +7,7 @@ use Rattle.wav_form.specs.Wave.{frame_bytes}
 use Rattle.trace_form.specs.declared.record.Record.{Record}
 use Rattle.trace_form.specs.Line.{lines_of}
 use Rattle.trace_form.specs.Rooms.{frame_room, record_room}
-use Rattle.lock_step.specs.ChipMeaning.{ChipMeaning}
+use Rattle.chip_form.specs.ChipMeaning.{ChipMeaning}
 use Rattle.render_core.specs.RenderState.{RenderState, frames_to_come, records_to_come, counts_to_come}
 use Rattle.render_core.specs.Fade.{faded_from}
 use Rattle.command_frame.specs.Stream.{Both}

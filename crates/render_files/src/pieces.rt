@@ -12,8 +12,8 @@ ghost use Rattle.report_text.specs.Room.{room_size};
 
 use crate::rows::put_frames;
 use crate::sound_report::put_sound_report;
+use chip_form::Chip;
 use command_frame::{OutOfMemory, Pieces};
-use lock_step::Chip;
 use num_fix::Frame;
 use render_core::{Render, faded};
 use report_text::ByteRoom;

@@ -5,8 +5,8 @@ use Rattle.std.proofs.lemmas.Grind.{flat_map-append}
 use Rattle.std.proofs.lemmas.List.Concat.{flat_map-cons}
 use Rattle.num_fix.specs.declared.Frame.{Frame}
 use Rattle.wav_form.specs.Wave.{frame_bytes, header_of, stereo_wave}
-use Rattle.lock_step.specs.ChipMeaning.{ChipMeaning}
-use Rattle.lock_step.specs.ChipSaving.{ChipSaving}
+use Rattle.chip_form.specs.ChipMeaning.{ChipMeaning}
+use Rattle.chip_form.specs.ChipSaving.{ChipSaving}
 use Rattle.lock_step.specs.Machine.{Machine}
 use Rattle.render_core.specs.MachineRun.{Whole}
 use Rattle.cut_form.specs.declared.script.ScriptLine.{ScriptLine}

@@ -9,9 +9,9 @@ ghost use Rattle.cut_text.specs.Playing.{IsWithinHour};
 ghost use Rattle.cut_form.specs.GrowingFrames.{AreOfRun};
 ghost use Rattle.session_files.specs.Player.{PlayerState, session_of, left_to_play, CanAnswer, Answers};
 
+use chip_form::Chip;
 use cut_form::{MOST_FRAMES, MOST_PLAYED, Reply, ScriptLine};
 use cut_server::CutServer;
-use lock_step::Chip;
 use std::marker::Model;
 use trace_form::Frames;
 

@@ -3,6 +3,7 @@
 
 mod plain;
 
+pub use chip_form::Chip;
 pub use lag_bus::{BusState, LagBus, OutOfMemory};
-pub use lock_step::{Chip, Counts, DrainedBus};
+pub use lock_step::{Counts, DrainedBus};
 pub use plain::PlainBus;

@@ -1,9 +1,9 @@
 // A bus that makes each sample at once.
 ghost use Rattle.std.specs.Prelude.{◌≡◌, ◌+◌, ◌*◌, ◌/◌, ◌<◌, ◌≤◌, ◌++◌, ◌∷◌, [], true, length, IfOk};
 ghost use Rattle.std.specs.List.{filter};
-ghost use Rattle.dsp_state.specs.Samples.{in_mask};
+ghost use Rattle.chip_form.specs.Samples.{in_mask};
 ghost use Rattle.trace_form.specs.Rooms.{frame_room, record_room};
-ghost use Rattle.dsp_state.specs.Limits.{most_samples_of_chip};
+ghost use Rattle.chip_form.specs.Limits.{most_samples_of_chip};
 ghost use Rattle.lock_step.specs.Machine.{opened_machine};
 ghost use Rattle.lock_step.specs.LockStep.{bus_answer, after_bus_read, after_bus_write, after_bus_pass, lock_step};
 ghost use Rattle.lock_step.specs.LockStepEmits.{drained_machine, lock_step_emits, lock_step_counts};
@@ -11,7 +11,8 @@ ghost use Rattle.lock_step.specs.LockStepLaws.{lock_step-lawful, emits_frames, e
 
 use crate::OutOfMemory;
 use aram_core::Aram;
-use lock_step::{Chip, Counts, DrainedBus, writes_port, writes_register};
+use chip_form::Chip;
+use lock_step::{Counts, DrainedBus, writes_port, writes_register};
 use ports_timers::Io;
 use spc_form::OpenState;
 use spc700_exec::{Bus, Cpu, step};
@@ -34,7 +35,7 @@ pub struct PlainBus<C: Chip> {
 
 impl<C: Chip> Model for PlainBus<C> {
     ghost use Rattle.std.specs.Prelude.{◌≡◌, ◌+◌, ◌*◌, ◌/◌, ◌<◌, ◌≤◌, length};
-    ghost use Rattle.dsp_state.specs.Limits.{most_samples_of_chip};
+    ghost use Rattle.chip_form.specs.Limits.{most_samples_of_chip};
     ghost use Rattle.lock_step.specs.Machine.{Machine};
 
     ghost Value = { Machine C.State };
@@ -59,7 +60,6 @@ impl<C: Chip> Model for PlainBus<C> {
 }
 
 /// Makes the next sample.
-#[tactic(auto, using(lock_step::proofs::RecordCounts::samples_one, lock_step::proofs::RecordCounts::sample_record_count))]
 fn make_sample<C: Chip>(
     chip: &mut C,
     memory: &mut Aram,

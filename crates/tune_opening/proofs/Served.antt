@@ -2,8 +2,8 @@
 use Rattle.std.proofs.Common.{◌≡◌, ◌∙◌, ℕ, ℤ, List, ◌++◌, length, take, refl, sym, ap, arith}
 use Rattle.std.proofs.Math.Seq.{take-append_seam}
 use Rattle.dsp_state.specs.declared.state.ChipState.{ChipState}
-use Rattle.lock_step.specs.DspChip.{dsp_chip, dsp_saving}
-use Rattle.lock_step.specs.DspLaws.{dsp_saves_lawfully}
+use Rattle.dsp_core.specs.DspChip.{dsp_chip, dsp_saving}
+use Rattle.dsp_core.specs.DspLaws.{dsp_saves_lawfully}
 use Rattle.lock_step.specs.Machine.{Machine}
 use Rattle.render_core.specs.MachineRun.{Whole}
 use Rattle.cut_form.specs.GrowingFrames.{AreOfRun}

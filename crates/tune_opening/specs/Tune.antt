@@ -7,7 +7,7 @@ use Rattle.dsp_state.specs.declared.state.ChipState.{ChipState}
 use Rattle.dsp_state.specs.Outside.{opened_state}
 use Rattle.cut_form.specs.Checkpoints.{pages_of}
 use Rattle.lock_step.specs.declared.counts.Counts.{Counts}
-use Rattle.lock_step.specs.DspChip.{dsp_chip}
+use Rattle.dsp_core.specs.DspChip.{dsp_chip}
 use Rattle.lock_step.specs.Machine.{Machine}
 use Rattle.lock_step.specs.LockStep.{lock_step}
 use Rattle.lock_step.specs.LockStepEmits.{lock_step_emits}

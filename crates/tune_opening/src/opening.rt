@@ -1,7 +1,7 @@
 // The opening of a tune.
 ghost use Rattle.std.specs.Prelude.{◌≡◌, ◌≤◌, length, IfOk};
 ghost use Rattle.num_fix.specs.Limits.{most_frames};
-ghost use Rattle.lock_step.specs.DspChip.{dsp_chip, dsp_saving};
+ghost use Rattle.dsp_core.specs.DspChip.{dsp_chip, dsp_saving};
 ghost use Rattle.page_pool.specs.Pool.{most_pages};
 ghost use Rattle.cut_form.specs.Checkpoints.{fewest_pages};
 ghost use Rattle.cut_form.specs.GrowingFrames.{AreOfRun};

@@ -234,6 +234,16 @@ fn registers_and_numbers<C: Chip>(chip: &mut C) -> (u8, u8, u32, u64) {
     )
 }
 
+/// Whether samples write ENVX and OUTX of voice 3, ENDX, and KON.
+fn which_are_results<C: Chip>(chip: &C) -> [bool; 4] {
+    [
+        chip.is_result(0x38),
+        chip.is_result(0x39),
+        chip.is_result(0x7C),
+        chip.is_result(0x4C),
+    ]
+}
+
 #[test]
 fn the_dsp_is_a_chip(rt: HostRuntime) -> Result<(), Fail> {
     let alloc = rt.alloc();
@@ -244,6 +254,7 @@ fn the_dsp_is_a_chip(rt: HostRuntime) -> Result<(), Fail> {
     let mut dsp = Dsp::open(alloc, &[0; 128], GaussTable::straight(alloc)?)?;
     Chip::advance(&mut dsp, 2, &mut memory, 0x80, &mut frames, &mut records);
     assert!(rt; registers_and_numbers(&mut dsp) == (0x12, 0, 2, 1));
+    assert!(rt; which_are_results(&dsp) == [true, true, true, false]);
     assert!(rt; (frames.as_slice().len(), records.as_slice().len()) == (2, 2));
     Ok(())
 }

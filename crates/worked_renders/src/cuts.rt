@@ -3,10 +3,10 @@ ghost use Rattle.std.specs.Prelude.{◌≡◌, ◌≤◌};
 ghost use Rattle.page_pool.specs.Pool.{most_pages};
 ghost use Rattle.cut_form.specs.Checkpoints.{fewest_pages};
 
+use chip_form::Chip;
 use cut_server::{CutServer, Marked, NoPages};
 use dsp_core::Dsp;
 use gauss_table::GaussTable;
-use lock_step::Chip;
 use num_fix::Frame;
 use spc_form::{SpcFile, read_spc};
 use std::alloc::Global;

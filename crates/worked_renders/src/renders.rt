@@ -4,7 +4,7 @@ ghost use Rattle.num_fix.specs.Limits.{most_frames};
 
 use crate::openings::{SILENT, chip_of, file};
 use aram_core::Aram;
-use lock_step::Chip;
+use chip_form::Chip;
 use num_fix::Frame;
 use render_core::{Render, faded};
 use spc_form::SpcFile;

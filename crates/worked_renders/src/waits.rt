@@ -3,7 +3,8 @@ ghost use Rattle.std.specs.Prelude.{◌≡◌, ◌≤◌};
 ghost use Rattle.num_fix.specs.Limits.{most_frames};
 
 use crate::openings::{SILENT, chip_of, file};
-use lock_step::{Chip, Counts};
+use chip_form::Chip;
+use lock_step::Counts;
 use render_core::Render;
 use spc_form::SpcFile;
 use std::alloc::Global;

@@ -1,6 +1,6 @@
 use Rattle.std.proofs.Common.{◌≡◌, ◌+◌, ◌*◌, ◌≤◌, ◌++◌, pos, length}
 use Rattle.std.specs.List.{filter}
-use Rattle.dsp_state.specs.Samples.{in_mask}
+use Rattle.chip_form.specs.Samples.{in_mask}
 use Rattle.batch_rows.specs.Lane.{voices_after}
 use Rattle.batch_rows.specs.Rows.{keys_after, inputs, answers, results_after, records_after, echo_after, with_parts}
 use Rattle.batch_rows.proofs.recorded.make_recorded_batch.Given as goal

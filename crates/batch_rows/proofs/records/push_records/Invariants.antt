@@ -1,6 +1,6 @@
 use Rattle.std.proofs.Common.{◌≡◌, ◌+◌, ◌≤◌, ◌++◌, length, drop}
 use Rattle.std.specs.List.{filter}
-use Rattle.dsp_state.specs.Samples.{in_mask}
+use Rattle.chip_form.specs.Samples.{in_mask}
 use Rattle.dsp_state.specs.Sample.{records_from}
 use Rattle.batch_rows.proofs.records.push_records.Given as goal
 

@@ -1,5 +1,5 @@
 use Rattle.std.proofs.Common.{◌≡◌, ◌+◌, ◌*◌, ◌-◌, ◌≤◌, fold, length}
-use Rattle.lock_step.specs.DspChip.{dsp_chip}
+use Rattle.dsp_core.specs.DspChip.{dsp_chip}
 use Rattle.render_core.specs.RenderState.{frames_to_come, counts_to_come}
 use Rattle.command_check.specs.Check.{checked_samples, sums_with, sums_of, AreWithin}
 use Rattle.command_check.proofs.command.sums_of.Given as goal

@@ -4,7 +4,7 @@ use Rattle.command_frame.specs.Plan.{stream_makes}
 use Rattle.command_frame.proofs.Obeying.{attempts, attempts_no_usage, carries_same}
 use Rattle.command_render.specs.Render.{render_answer}
 use Rattle.render_files.specs.RenderFiles.{to_come_of, report_of}
-use Rattle.lock_step.specs.DspChip.{dsp_chip}
+use Rattle.dsp_core.specs.DspChip.{dsp_chip}
 use Rattle.render_options.specs.Options.{options_of}
 use Rattle.command_render.proofs.command.render.Goals as goal
 

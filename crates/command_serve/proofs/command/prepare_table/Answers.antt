@@ -1,7 +1,7 @@
 use Rattle.std.proofs.Common.{List, ℤ}
 use Rattle.snd_host.specs.Host.{Files}
 use Rattle.command_frame.specs.Plan.{stream_makes}
-use Rattle.lock_step.specs.DspChip.{dsp_chip, dsp_saving}
+use Rattle.dsp_core.specs.DspChip.{dsp_chip, dsp_saving}
 use Rattle.input_files.specs.Inputs.{table_in}
 use Rattle.input_files.proofs.Readings.{reads_then}
 use Rattle.session_files.specs.SessionFiles.{to_come_of, report_of}

@@ -1,5 +1,5 @@
 use Rattle.std.proofs.Common.{◌≡◌, ◌∙◌, ap, rules}
-use Rattle.lock_step.specs.DspChip.{dsp_chip, dsp_saving}
+use Rattle.dsp_core.specs.DspChip.{dsp_chip, dsp_saving}
 use Rattle.cut_form.specs.CutBook.{opened_book}
 use Rattle.cut_server.specs.Server.{opening}
 use Rattle.tune_opening.specs.Tune.{opened_tune}

@@ -1,6 +1,6 @@
 use Rattle.std.proofs.Common.{refl, sym}
 use Rattle.std.proofs.lemmas.List.{append-nil}
-use Rattle.dsp_state.proofs.OneMoreSample.{samples_none}
+use Rattle.chip_form.proofs.OneMoreSample.{samples_none}
 use Rattle.batch_rows.proofs.NoRecords.{no_records}
 use Rattle.dsp_core.proofs.dsp.Dsp.advance.Goals as goal
 

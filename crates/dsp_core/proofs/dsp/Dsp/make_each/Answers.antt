@@ -2,7 +2,7 @@ use Rattle.std.proofs.Common.{rules, refl, sym, arith, append_assoc, length-appe
 use Rattle.std.proofs.lemmas.List.{append-nil}
 use Rattle.std.proofs.lemmas.List.Elements.{filter-append}
 use Rattle.dsp_state.proofs.ReadOnce.{settings_of-sample}
-use Rattle.dsp_state.proofs.OneMoreSample.{samples_none, samples_more}
+use Rattle.chip_form.proofs.OneMoreSample.{samples_none, samples_more}
 use Rattle.dsp_core.proofs.dsp.Dsp.make_each.Goals as goal
 
 pub samples-init : goal.samples-init

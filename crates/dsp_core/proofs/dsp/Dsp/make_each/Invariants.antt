@@ -1,6 +1,6 @@
 use Rattle.std.proofs.Common.{◌≡◌, ◌+◌, ◌*◌, ◌≤◌, ◌++◌, length}
 use Rattle.std.specs.List.{filter}
-use Rattle.dsp_state.specs.Samples.{samples, in_mask}
+use Rattle.chip_form.specs.Samples.{samples, in_mask}
 use Rattle.dsp_state.specs.Sample.{sample}
 use Rattle.dsp_state.specs.Settings.{settings_of}
 use Rattle.dsp_core.proofs.dsp.Dsp.make_each.Given as goal

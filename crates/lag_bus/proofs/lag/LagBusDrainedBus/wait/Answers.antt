@@ -2,7 +2,7 @@ use Rattle.std.proofs.Common.{◌≡◌, ◌+◌, ◌*◌, ◌-◌, ◌/◌, ◌
 use Rattle.std.proofs.Math.Nat.{mod-add-div'}
 use Rattle.aram_core.specs.Memory.{byte_at}
 use Rattle.ports_timers.specs.declared.io.Io.{Io}
-use Rattle.dsp_state.specs.Samples.{samples}
+use Rattle.chip_form.specs.Samples.{samples}
 use Rattle.idle_rounds.specs.Looking.{look_of_steps}
 use Rattle.ports_timers.specs.Zeros.{AreTimers}
 use Rattle.lock_step.specs.declared.counts.Counts.{Counts}

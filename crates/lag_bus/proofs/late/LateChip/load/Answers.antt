@@ -1,5 +1,5 @@
 use Rattle.std.proofs.Common.{◌≤◌, arith, rules}
-use Rattle.dsp_state.specs.Limits.{most_samples_of_chip}
+use Rattle.chip_form.specs.Limits.{most_samples_of_chip}
 use Rattle.lag_bus.proofs.ChangesOfHeld.{held_loaded, late_loaded}
 use Rattle.lag_bus.proofs.late.LateChip.load.Goals as goal
 

@@ -1,5 +1,5 @@
 use Rattle.std.proofs.Common.{refl}
-use Rattle.dsp_state.proofs.OneMoreSample.{samples_none}
+use Rattle.chip_form.proofs.OneMoreSample.{samples_none}
 use Rattle.lag_bus.proofs.MergedRecords.{merge_nothing}
 use Rattle.lag_bus.proofs.late.LateChip.new.Goals as goal
 

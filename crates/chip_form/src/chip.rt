@@ -1,16 +1,15 @@
 // The sound chip that a bus is handed.
-ghost use Rattle.std.specs.Prelude.{◌≡◌, ℕ, ◌+◌, ◌*◌, ◌≤◌, ◌++◌, ◌==◌, true, length, if◌then◌else◌};
-ghost use Rattle.std.specs.List.{filter};
-ghost use Rattle.dsp_state.specs.Samples.{samples, in_mask, next_count, count_after};
-ghost use Rattle.lock_step.specs.ChipMeaning.{ChipMeaning};
-ghost use Rattle.lock_step.specs.ChipSaving.{ChipSaving};
-ghost use Rattle.lock_step.specs.ChipLaws.{IsLawfulChip};
-ghost use Rattle.lock_step.specs.SavingLaws.{IsLawfulSaving};
+ghost use Rattle.std.specs.Prelude.{◌≡◌, ℕ, ◌+◌, ◌*◌, ◌≤◌, ◌==◌, true, length, if◌then◌else◌};
+ghost use Rattle.chip_form.specs.Samples.{samples, AddsSamples, next_count, count_after};
+ghost use Rattle.chip_form.specs.ChipMeaning.{ChipMeaning};
+ghost use Rattle.chip_form.specs.ChipSaving.{ChipSaving};
+ghost use Rattle.chip_form.specs.ChipLaws.{IsLawfulChip};
+ghost use Rattle.chip_form.specs.SavingLaws.{IsLawfulSaving};
 ghost use Rattle.trace_form.specs.Rooms.{frame_room, record_room};
-ghost use Rattle.dsp_state.specs.Limits.{most_samples_of_batch, most_samples_of_chip};
+ghost use Rattle.chip_form.specs.Limits.{most_samples_of_batch, most_samples_of_chip};
 
+use crate::pages::ReachPages;
 use aram_core::Aram;
-use reach_map::ReachPages;
 use trace_form::{Frames, Records};
 
 /// A sound chip: registers, and samples over a memory. Nothing here makes a chip or copies one, so what a bus emits comes
@@ -51,6 +50,10 @@ pub trait Chip: Drop {
         ensures batches { batches self.new ≡ batches self.old }
         ensures total { total self.new ≡ total self.old };
 
+    /// Whether samples write the register at an address: whether it is a result of theirs.
+    fn is_result(&self, addr: u8) -> bool
+        ensures { result ≡ meaning.is_result addr };
+
     /// Makes the next n samples as one batch, and adds their frames and the records of the voices in the mask; bit v of
     /// the mask is voice v.
     fn advance(
@@ -65,14 +68,11 @@ pub trait Chip: Drop {
         requires frame_room { length frames.old + n ≤ frame_room }
         requires record_room { length records.old + 8 * n ≤ record_room }
         requires number { sample self.old + n ≤ most_samples_of_chip }
-        ensures state { state self.new ≡ (samples meaning.sample n (sample self.old) (state self.old) memory.old).state }
+        ensures made { let made = samples meaning.sample n (sample self.old) (state self.old) memory.old in
+            AddsSamples mask made (state self.new) memory.new frames.old frames.new records.old records.new }
         ensures sample { sample self.new ≡ sample self.old + n }
         ensures batches { batches self.new ≡ (if n == 0 then batches self.old else next_count (batches self.old)) }
-        ensures total { total self.new ≡ count_after (total self.old) n }
-        ensures memory { memory.new ≡ (samples meaning.sample n (sample self.old) (state self.old) memory.old).memory }
-        ensures frames { frames.new ≡ frames.old ++ (samples meaning.sample n (sample self.old) (state self.old) memory.old).frames }
-        ensures records { let made = samples meaning.sample n (sample self.old) (state self.old) memory.old in
-            records.new ≡ records.old ++ filter (in_mask mask) made.records };
+        ensures total { total self.new ≡ count_after (total self.old) n };
 
     /// The pages that the next 64 samples can read and write.
     fn reach(&self, memory: &Aram) -> ReachPages

@@ -1,6 +1,6 @@
 -- No samples, and one sample more.
 use Rattle.std.proofs.Common.{◌≡◌, ℕ, ◌+◌, List, [], refl, add-one}
-use Rattle.dsp_state.specs.Samples.{SampleResult, samples, one_more}
+use Rattle.chip_form.specs.Samples.{SampleResult, samples, one_more}
 
 pub samples_none : {S : Type 0} (sample : ℕ → S → List ℕ → SampleResult S) (k : ℕ) (s : S) (memory : List ℕ) → samples sample 0 k s memory ≡ record { state = s; memory = memory; frames = []; records = [] }
 unfolding samples

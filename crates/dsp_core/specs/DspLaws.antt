@@ -14,9 +14,9 @@ use Rattle.dsp_state.proofs.Valid.{valid_of, is_valid-sample, is_valid-register_
 use Rattle.reach_laws.proofs.Registers.{registers_stay}
 use Rattle.reach_laws.proofs.Starts.{reach_stays}
 use Rattle.reach_laws.proofs.Within.{writes_inside, reads_inside}
-use Rattle.lock_step.specs.ChipLaws.{IsLawfulChip, are_voice_records}
-use Rattle.lock_step.specs.SavingLaws.{IsLawfulSaving}
-use Rattle.lock_step.specs.DspChip.{dsp_chip, dsp_saving}
+use Rattle.chip_form.specs.ChipLaws.{IsLawfulChip, are_voice_records}
+use Rattle.chip_form.specs.SavingLaws.{IsLawfulSaving}
+use Rattle.dsp_core.specs.DspChip.{dsp_chip, dsp_saving}
 
 -- the records of the voices from v on are those of the voices up to 7 where there are 8 - v
 are_voice_records-records_from : (k v : ℕ) (answers : List VoiceOut) → v + length answers ≡ 8 → are_voice_records k v (records_from k v answers) ≡ true

@@ -3,10 +3,9 @@ use Rattle.std.specs.Prelude.{◌≡◌, ℕ, ◌≤◌, List, Bool, true, false
 use Rattle.std.specs.FinSet as set
 use Rattle.aram_core.specs.Memory.{byte_at, with_byte}
 use Rattle.aram_core.specs.Pages.{page_of}
-use Rattle.reach_map.specs.declared.ReachPages.{ReachPages}
-use Rattle.dsp_state.specs.Limits.{most_samples_of_batch}
-use Rattle.dsp_state.specs.Results.{is_result}
-use Rattle.dsp_state.specs.Samples.{SampleResult, samples}
+use Rattle.chip_form.specs.declared.pages.ReachPages.{ReachPages}
+use Rattle.chip_form.specs.Limits.{most_samples_of_batch}
+use Rattle.chip_form.specs.Samples.{SampleResult, samples}
 
 -- the samples of a batch change memory on write pages alone
 abbrev pub WritesInside : {S : Type 0} → (ℕ → S → List ℕ → SampleResult S) → (S → List ℕ → ReachPages) → (S → Bool) → Type 0
@@ -32,8 +31,9 @@ ReachStays {S = S} reach premise =
     → set.contains (reach s memory).read_pages (page_of at) ≡ false
     → reach s (with_byte memory at value) ≡ reach s memory
 
--- where the premise holds, n samples change no register but those of their results: ENVX and OUTX of the voices, and ENDX
-abbrev pub RegistersStay : {S : Type 0} → (ℕ → S → List ℕ → SampleResult S) → (register_read : S → ℕ → ℕ) → (premise : ℕ → S → Bool) → Type 0
-RegistersStay {S = S} sample register_read premise =
+-- where the premise holds, n samples change no register but those of their results
+abbrev pub RegistersStay : {S : Type 0} → (ℕ → S → List ℕ → SampleResult S) → (register_read : S → ℕ → ℕ) → (is_result : ℕ → Bool)
+    → (premise : ℕ → S → Bool) → Type 0
+RegistersStay {S = S} sample register_read is_result premise =
     (n k : ℕ) (s : S) (memory : List ℕ) (address : ℕ) → premise n s ≡ true → is_result address ≡ false
     → register_read (samples sample n k s memory).state address ≡ register_read s address

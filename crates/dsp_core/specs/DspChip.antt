@@ -3,15 +3,17 @@ use Rattle.dsp_state.specs.declared.state.ChipState.{ChipState}
 use Rattle.dsp_state.specs.Sample.{sample}
 use Rattle.dsp_state.specs.Outside.{register_read, register_write}
 use Rattle.dsp_state.specs.Reach.{chip_reach}
+use Rattle.dsp_state.specs.Results.{is_result}
 use Rattle.dsp_state.specs.Valid.{is_valid}
 use Rattle.dsp_core.specs.Saved.{SavedDsp, saved_state, loaded_state}
-use Rattle.lock_step.specs.ChipMeaning.{ChipMeaning}
-use Rattle.lock_step.specs.ChipSaving.{ChipSaving}
+use Rattle.chip_form.specs.ChipMeaning.{ChipMeaning}
+use Rattle.chip_form.specs.ChipSaving.{ChipSaving}
 
 abbrev pub dsp_chip : ChipMeaning ChipState
 dsp_chip = record {
   register_read = register_read;
   register_write = register_write;
+  is_result = is_result;
   sample = sample;
   reach = chip_reach;
   is_valid = is_valid;

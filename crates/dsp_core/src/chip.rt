@@ -1,12 +1,13 @@
-// The S-DSP as the chip of a bus. Each call only passes on its own, so that it is inlined.
+// The S-DSP as a chip. Each call only passes on its own, so that it is inlined.
 ghost use Rattle.std.specs.Prelude.{◌==◌};
-ghost use Rattle.lock_step.specs.DspChip.{dsp_chip, dsp_saving};
-ghost use Rattle.lock_step.specs.DspLaws.{dsp_is_lawful, dsp_saves_lawfully};
+ghost use Rattle.dsp_core.specs.DspChip.{dsp_chip, dsp_saving};
+ghost use Rattle.dsp_core.specs.DspLaws.{dsp_is_lawful, dsp_saves_lawfully};
 
-use crate::chip::Chip;
+use crate::dsp::Dsp;
+use crate::saved::DspState;
 use aram_core::Aram;
-use dsp_core::{ChipState, Dsp, DspState};
-use reach_map::ReachPages;
+use chip_form::{Chip, ReachPages};
+use dsp_state::{ChipState, is_result};
 use trace_form::{Frames, Records};
 
 impl Chip for Dsp {
@@ -34,6 +35,11 @@ impl Chip for Dsp {
     #[inline]
     fn reg_write(&mut self, addr: u8, value: u8) {
         self.reg_write(addr, value);
+    }
+
+    #[inline]
+    fn is_result(&self, addr: u8) -> bool {
+        is_result(addr)
     }
 
     #[inline]

@@ -1,5 +1,6 @@
 -- Several samples of any chip, one after another: S is the type of the chip's states.
-use Rattle.std.specs.Prelude.{ℕ, zero, suc, ◌+◌, ◌-◌, ◌^◌, min, List, [], ◌∷◌, ◌++◌, Bool, true}
+use Rattle.std.specs.Prelude.{◌≡◌, ℕ, zero, suc, ◌+◌, ◌-◌, ◌^◌, min, List, [], ◌∷◌, ◌++◌, Bool, true}
+use Rattle.std.specs.List.{filter}
 use Rattle.num_fix.specs.Arithmetic.{has_bit}
 use Rattle.num_fix.specs.declared.Frame.{Frame}
 use Rattle.trace_form.specs.declared.record.Record.{Record}
@@ -40,6 +41,15 @@ abbrev pub in_mask : (mask : ℕ) → Record → Bool
 in_mask mask (Reg sample addr value) = true
 in_mask mask (Port sample port value) = true
 in_mask mask (Voice sample voice level out block keyed looped) = has_bit mask voice
+
+-- What is there once these samples are made: the state and the memory that they leave, and after what two lists had before, their
+-- frames and the records that are wanted under a mask.
+pub record AddsSamples {S : Type 0} (mask : ℕ) (made : SamplesResult S) (state : S) (memory : List ℕ)
+    (old_frames new_frames : List Frame) (old_records new_records : List Record) : Type 0 where
+  pub state_made : state ≡ made.state
+  pub memory_made : memory ≡ made.memory
+  pub frames_made : new_frames ≡ old_frames ++ made.frames
+  pub records_made : new_records ≡ old_records ++ filter (in_mask mask) made.records
 
 -- a count with some more, which stands still at the end of 64 bits
 abbrev pub count_after : (count more : ℕ) → ℕ

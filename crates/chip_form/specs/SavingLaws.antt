@@ -1,7 +1,7 @@
 -- What each chip keeps that is saved. A state is a fixed part, which no write and no sample changes, and what is saved of it.
 use Rattle.std.specs.Prelude.{◌≡◌, ℕ, List}
-use Rattle.lock_step.specs.ChipMeaning.{ChipMeaning}
-use Rattle.lock_step.specs.ChipSaving.{ChipSaving}
+use Rattle.chip_form.specs.ChipMeaning.{ChipMeaning}
+use Rattle.chip_form.specs.ChipSaving.{ChipSaving}
 
 pub record IsLawfulSaving {S V : Type 0} (chip : ChipMeaning S) (saving : ChipSaving S V) : Type 0 where
   -- what was saved of a state brings it back, with its sample's number
