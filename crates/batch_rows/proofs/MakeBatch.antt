@@ -3,7 +3,8 @@ use Rattle.std.proofs.Common.{◌≡◌, ℕ, zero, suc, ◌+◌, ◌-◌, ◌<�
 use Rattle.voice_unit.specs.Voice.{VoiceState}
 use Rattle.voice_unit.specs.declared.batch.BatchRows.{BatchRows}
 use Rattle.voice_unit.specs.declared.interface.VoiceOut.{VoiceOut}
-use Rattle.echo_unit.specs.EchoOverBatch.{echo_over}
+use Rattle.echo_unit.specs.EchoOverBatch.{echo_over, main_of, sent_of}
+use Rattle.echo_unit.specs.declared.rows.SumRows.{SumRows}
 use Rattle.dsp_state.specs.Mix.{main_frame, sent_frame}
 use Rattle.dsp_state.specs.Registers.{echo_regs}
 use Rattle.dsp_state.specs.Results.{bits_from, with_levels_from}
@@ -16,8 +17,6 @@ use Rattle.batch_rows.specs.Lane.{outs, voices_after}
 use Rattle.batch_rows.specs.Once.{endx_after, put_once, AreBits}
 use Rattle.batch_rows.specs.PlayedBatch.{answers_from, IsPlayedBatch}
 use Rattle.batch_rows.specs.Rows.{inputs, answers, echo_after, results_after}
-use Rattle.batch_rows.specs.SumRows.{main_of, sent_of}
-use Rattle.batch_rows.specs.declared.sums.SumRows.{SumRows}
 use Rattle.batch_rows.proofs.EchoOver.{echo_over-rows}
 use Rattle.batch_rows.proofs.Keyed.{keyed_bits}
 use Rattle.batch_rows.proofs.Lanes.{results_from-lanes}

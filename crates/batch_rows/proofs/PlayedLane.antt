@@ -4,41 +4,40 @@ use Rattle.num_fix.specs.SignedWords.{number_at}
 use Rattle.rate_clock.specs.Counter.{counter_at}
 use Rattle.voice_unit.specs.Voice.{VoiceState}
 use Rattle.voice_unit.specs.Batch.{lane_input, lane_inputs, steps, answer_of_step}
-use Rattle.voice_unit.specs.Play.{lane_of, answer_at, IsPlayed}
-use Rattle.voice_unit.specs.declared.batch.BatchLane.{BatchLane}
+use Rattle.voice_unit.specs.Play.{Lane, answer_at, IsPlayed}
 use Rattle.voice_unit.specs.declared.batch.BatchRows.{BatchRows}
 use Rattle.voice_unit.specs.declared.interface.VoiceOut.{VoiceOut}
-use Rattle.dsp_state.specs.Registers.{voice_regs, is_soft_reset}
+use Rattle.dsp_state.specs.Registers.{voice_regs}
 use Rattle.dsp_state.specs.Settings.{voice_settings}
 use Rattle.dsp_state.specs.Sample.{voice_in, voice_result}
-use Rattle.dsp_state.specs.declared.registers.TheConstants.{DIR, PMON, NON, KOFF, FLG}
 use Rattle.dsp_state.specs.declared.state.ChipState.{ChipState}
 use Rattle.batch_rows.specs.KeyRows.{AreKeyRows}
 use Rattle.batch_rows.specs.Lane.{voice_after, lane}
 use Rattle.batch_rows.specs.PlayedLane.{IsPlayedLane}
+use Rattle.batch_rows.specs.Reads.{shared_regs}
 use Rattle.batch_rows.specs.Rows.{inputs}
 use Rattle.batch_rows.proofs.OneMore.{registers-keys_after, table-keys_after}
 
--- what a voice reads of the registers that all voices share
-abbrev pub lane_registers : (registers : List ℕ) → (v : ℕ) → BatchLane
-lane_registers registers v = record {
-  voice = v;
-  dir = slice_index registers DIR;
-  pmon = slice_index registers PMON;
-  non = slice_index registers NON;
-  koff = slice_index registers KOFF;
-  reset = is_soft_reset (slice_index registers FLG);
+-- the lane of a voice of a chip
+abbrev pub chip_lane : ChipState → (v : ℕ) → BatchRows → (previous : List ℤ) → (memory : List ℕ) → VoiceState → (k : ℕ) → Lane
+chip_lane s v rows previous memory voice k = record {
+  regs = voice_regs s.registers v;
+  inputs = lane_inputs (shared_regs s.registers v) rows previous;
+  memory = memory;
+  table = s.table;
+  k = k;
+  voice = voice;
 }
 
 module _ (k n v : ℕ) (s : ChipState) (memory : List ℕ) (rows : BatchRows) (previous : List ℤ) (voice : VoiceState) (are : AreKeyRows k n s rows) where
   -- what it reads in a sample
-  reads : (j : ℕ) → j < n → lane_inputs (lane_registers s.registers v) rows previous j ≡ voice_in s.registers (inputs k s memory j).common v (number_at previous j)
+  reads : (j : ℕ) → j < n → lane_inputs (shared_regs s.registers v) rows previous j ≡ voice_in s.registers (inputs k s memory j).common v (number_at previous j)
   unfolding lane_input voice_in voice_settings inputs
   reads j few = rw (are.noise j few, are.polls j few, are.taken j few) refl
 
   -- its steps
   pub steps_are : (j : ℕ) → j ≤ n
-      → steps (voice_regs s.registers v) (lane_inputs (lane_registers s.registers v) rows previous) memory (λ j. counter_at (k + j)) voice j
+      → steps (voice_regs s.registers v) (lane_inputs (shared_regs s.registers v) rows previous) memory (λ j. counter_at (k + j)) voice j
       ≡ voice_after (inputs k s memory) v (number_at previous) voice j
   unfolding steps voice_after voice_result inputs
   steps_are zero few = refl
@@ -46,14 +45,14 @@ module _ (k n v : ℕ) (s : ChipState) (memory : List ℕ) (rows : BatchRows) (p
 
   -- and its answers
   pub answers_are : (j : ℕ) → j < n
-      → answer_of_step (voice_regs s.registers v) (lane_inputs (lane_registers s.registers v) rows previous) memory s.table (λ j. counter_at (k + j)) voice j
+      → answer_of_step (voice_regs s.registers v) (lane_inputs (shared_regs s.registers v) rows previous) memory s.table (λ j. counter_at (k + j)) voice j
       ≡ (lane (inputs k s memory) v (number_at previous) voice j).answer
   unfolding answer_of_step lane voice_result inputs
   answers_are j few = rw (steps_are j (omega (arith, few)), reads j few, registers-keys_after k s (suc j), table-keys_after k s (suc j)) refl
 
   pub played_lane : (before after : List ℕ) (row : List ℤ) (now : VoiceState) (last : VoiceOut) → 0 < n
-      → IsPlayed (lane_of (voice_regs s.registers v) (lane_registers s.registers v) rows previous memory s.table voice k) v n before after row now
-      → last ≡ answer_at (lane_of (voice_regs s.registers v) (lane_registers s.registers v) rows previous memory s.table voice k) (n - 1)
+      → IsPlayed (chip_lane s v rows previous memory voice k) v n before after row now
+      → last ≡ answer_at (chip_lane s v rows previous memory voice k) (n - 1)
       → IsPlayedLane (inputs k s memory) v n (number_at previous) voice now row before after last
   played_lane before after row now last some played last_is = record {
     voice = played.voice_is ∙ steps_are n (omega arith);

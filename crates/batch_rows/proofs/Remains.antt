@@ -5,6 +5,7 @@ use Rattle.num_fix.specs.Arithmetic.{clamp16, scaled}
 use Rattle.num_fix.specs.SignedWords.{number_at}
 use Rattle.voice_unit.specs.Voice.{VoiceState}
 use Rattle.voice_unit.specs.declared.interface.VoiceOut.{VoiceOut}
+use Rattle.echo_unit.specs.declared.rows.SumRows.{SumRows}
 use Rattle.dsp_state.specs.Mix.{shares_at, clamped_sum}
 use Rattle.dsp_state.specs.Results.{bits_from}
 use Rattle.dsp_state.specs.Sample.{SharedInput}
@@ -12,7 +13,6 @@ use Rattle.dsp_state.specs.declared.volumes.Volumes.{Volumes}
 use Rattle.batch_rows.specs.Lane.{lane, outs, voices_after}
 use Rattle.batch_rows.specs.PlayedBatch.{answers_from, sum_of, IsPlayedBatch}
 use Rattle.batch_rows.specs.PlayedLane.{IsPlayedLane}
-use Rattle.batch_rows.specs.declared.sums.SumRows.{SumRows}
 use Rattle.batch_rows.proofs.Lanes.{voices_after-rows}
 use Rattle.batch_rows.proofs.VoiceMore.{answers_from-rows, rest_same, opened}
 

@@ -3,13 +3,11 @@ use Rattle.std.proofs.Common.{◌≡◌, ℕ, ◌+◌, ◌<◌, List, [], ◌++�
 use Rattle.std.proofs.lemmas.List.{take_more_set, drop_all, take_all, append-nil, map-set, length-map}
 use Rattle.std.proofs.Math.ListN.{get_or-map}
 use Rattle.num_fix.specs.SignedWords.{number_at}
-use Rattle.voice_unit.specs.Play.{lane_of}
 use Rattle.voice_unit.specs.RunOfVoice.{silent_answer, outs_of, IsRun}
 use Rattle.voice_unit.specs.Voice.{VoiceState}
 use Rattle.voice_unit.specs.declared.batch.BatchRows.{BatchRows}
 use Rattle.voice_unit.specs.declared.interface.VoiceOut.{VoiceOut}
 use Rattle.voice_unit.specs.declared.out_row.OutRow.{OutRow}
-use Rattle.dsp_state.specs.Registers.{voice_regs}
 use Rattle.dsp_state.specs.Sample.{SharedInput}
 use Rattle.dsp_state.specs.declared.state.ChipState.{ChipState}
 use Rattle.batch_rows.specs.KeyRows.{AreKeyRows}
@@ -19,12 +17,12 @@ use Rattle.batch_rows.specs.Recorded.{answers_in, IsRunLane, IsRunBatch}
 use Rattle.batch_rows.specs.Rows.{inputs}
 use Rattle.batch_rows.proofs.Lanes.{voices_after-rows}
 use Rattle.batch_rows.proofs.VoiceMore.{answers_from-rows, rest_same, opened, voices_more}
-use Rattle.batch_rows.proofs.PlayedLane.{lane_registers, steps_are, answers_are}
+use Rattle.batch_rows.proofs.PlayedLane.{chip_lane, steps_are, answers_are}
 
 -- a voice that is run over the rows of a batch makes the steps of its lane
 pub run_lane : (k n v : ℕ) (s : ChipState) (memory : List ℕ) (rows : BatchRows) (previous : List ℤ) (voice now : VoiceState) (before after : OutRow)
     → AreKeyRows k n s rows
-    → IsRun (lane_of (voice_regs s.registers v) (lane_registers s.registers v) rows previous memory s.table voice k) n before after now
+    → IsRun (chip_lane s v rows previous memory voice k) n before after now
     → IsRunLane (inputs k s memory) v n (number_at previous) voice now after
 run_lane k n v s memory rows previous voice now before after are run = record {
   voice_is = run.voice_is ∙ steps_are k n v s memory rows previous voice are n (omega arith);

@@ -4,6 +4,7 @@
 -- Once: what a batch does once.
 -- Afar: what voices can read, from afar.
 -- KeyRows: the rows of keys and noise that the voices of a batch read.
+-- Reads: what the voices of a batch read.
 -- PlayedLane: what a voice leaves of a batch.
 -- SumRows: rows of sums with the shares of a voice.
 -- PlayedBatch: what the voices leave of a batch.
@@ -15,6 +16,7 @@ pub mod Apart
 pub mod Once
 pub mod Afar
 pub mod KeyRows
+pub mod Reads
 pub mod PlayedLane
 pub mod SumRows
 pub mod PlayedBatch

@@ -3,12 +3,12 @@ use Rattle.std.specs.Prelude.{◌≡◌, ℕ, ◌-◌, ◌<◌, List, ℤ, pos, 
 use Rattle.num_fix.specs.SignedWords.{number_at}
 use Rattle.voice_unit.specs.Voice.{VoiceState}
 use Rattle.voice_unit.specs.declared.interface.VoiceOut.{VoiceOut}
+use Rattle.echo_unit.specs.declared.rows.SumRows.{SumRows}
 use Rattle.dsp_state.specs.Mix.{shares_at, clamped_sum}
 use Rattle.dsp_state.specs.Results.{bits_from}
 use Rattle.dsp_state.specs.Sample.{SharedInput}
 use Rattle.dsp_state.specs.declared.volumes.Volumes.{Volumes}
 use Rattle.batch_rows.specs.Lane.{lanes, voices_after}
-use Rattle.batch_rows.specs.declared.sums.SumRows.{SumRows}
 
 -- what the voices from v on give in sample j
 abbrev pub answers_from : (shared : ℕ → SharedInput) → (v : ℕ) → (previous : ℕ → ℤ) → List VoiceState → (j : ℕ) → List VoiceOut

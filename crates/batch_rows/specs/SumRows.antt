@@ -2,20 +2,9 @@
 use Rattle.std.specs.Prelude.{◌≡◌, ℕ, ◌<◌, List, ℤ, ◌+ℤ◌}
 use Rattle.num_fix.specs.Arithmetic.{clamp16, scaled}
 use Rattle.num_fix.specs.SignedWords.{number_at}
-use Rattle.num_fix.specs.declared.Frame.{Frame}
-use Rattle.echo_unit.specs.EchoOverBatch.{pair_of}
 use Rattle.chip_form.specs.Limits.{most_samples_of_batch}
-use Rattle.batch_rows.specs.declared.sums.SumRows.{SumRows}
 
 -- each sum has the share of an output at a volume added, limited to 16 bits
 abbrev pub HasShares : (outs : List ℤ) → (volume : ℤ) → (before after : List ℤ) → Type 0
 HasShares outs volume before after =
     (j : ℕ) → j < most_samples_of_batch → number_at after j ≡ clamp16 (number_at before j +ℤ scaled (number_at outs j) volume 7)
-
--- the main sums in sample j
-abbrev pub main_of : SumRows → ℕ → Frame
-main_of sums = pair_of sums.main_left sums.main_right
-
--- what is sent to the echo in sample j
-abbrev pub sent_of : SumRows → ℕ → Frame
-sent_of sums = pair_of sums.sent_left sums.sent_right

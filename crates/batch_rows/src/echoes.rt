@@ -2,13 +2,11 @@
 
 ghost use Rattle.std.specs.Prelude.{◌≡◌, ◌≤◌, ◌+◌, ◌++◌, length};
 ghost use Rattle.trace_form.specs.Rooms.{frame_room};
-ghost use Rattle.echo_unit.specs.EchoOverBatch.{echo_over};
+ghost use Rattle.echo_unit.specs.EchoOverBatch.{echo_over, main_of, sent_of};
 ghost use Rattle.chip_form.specs.Limits.{most_samples_of_batch};
-ghost use Rattle.batch_rows.specs.SumRows.{main_of, sent_of};
 
-use crate::sums::SumRows;
 use aram_core::Aram;
-use echo_unit::{Echo, EchoRegs};
+use echo_unit::{Echo, EchoRegs, SumRows};
 use trace_form::Frames;
 
 /// Makes n steps of the echo over the sums of a batch, and adds their frames.
@@ -26,14 +24,6 @@ pub fn play_echo(
     ensures memory { memory.new ≡ (echo_over regs.now (main_of sums.now) (sent_of sums.now) echo.old memory.old n).memory }
     ensures frames { frames.new ≡ frames.old ++ (echo_over regs.now (main_of sums.now) (sent_of sums.now) echo.old memory.old n).frames }
 {
-    let row = echo.play(
-        n,
-        regs,
-        &sums.main_left,
-        &sums.main_right,
-        &sums.sent_left,
-        &sums.sent_right,
-        memory,
-    );
+    let row = echo.play(n, regs, sums, memory);
     frames.extend(&row[..usize::from(n)]);
 }

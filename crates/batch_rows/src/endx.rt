@@ -6,6 +6,7 @@ ghost use Rattle.chip_form.specs.Limits.{most_samples_of_batch};
 ghost use Rattle.batch_rows.specs.Once.{endx_after, AreBits};
 
 use dsp_state::next_endx;
+use num_fix::BATCH_SIZE;
 use voice_unit::BatchRows;
 
 /// The voices that are keyed in sample `j`, as bits.
@@ -18,7 +19,7 @@ pub(crate) fn keyed_in(rows: &BatchRows, j: u8) -> u8
 }
 
 /// ENDX after n samples of a batch: in each it gains the voices that looped and then loses those that were keyed.
-pub fn endx_of_batch(endx: u8, n: u8, rows: &BatchRows, loops: &[u8; 64]) -> u8
+pub fn endx_of_batch(endx: u8, n: u8, rows: &BatchRows, loops: &[u8; BATCH_SIZE]) -> u8
     requires few { n ≤ most_samples_of_batch }
     ensures { (answers : ℕ → List VoiceOut) → AreBits n answers rows.now loops.now → result ≡ endx_after answers endx n }
 {

@@ -10,6 +10,7 @@ ghost use Rattle.batch_rows.specs.KeyRows.{AreKeyRows};
 ghost use Rattle.batch_rows.specs.Rows.{keys_after};
 
 use dsp_state::ChipState;
+use num_fix::BATCH_SIZE;
 use rate_clock::RateClock;
 use voice_unit::BatchRows;
 
@@ -80,9 +81,9 @@ fn step_keys_each(
     ensures registers { state.new.registers ≡ state.old.registers }
 {
     let mut rows = BatchRows {
-        noise: [0; 64],
-        poll: [false; 64],
-        kon: [0; 64],
+        noise: [0; BATCH_SIZE],
+        poll: [false; BATCH_SIZE],
+        kon: [0; BATCH_SIZE],
     };
     for j in 0..n {
         let place = usize::from(j);
@@ -116,7 +117,7 @@ fn are_keys_idle(state: &ChipState, n: u8, rate: u8, first: &RateClock) -> bool
 }
 
 /// Puts which samples poll the keys, from a number on.
-fn put_polls(polls: &mut [bool; 64], number: u32)
+fn put_polls(polls: &mut [bool; BATCH_SIZE], number: u32)
     ensures { (j : ℕ) → j < most_samples_of_batch → get_or polls.new j false ≡ is_polled (number + j) }
 {
     let odd = (number % 2) as u8;
@@ -127,17 +128,17 @@ fn put_polls(polls: &mut [bool; 64], number: u32)
 
 /// The rows of samples that leave the keys and the noise as they are, from a number on.
 fn idle_rows(state: &ChipState, number: u32) -> BatchRows
-    ensures noise { result.noise ≡ replicate 64 state.now.hidden.noise }
-    ensures kon { result.kon ≡ replicate 64 0 }
+    ensures noise { result.noise ≡ replicate BATCH_SIZE state.now.hidden.noise }
+    ensures kon { result.kon ≡ replicate BATCH_SIZE 0 }
     ensures polls { (j : ℕ) → j < most_samples_of_batch → get_or result.poll j false ≡ is_polled (number + j) }
     ensures bound { state.now.hidden.noise < 0x8000 }
 {
-    let mut poll = [false; 64];
+    let mut poll = [false; BATCH_SIZE];
     put_polls(&mut poll, number);
     BatchRows {
-        noise: [state.hidden.noise.value(); 64],
+        noise: [state.hidden.noise.value(); BATCH_SIZE],
         poll,
-        kon: [0; 64],
+        kon: [0; BATCH_SIZE],
     }
 }
 

@@ -7,16 +7,8 @@ ghost use Rattle.chip_form.specs.Limits.{most_samples_of_batch};
 ghost use Rattle.batch_rows.specs.SumRows.{HasShares};
 
 use dsp_state::{Volumes, with_share};
-use num_fix::{add_clamped, scaled};
-
-/// The sums of each sample of a batch on both sides: of all voices, and of those that are sent to the echo.
-#[derive(Clone, Copy)]
-pub struct SumRows {
-    pub main_left: [i16; 64],
-    pub main_right: [i16; 64],
-    pub sent_left: [i16; 64],
-    pub sent_right: [i16; 64],
-}
+use echo_unit::SumRows;
+use num_fix::{BATCH_SIZE, add_clamped, scaled};
 
 /// The high word of a product.
 fn high_product(out: i16, factor: i16) -> i16
@@ -39,7 +31,7 @@ fn factors_of(volume: i16) -> [i16; 64]
     ensures { (j : ℕ) → j < most_samples_of_batch → number_at result j ≡ volume *ℤ pos 512 }
 {
     let factor = volume * 512;
-    [factor; 64]
+    [factor; BATCH_SIZE]
 }
 
 /// Adds the shares of a voice at a volume from -64 to 63. Inlined, since only there the rows are known to lie apart.
@@ -50,7 +42,7 @@ fn add_soft_row(sums: &mut [i16; 64], outs: &[i16; 64], volume: i16)
     ensures { HasShares outs.now volume sums.old sums.new }
 {
     let factors = factors_of(volume);
-    for j in 0..64 {
+    for j in 0..BATCH_SIZE {
         sums[j] = with_soft_share(sums[j], outs[j], factors[j]);
     }
 }
@@ -58,8 +50,8 @@ fn add_soft_row(sums: &mut [i16; 64], outs: &[i16; 64], volume: i16)
 /// A sum with the share of an output at a volume from 64 on: the output, less its share at what the volume lacks to 128, whose
 /// product with -512 is the factor.
 fn with_strong_share(sum: i16, out: i16, factor: i16) -> i16
-    ensures { (rest : ℤ) → factor ≡ rest *ℤ pos 512 → unsigned_abs (rest +ℤ pos 128) < 128
-        → result ≡ clamp16 (sum +ℤ scaled out (rest +ℤ pos 128) 7) }
+    ensures { (less : ℤ) → factor ≡ less *ℤ pos 512 → unsigned_abs (less +ℤ pos 128) < 128
+        → result ≡ clamp16 (sum +ℤ scaled out (less +ℤ pos 128) 7) }
 {
     add_clamped(sum, add_clamped(out, high_product(out, factor)))
 }
@@ -72,7 +64,7 @@ fn add_strong_row(sums: &mut [i16; 64], outs: &[i16; 64], volume: i16)
     ensures { HasShares outs.now volume sums.old sums.new }
 {
     let factors = factors_of(volume - 128);
-    for j in 0..64 {
+    for j in 0..BATCH_SIZE {
         sums[j] = with_strong_share(sums[j], outs[j], factors[j]);
     }
 }
@@ -82,7 +74,7 @@ fn add_strong_row(sums: &mut [i16; 64], outs: &[i16; 64], volume: i16)
 fn add_loud_row(sums: &mut [i16; 64], outs: &[i16; 64], volume: i16)
     ensures { HasShares outs.now volume sums.old sums.new }
 {
-    for j in 0..64 {
+    for j in 0..BATCH_SIZE {
         sums[j] = with_share(sums[j], outs[j], volume);
     }
 }
@@ -93,10 +85,10 @@ fn is_limited(sum: i16)
 {}
 
 /// Leaves the sums as they are, as shares at volume 0 do. Nothing runs.
-fn add_silent_row(sums: &[i16; 64], outs: &[i16; 64])
+fn add_silent_row(sums: &[i16; BATCH_SIZE], outs: &[i16; BATCH_SIZE])
     ensures { HasShares outs.now (pos 0) sums.now sums.now }
 {
-    for j in 0..64 {
+    for j in 0..BATCH_SIZE {
         is_limited(sums[j]);
     }
 }
@@ -117,30 +109,28 @@ fn add_row(sums: &mut [i16; 64], outs: &[i16; 64], volume: i16)
     }
 }
 
-impl SumRows {
-    /// Begins with the sums over no voices.
-    pub fn clear(&mut self)
-        ensures { let zeros = replicate 64 (pos 0) in
-            self.new ≡ record { main_left = zeros; main_right = zeros; sent_left = zeros; sent_right = zeros } }
-    {
-        *self = SumRows {
-            main_left: [0; 64],
-            main_right: [0; 64],
-            sent_left: [0; 64],
-            sent_right: [0; 64],
-        };
-    }
+/// Begins with the sums over no voices.
+pub(crate) fn clear_sums(sums: &mut SumRows)
+    ensures { let zeros = replicate BATCH_SIZE (pos 0) in
+        sums.new ≡ record { main_left = zeros; main_right = zeros; sent_left = zeros; sent_right = zeros } }
+{
+    *sums = SumRows {
+        main_left: [0; BATCH_SIZE],
+        main_right: [0; BATCH_SIZE],
+        sent_left: [0; BATCH_SIZE],
+        sent_right: [0; BATCH_SIZE],
+    };
+}
 
-    /// Adds the shares of a voice.
-    pub fn add(&mut self, outs: &[i16; 64], volumes: &Volumes)
-        ensures main_left { HasShares outs.now volumes.now.left self.old.main_left self.new.main_left }
-        ensures main_right { HasShares outs.now volumes.now.right self.old.main_right self.new.main_right }
-        ensures sent_left { HasShares outs.now volumes.now.sent_left self.old.sent_left self.new.sent_left }
-        ensures sent_right { HasShares outs.now volumes.now.sent_right self.old.sent_right self.new.sent_right }
-    {
-        add_row(&mut self.main_left, outs, volumes.left);
-        add_row(&mut self.main_right, outs, volumes.right);
-        add_row(&mut self.sent_left, outs, volumes.sent_left);
-        add_row(&mut self.sent_right, outs, volumes.sent_right);
-    }
+/// Adds the shares of a voice.
+pub(crate) fn add_shares(sums: &mut SumRows, outs: &[i16; 64], volumes: &Volumes)
+    ensures main_left { HasShares outs.now volumes.now.left sums.old.main_left sums.new.main_left }
+    ensures main_right { HasShares outs.now volumes.now.right sums.old.main_right sums.new.main_right }
+    ensures sent_left { HasShares outs.now volumes.now.sent_left sums.old.sent_left sums.new.sent_left }
+    ensures sent_right { HasShares outs.now volumes.now.sent_right sums.old.sent_right sums.new.sent_right }
+{
+    add_row(&mut sums.main_left, outs, volumes.left);
+    add_row(&mut sums.main_right, outs, volumes.right);
+    add_row(&mut sums.sent_left, outs, volumes.sent_left);
+    add_row(&mut sums.sent_right, outs, volumes.sent_right);
 }

@@ -1,17 +1,16 @@
 -- The voices of a sample, by the settings that the chip has read.
-use Rattle.std.specs.Prelude.{◌≡◌, ℕ, List, ℤ, pos, map}
+use Rattle.std.specs.Prelude.{◌≡◌, ℕ, List, pos, map}
 use Rattle.voice_unit.specs.Voice.{VoiceState}
 use Rattle.voice_unit.specs.declared.interface.VoiceOut.{VoiceOut}
 use Rattle.dsp_state.specs.Settings.{settings_of}
 use Rattle.dsp_state.specs.Sample.{SharedInput, results_from}
-use Rattle.dsp_state.specs.declared.settings.Settings.{Settings}
-use Rattle.dsp_state.specs.declared.voice_settings.SharedByVoices.{SharedByVoices}
+use Rattle.dsp_core.specs.declared.voices.SampleReads.{SampleReads}
 
 -- a fact of what the voices read, whichever registers the settings were read of
-abbrev pub ForInput : Settings → SharedByVoices → (memory : List ℕ) → (table : List ℤ) → (counter : ℕ) → (SharedInput → Type 0) → Type 0
-ForInput settings common memory table counter P =
-    (registers : List ℕ) → settings ≡ settings_of registers
-    → P record { registers = registers; common = common; memory = memory; table = table; counter = counter }
+abbrev pub ForInput : SampleReads → (SharedInput → Type 0) → Type 0
+ForInput reads P =
+    (registers : List ℕ) → reads.settings.now ≡ settings_of registers
+    → P record { registers = registers; common = reads.common; memory = reads.memory.now; table = reads.table.now; counter = reads.clock }
 
 -- all voices after their step, and their answers
 abbrev pub voices_after_step : SharedInput → List VoiceState → List VoiceState

@@ -16,8 +16,7 @@ use crate::OutOfMemory;
 use crate::sample::make_sample;
 use crate::saved::DspState;
 use aram_core::Aram;
-use batch_rows::{is_echo_apart, make_batch, make_recorded_batch, push_records};
-use brr_decode::GroupMemory;
+use batch_rows::{BatchSamples, is_echo_apart, play_batch, play_recorded_batch, push_records};
 use chip_form::ReachPages;
 use dsp_state::registers::{ENDX, KON};
 use dsp_state::{ChipState, Hidden, Settings, settings_of};
@@ -27,10 +26,10 @@ use rate_clock::{Noise, RateClock};
 use std::alloc::Global;
 use std::marker::Model;
 use trace_form::{Frames, Records};
-use voice_unit::{UNHEARD, Voice, VoiceOut, Workroom};
+use voice_unit::{UNHEARD, Voice, VoiceOut, Workspace};
 
-/// The S-DSP. It runs once for each sample, 32,000 times a second of sound. Beside the chip's state it keeps the groups that it
-/// decoded, of which views and saved states see nothing.
+/// The S-DSP. It runs once for each sample, 32,000 times a second of sound. Beside the chip's state it keeps what its voices work with, the groups that
+/// were decoded among it, of which views and saved states see nothing.
 #[derive(Drop)]
 pub struct Dsp {
     state: ChipState,
@@ -38,8 +37,7 @@ pub struct Dsp {
     number: u32,
     batches: u64,
     total: u64,
-    groups: GroupMemory,
-    room: Workroom,
+    work: Workspace,
 }
 
 impl Model for Dsp {
@@ -61,8 +59,7 @@ impl Dsp {
         requires { length registers.now ≡ 0x80 }
         ensures { IfOk result (λ dsp. dsp ≡ record { state = opened_state registers.now table; sample = 0; batches = 0; total = 0 }) }
     {
-        let groups = GroupMemory::new(alloc)?;
-        let room = Workroom::new(&table);
+        let work = Workspace::new(alloc, &table)?;
         let mut own = [0; 128];
         own.copy_from_slice(registers);
         let hidden = Hidden {
@@ -82,8 +79,7 @@ impl Dsp {
             number: 0,
             batches: 0,
             total: 0,
-            groups,
-            room,
+            work,
         })
     }
 
@@ -182,17 +178,16 @@ impl Dsp {
         ensures memory { memory.new ≡ (samples sample n self.old.sample self.old.state memory.old).memory }
         ensures frames { frames.new ≡ frames.old ++ (samples sample n self.old.sample self.old.state memory.old).frames }
     {
-        make_batch(
+        let samples = BatchSamples::after(&self.clock, self.number, n);
+        play_batch(
             &mut self.state,
-            self.number,
-            n,
-            &mut self.clock,
+            &samples,
             settings,
             memory,
-            &mut self.groups,
-            &mut self.room,
+            &mut self.work,
             frames,
         );
+        self.clock = self.clock.after_samples(n);
         self.number += u32::from(n);
     }
 
@@ -218,17 +213,17 @@ impl Dsp {
         ensures frames { frames.new ≡ frames.old ++ (samples sample n self.old.sample self.old.state memory.old).frames }
         ensures records { records.new ≡ records.old ++ filter (in_mask mask) (samples sample n self.old.sample self.old.state memory.old).records }
     {
-        make_recorded_batch(
+        let samples = BatchSamples::after(&self.clock, self.number, n);
+        play_recorded_batch(
             &mut self.state,
-            self.number,
-            n,
-            &mut self.clock,
+            &samples,
             settings,
             memory,
             mask,
             frames,
             records,
         );
+        self.clock = self.clock.after_samples(n);
         self.number += u32::from(n);
     }
 

@@ -5,7 +5,7 @@ ghost use Rattle.rate_clock.specs.Counter.{counter_at};
 ghost use Rattle.dsp_state.specs.Sample.{is_polled, sample, results_from, shared_input, records_from};
 ghost use Rattle.dsp_state.specs.Settings.{settings_of};
 
-use crate::voices::step_voices;
+use crate::voices::{SampleReads, step_voices};
 use aram_core::Aram;
 use batch_rows::{finish_sample, is_polled, poll, step_noise};
 use dsp_state::{ChipState, Settings, SharedByVoices};
@@ -40,20 +40,18 @@ fn step_chip_voices(
         clock.now ≡ counter_at number → answers.new ≡ map (λ one. one.answer) results }
     ensures eight { length state.new.hidden.voices ≡ 8 }
 {
-    let common = SharedByVoices {
-        noise: state.hidden.noise.value(),
-        taken: state.hidden.taken,
-        is_poll: is_polled(number),
-    };
-    step_voices(
-        &mut state.hidden.voices,
+    let reads = SampleReads {
         settings,
-        &common,
+        common: SharedByVoices {
+            noise: state.hidden.noise.value(),
+            taken: state.hidden.taken,
+            is_poll: is_polled(number),
+        },
         memory,
-        &state.table,
-        clock,
-        answers,
-    );
+        table: &state.table,
+        clock: *clock,
+    };
+    step_voices(&mut state.hidden.voices, &reads, answers);
 }
 
 /// Makes the sample of a number, at which the clock stands, with the answers of the voices.

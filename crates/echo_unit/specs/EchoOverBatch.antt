@@ -4,6 +4,7 @@ use Rattle.num_fix.specs.SignedWords.{number_at}
 use Rattle.num_fix.specs.declared.Frame.{Frame}
 use Rattle.echo_unit.specs.Echo.{EchoState, next_echo, echo_memory, echo_heard, output_frame}
 use Rattle.echo_unit.specs.declared.regs.EchoRegs.{EchoRegs}
+use Rattle.echo_unit.specs.declared.rows.SumRows.{SumRows}
 
 -- what the echo leaves and gives
 pub record EchoOver : Type 0 where
@@ -25,3 +26,11 @@ echo_over regs main sent echo memory (suc j) =
 -- the row of pairs of two rows of numbers
 abbrev pub pair_of : (left right : List ℤ) → ℕ → Frame
 pair_of left right j = record { left = number_at left j; right = number_at right j }
+
+-- the main sums of each sample
+abbrev pub main_of : SumRows → ℕ → Frame
+main_of sums = pair_of sums.main_left sums.main_right
+
+-- what is sent to the echo in each sample
+abbrev pub sent_of : SumRows → ℕ → Frame
+sent_of sums = pair_of sums.sent_left sums.sent_right

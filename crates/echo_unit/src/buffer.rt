@@ -9,7 +9,9 @@ ghost use Rattle.echo_unit.specs.EchoOverBatch.{pair_of};
 use crate::EchoRegs;
 use crate::echo::Echo;
 use crate::page::{pair_in, put_pair};
+use crate::rows::READ_SIZE;
 use aram_core::{Aram, page_of};
+use num_fix::BATCH_SIZE;
 
 impl Echo {
     /// Reads cells that stand one after another in one page, after the pairs of the history and those of so many cells before.
@@ -19,10 +21,10 @@ impl Echo {
         cells: u8,
         regs: &EchoRegs,
         memory: &Aram,
-        left: &mut [i16; 72],
-        right: &mut [i16; 72],
+        left: &mut [i16; READ_SIZE],
+        right: &mut [i16; READ_SIZE],
     )
-        requires few { before + cells ≤ 64 }
+        requires few { before + cells ≤ BATCH_SIZE }
         requires neighbours { AreNeighbours regs.now.edl cells self.now }
         ensures left { (s : EchoState) → self.now ≡ after_cells s regs.now.edl before
             → take (8 + before) left.old ≡ map (λ pair. pair.left) (pairs_read s regs.now memory.now before)
@@ -49,10 +51,10 @@ impl Echo {
         n: u8,
         regs: &EchoRegs,
         memory: &Aram,
-        left: &mut [i16; 72],
-        right: &mut [i16; 72],
+        left: &mut [i16; READ_SIZE],
+        right: &mut [i16; READ_SIZE],
     ) -> Echo
-        requires few { n ≤ 64 }
+        requires few { n ≤ BATCH_SIZE }
         ensures echo { result ≡ after_cells self.now regs.now.edl n }
         ensures left { take (8 + n) left.new ≡ map (λ pair. pair.left) (pairs_read self.now regs.now memory.now n) }
         ensures right { take (8 + n) right.new ≡ map (λ pair. pair.right) (pairs_read self.now regs.now memory.now n) }
@@ -77,11 +79,11 @@ impl Echo {
         before: u8,
         cells: u8,
         regs: &EchoRegs,
-        left: &[i16; 64],
-        right: &[i16; 64],
+        left: &[i16; BATCH_SIZE],
+        right: &[i16; BATCH_SIZE],
         memory: &mut Aram,
     )
-        requires few { before + cells ≤ 64 }
+        requires few { before + cells ≤ BATCH_SIZE }
         requires neighbours { AreNeighbours regs.now.edl cells self.now }
         ensures { (s : EchoState) (first : List ℕ) → self.now ≡ after_cells s regs.now.edl before
             → memory.old ≡ with_cells s regs.now (pair_of left.now right.now) first before
@@ -104,11 +106,11 @@ impl Echo {
         &self,
         n: u8,
         regs: &EchoRegs,
-        left: &[i16; 64],
-        right: &[i16; 64],
+        left: &[i16; BATCH_SIZE],
+        right: &[i16; BATCH_SIZE],
         memory: &mut Aram,
     )
-        requires few { n ≤ 64 }
+        requires few { n ≤ BATCH_SIZE }
         ensures { memory.new ≡ with_cells self.now regs.now (pair_of left.now right.now) memory.old n }
     {
         let mut at = *self;

@@ -4,18 +4,19 @@ ghost use Rattle.reach_map.specs.Window.{echo_window};
 ghost use Rattle.echo_unit.specs.Echo.{first_echo, is_at_cell, cell_address, with_newest, after_reading, length_in_force, at_next_cell, echo_heard, next_echo, echo_memory, output_frame, feedback_pair};
 ghost use Rattle.echo_unit.specs.Cells.{AreNeighbours, after_cells, with_cells};
 ghost use Rattle.echo_unit.specs.Flg.{has_echo_writes};
-ghost use Rattle.echo_unit.specs.EchoOverBatch.{echo_over, pair_of};
+ghost use Rattle.echo_unit.specs.EchoOverBatch.{echo_over, pair_of, main_of, sent_of};
 
 use crate::cell::{cell_address, cell_pair, put_cell};
 use crate::filter::filtered_pair;
 use crate::flg::has_echo_writes;
 use crate::rows::{
-    SILENCE, feedback_row, filtered_row, frame_at, last_pairs, output_row, put_history,
+    HeardRows, READ_SIZE, SILENCE, SumRows, feedback_row, filtered_row, frame_at, last_pairs,
+    output_row, put_history,
 };
 use crate::volume::{feedback_word, output_frame};
 use crate::{EchoRegs, Window};
 use aram_core::Aram;
-use num_fix::Frame;
+use num_fix::{BATCH_SIZE, Frame};
 use std::marker::Model;
 
 /// The echo between two steps.
@@ -128,7 +129,7 @@ impl Echo {
     }
 
     /// Puts the pairs of the history into two rows.
-    pub(crate) fn put_pairs(&self, left: &mut [i16; 72], right: &mut [i16; 72])
+    pub(crate) fn put_pairs(&self, left: &mut [i16; READ_SIZE], right: &mut [i16; READ_SIZE])
         ensures left { take 8 left.new ≡ map (λ pair. pair.left) self.now.history }
         ensures right { take 8 right.new ≡ map (λ pair. pair.right) self.now.history }
         ensures at_cell { is_at_cell self.now ≡ true }
@@ -181,22 +182,13 @@ impl Echo {
     }
 
     /// Writes what was sent and heard back into n cells.
-    fn put_back(
-        &self,
-        n: u8,
-        regs: &EchoRegs,
-        sent_left: &[i16; 64],
-        sent_right: &[i16; 64],
-        heard_left: &[i16; 64],
-        heard_right: &[i16; 64],
-        memory: &mut Aram,
-    )
-        requires few { n ≤ 64 }
+    fn put_back(&self, n: u8, regs: &EchoRegs, sums: &SumRows, heard: &HeardRows, memory: &mut Aram)
+        requires few { n ≤ BATCH_SIZE }
         ensures { memory.new ≡ with_cells self.now regs.now
-            (λ j. feedback_pair (pair_of sent_left.now sent_right.now j) (pair_of heard_left.now heard_right.now j) regs.now.efb) memory.old n }
+            (λ j. feedback_pair (sent_of sums.now j) (pair_of heard.now.left heard.now.right j) regs.now.efb) memory.old n }
     {
-        let left = feedback_row(sent_left, heard_left, regs.efb);
-        let right = feedback_row(sent_right, heard_right, regs.efb);
+        let left = feedback_row(&sums.sent_left, &heard.left, regs.efb);
+        let right = feedback_row(&sums.sent_right, &heard.right, regs.efb);
         self.write_cells(n, regs, &left, &right, memory);
     }
 
@@ -205,28 +197,18 @@ impl Echo {
         &self,
         n: u8,
         regs: &EchoRegs,
-        sent_left: &[i16; 64],
-        sent_right: &[i16; 64],
-        heard_left: &[i16; 64],
-        heard_right: &[i16; 64],
+        sums: &SumRows,
+        heard: &HeardRows,
         memory: &mut Aram,
     )
-        requires few { n ≤ 64 }
+        requires few { n ≤ BATCH_SIZE }
         ensures on { has_echo_writes regs.now.flg ≡ true → memory.new ≡ with_cells self.now regs.now
-            (λ j. feedback_pair (pair_of sent_left.now sent_right.now j) (pair_of heard_left.now heard_right.now j) regs.now.efb) memory.old n }
+            (λ j. feedback_pair (sent_of sums.now j) (pair_of heard.now.left heard.now.right j) regs.now.efb) memory.old n }
         ensures off { has_echo_writes regs.now.flg ≡ false → memory.new ≡ memory.old }
     {
         let writes_on = has_echo_writes(regs.flg);
         if writes_on {
-            self.put_back(
-                n,
-                regs,
-                sent_left,
-                sent_right,
-                heard_left,
-                heard_right,
-                memory,
-            );
+            self.put_back(n, regs, sums, heard, memory);
         }
     }
 
@@ -235,33 +217,24 @@ impl Echo {
         &mut self,
         n: u8,
         regs: &EchoRegs,
-        main_left: &[i16; 64],
-        main_right: &[i16; 64],
-        sent_left: &[i16; 64],
-        sent_right: &[i16; 64],
+        sums: &SumRows,
         memory: &mut Aram,
-    ) -> [Frame; 64]
-        requires few { n ≤ 64 }
+    ) -> [Frame; BATCH_SIZE]
+        requires few { n ≤ BATCH_SIZE }
         requires apart { has_echo_writes regs.now.flg ≡ true → 0 < regs.now.edl % 16 }
-        ensures batch { let batch = echo_over regs.now (pair_of main_left.now main_right.now) (pair_of sent_left.now sent_right.now) self.old memory.old n in
-            batch ≡ record { echo = self.new; memory = memory.new; frames = take n result } }
+        ensures batch { echo_over regs.now (main_of sums.now) (sent_of sums.now) self.old memory.old n
+            ≡ record { echo = self.new; memory = memory.new; frames = take n result } }
     {
-        let mut left = [0; 72];
-        let mut right = [0; 72];
+        let mut left = [0; READ_SIZE];
+        let mut right = [0; READ_SIZE];
         let next = self.read_cells(n, regs, memory, &mut left, &mut right);
-        let heard_left = filtered_row(&left, &regs.fir);
-        let heard_right = filtered_row(&right, &regs.fir);
-        self.write_back(
-            n,
-            regs,
-            sent_left,
-            sent_right,
-            &heard_left,
-            &heard_right,
-            memory,
-        );
+        let heard = HeardRows {
+            left: filtered_row(&left, &regs.fir),
+            right: filtered_row(&right, &regs.fir),
+        };
+        self.write_back(n, regs, sums, &heard, memory);
         self.go_to(&next, last_pairs(&left, &right, n));
-        output_row(regs, main_left, main_right, &heard_left, &heard_right)
+        output_row(regs, sums, &heard)
     }
 
     /// The samples of a batch one after another.
@@ -269,50 +242,40 @@ impl Echo {
         &mut self,
         n: u8,
         regs: &EchoRegs,
-        main_left: &[i16; 64],
-        main_right: &[i16; 64],
-        sent_left: &[i16; 64],
-        sent_right: &[i16; 64],
+        sums: &SumRows,
         memory: &mut Aram,
-    ) -> [Frame; 64]
-        requires few { n ≤ 64 }
-        ensures batch { let batch = echo_over regs.now (pair_of main_left.now main_right.now) (pair_of sent_left.now sent_right.now) self.old memory.old n in
-            batch ≡ record { echo = self.new; memory = memory.new; frames = take n result } }
+    ) -> [Frame; BATCH_SIZE]
+        requires few { n ≤ BATCH_SIZE }
+        ensures batch { echo_over regs.now (main_of sums.now) (sent_of sums.now) self.old memory.old n
+            ≡ record { echo = self.new; memory = memory.new; frames = take n result } }
     {
-        let mut frames = [SILENCE; 64];
+        let mut frames = [SILENCE; BATCH_SIZE];
         for j in 0..n {
             let place = usize::from(j);
-            let main = frame_at(main_left, main_right, place);
-            let sent = frame_at(sent_left, sent_right, place);
+            let main = frame_at(&sums.main_left, &sums.main_right, place);
+            let sent = frame_at(&sums.sent_left, &sums.sent_right, place);
             frames[place] = self.step(memory, regs, main, sent);
         }
         frames
     }
 
-    /// The steps of n samples, at most 64, over rows of the main sums and of what is sent to the echo. The answer's first n frames
+    /// The steps of n samples, at most 64, over the rows of the main sums and of what is sent to the echo. The answer's first n frames
     /// are those of the samples. A batch of a few samples, and one that writes the only cell of a buffer of no length, is made step by step.
     pub fn play(
         &mut self,
         n: u8,
         regs: &EchoRegs,
-        main_left: &[i16; 64],
-        main_right: &[i16; 64],
-        sent_left: &[i16; 64],
-        sent_right: &[i16; 64],
+        sums: &SumRows,
         memory: &mut Aram,
-    ) -> [Frame; 64]
-        requires few { n ≤ 64 }
-        ensures batch { let batch = echo_over regs.now (pair_of main_left.now main_right.now) (pair_of sent_left.now sent_right.now) self.old memory.old n in
-            batch ≡ record { echo = self.new; memory = memory.new; frames = take n result } }
+    ) -> [Frame; BATCH_SIZE]
+        requires few { n ≤ BATCH_SIZE }
+        ensures batch { echo_over regs.now (main_of sums.now) (sent_of sums.now) self.old memory.old n
+            ≡ record { echo = self.new; memory = memory.new; frames = take n result } }
     {
         if 16 <= n && are_cells_apart(regs) {
-            self.play_rows(
-                n, regs, main_left, main_right, sent_left, sent_right, memory,
-            )
+            self.play_rows(n, regs, sums, memory)
         } else {
-            self.play_each(
-                n, regs, main_left, main_right, sent_left, sent_right, memory,
-            )
+            self.play_each(n, regs, sums, memory)
         }
     }
 

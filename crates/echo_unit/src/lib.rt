@@ -16,3 +16,4 @@ pub use echo::Echo;
 pub use flg::has_echo_writes;
 pub use reach_map::Window;
 pub use regs::EchoRegs;
+pub use rows::SumRows;

@@ -11,6 +11,9 @@ pub struct Frame {
     pub right: i16,
 }
 
+/// The most samples of a batch, in which the S-DSP makes its samples: a row has a place for each of them.
+pub const BATCH_SIZE: usize = 64;
+
 /// Limits a number to -32,768 and 32,767.
 #[tactic(auto, unfolding(crate::specs::Arithmetic::clamp16))]
 pub fn clamp16(v: i32) -> i16

@@ -4,8 +4,7 @@ use Rattle.std.proofs.lemmas.Bool.{and_right}
 use Rattle.voice_unit.specs.Batch.{lane_input}
 use Rattle.voice_unit.specs.Plain.{IsPlain}
 use Rattle.voice_unit.specs.Play.{Glides, lane_of}
-use Rattle.voice_unit.specs.declared.batch.BatchLane.{BatchLane}
-use Rattle.voice_unit.specs.declared.batch.BatchRows.{BatchRows}
+use Rattle.voice_unit.specs.declared.batch.VoiceReads.{VoiceReads}
 use Rattle.voice_unit.specs.Voice.{VoiceState, pitch_of}
 use Rattle.voice_unit.specs.declared.interface.VoiceRegs.{VoiceRegs}
 use Rattle.voice_unit.specs.declared.interface.VoiceIn.{VoiceIn}
@@ -15,15 +14,15 @@ unfolding pitch_of
 own_pitch r i unbent = rw unbent refl
 
 -- a voice glides over plain samples
-pub lane_glides : (r : VoiceRegs) (own : BatchLane) (rows : BatchRows) (previous : List ℤ) (memory : List ℕ) (table : List ℤ) (voice : VoiceState) (k from end : ℕ)
-    → ((j : ℕ) → from ≤ j → j < end → IsPlain own rows j)
-    → Glides own (lane_of r own rows previous memory table voice k) from end
+pub lane_glides : (reads : VoiceReads) (previous : List ℤ) (voice : VoiceState) (k from end : ℕ)
+    → ((j : ℕ) → from ≤ j → j < end → IsPlain reads.shared reads.rows.now j)
+    → Glides reads.shared (lane_of reads previous voice k) from end
 unfolding lane_input
-lane_glides r own rows previous memory table voice k from end plain = λ j since below. record {
+lane_glides reads previous voice k from end plain = λ j since below. record {
   dir = refl;
   reset = refl;
   koff = refl;
-  unkeyed = rw (plain j since below).unkeyed (and_right (get_or rows.poll j false) false refl);
-  unbent = rw (plain j since below).unbent (and_right (nat_lt 0 own.voice) false refl);
+  unkeyed = rw (plain j since below).unkeyed (and_right (get_or reads.rows.now.poll j false) false refl);
+  unbent = rw (plain j since below).unbent (and_right (nat_lt 0 reads.shared.voice) false refl);
   sampled = (plain j since below).sampled;
 }

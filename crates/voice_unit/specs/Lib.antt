@@ -3,6 +3,7 @@
 -- Inside: the fields of a voice, and what holds of them.
 -- Batch: a voice over a batch of samples.
 -- Rest: voices whose envelopes rest.
+-- OneSample: one sample of a voice.
 -- Plain: a sample in which nothing but its blocks and registers tells what a voice plays.
 -- Play: a voice over a batch, as rows of numbers alone.
 -- RunOfVoice: the same with what each step gives.
@@ -11,9 +12,11 @@ pub mod Voice
 pub mod Inside
 pub mod Batch
 pub mod Rest
+pub mod OneSample
 pub mod Plain
 pub mod Play
 pub mod RunOfVoice
--- Row: the row of kept samples that a voice reads in a stretch of samples. OutsOverRow: its outputs over that row.
+-- Row: the row of kept samples that a voice reads in a stretch of samples. Course: the course of a voice over it. OutsOverRow: its outputs over that row.
 pub mod Row
+pub mod Course
 pub mod OutsOverRow

@@ -7,8 +7,8 @@ use Rattle.voice_unit.specs.Voice.{VoiceState}
 use Rattle.voice_unit.specs.Rest.{IsAtRest}
 use Rattle.voice_unit.specs.Plain.{PlaysPlainly}
 use Rattle.voice_unit.specs.Batch.{lane_inputs, steps, answer_of_step}
-use Rattle.voice_unit.specs.declared.batch.BatchLane.{BatchLane}
-use Rattle.voice_unit.specs.declared.batch.BatchRows.{BatchRows}
+use Rattle.voice_unit.specs.declared.batch.SharedRegs.{SharedRegs}
+use Rattle.voice_unit.specs.declared.batch.VoiceReads.{VoiceReads}
 use Rattle.voice_unit.specs.declared.interface.VoiceRegs.{VoiceRegs}
 use Rattle.voice_unit.specs.declared.interface.VoiceIn.{VoiceIn}
 use Rattle.voice_unit.specs.declared.interface.VoiceOut.{VoiceOut}
@@ -22,10 +22,22 @@ pub record Lane : Type 0 where
   pub k : ℕ
   pub voice : VoiceState
 
--- that of a voice with its registers, over the rows of a batch and the row of outputs of the voice before it
-abbrev pub lane_of : VoiceRegs → BatchLane → BatchRows → (previous : List ℤ) → (memory : List ℕ) → (table : List ℤ) → VoiceState → (k : ℕ) → Lane
-lane_of r lane rows previous memory table voice k =
-    record { regs = r; inputs = lane_inputs lane rows previous; memory = memory; table = table; k = k; voice = voice }
+-- that of a voice over what it reads of a batch and the row of outputs of the voice before it
+abbrev pub lane_of : VoiceReads → (previous : List ℤ) → VoiceState → (k : ℕ) → Lane
+lane_of reads previous voice k = record {
+  regs = reads.regs;
+  inputs = lane_inputs reads.shared reads.rows.now previous;
+  memory = reads.memory.now;
+  table = reads.table.now;
+  k = k;
+  voice = voice;
+}
+
+-- a lane has the registers, the memory and the table that are read
+pub record IsLaneOver (reads : VoiceReads) (lane : Lane) : Type 0 where
+  pub regs : lane.regs ≡ reads.regs
+  pub memory : lane.memory ≡ reads.memory.now
+  pub table : lane.table ≡ reads.table.now
 
 -- the voice after j samples, and what it gives in sample j
 abbrev pub voice_at : Lane → (j : ℕ) → VoiceState
@@ -42,10 +54,10 @@ pub record IsPlayed (lane : Lane) (v n : ℕ) (before after : List ℕ) (outs : 
   pub others : (j : ℕ) → n ≤ j → slice_index after j ≡ slice_index before j
 
 -- in each sample from one up to another a voice plays plainly
-abbrev pub Glides : (own : BatchLane) → (lane : Lane) → (from end : ℕ) → Type 0
+abbrev pub Glides : (own : SharedRegs) → (lane : Lane) → (from end : ℕ) → Type 0
 Glides own lane from end = (j : ℕ) → from ≤ j → j < end → PlaysPlainly own (lane.inputs j)
 
 -- what n samples of the voice of a row leave, which then rests for so many
-pub record IsOnItsWay (own : BatchLane) (lane : Lane) (n rest : ℕ) (before loops : List ℕ) (outs : List ℤ) (voice : VoiceState) : Type 0 where
+pub record IsOnItsWay (own : SharedRegs) (lane : Lane) (n rest : ℕ) (before loops : List ℕ) (outs : List ℤ) (voice : VoiceState) : Type 0 where
   pub played : IsPlayed lane own.voice n before loops outs voice
   pub at_rest : IsAtRest own.reset (has_bit own.koff own.voice) lane.regs lane.memory (lane.k + n) rest voice

@@ -1,5 +1,5 @@
 -- The row of kept samples that a voice reads in a stretch of samples.
-use Rattle.std.specs.Prelude.{◌≡◌, ℕ, zero, suc, ◌+◌, ◌*◌, ◌/◌, ◌<◌, ◌==◌, Bool, ◌&&◌, List, ℤ, false, length, drop, if◌then◌else◌}
+use Rattle.std.specs.Prelude.{◌≡◌, ℕ, zero, suc, ◌+◌, ◌*◌, ◌/◌, ◌%◌, ◌<◌, ◌==◌, Bool, ◌&&◌, List, ℤ, false, length, drop, if◌then◌else◌}
 use Rattle.aram_core.specs.Memory.{byte_at}
 use Rattle.brr_decode.specs.Header.{has_end, next_block}
 use Rattle.brr_decode.specs.Kept.{with_group}
@@ -8,6 +8,11 @@ use Rattle.voice_unit.specs.Voice.{VoiceState, is_keyed}
 use Rattle.voice_unit.specs.declared.interface.VoiceRegs.{VoiceRegs}
 use Rattle.voice_unit.specs.declared.interface.VoiceIn.{VoiceIn}
 use Rattle.voice_unit.specs.declared.row.Place.{Place}
+
+-- one of the four groups of a block
+pub record IsGroup (place : Place) : Type 0 where
+  pub within : place.offset < 8
+  pub odd : place.offset % 2 ≡ 1
 
 -- the group that follows
 abbrev pub next_place : (memory : List ℕ) → (loop_to : ℕ) → Place → Place

@@ -3,23 +3,26 @@
 ghost use Rattle.std.specs.Prelude.{◌≡◌, ◌<◌, slice_index};
 ghost use Rattle.voice_unit.specs.Batch.{lane_input};
 
-use crate::interface::{VoiceIn, is_modulated};
-use num_fix::has_bit;
+use crate::interface::{VoiceIn, VoiceRegs, is_modulated};
+use aram_core::Aram;
+use gauss_table::GaussTable;
+use num_fix::{BATCH_SIZE, has_bit};
+use rate_clock::RateClock;
 
 /// What all voices read in each sample of a batch beside the registers.
 #[derive(Clone, Copy)]
 pub struct BatchRows {
     /// The noise, at most 7FFFh.
-    pub noise: [u16; 64],
+    pub noise: [u16; BATCH_SIZE],
     /// The keys are looked at, as in every second sample.
-    pub poll: [bool; 64],
+    pub poll: [bool; BATCH_SIZE],
     /// The key-ons that the last poll took: bit v is voice v.
-    pub kon: [u8; 64],
+    pub kon: [u8; BATCH_SIZE],
 }
 
-/// What one voice reads in all samples of a batch: its number, and registers that all voices share.
+/// The registers that all voices share, and the number of the voice that reads them.
 #[derive(Clone, Copy, Debug)]
-pub struct BatchLane {
+pub struct SharedRegs {
     /// The number of the voice, 0 to 7.
     pub voice: u8,
     /// The page of the directory.
@@ -34,12 +37,38 @@ pub struct BatchLane {
     pub reset: bool,
 }
 
-impl BatchLane {
+/// What a voice reads over a batch, beside the outputs of the voice before it.
+#[derive(Clone, Copy)]
+pub struct VoiceReads<'a> {
+    /// Its own registers.
+    pub regs: VoiceRegs,
+    /// The registers that all voices share, and its number.
+    pub shared: SharedRegs,
+    /// The keys and the noise of each sample.
+    pub rows: &'a BatchRows,
+    /// The memory, which stays as it is throughout the batch.
+    pub memory: &'a Aram,
+    /// The table of weights.
+    pub table: &'a GaussTable,
+    /// The clock of the first sample.
+    pub clock: RateClock,
+}
+
+/// What is made of a batch while its voices play, one after another.
+#[derive(Clone, Copy)]
+pub struct PlayedRows {
+    /// The output of the voice that plays, in each sample.
+    pub outs: [i16; BATCH_SIZE],
+    /// The voices that loop in each sample: bit v is voice v.
+    pub loops: [u8; BATCH_SIZE],
+}
+
+impl SharedRegs {
     /// What the voice reads in sample `j`, after the output of the voice before it.
     #[tactic(auto, unfolding(crate::specs::Batch::lane_input))]
     pub fn input(&self, rows: &BatchRows, previous: i16, j: u8) -> VoiceIn
         requires voice { self.now.voice < 8 }
-        requires few { j < 64 }
+        requires few { j < BATCH_SIZE }
         ensures value { result ≡ lane_input self.now rows.now previous j }
         ensures noise { result.noise ≡ slice_index rows.now.noise j }
     {

@@ -1,15 +1,15 @@
 //! The course of a voice at rest over the groups of a stretch of samples.
 
-ghost use Rattle.std.specs.Prelude.{◌≡◌, ◌<◌, ◌≤◌, ◌+◌, ◌*◌, ◌%◌, ◌^◌, ◌-◌, ℕ, true, false, slice_index, take, if◌then◌else◌};
-ghost use Rattle.aram_core.specs.Memory.{byte_at};
-ghost use Rattle.voice_unit.specs.Voice.{is_silencing};
-ghost use Rattle.voice_unit.specs.Row.{next_place, place_after, kept_row, groups_before, ends_in, loops_in};
+ghost use Rattle.std.specs.Prelude.{◌≡◌, ◌<◌, ◌≤◌, ◌+◌, ◌*◌, ◌^◌, ◌-◌, ℕ, true, false, slice_index, take};
+ghost use Rattle.voice_unit.specs.Row.{next_place, kept_row, groups_before};
+ghost use Rattle.voice_unit.specs.Course.{IsCourse, IsHeaded, IsStretch, AreLoopsMarked, LeavesSounding, place_at, ends_at, loops_at};
 
 use crate::play::mark_loop;
 use crate::rest::is_silencing;
 use crate::row::{Place, is_end, next_place, read_group};
+use crate::workspace::Workspace;
 use aram_core::Aram;
-use brr_decode::GroupMemory;
+use num_fix::BATCH_SIZE;
 
 /// What a voice goes by in a stretch of samples in which it rests and plays its samples at its own pitch.
 #[derive(Clone, Copy, Debug)]
@@ -22,6 +22,8 @@ pub(crate) struct Course {
     pub loop_to: u16,
     pub position: u16,
     pub pitch: u16,
+    /// The level of its envelope.
+    pub level: u16,
     /// The soft reset of FLG.
     pub reset: bool,
     /// It is released at level 0, so that nothing silences it.
@@ -43,11 +45,11 @@ pub(crate) struct Stretch {
 
 /// A group, with the header of its block.
 #[derive(Clone, Copy, Debug)]
-struct Headed {
-    place: Place,
-    header: u8,
+pub(crate) struct Headed {
+    pub place: Place,
+    pub header: u8,
     /// It begins a block whose header silences the voice while it sounds.
-    woken: bool,
+    pub woken: bool,
 }
 
 /// How many groups are read in n samples from a position on.
@@ -55,9 +57,9 @@ fn groups_in(position: u16, pitch: u16, n: u8) -> u8
     requires position { position < 0x8000 }
     requires pitch { pitch < 0x4000 }
     requires some { 0 < n }
-    requires few { n ≤ 64 }
+    requires few { n ≤ BATCH_SIZE }
     ensures value { result ≡ groups_before position pitch n }
-    ensures few { result ≤ 64 }
+    ensures few { result ≤ BATCH_SIZE }
 {
     let way = u32::from(position) + u32::from(n - 1) * u32::from(pitch);
     (way / 0x4000) as u8
@@ -67,7 +69,7 @@ fn groups_in(position: u16, pitch: u16, n: u8) -> u8
 fn reading_sample(position: u16, pitch: u16, group: u8, n: u8) -> u8
     requires position { position < 0x8000 }
     requires pitch { pitch < 0x4000 }
-    requires few { n ≤ 64 }
+    requires few { n ≤ BATCH_SIZE }
     requires read { group < groups_before position pitch n }
     ensures within { result < n }
     ensures before { groups_before position pitch result ≡ group }
@@ -83,17 +85,20 @@ fn reading_sample(position: u16, pitch: u16, group: u8, n: u8) -> u8
 
 impl Course {
     /// Adds the bit of the voice in the sample of a stretch from sample `at` on in which it reads a group that ends a block with its end bit.
-    fn mark_end(&self, at: u8, n: u8, group: u8, place: &Place, memory: &Aram, loops: &mut [u8; 64])
-        requires voice { self.now.voice < 8 }
-        requires position { self.now.position < 0x8000 }
-        requires pitch { self.now.pitch < 0x4000 }
-        requires few { at + n ≤ 64 }
+    fn mark_end(
+        &self,
+        at: u8,
+        n: u8,
+        group: u8,
+        place: &Place,
+        memory: &Aram,
+        loops: &mut [u8; BATCH_SIZE],
+    )
+        requires course { IsCourse self.now }
+        requires few { at + n ≤ BATCH_SIZE }
         requires read { group < groups_before self.now.position self.now.pitch n }
-        requires room { (j : ℕ) → j < n → groups_before self.now.position self.now.pitch j ≡ group → slice_index loops.old (at + j) < 2 ^ self.now.voice }
-        ensures marks { (j : ℕ) → j < n → slice_index loops.new (at + j) ≡ slice_index loops.old (at + j)
-            + (if ends_in memory.now place.now self.now.position self.now.pitch group j then 2 ^ self.now.voice else 0) }
-        ensures before { (i : ℕ) → i < at → slice_index loops.new i ≡ slice_index loops.old i }
-        ensures later { (i : ℕ) → at + n ≤ i → slice_index loops.new i ≡ slice_index loops.old i }
+        requires lower { (j : ℕ) → j < n → groups_before self.now.position self.now.pitch j ≡ group → slice_index loops.old (at + j) < 2 ^ self.now.voice }
+        ensures { AreLoopsMarked at n self.now.voice (ends_at self.now memory.now place.now group) loops.old loops.new }
     {
         if is_end(place, memory) {
             let j = reading_sample(self.position, self.pitch, group, n);
@@ -103,42 +108,32 @@ impl Course {
 
     /// Whether the header of a group silences the voice while it sounds.
     fn is_woken_at(&self, place: &Place, memory: &Aram) -> bool
-        ensures { result ≡ false → is_silencing self.now.reset (byte_at memory.now place.now.block) ≡ true → self.now.silent ≡ true }
+        ensures { result ≡ false → LeavesSounding self.now memory.now place.now.block }
     {
         !self.silent && is_silencing(self.reset, memory.get(place.block))
     }
 
-    /// Goes on from a group to the next one. Where that one begins a block, the end of the block before is marked, and the new header is
+    /// Goes from a group to the next one. Where that one begins a block, the end of the block before is marked, and the new header is
     /// looked at. Inlined, since three of four groups only go on in their block.
     #[inline(always)]
-    fn go_on(
+    fn next_group(
         &self,
         at: u8,
         n: u8,
         group: u8,
         now: &Headed,
         memory: &Aram,
-        loops: &mut [u8; 64],
+        loops: &mut [u8; BATCH_SIZE],
     ) -> Headed
-        requires voice { self.now.voice < 8 }
-        requires position { self.now.position < 0x8000 }
-        requires pitch { self.now.pitch < 0x4000 }
-        requires few { at + n ≤ 64 }
+        requires course { IsCourse self.now }
+        requires few { at + n ≤ BATCH_SIZE }
         requires read { group < groups_before self.now.position self.now.pitch n }
-        requires room { (j : ℕ) → j < n → groups_before self.now.position self.now.pitch j ≡ group → slice_index loops.old (at + j) < 2 ^ self.now.voice }
-        requires group { now.now.place.offset < 8 }
-        requires odd { now.now.place.offset % 2 ≡ 1 }
-        requires header { now.now.header ≡ byte_at memory.now now.now.place.block }
+        requires lower { (j : ℕ) → j < n → groups_before self.now.position self.now.pitch j ≡ group → slice_index loops.old (at + j) < 2 ^ self.now.voice }
+        requires headed { IsHeaded memory.now now.now }
         ensures place { result.place ≡ next_place memory.now self.now.loop_to now.now.place }
-        ensures group { result.place.offset < 8 }
-        ensures odd { result.place.offset % 2 ≡ 1 }
-        ensures header { result.header ≡ byte_at memory.now result.place.block }
-        ensures quiet { result.woken ≡ false → (is_silencing self.now.reset (byte_at memory.now now.now.place.block) ≡ true → self.now.silent ≡ true)
-            → is_silencing self.now.reset (byte_at memory.now result.place.block) ≡ true → self.now.silent ≡ true }
-        ensures marks { (j : ℕ) → j < n → slice_index loops.new (at + j) ≡ slice_index loops.old (at + j)
-            + (if ends_in memory.now now.now.place self.now.position self.now.pitch group j then 2 ^ self.now.voice else 0) }
-        ensures before { (i : ℕ) → i < at → slice_index loops.new i ≡ slice_index loops.old i }
-        ensures later { (i : ℕ) → at + n ≤ i → slice_index loops.new i ≡ slice_index loops.old i }
+        ensures headed { IsHeaded memory.now result }
+        ensures quiet { result.woken ≡ false → LeavesSounding self.now memory.now now.now.place.block → LeavesSounding self.now memory.now result.place.block }
+        ensures loops { AreLoopsMarked at n self.now.voice (ends_at self.now memory.now now.now.place group) loops.old loops.new }
     {
         let place = now.place;
         if place.offset != 7 {
@@ -165,39 +160,24 @@ impl Course {
     /// stretch is shorter where the header of a block silences the voice.
     pub(crate) fn read_stretch(
         &self,
-        row: &mut [i16; 268],
         at: u8,
         n: u8,
         memory: &Aram,
-        groups: &mut GroupMemory,
-        loops: &mut [u8; 64],
+        work: &mut Workspace,
+        loops: &mut [u8; BATCH_SIZE],
     ) -> Stretch
-        requires voice { self.now.voice < 8 }
-        requires position { self.now.position < 0x8000 }
-        requires pitch { self.now.pitch < 0x4000 }
-        requires group { self.now.first.offset < 8 }
-        requires odd { self.now.first.offset % 2 ≡ 1 }
+        requires course { IsCourse self.now }
         requires some { 0 < n }
-        requires few { at + n ≤ 64 }
-        requires room { (i : ℕ) → at ≤ i → i < 64 → slice_index loops.old i < 2 ^ self.now.voice }
-        ensures some { 0 < result.samples }
-        ensures few { result.samples ≤ n }
-        ensures groups { result.groups ≡ groups_before self.now.position self.now.pitch result.samples }
-        ensures groups_few { result.groups ≤ 64 }
-        ensures next { result.next ≡ place_after memory.now self.now.loop_to self.now.first result.groups }
-        ensures group { result.next.offset < 8 }
-        ensures odd { result.next.offset % 2 ≡ 1 }
-        ensures row { take (12 + 4 * result.groups) row.new ≡ kept_row memory.now self.now.loop_to self.now.first (take 12 row.old) result.groups }
-        ensures marks { (j : ℕ) → j < result.samples → slice_index loops.new (at + j) ≡ slice_index loops.old (at + j)
-            + (if loops_in memory.now self.now.loop_to self.now.first self.now.position self.now.pitch j then 2 ^ self.now.voice else 0) }
-        ensures before { (i : ℕ) → i < at → slice_index loops.new i ≡ slice_index loops.old i }
-        ensures later { (i : ℕ) → at + result.samples ≤ i → slice_index loops.new i ≡ slice_index loops.old i }
-        ensures quiet { (is_silencing self.now.reset (byte_at memory.now self.now.first.block) ≡ true → self.now.silent ≡ true)
-            → (j : ℕ) → j < result.samples
-            → let next = place_after memory.now self.now.loop_to self.now.first (groups_before self.now.position self.now.pitch j) in
-            is_silencing self.now.reset (byte_at memory.now next.block) ≡ true → self.now.silent ≡ true }
-        ensures goes_on { (is_silencing self.now.reset (byte_at memory.now self.now.first.block) ≡ true → self.now.silent ≡ true)
-            → result.woken ≡ false → is_silencing self.now.reset (byte_at memory.now result.next.block) ≡ true → self.now.silent ≡ true }
+        requires few { at + n ≤ BATCH_SIZE }
+        requires lower { (i : ℕ) → at ≤ i → i < BATCH_SIZE → slice_index loops.old i < 2 ^ self.now.voice }
+        ensures stretch { IsStretch self.now memory.now n result }
+        ensures row { take (12 + 4 * result.groups) work.new.row
+            ≡ kept_row memory.now self.now.loop_to self.now.first (take 12 work.old.row) result.groups }
+        ensures loops { AreLoopsMarked at result.samples self.now.voice (loops_at self.now memory.now) loops.old loops.new }
+        ensures quiet { LeavesSounding self.now memory.now self.now.first.block
+            → (j : ℕ) → j < result.samples → LeavesSounding self.now memory.now (place_at self.now memory.now j).block }
+        ensures goes_on { LeavesSounding self.now memory.now self.now.first.block → result.woken ≡ false
+            → LeavesSounding self.now memory.now result.next.block }
     {
         let count = groups_in(self.position, self.pitch, n);
         let mut now = Headed {
@@ -207,14 +187,14 @@ impl Course {
         };
         for d in 0..count {
             read_group(
-                row,
+                &mut work.row,
                 12 + 4 * usize::from(d),
                 &now.place,
                 now.header,
                 memory,
-                groups,
+                &mut work.groups,
             );
-            now = self.go_on(at, n, d, &now, memory, loops);
+            now = self.next_group(at, n, d, &now, memory, loops);
             if now.woken {
                 let last = reading_sample(self.position, self.pitch, d, n);
                 return Stretch {

@@ -1,22 +1,19 @@
 //! Samples in which a voice at rest plays on over the row of its kept samples: nothing changes its envelope or its pitch.
 
-ghost use Rattle.std.specs.Prelude.{◌≡◌, ◌<◌, ◌≤◌, ◌+◌, ◌-◌, ◌*◌, ◌%◌, ◌^◌, ℕ, List, true, false, slice_index};
+ghost use Rattle.std.specs.Prelude.{◌≡◌, ◌<◌, ◌≤◌, ◌+◌, ◌-◌, ◌*◌, ◌^◌, ℕ, List, true, false, slice_index};
 ghost use Rattle.voice_unit.specs.Directory.{loop_word};
 ghost use Rattle.voice_unit.specs.Rest.{IsSilent};
+ghost use Rattle.voice_unit.specs.Course.{IsCourse};
 ghost use Rattle.voice_unit.specs.Row.{groups_before, place_of};
-ghost use Rattle.voice_unit.specs.Play.{Lane, Glides, IsOnItsWay};
+ghost use Rattle.voice_unit.specs.Play.{Lane, IsLaneOver, Glides, IsOnItsWay};
 
-use crate::batch::BatchLane;
+use crate::batch::{PlayedRows, VoiceReads};
 use crate::course::{Course, Stretch};
 use crate::directory::loop_word;
-use crate::interface::VoiceRegs;
 use crate::rest::is_silent;
-use crate::sounding::sound;
 use crate::voice::Voice;
-use crate::workroom::Workroom;
-use aram_core::Aram;
-use brr_decode::GroupMemory;
-use gauss_table::GaussTable;
+use crate::workspace::Workspace;
+use num_fix::BATCH_SIZE;
 
 /// How many samples a voice glides at most, from sample `j` up to another one and while its envelope rests.
 fn glide_length(j: u8, end: u8, rest: u16) -> u8
@@ -32,7 +29,7 @@ fn position_after(position: u16, pitch: u16, stretch: &Stretch) -> u16
     requires position { position < 0x8000 }
     requires pitch { pitch < 0x4000 }
     requires some { 0 < stretch.now.samples }
-    requires few { stretch.now.samples ≤ 64 }
+    requires few { stretch.now.samples ≤ BATCH_SIZE }
     requires groups { stretch.now.groups ≡ groups_before position pitch stretch.now.samples }
     ensures value { result + 0x4000 * stretch.now.groups ≡ position + stretch.now.samples * pitch }
     ensures within { result < 0x8000 }
@@ -65,26 +62,28 @@ pub(crate) struct Glided {
 
 impl Voice {
     /// What the voice goes by in a stretch of samples.
-    fn course(&self, regs: &VoiceRegs, lane: &BatchLane, memory: &Aram) -> Course
-        ensures voice { result.voice ≡ lane.now.voice }
+    fn course(&self, reads: &VoiceReads) -> Course
+        requires voice { reads.now.shared.voice < 8 }
+        requires pitch { reads.now.regs.pitch < 0x4000 }
+        ensures voice { result.voice ≡ reads.now.shared.voice }
         ensures first { result.first ≡ place_of self.now }
-        ensures group { result.first.offset < 8 }
-        ensures odd { result.first.offset % 2 ≡ 1 }
-        ensures loop_to { result.loop_to ≡ loop_word lane.now.dir regs.now.srcn memory.now }
+        ensures loop_to { result.loop_to ≡ loop_word reads.now.shared.dir reads.now.regs.srcn reads.now.memory.now }
         ensures position { result.position ≡ self.now.position }
-        ensures within { result.position < 0x8000 }
-        ensures pitch { result.pitch ≡ regs.now.pitch }
-        ensures reset { result.reset ≡ lane.now.reset }
+        ensures pitch { result.pitch ≡ reads.now.regs.pitch }
+        ensures level { result.level ≡ self.now.envelope.level }
+        ensures reset { result.reset ≡ reads.now.shared.reset }
         ensures silent { result.silent ≡ true → IsSilent self.now.envelope }
         ensures all_silent { IsSilent self.now.envelope → result.silent ≡ true }
+        ensures course { IsCourse result }
     {
         Course {
-            voice: lane.voice,
+            voice: reads.shared.voice,
             first: self.place(),
-            loop_to: loop_word(lane.dir, regs.srcn, memory),
+            loop_to: loop_word(reads.shared.dir, reads.regs.srcn, reads.memory),
             position: self.position(),
-            pitch: regs.pitch,
-            reset: lane.reset,
+            pitch: reads.regs.pitch,
+            level: self.level(),
+            reset: reads.shared.reset,
             silent: is_silent(&self.envelope()),
         }
     }
@@ -95,47 +94,38 @@ impl Voice {
         at: u8,
         n: u8,
         rest: u16,
-        regs: &VoiceRegs,
-        lane: &BatchLane,
-        memory: &Aram,
-        table: &GaussTable,
-        groups: &mut GroupMemory,
-        room: &mut Workroom,
-        outs: &mut [i16; 64],
-        loops: &mut [u8; 64],
+        reads: &VoiceReads,
+        work: &mut Workspace,
+        made: &mut PlayedRows,
     ) -> Glided
         requires some { 0 < n }
-        requires few { at + n ≤ 64 }
+        requires few { at + n ≤ BATCH_SIZE }
         requires resting { n ≤ rest }
-        requires voice { lane.now.voice < 8 }
-        requires pitch { regs.now.pitch < 0x4000 }
-        requires room { (i : ℕ) → at ≤ i → i < 64 → slice_index loops.old i < 2 ^ lane.now.voice }
+        requires voice { reads.now.shared.voice < 8 }
+        requires pitch { reads.now.regs.pitch < 0x4000 }
+        requires lower { (i : ℕ) → at ≤ i → i < BATCH_SIZE → slice_index made.old.loops i < 2 ^ reads.now.shared.voice }
         ensures from { at ≤ result.at }
         ensures to { result.at ≤ at + n }
-        ensures way { (plays : Lane) (before : List ℕ) → plays.regs ≡ regs.now → plays.memory ≡ memory.now → plays.table ≡ table.now
-            → Glides lane.now plays at (at + n) → IsOnItsWay lane.now plays at rest before loops.old outs.old self.old
-            → IsOnItsWay lane.now plays result.at result.rest before loops.new outs.new self.new }
-        ensures later { (i : ℕ) → result.at ≤ i → slice_index loops.new i ≡ slice_index loops.old i }
-        ensures before { (i : ℕ) → i < at → slice_index loops.new i ≡ slice_index loops.old i }
-        ensures room { (i : ℕ) → at ≤ i → i < 64 → slice_index loops.new i < 2 ^ (lane.now.voice + 1) }
+        ensures way { (lane : Lane) (before : List ℕ) → IsLaneOver reads.now lane
+            → Glides reads.now.shared lane at (at + n) → IsOnItsWay reads.now.shared lane at rest before made.old.loops made.old.outs self.old
+            → IsOnItsWay reads.now.shared lane result.at result.rest before made.new.loops made.new.outs self.new }
+        ensures later { (i : ℕ) → result.at ≤ i → slice_index made.new.loops i ≡ slice_index made.old.loops i }
+        ensures before { (i : ℕ) → i < at → slice_index made.new.loops i ≡ slice_index made.old.loops i }
+        ensures lower { (i : ℕ) → at ≤ i → i < BATCH_SIZE → slice_index made.new.loops i < 2 ^ (reads.now.shared.voice + 1) }
     {
-        let course = self.course(regs, lane, memory);
-        self.begin_row(&mut room.row);
-        let stretch = course.read_stretch(&mut room.row, at, n, memory, groups, loops);
-        let level = self.level();
-        sound(
-            outs,
-            &mut room.taps,
+        let course = self.course(reads);
+        self.begin_row(&mut work.row);
+        let stretch = course.read_stretch(at, n, reads.memory, work, &mut made.loops);
+        course.sound(
+            &mut made.outs,
+            &mut work.taps,
             at,
             stretch.samples,
-            &room.row,
-            table,
-            course.position,
-            course.pitch,
-            level,
+            &work.row,
+            reads.table,
         );
         let position = position_after(course.position, course.pitch, &stretch);
-        self.go_to(&room.row, stretch.groups, position, stretch.next);
+        self.go_to(&work.row, stretch.groups, position, stretch.next);
         Glided {
             at: at + stretch.samples,
             rest: rest_after(rest, &stretch),
@@ -148,35 +138,28 @@ impl Voice {
         j: u8,
         end: u8,
         rest: u16,
-        regs: &VoiceRegs,
-        lane: &BatchLane,
-        memory: &Aram,
-        table: &GaussTable,
-        groups: &mut GroupMemory,
-        room: &mut Workroom,
-        outs: &mut [i16; 64],
-        loops: &mut [u8; 64],
+        reads: &VoiceReads,
+        work: &mut Workspace,
+        made: &mut PlayedRows,
     ) -> Glided
-        requires few { end < 64 }
+        requires few { end < BATCH_SIZE }
         requires from { j ≤ end }
-        requires voice { lane.now.voice < 8 }
-        requires pitch { regs.now.pitch < 0x4000 }
-        requires room { (i : ℕ) → j ≤ i → i < 64 → slice_index loops.old i < 2 ^ lane.now.voice }
-        requires before { (i : ℕ) → i < 64 → slice_index loops.old i < 2 ^ (lane.now.voice + 1) }
+        requires voice { reads.now.shared.voice < 8 }
+        requires pitch { reads.now.regs.pitch < 0x4000 }
+        requires lower { (i : ℕ) → j ≤ i → i < BATCH_SIZE → slice_index made.old.loops i < 2 ^ reads.now.shared.voice }
+        requires before { (i : ℕ) → i < BATCH_SIZE → slice_index made.old.loops i < 2 ^ (reads.now.shared.voice + 1) }
         ensures from { j ≤ result.at }
         ensures to { result.at ≤ end }
-        ensures way { (plays : Lane) (before : List ℕ) → plays.regs ≡ regs.now → plays.memory ≡ memory.now → plays.table ≡ table.now
-            → Glides lane.now plays j end → IsOnItsWay lane.now plays j rest before loops.old outs.old self.old
-            → IsOnItsWay lane.now plays result.at result.rest before loops.new outs.new self.new }
-        ensures later { (i : ℕ) → result.at ≤ i → slice_index loops.new i ≡ slice_index loops.old i }
-        ensures room { (i : ℕ) → i < 64 → slice_index loops.new i < 2 ^ (lane.now.voice + 1) }
+        ensures way { (lane : Lane) (before : List ℕ) → IsLaneOver reads.now lane
+            → Glides reads.now.shared lane j end → IsOnItsWay reads.now.shared lane j rest before made.old.loops made.old.outs self.old
+            → IsOnItsWay reads.now.shared lane result.at result.rest before made.new.loops made.new.outs self.new }
+        ensures later { (i : ℕ) → result.at ≤ i → slice_index made.new.loops i ≡ slice_index made.old.loops i }
+        ensures lower { (i : ℕ) → i < BATCH_SIZE → slice_index made.new.loops i < 2 ^ (reads.now.shared.voice + 1) }
     {
         let samples = glide_length(j, end, rest);
         if samples == 0 {
             return Glided { at: j, rest };
         }
-        self.play_stretch(
-            j, samples, rest, regs, lane, memory, table, groups, room, outs, loops,
-        )
+        self.play_stretch(j, samples, rest, reads, work, made)
     }
 }

@@ -15,12 +15,12 @@ mod rest;
 mod row;
 mod sounding;
 mod voice;
-mod workroom;
+mod workspace;
 
-pub use batch::{BatchLane, BatchRows};
+pub use batch::{BatchRows, PlayedRows, SharedRegs, VoiceReads};
 pub use directory::{entry_address, loop_word, start_word};
 pub use interface::{UNHEARD, VoiceIn, VoiceOut, VoiceRegs, is_modulated};
 pub use laws::kept_rows;
 pub use out_row::OutRow;
 pub use voice::Voice;
-pub use workroom::Workroom;
+pub use workspace::Workspace;

@@ -4,8 +4,11 @@ ghost use Rattle.std.specs.Prelude.{◌≡◌, ◌<◌, ◌≤◌, ℕ, false, s
 ghost use Rattle.num_fix.specs.Arithmetic.{has_bit};
 ghost use Rattle.voice_unit.specs.Plain.{IsPlain, IsToldPlain};
 
-use crate::batch::{BatchLane, BatchRows};
-use num_fix::has_bit;
+use crate::batch::{BatchRows, SharedRegs};
+use num_fix::{BATCH_SIZE, has_bit};
+
+/// The sample after the last one of a batch.
+const END: u8 = BATCH_SIZE as u8;
 
 /// Samples of a batch that are known to be plain: those before one sample, and those from another one on.
 #[derive(Clone, Copy, Debug)]
@@ -15,37 +18,37 @@ pub(crate) struct PlainSamples {
 }
 
 /// Whether a key on of a voice is taken in any sample of a batch.
-fn is_ever_taken(kon: &[u8; 64], voice: u8) -> bool
+fn is_ever_taken(kon: &[u8; BATCH_SIZE], voice: u8) -> bool
     requires { voice < 8 }
-    ensures { result ≡ false → (j : ℕ) → j < 64 → has_bit (slice_index kon.now j) voice ≡ false }
+    ensures { result ≡ false → (j : ℕ) → j < BATCH_SIZE → has_bit (slice_index kon.now j) voice ≡ false }
 {
     let mut taken = false;
-    for j in 0..64 {
+    for j in 0..BATCH_SIZE {
         taken = taken | has_bit(kon[j], voice);
     }
     taken
 }
 
 /// The first sample of a batch in which a key on of a voice is taken; 64 if there is none.
-fn first_taken(kon: &[u8; 64], voice: u8) -> u8
+fn first_taken(kon: &[u8; BATCH_SIZE], voice: u8) -> u8
     requires { voice < 8 }
     ensures { (j : ℕ) → j < result → has_bit (slice_index kon.now j) voice ≡ false }
 {
-    for j in 0..64u8 {
+    for j in 0..END {
         if has_bit(kon[usize::from(j)], voice) {
             return j;
         }
     }
-    64
+    END
 }
 
 /// The sample after the last one in which a key on of a voice is taken; 0 if there is none.
-fn after_taken(kon: &[u8; 64], voice: u8) -> u8
+fn after_taken(kon: &[u8; BATCH_SIZE], voice: u8) -> u8
     requires { voice < 8 }
-    ensures { (j : ℕ) → result ≤ j → j < 64 → has_bit (slice_index kon.now j) voice ≡ false }
+    ensures { (j : ℕ) → result ≤ j → j < BATCH_SIZE → has_bit (slice_index kon.now j) voice ≡ false }
 {
     let mut from = 0;
-    for j in 0..64u8 {
+    for j in 0..END {
         if has_bit(kon[usize::from(j)], voice) {
             from = j + 1;
         }
@@ -71,22 +74,22 @@ impl PlainSamples {
     }
 }
 
-impl BatchLane {
+impl SharedRegs {
     /// The samples in which the voice plays plainly: those before and after its key on, unless it plays noise or its pitch is bent.
     pub(crate) fn plain_samples(&self, rows: &BatchRows) -> PlainSamples
         requires { self.now.voice < 8 }
-        ensures { (j : ℕ) → j < 64 → IsToldPlain result j → IsPlain self.now rows.now j }
+        ensures { (j : ℕ) → j < BATCH_SIZE → IsToldPlain result j → IsPlain self.now rows.now j }
     {
         if has_bit(self.non, self.voice) || has_bit(self.pmon, self.voice) {
             return PlainSamples {
                 before: 0,
-                from: 64,
+                from: END,
             };
         }
         if !is_ever_taken(&rows.kon, self.voice) {
             return PlainSamples {
-                before: 64,
-                from: 64,
+                before: END,
+                from: END,
             };
         }
         PlainSamples {

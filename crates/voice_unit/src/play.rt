@@ -2,26 +2,23 @@
 
 ghost use Rattle.std.specs.Prelude.{◌≡◌, ◌<◌, ◌≤◌, ◌+◌, ◌-◌, ◌^◌, ℕ, length, slice_index, slice_set, if◌then◌else◌};
 ghost use Rattle.rate_clock.specs.Counter.{counter_at};
-ghost use Rattle.voice_unit.specs.Voice.{voice_step, voice_answer};
 ghost use Rattle.voice_unit.specs.Rest.{IsAtRest};
+ghost use Rattle.voice_unit.specs.OneSample.{IsStep, IsPlayedSample};
 ghost use Rattle.voice_unit.specs.Play.{IsPlayed, IsOnItsWay, answer_at, lane_of};
 
-use crate::batch::{BatchLane, BatchRows};
-use crate::interface::{VoiceIn, VoiceOut, VoiceRegs, is_keyed};
+use crate::batch::{PlayedRows, VoiceReads};
+use crate::interface::{VoiceIn, VoiceOut, is_keyed};
 use crate::rest::Played;
 use crate::voice::Voice;
-use crate::workroom::Workroom;
-use aram_core::Aram;
+use crate::workspace::Workspace;
 use brr_decode::GroupMemory;
-use gauss_table::GaussTable;
-use num_fix::has_bit;
-use rate_clock::RateClock;
+use num_fix::{BATCH_SIZE, has_bit};
 
 /// Adds the bit of a voice that looped in sample `j`.
-pub(crate) fn mark_loop(loops: &mut [u8; 64], j: u8, looped: bool, voice: u8)
-    requires few { j < 64 }
+pub(crate) fn mark_loop(loops: &mut [u8; BATCH_SIZE], j: u8, looped: bool, voice: u8)
+    requires few { j < BATCH_SIZE }
     requires voice { voice < 8 }
-    requires room { slice_index loops.old j < 2 ^ voice }
+    requires lower { slice_index loops.old j < 2 ^ voice }
     ensures { loops.new ≡ (if looped then slice_set loops.old j (slice_index loops.old j + 2 ^ voice) else loops.old) }
 {
     if looped {
@@ -30,172 +27,129 @@ pub(crate) fn mark_loop(loops: &mut [u8; 64], j: u8, looped: bool, voice: u8)
 }
 
 impl Voice {
-    /// Sample `j` of a batch whose first sample has such a clock, of a voice whose envelope rests for so many. Inlined, so that the input of a
-    /// sample at rest stays in registers; only a whole step wants the clock.
+    /// Sample `j` of a batch, of a voice whose envelope rests for so many. Inlined, so that the input of a sample at rest stays in registers; only a whole
+    /// step wants the clock.
     #[inline(always)]
     fn play_sample(
         &mut self,
-        rest: u16,
         j: u8,
-        regs: &VoiceRegs,
+        rest: u16,
+        reads: &VoiceReads,
         input: &VoiceIn,
-        memory: &Aram,
-        table: &GaussTable,
-        first: &RateClock,
         groups: &mut GroupMemory,
     ) -> Played
-        requires pitch { regs.now.pitch < 0x4000 }
+        requires pitch { reads.now.regs.pitch < 0x4000 }
         requires noise { input.now.noise < 0x8000 }
-        ensures voice { (k : ℕ) → first.now ≡ counter_at k → IsAtRest input.now.reset input.now.koff regs.now memory.now (k + j) rest self.old
-            → self.new ≡ voice_step self.old regs.now input.now memory.now (counter_at (k + j)) }
-        ensures out { (k : ℕ) → first.now ≡ counter_at k → IsAtRest input.now.reset input.now.koff regs.now memory.now (k + j) rest self.old
-            → result.out ≡ (voice_answer self.old regs.now input.now memory.now table.now (counter_at (k + j))).out }
-        ensures looped { (k : ℕ) → first.now ≡ counter_at k → IsAtRest input.now.reset input.now.koff regs.now memory.now (k + j) rest self.old
-            → result.looped ≡ (voice_answer self.old regs.now input.now memory.now table.now (counter_at (k + j))).looped }
-        ensures rest { (k : ℕ) → first.now ≡ counter_at k → IsAtRest input.now.reset input.now.koff regs.now memory.now (k + j) rest self.old
-            → IsAtRest input.now.reset input.now.koff regs.now memory.now (k + j + 1) result.rest self.new }
+        ensures { (k : ℕ) → reads.now.clock ≡ counter_at k
+            → IsAtRest input.now.reset input.now.koff reads.now.regs reads.now.memory.now (k + j) rest self.old
+            → IsPlayedSample reads.now.regs input.now reads.now.memory.now reads.now.table.now (k + j) self.old result self.new }
     {
         if rest == 0 || is_keyed(input) {
             // a copy, so that the input of a sample at rest need not stand in memory
             let own_input = *input;
-            let clock = first.after_samples(j);
-            return self.play_whole(regs, &own_input, memory, table, &clock);
+            let clock = reads.clock.after_samples(j);
+            return self.play_whole(&reads.regs, &own_input, reads.memory, reads.table, &clock);
         }
-        self.play_at_rest(rest, regs, input, memory, table, groups)
+        self.play_at_rest(rest, &reads.regs, input, reads.memory, reads.table, groups)
     }
 
-    /// The last sample of a batch, of a voice whose envelope rests for so many, and what it gives.
+    /// Sample `j` of a batch, its last, of a voice whose envelope rests for so many, and what it gives.
     fn play_last(
         &mut self,
+        j: u8,
         rest: u16,
-        regs: &VoiceRegs,
+        reads: &VoiceReads,
         input: &VoiceIn,
-        memory: &Aram,
-        table: &GaussTable,
-        clock: &RateClock,
         groups: &mut GroupMemory,
     ) -> VoiceOut
-        requires pitch { regs.now.pitch < 0x4000 }
+        requires pitch { reads.now.regs.pitch < 0x4000 }
         requires noise { input.now.noise < 0x8000 }
-        ensures voice { (k : ℕ) → clock.now ≡ counter_at k → IsAtRest input.now.reset input.now.koff regs.now memory.now k rest self.old
-            → self.new ≡ voice_step self.old regs.now input.now memory.now (counter_at k) }
-        ensures answer { (k : ℕ) → clock.now ≡ counter_at k → IsAtRest input.now.reset input.now.koff regs.now memory.now k rest self.old
-            → result ≡ voice_answer self.old regs.now input.now memory.now table.now (counter_at k) }
+        ensures { (k : ℕ) → reads.now.clock ≡ counter_at k
+            → IsAtRest input.now.reset input.now.koff reads.now.regs reads.now.memory.now (k + j) rest self.old
+            → IsStep reads.now.regs input.now reads.now.memory.now reads.now.table.now (counter_at (k + j)) self.old result self.new }
     {
-        if rest == 0 {
-            return self.step(regs, input, memory, table, clock);
+        if rest == 0 || is_keyed(input) {
+            let clock = reads.clock.after_samples(j);
+            return self.step(&reads.regs, input, reads.memory, reads.table, &clock);
         }
-        if is_keyed(input) {
-            return self.step(regs, input, memory, table, clock);
-        }
-        self.answer_at_rest(rest, regs, input, memory, table, groups)
+        self.answer_at_rest(rest, &reads.regs, input, reads.memory, reads.table, groups)
     }
 
-    /// Makes n samples, the first of them at a clock, and tells for how many more the envelope rests.
+    /// Makes n samples, and tells for how many more the envelope rests.
     fn play_row(
         &mut self,
         n: u8,
-        regs: &VoiceRegs,
-        lane: &BatchLane,
-        rows: &BatchRows,
-        previous: &[i16; 64],
-        memory: &Aram,
-        table: &GaussTable,
-        clock: &RateClock,
-        groups: &mut GroupMemory,
-        room: &mut Workroom,
-        outs: &mut [i16; 64],
-        loops: &mut [u8; 64],
+        reads: &VoiceReads,
+        previous: &[i16; BATCH_SIZE],
+        work: &mut Workspace,
+        made: &mut PlayedRows,
     ) -> u16
-        requires few { n < 64 }
-        requires voice { lane.now.voice < 8 }
-        requires pitch { regs.now.pitch < 0x4000 }
-        requires noise { (j : ℕ) → j < n → slice_index rows.now.noise j < 0x8000 }
-        requires room { (j : ℕ) → j < 64 → slice_index loops.old j < 2 ^ lane.now.voice }
-        ensures way { (k : ℕ) → clock.now ≡ counter_at k
-            → let plays = lane_of regs.now lane.now rows.now previous.now memory.now table.now self.old k in
-            IsOnItsWay lane.now plays n result loops.old loops.new outs.new self.new }
-        ensures others { (j : ℕ) → n ≤ j → slice_index loops.new j ≡ slice_index loops.old j }
-        ensures room { (j : ℕ) → j < 64 → slice_index loops.new j < 2 ^ (lane.now.voice + 1) }
+        requires few { n < BATCH_SIZE }
+        requires voice { reads.now.shared.voice < 8 }
+        requires pitch { reads.now.regs.pitch < 0x4000 }
+        requires noise { (j : ℕ) → j < n → slice_index reads.now.rows.now.noise j < 0x8000 }
+        requires lower { (j : ℕ) → j < BATCH_SIZE → slice_index made.old.loops j < 2 ^ reads.now.shared.voice }
+        ensures way { (k : ℕ) → reads.now.clock ≡ counter_at k
+            → IsOnItsWay reads.now.shared (lane_of reads.now previous.now self.old k) n result made.old.loops made.new.loops made.new.outs self.new }
+        ensures others { (j : ℕ) → n ≤ j → slice_index made.new.loops j ≡ slice_index made.old.loops j }
+        ensures lower { (j : ℕ) → j < BATCH_SIZE → slice_index made.new.loops j < 2 ^ (reads.now.shared.voice + 1) }
     {
         if n == 0 {
             return 0;
         }
         // a copy, so that what is the same in all samples is worked out once
-        let own = *lane;
-        let koff = has_bit(own.koff, own.voice);
-        let mut rest = self.rest_from(regs, own.reset, koff, memory, clock);
-        let plain = own.plain_samples(rows);
+        let shared = reads.shared;
+        let koff = has_bit(shared.koff, shared.voice);
+        let mut rest = self.rest_from(&reads.regs, shared.reset, koff, reads.memory, &reads.clock);
+        let plain = shared.plain_samples(reads.rows);
         let mut j = 0;
         'samples: while j < n {
             let end = plain.end_from(j, n);
-            let glided = self.glide(
-                j, end, rest, regs, &own, memory, table, groups, room, outs, loops,
-            );
+            let glided = self.glide(j, end, rest, reads, work, made);
             let to = glided.at;
             if to == n {
                 return glided.rest;
             }
             let place = usize::from(to);
-            let input = own.input(rows, previous[place], to);
-            let played = self.play_sample(
-                glided.rest,
-                to,
-                regs,
-                &input,
-                memory,
-                table,
-                clock,
-                groups,
-            );
-            outs[place] = played.out;
-            mark_loop(loops, to, played.looped, own.voice);
+            let input = shared.input(reads.rows, previous[place], to);
+            let played = self.play_sample(to, glided.rest, reads, &input, &mut work.groups);
+            made.outs[place] = played.out;
+            mark_loop(&mut made.loops, to, played.looped, shared.voice);
             rest = played.rest;
             j = to + 1;
         }
         rest
     }
 
-    /// Makes n samples, the first of them at a clock. Their outputs are put into a row, and the bit of the voice is added to the byte of each sample in
-    /// which it loops. The answer is that of the last sample.
+    /// Plays a batch of n samples over the row of outputs of the voice before. Its outputs are put into a row, and the bit of the voice is added to the byte
+    /// of each sample in which it loops. The answer is that of the last sample.
     pub fn play(
         &mut self,
         n: u8,
-        regs: &VoiceRegs,
-        lane: &BatchLane,
-        rows: &BatchRows,
-        previous: &[i16; 64],
-        memory: &Aram,
-        table: &GaussTable,
-        clock: &RateClock,
-        groups: &mut GroupMemory,
-        room: &mut Workroom,
-        outs: &mut [i16; 64],
-        loops: &mut [u8; 64],
+        reads: &VoiceReads,
+        previous: &[i16; BATCH_SIZE],
+        work: &mut Workspace,
+        made: &mut PlayedRows,
     ) -> VoiceOut
         requires some { 0 < n }
-        requires few { n ≤ 64 }
-        requires voice { lane.now.voice < 8 }
-        requires pitch { regs.now.pitch < 0x4000 }
-        requires noise { (j : ℕ) → j < n → slice_index rows.now.noise j < 0x8000 }
-        requires room { (j : ℕ) → j < 64 → slice_index loops.old j < 2 ^ lane.now.voice }
-        ensures played { (k : ℕ) → clock.now ≡ counter_at k
-            → let plays = lane_of regs.now lane.now rows.now previous.now memory.now table.now self.old k in
-            IsPlayed plays lane.now.voice n loops.old loops.new outs.new self.new }
-        ensures room { (j : ℕ) → j < 64 → slice_index loops.new j < 2 ^ (lane.now.voice + 1) }
-        ensures last { (k : ℕ) → clock.now ≡ counter_at k
-            → result ≡ answer_at (lane_of regs.now lane.now rows.now previous.now memory.now table.now self.old k) (n - 1) }
+        requires few { n ≤ BATCH_SIZE }
+        requires voice { reads.now.shared.voice < 8 }
+        requires pitch { reads.now.regs.pitch < 0x4000 }
+        requires noise { (j : ℕ) → j < n → slice_index reads.now.rows.now.noise j < 0x8000 }
+        requires lower { (j : ℕ) → j < BATCH_SIZE → slice_index made.old.loops j < 2 ^ reads.now.shared.voice }
+        ensures played { (k : ℕ) → reads.now.clock ≡ counter_at k
+            → let lane = lane_of reads.now previous.now self.old k in
+            IsPlayed lane reads.now.shared.voice n made.old.loops made.new.loops made.new.outs self.new }
+        ensures lower { (j : ℕ) → j < BATCH_SIZE → slice_index made.new.loops j < 2 ^ (reads.now.shared.voice + 1) }
+        ensures last { (k : ℕ) → reads.now.clock ≡ counter_at k → result ≡ answer_at (lane_of reads.now previous.now self.old k) (n - 1) }
     {
         let last = n - 1;
-        let rest = self.play_row(
-            last, regs, lane, rows, previous, memory, table, clock, groups, room, outs, loops,
-        );
+        let rest = self.play_row(last, reads, previous, work, made);
         let place = usize::from(last);
-        let input = lane.input(rows, previous[place], last);
-        let now = clock.after_samples(last);
-        let answer = self.play_last(rest, regs, &input, memory, table, &now, groups);
-        outs[place] = answer.out;
-        mark_loop(loops, last, answer.looped, lane.voice);
+        let input = reads.shared.input(reads.rows, previous[place], last);
+        let answer = self.play_last(last, rest, reads, &input, &mut work.groups);
+        made.outs[place] = answer.out;
+        mark_loop(&mut made.loops, last, answer.looped, reads.shared.voice);
         answer
     }
 }

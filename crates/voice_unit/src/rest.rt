@@ -1,14 +1,13 @@
 //! One sample of a voice over a batch, with a shorter way for a voice whose envelope rests.
 
-ghost use Rattle.std.specs.Prelude.{◌≡◌, ◌<◌, ◌≤◌, ◌+◌, ℕ, Bool, true, false};
+ghost use Rattle.std.specs.Prelude.{◌≡◌, ◌<◌, ◌+◌, ℕ, true, false};
 ghost use Rattle.aram_core.specs.Memory.{byte_at};
 ghost use Rattle.rate_clock.specs.Counter.{counter_at};
 ghost use Rattle.voice_unit.specs.Directory.{loop_word};
-ghost use Rattle.voice_unit.specs.Voice.{is_silencing, voice_step, voice_answer, is_keyed, is_looped, needs_group, after_reading, after_pitch};
-ghost use Rattle.voice_unit.specs.declared.interface.VoiceRegs.{VoiceRegs as Registers};
-ghost use Rattle.voice_unit.specs.declared.interface.VoiceIn.{VoiceIn as Input};
+ghost use Rattle.voice_unit.specs.Voice.{is_silencing, is_keyed, is_looped, needs_group, after_reading, after_pitch};
 ghost use Rattle.envelope.specs.declared.Mode.TheVariants.{Release};
 ghost use Rattle.voice_unit.specs.Rest.{IsSilent, IsAtRest};
+ghost use Rattle.voice_unit.specs.OneSample.{IsStep, IsPlayedSample};
 
 use crate::interface::{VoiceIn, VoiceOut, VoiceRegs, is_keyed};
 use crate::level::{high_byte, pitch_of};
@@ -29,9 +28,9 @@ pub(crate) struct Played {
     pub rest: u16,
 }
 
-/// What a voice at rest comes to when it moves on.
+/// What comes of a voice at rest that moves on over a sample.
 #[derive(Clone, Copy, Debug)]
-struct GoneOn {
+struct Passed {
     /// It came to the end of a block that has its end bit.
     looped: bool,
     /// How many more samples its envelope rests.
@@ -101,7 +100,7 @@ impl Voice {
         self.rest_from(regs, input.reset, input.koff, memory, &next)
     }
 
-    /// A whole step. It stands apart, so that the loop over samples at rest is short.
+    /// A whole step of the sample at a clock. It stands apart, so that the loop over samples at rest is short.
     #[inline(never)]
     pub(crate) fn play_whole(
         &mut self,
@@ -113,10 +112,7 @@ impl Voice {
     ) -> Played
         requires pitch { regs.now.pitch < 0x4000 }
         requires noise { input.now.noise < 0x8000 }
-        ensures voice { self.new ≡ voice_step self.old regs.now input.now memory.now clock.now }
-        ensures out { result.out ≡ (voice_answer self.old regs.now input.now memory.now table.now clock.now).out }
-        ensures looped { result.looped ≡ (voice_answer self.old regs.now input.now memory.now table.now clock.now).looped }
-        ensures rest { (k : ℕ) → clock.now ≡ counter_at k → IsAtRest input.now.reset input.now.koff regs.now memory.now (k + 1) result.rest self.new }
+        ensures { (k : ℕ) → clock.now ≡ counter_at k → IsPlayedSample regs.now input.now memory.now table.now k self.old result self.new }
     {
         let answer = self.step(regs, input, memory, table, clock);
         let rest = self.rest(regs, input, memory, clock);
@@ -129,29 +125,29 @@ impl Voice {
 
     /// Reads the next group and moves on by a pitch, of a voice at rest that has come to a group. Inlined, as what calls it.
     #[inline(always)]
-    fn go_over_group(
+    fn pass_group(
         &mut self,
         rest: u16,
         pitch: u16,
-        dir: u8,
-        srcn: u8,
-        reset: bool,
+        regs: &VoiceRegs,
+        input: &VoiceIn,
         memory: &Aram,
         groups: &mut GroupMemory,
-    ) -> GoneOn
+    ) -> Passed
         requires pitch { pitch < 0x8000 }
         requires resting { 0 < rest }
         requires reads { needs_group self.old ≡ true }
-        ensures voice { self.new ≡ after_pitch (after_reading self.old memory.now (byte_at memory.now self.old.block) (loop_word dir srcn memory.now)) pitch }
+        ensures voice { self.new ≡ after_pitch
+            (after_reading self.old memory.now (byte_at memory.now self.old.block) (loop_word input.now.dir regs.now.srcn memory.now)) pitch }
         ensures looped { result.looped ≡ is_looped self.old (byte_at memory.now self.old.block) }
-        ensures rest { (r : Registers) (koff : Bool) (k : ℕ) → IsAtRest reset koff r memory.now k rest self.old
-            → IsAtRest reset koff r memory.now (k + 1) result.rest self.new }
+        ensures rest { (k : ℕ) → IsAtRest input.now.reset input.now.koff regs.now memory.now k rest self.old
+            → IsAtRest input.now.reset input.now.koff regs.now memory.now (k + 1) result.rest self.new }
     {
         let block = self.block();
-        let looped = self.read_group(memory.get(block), dir, srcn, memory, groups);
+        let looped = self.read_group(memory.get(block), input.dir, regs.srcn, memory, groups);
         self.move_on(pitch);
-        let is_woken = self.block() != block && self.is_to_be_silenced(reset, memory);
-        GoneOn {
+        let is_woken = self.block() != block && self.is_to_be_silenced(input.reset, memory);
+        Passed {
             looped,
             rest: if is_woken { 0 } else { rest - 1 },
         }
@@ -160,28 +156,28 @@ impl Voice {
     /// Moves on by a pitch, of a voice at rest, over a group where it has come to one. Inlined, since most samples read
     /// none.
     #[inline(always)]
-    fn go_on(
+    fn pass_sample(
         &mut self,
         rest: u16,
         pitch: u16,
-        dir: u8,
-        srcn: u8,
-        reset: bool,
+        regs: &VoiceRegs,
+        input: &VoiceIn,
         memory: &Aram,
         groups: &mut GroupMemory,
-    ) -> GoneOn
+    ) -> Passed
         requires pitch { pitch < 0x8000 }
         requires resting { 0 < rest }
-        ensures voice { self.new ≡ after_pitch (after_reading self.old memory.now (byte_at memory.now self.old.block) (loop_word dir srcn memory.now)) pitch }
+        ensures voice { self.new ≡ after_pitch
+            (after_reading self.old memory.now (byte_at memory.now self.old.block) (loop_word input.now.dir regs.now.srcn memory.now)) pitch }
         ensures looped { result.looped ≡ is_looped self.old (byte_at memory.now self.old.block) }
-        ensures rest { (r : Registers) (koff : Bool) (k : ℕ) → IsAtRest reset koff r memory.now k rest self.old
-            → IsAtRest reset koff r memory.now (k + 1) result.rest self.new }
+        ensures rest { (k : ℕ) → IsAtRest input.now.reset input.now.koff regs.now memory.now k rest self.old
+            → IsAtRest input.now.reset input.now.koff regs.now memory.now (k + 1) result.rest self.new }
     {
         if self.needs_group() {
-            return self.go_over_group(rest, pitch, dir, srcn, reset, memory, groups);
+            return self.pass_group(rest, pitch, regs, input, memory, groups);
         }
         self.move_on(pitch);
-        GoneOn {
+        Passed {
             looped: false,
             rest: rest - 1,
         }
@@ -202,30 +198,16 @@ impl Voice {
         requires noise { input.now.noise < 0x8000 }
         requires resting { 0 < rest }
         requires unkeyed { is_keyed input.now ≡ false }
-        ensures voice { (k : ℕ) → IsAtRest input.now.reset input.now.koff regs.now memory.now k rest self.old
-            → self.new ≡ voice_step self.old regs.now input.now memory.now (counter_at k) }
-        ensures out { (k : ℕ) → IsAtRest input.now.reset input.now.koff regs.now memory.now k rest self.old
-            → result.out ≡ (voice_answer self.old regs.now input.now memory.now table.now (counter_at k)).out }
-        ensures looped { (k : ℕ) → IsAtRest input.now.reset input.now.koff regs.now memory.now k rest self.old
-            → result.looped ≡ (voice_answer self.old regs.now input.now memory.now table.now (counter_at k)).looped }
-        ensures rest { (k : ℕ) → IsAtRest input.now.reset input.now.koff regs.now memory.now k rest self.old
-            → IsAtRest input.now.reset input.now.koff regs.now memory.now (k + 1) result.rest self.new }
+        ensures { (k : ℕ) → IsAtRest input.now.reset input.now.koff regs.now memory.now k rest self.old
+            → IsPlayedSample regs.now input.now memory.now table.now k self.old result self.new }
     {
         let out = self.output(input, table);
         let pitch = pitch_of(regs, input);
-        let gone = self.go_on(
-            rest,
-            pitch,
-            input.dir,
-            regs.srcn,
-            input.reset,
-            memory,
-            groups,
-        );
+        let passed = self.pass_sample(rest, pitch, regs, input, memory, groups);
         Played {
             out,
-            looped: gone.looped,
-            rest: gone.rest,
+            looped: passed.looped,
+            rest: passed.rest,
         }
     }
 
@@ -243,10 +225,8 @@ impl Voice {
         requires noise { input.now.noise < 0x8000 }
         requires resting { 0 < rest }
         requires unkeyed { is_keyed input.now ≡ false }
-        ensures voice { (k : ℕ) → IsAtRest input.now.reset input.now.koff regs.now memory.now k rest self.old
-            → self.new ≡ voice_step self.old regs.now input.now memory.now (counter_at k) }
-        ensures answer { (k : ℕ) → IsAtRest input.now.reset input.now.koff regs.now memory.now k rest self.old
-            → result ≡ voice_answer self.old regs.now input.now memory.now table.now (counter_at k) }
+        ensures { (k : ℕ) → IsAtRest input.now.reset input.now.koff regs.now memory.now k rest self.old
+            → IsStep regs.now input.now memory.now table.now (counter_at k) self.old result self.new }
     {
         let level = self.envelope().level();
         let played = self.play_at_rest(rest, regs, input, memory, table, groups);

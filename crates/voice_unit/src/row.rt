@@ -1,12 +1,16 @@
 //! The row of kept samples that a voice reads in a stretch of samples.
 
-ghost use Rattle.std.specs.Prelude.{◌≡◌, ◌<◌, ◌≤◌, ◌%◌, ◌+◌, ◌++◌, take};
+ghost use Rattle.std.specs.Prelude.{◌≡◌, ◌≤◌, ◌+◌, ◌++◌, take};
 ghost use Rattle.aram_core.specs.Memory.{byte_at};
 ghost use Rattle.brr_decode.specs.Kept.{with_group};
-ghost use Rattle.voice_unit.specs.Row.{next_place, is_end};
+ghost use Rattle.voice_unit.specs.Row.{IsGroup, next_place, is_end};
 
 use aram_core::Aram;
 use brr_decode::{GroupMemory, has_end};
+use num_fix::BATCH_SIZE;
+
+/// The samples of a row of kept samples: the twelve of a voice, and four of each group that a batch reads at most.
+pub(crate) const ROW_SIZE: usize = 12 + 4 * BATCH_SIZE;
 
 /// Where a group stands.
 #[derive(Clone, Copy, Debug)]
@@ -18,8 +22,8 @@ pub(crate) struct Place {
 }
 
 /// Puts four samples after so many.
-fn put_four(row: &mut [i16; 268], len: usize, four: &[i16; 4])
-    requires { len + 4 ≤ 268 }
+fn put_four(row: &mut [i16; ROW_SIZE], len: usize, four: &[i16; 4])
+    requires { len + 4 ≤ ROW_SIZE }
     ensures { take (len + 4) row.new ≡ take len row.old ++ four.now }
 {
     row[len..len + 4].copy_from_slice(four);
@@ -27,7 +31,7 @@ fn put_four(row: &mut [i16; 268], len: usize, four: &[i16; 4])
 
 /// Puts the kept samples of a group, whose block has such a header, after so many.
 pub(crate) fn read_group(
-    row: &mut [i16; 268],
+    row: &mut [i16; ROW_SIZE],
     len: usize,
     at: &Place,
     header: u8,
@@ -35,7 +39,7 @@ pub(crate) fn read_group(
     groups: &mut GroupMemory,
 )
     requires some { 2 ≤ len }
-    requires room { len + 4 ≤ 268 }
+    requires room { len + 4 ≤ ROW_SIZE }
     requires header { header ≡ byte_at memory.now at.now.block }
     ensures { take (len + 4) row.new
         ≡ with_group (take len row.old) (byte_at memory.now at.now.block)
@@ -57,11 +61,9 @@ pub(crate) fn is_end(at: &Place, memory: &Aram) -> bool
 
 /// The group that follows.
 pub(crate) fn next_place(at: Place, loop_to: u16, memory: &Aram) -> Place
-    requires group { at.offset < 8 }
-    requires odd { at.offset % 2 ≡ 1 }
+    requires { IsGroup at }
     ensures place { result ≡ next_place memory.now loop_to at }
-    ensures group { result.offset < 8 }
-    ensures odd { result.offset % 2 ≡ 1 }
+    ensures group { IsGroup result }
 {
     if at.offset != 7 {
         return Place {

@@ -4,17 +4,23 @@ ghost use Rattle.std.specs.Prelude.{◌≡◌, ◌<◌, ◌≤◌, ◌+◌, ◌*
 ghost use Rattle.num_fix.specs.SignedWords.{number_at};
 ghost use Rattle.gauss_table.specs.Interpolation.{mix_of};
 ghost use Rattle.gauss_table.specs.Quads.{AreQuads};
+ghost use Rattle.voice_unit.specs.Course.{IsCourse};
 ghost use Rattle.voice_unit.specs.Voice.{interpolation};
 ghost use Rattle.voice_unit.specs.OutsOverRow.{mixed_at, sounding_at, out_over_row};
 
+use crate::course::Course;
 use crate::level::at_level;
+use crate::row::ROW_SIZE;
 use gauss_table::{GaussTable, Quad, Taps};
-use num_fix::clear_bit0;
+use num_fix::{BATCH_SIZE, clear_bit0};
+
+/// The way to the last four samples of a row, in 65,536ths of a sample.
+const WAY_END: u32 = 0x10000 * (ROW_SIZE as u32 - 4);
 
 /// The taps at a place of a row of kept samples, on a way in 65,536ths of a sample, so that the place of the weights is a byte of it.
 #[tactic(auto, unfolding(crate::specs::Voice::interpolation))]
-fn taps_at(row: &[i16; 268], way: u32, quads: &[Quad; 256]) -> Taps
-    requires { way < 0x1080000 }
+fn taps_at(row: &[i16; ROW_SIZE], way: u32, quads: &[Quad; 256]) -> Taps
+    requires { way < WAY_END }
     ensures { (table : List ℤ) (place : ℕ) → AreQuads table quads.now → way ≡ 0x10 * place
         → mix_of result.oldest result.older result.newer result.newest ≡ interpolation table row.now place }
 {
@@ -25,14 +31,14 @@ fn taps_at(row: &[i16; 268], way: u32, quads: &[Quad; 256]) -> Taps
 
 /// The taps of n samples, from a position in a row on.
 fn take_taps(
-    taps: &mut [Taps; 64],
+    taps: &mut [Taps; BATCH_SIZE],
     n: u8,
-    row: &[i16; 268],
+    row: &[i16; ROW_SIZE],
     table: &GaussTable,
     position: u16,
     pitch: u16,
 )
-    requires few { n ≤ 64 }
+    requires few { n ≤ BATCH_SIZE }
     requires position { position < 0x8000 }
     requires pitch { pitch < 0x4000 }
     ensures { (j : ℕ) → j < n → mixed_at taps.new j ≡ interpolation table.now row.now (position + j * pitch) }
@@ -47,8 +53,8 @@ fn take_taps(
 }
 
 /// The outputs of n samples at a level.
-fn put_at_level(outs: &mut [i16; 64], at: u8, n: u8, taps: &[Taps; 64], level: u16)
-    requires few { at + n ≤ 64 }
+fn put_at_level(outs: &mut [i16; BATCH_SIZE], at: u8, n: u8, taps: &[Taps; BATCH_SIZE], level: u16)
+    requires few { at + n ≤ BATCH_SIZE }
     requires level { level ≤ 0x7ff }
     ensures outs { (j : ℕ) → j < n → number_at outs.new (at + j) ≡ sounding_at level (mixed_at taps.now j) }
     ensures before { (i : ℕ) → i < at → number_at outs.new i ≡ number_at outs.old i }
@@ -60,8 +66,8 @@ fn put_at_level(outs: &mut [i16; 64], at: u8, n: u8, taps: &[Taps; 64], level: u
 }
 
 /// The outputs of n samples at level 0.
-fn put_silence(outs: &mut [i16; 64], at: u8, n: u8)
-    requires { at + n ≤ 64 }
+fn put_silence(outs: &mut [i16; BATCH_SIZE], at: u8, n: u8)
+    requires { at + n ≤ BATCH_SIZE }
     ensures outs { (j : ℕ) → j < n → number_at outs.new (at + j) ≡ pos 0 }
     ensures before { (i : ℕ) → i < at → number_at outs.new i ≡ number_at outs.old i }
 {
@@ -71,29 +77,28 @@ fn put_silence(outs: &mut [i16; 64], at: u8, n: u8)
     }
 }
 
-/// The outputs of n samples from sample `at` on, from a position in a row on. At level 0 they are 0, whatever the samples are.
-pub(crate) fn sound(
-    outs: &mut [i16; 64],
-    taps: &mut [Taps; 64],
-    at: u8,
-    n: u8,
-    row: &[i16; 268],
-    table: &GaussTable,
-    position: u16,
-    pitch: u16,
-    level: u16,
-)
-    requires few { at + n ≤ 64 }
-    requires position { position < 0x8000 }
-    requires pitch { pitch < 0x4000 }
-    requires level { level ≤ 0x7ff }
-    ensures outs { (j : ℕ) → j < n → number_at outs.new (at + j) ≡ out_over_row table.now row.now position pitch level j }
-    ensures before { (i : ℕ) → i < at → number_at outs.new i ≡ number_at outs.old i }
-{
-    if level == 0 {
-        put_silence(outs, at, n);
-        return;
+impl Course {
+    /// The outputs of n samples from sample `at` on, over a row of kept samples. At level 0 they are 0, whatever the samples are.
+    pub(crate) fn sound(
+        &self,
+        outs: &mut [i16; BATCH_SIZE],
+        taps: &mut [Taps; BATCH_SIZE],
+        at: u8,
+        n: u8,
+        row: &[i16; ROW_SIZE],
+        table: &GaussTable,
+    )
+        requires course { IsCourse self.now }
+        requires few { at + n ≤ BATCH_SIZE }
+        ensures outs { (j : ℕ) → j < n
+            → number_at outs.new (at + j) ≡ out_over_row table.now row.now self.now.position self.now.pitch self.now.level j }
+        ensures before { (i : ℕ) → i < at → number_at outs.new i ≡ number_at outs.old i }
+    {
+        if self.level == 0 {
+            put_silence(outs, at, n);
+            return;
+        }
+        take_taps(taps, n, row, table, self.position, self.pitch);
+        put_at_level(outs, at, n, taps, self.level);
     }
-    take_taps(taps, n, row, table, position, pitch);
-    put_at_level(outs, at, n, taps, level);
 }

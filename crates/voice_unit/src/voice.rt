@@ -5,19 +5,19 @@ ghost use Rattle.num_fix.specs.SignedWords.{number_at};
 ghost use Rattle.aram_core.specs.Memory.{byte_at};
 ghost use Rattle.brr_decode.specs.Kept.{with_group};
 ghost use Rattle.voice_unit.specs.Directory.{start_word, loop_word};
-ghost use Rattle.voice_unit.specs.Row.{place_of};
+ghost use Rattle.voice_unit.specs.Row.{IsGroup, place_of};
 ghost use Rattle.voice_unit.specs.Voice.{silent_voice, step_pitch, step_header, after_delay, interpolation, source_sample, output, needs_group, after_envelope, is_looped, after_decoding, at_next_group, after_reading, after_pitch, voice_step, voice_answer};
 
 use crate::directory::{loop_word, start_word};
 use crate::interface::{VoiceIn, VoiceOut, VoiceRegs, is_keyed};
 use crate::level::{at_level, high_byte, pitch_of};
 use crate::rest::is_silencing;
-use crate::row::Place;
+use crate::row::{Place, ROW_SIZE};
 use aram_core::Aram;
 use brr_decode::{GroupMemory, decode_group, has_end};
 use envelope::Envelope;
 use gauss_table::GaussTable;
-use num_fix::{clear_bit0, wrap16};
+use num_fix::{BATCH_SIZE, clear_bit0, wrap16};
 use rate_clock::RateClock;
 use std::marker::Model;
 
@@ -102,8 +102,7 @@ impl Voice {
     /// The group that the voice reads next.
     pub(crate) fn place(&self) -> Place
         ensures value { result ≡ place_of self.now }
-        ensures group { result.offset < 8 }
-        ensures odd { result.offset % 2 ≡ 1 }
+        ensures group { IsGroup result }
     {
         Place {
             block: self.block,
@@ -112,7 +111,7 @@ impl Voice {
     }
 
     /// Begins a row with the twelve samples of the voice.
-    pub(crate) fn begin_row(&self, row: &mut [i16; 268])
+    pub(crate) fn begin_row(&self, row: &mut [i16; ROW_SIZE])
         ensures row { take 12 row.new ≡ self.now.samples }
         ensures twelve { length self.now.samples ≡ 12 }
     {
@@ -120,11 +119,10 @@ impl Voice {
     }
 
     /// Goes on to a position among the last twelve of a row of so many groups, with another group before it.
-    pub(crate) fn go_to(&mut self, row: &[i16; 268], groups: u8, position: u16, next: Place)
-        requires few { groups ≤ 64 }
+    pub(crate) fn go_to(&mut self, row: &[i16; ROW_SIZE], groups: u8, position: u16, next: Place)
+        requires few { groups ≤ BATCH_SIZE }
         requires position { position < 0x8000 }
-        requires group { next.offset < 8 }
-        requires odd { next.offset % 2 ≡ 1 }
+        requires group { IsGroup next }
         ensures { self.new ≡ record self.old {
           samples = slice_range row.now (4 * groups) (4 * groups + 12);
           position = position;

@@ -1,5 +1,5 @@
 use aram_core::Aram;
-use echo_unit::{Echo, EchoRegs, Window};
+use echo_unit::{Echo, EchoRegs, SumRows, Window};
 use num_fix::Frame;
 use std::test::Fail;
 
@@ -173,8 +173,13 @@ fn a_batch_goes_from_cell_to_cell(rt: HostRuntime) -> Result<(), Fail> {
         memory.put(address, low);
         memory.put(address.wrapping_add(1), high);
     }
-    let none = [0; 64];
-    let frames = echo.play(16, &regs, &none, &none, &none, &none, &mut memory);
+    let none = SumRows {
+        main_left: [0; 64],
+        main_right: [0; 64],
+        sent_left: [0; 64],
+        sent_right: [0; 64],
+    };
+    let frames = echo.play(16, &regs, &none, &mut memory);
     assert!(rt;
         frames[7]
             == Frame {

@@ -6,7 +6,7 @@ use crate::sources::memory_of_a_source;
 use gauss_table::GaussTable;
 use rate_clock::RateClock;
 use std::test::Fail;
-use voice_unit::{BatchLane, BatchRows, OutRow, Voice, VoiceIn, VoiceOut, VoiceRegs};
+use voice_unit::{BatchRows, OutRow, SharedRegs, Voice, VoiceIn, VoiceOut, VoiceReads, VoiceRegs};
 
 /// What a step reads in sample `k`, where a key on waits for the first poll.
 fn input_of(k: u32) -> VoiceIn
@@ -80,31 +80,27 @@ fn told(answer: &VoiceOut) -> (i16, u16, bool, bool) {
 fn a_run_gives_the_answers_of_its_steps(rt: HostRuntime) -> Result<(), Fail> {
     let memory = memory_of_a_source(rt.alloc())?;
     let table = GaussTable::straight(rt.alloc())?;
-    let lane = BatchLane {
-        voice: 3,
-        dir: 2,
-        pmon: 0,
-        non: 0,
-        koff: 0,
-        reset: false,
-    };
     let rows = rows_with_a_key_on();
+    let reads = VoiceReads {
+        regs: registers(),
+        shared: SharedRegs {
+            voice: 3,
+            dir: 2,
+            pmon: 0,
+            non: 0,
+            koff: 0,
+            reset: false,
+        },
+        rows: &rows,
+        memory: &memory,
+        table: &table,
+        clock: RateClock::new().after_samples(1),
+    };
     let mut out = OutRow::silent();
     out.items[8].block = 0x1234;
     let mut voice = Voice::new();
-    let clock = RateClock::new();
     let previous = OutRow::silent();
-    voice.run(
-        8,
-        &registers(),
-        &lane,
-        &rows,
-        &previous,
-        &memory,
-        &table,
-        clock,
-        &mut out,
-    );
+    voice.run(8, &reads, &previous, &mut out);
     let silence = (0, 0x0500, false, false);
     let sound = (4064, 0x0500, false, false);
     let keyed = (0, 0, false, true);

@@ -1,4 +1,4 @@
-use Rattle.std.proofs.Common.{◌≡◌, ◌++◌, ℕ, List, take, ap, sym, ◌∙◌}
+use Rattle.std.proofs.Common.{◌++◌, ℕ, List, take, ap, sym, ◌∙◌}
 use Rattle.num_fix.specs.declared.Frame.{Frame}
 use Rattle.echo_unit.specs.EchoOverBatch.{EchoOver}
 use Rattle.batch_rows.proofs.echoes.play_echo.Goals as goal

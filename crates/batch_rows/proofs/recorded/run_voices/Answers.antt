@@ -10,8 +10,8 @@ use Rattle.batch_rows.proofs.recorded.run_voices.Goals as goal
 
 pub loop-v-init : goal.loop-v-init
 loop-v-init c = record {
-  remains = λ k s registers table are counts.
-      all_to_run (inputs k s c.args.memory.now) c.args.n c.args.voices.now (outs_of c.silent-previous.result) c.args.outs.now quiet;
+  remains = λ k s are.
+      all_to_run (inputs k s c.args.reads.now.memory.now) c.args.n c.args.voices.now (outs_of c.silent-previous.result) c.args.outs.now quiet;
   eight = search rules;
   eight_rows = search rules;
 }
@@ -28,16 +28,16 @@ loop-v-preserved c =
     let within : v < length c.loop-v.voices = rw c.loop-v.invariant.eight c.loop-v-test.true in
     let within_rows : v < length c.loop-v.outs = rw c.loop-v.invariant.eight_rows c.loop-v-test.true in
     record {
-      remains = λ k s registers table are counts.
-          let run = rw (c.index-voices-place.is, place) at (c.run_voice.ensures k s registers table are counts) in
-          rw place (one_more_to_run (inputs k s c.args.memory.now) c.args.n c.args.voices.now v (outs_of c.loop-v.previous) c.loop-v.voices c.loop-v.outs _ c.run_voice.new.voice
-          c.run_voice.new.out within within_rows run (c.loop-v.invariant.remains k s registers table are counts));
+      remains = λ k s are.
+          let run = rw (c.index-voices-place.is, place) at (c.run_voice.ensures k s are) in
+          rw place (one_more_to_run (inputs k s c.args.reads.now.memory.now) c.args.n c.args.voices.now v (outs_of c.loop-v.previous) c.loop-v.voices c.loop-v.outs _ c.run_voice.new.voice
+          c.run_voice.new.out within within_rows run (c.loop-v.invariant.remains k s are));
       eight = length-set c.loop-v.voices c.from-place.result c.run_voice.new.voice ∙ c.loop-v.invariant.eight;
       eight_rows = length-set c.loop-v.outs c.from-place.result c.run_voice.new.out ∙ c.loop-v.invariant.eight_rows;
     }
 
 pub returns-clause-run : goal.returns-clause-run
-returns-clause-run c k s registers table are counts =
+returns-clause-run c k s are =
     let all : c.loop-v.v ≡ 8 = search rules in
-    none_to_run (inputs k s c.args.memory.now) c.args.n c.args.voices.now (outs_of c.loop-v.previous) c.loop-v.voices c.loop-v.outs
-    c.loop-v.invariant.eight c.loop-v.invariant.eight_rows (rw all at (c.loop-v.invariant.remains k s registers table are counts))
+    none_to_run (inputs k s c.args.reads.now.memory.now) c.args.n c.args.voices.now (outs_of c.loop-v.previous) c.loop-v.voices c.loop-v.outs
+    c.loop-v.invariant.eight c.loop-v.invariant.eight_rows (rw all at (c.loop-v.invariant.remains k s are))

@@ -10,7 +10,7 @@ unfolding voice_result voice_settings
 returns-clause-voice c registers is =
     let place : c.from.result ≡ c.args.v = c.from.ensures in
     let below : c.args.v < 8 = c.requires.v in
-    let at = voice_at registers c.args.settings.now c.args.v c.index-settings-from.result is below in
+    let at = voice_at registers c.args.reads.now.settings.now c.args.v c.index-settings-from.result is below in
     let whole : to_z w16 (of_z w16 c.args.previous) ≡ c.args.previous = search rules in
     rw (c.step.ensures.voice, place, at, c.voice_in-input.ensures.value registers is, whole) refl
 
@@ -19,6 +19,6 @@ unfolding voice_result voice_settings
 returns-clause-answer c registers is =
     let place : c.from.result ≡ c.args.v = c.from.ensures in
     let below : c.args.v < 8 = c.requires.v in
-    let at = voice_at registers c.args.settings.now c.args.v c.index-settings-from.result is below in
+    let at = voice_at registers c.args.reads.now.settings.now c.args.v c.index-settings-from.result is below in
     let whole : to_z w16 (of_z w16 c.args.previous) ≡ c.args.previous = search rules in
     rw (c.step.ensures.answer, place, at, c.voice_in-input.ensures.value registers is, whole) refl

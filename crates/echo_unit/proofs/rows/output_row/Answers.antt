@@ -1,7 +1,7 @@
 use Rattle.std.proofs.Common.{rules, ◌<◌, ℕ, pos, length, ◌∙◌, arith}
 use Rattle.std.proofs.lemmas.List.{length-set}
 use Rattle.echo_unit.specs.Echo.{output_frame}
-use Rattle.echo_unit.specs.EchoOverBatch.{pair_of}
+use Rattle.echo_unit.specs.EchoOverBatch.{pair_of, main_of}
 use Rattle.echo_unit.proofs.Entries.{with_entry}
 use Rattle.echo_unit.proofs.rows.output_row.Goals as goal
 
@@ -13,7 +13,7 @@ loop-j-preserved c =
     let j : ℕ = c.loop-j.j in
     let within : j < length c.loop-j.frames = rw c.loop-j.invariant.long c.loop-j-test.true in
     record {
-      done = with_entry (λ i. output_frame c.args.regs.now (pair_of c.args.main_left.now c.args.main_right.now i) (pair_of c.args.heard_left.now c.args.heard_right.now i)) c.loop-j.frames j
+      done = with_entry (λ i. output_frame c.args.regs.now (main_of c.args.sums.now i) (pair_of c.args.heard.now.left c.args.heard.now.right i)) c.loop-j.frames j
           c.output_frame.result (record { left = pos 0; right = pos 0 }) within c.loop-j.invariant.done (rw (c.frame_at-main.ensures, c.frame_at.ensures) at c.output_frame.ensures);
       long = length-set c.loop-j.frames j c.output_frame.result ∙ c.loop-j.invariant.long;
     }

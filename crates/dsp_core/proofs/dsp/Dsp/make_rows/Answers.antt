@@ -9,9 +9,10 @@ invariant_of-self c =
     let s : ChipState = c.self.inside.state in
     let apart : (chip_reach s c.args.memory.now).entangled ≡ false = rw (← c.self.view_is) at c.requires.apart in
     let by = by_rows-samples c.args.n c.self.inside.number s c.args.memory.now c.requires.few c.self.invariant.valid apart in
+    let made = rw (c.after-samples.ensures.number, c.after-samples.ensures.count) at c.play_batch.ensures.state in
     record {
-      clock = rw c.from.ensures c.make_batch.ensures.clock;
-      valid = rw (c.make_batch.ensures.state, by) (is_valid-samples c.args.n c.self.inside.number s c.args.memory.now c.self.invariant.valid);
+      clock = rw c.from.ensures (c.after_samples-self-inside.ensures.after c.self.inside.number c.self.invariant.clock);
+      valid = rw (made, by) (is_valid-samples c.args.n c.self.inside.number s c.args.memory.now c.self.invariant.valid);
     }
 
 pub returns-clause-chip : goal.returns-clause-chip
@@ -19,18 +20,21 @@ returns-clause-chip c =
     let s : ChipState = c.self.inside.state in
     let apart : (chip_reach s c.args.memory.now).entangled ≡ false = rw (← c.self.view_is) at c.requires.apart in
     let by = by_rows-samples c.args.n c.self.inside.number s c.args.memory.now c.requires.few c.self.invariant.valid apart in
-    rw (← c.self.view_is, c.from.ensures, c.make_batch.ensures.state, by) refl
+    let made = rw (c.after-samples.ensures.number, c.after-samples.ensures.count) at c.play_batch.ensures.state in
+    rw (← c.self.view_is, c.from.ensures, made, by) refl
 
 pub returns-clause-memory : goal.returns-clause-memory
 returns-clause-memory c =
     let s : ChipState = c.self.inside.state in
     let apart : (chip_reach s c.args.memory.now).entangled ≡ false = rw (← c.self.view_is) at c.requires.apart in
     let by = by_rows-samples c.args.n c.self.inside.number s c.args.memory.now c.requires.few c.self.invariant.valid apart in
-    rw (← c.self.view_is, c.make_batch.ensures.memory, by) refl
+    let made = rw (c.after-samples.ensures.number, c.after-samples.ensures.count) at c.play_batch.ensures.memory in
+    rw (← c.self.view_is, made, by) refl
 
 pub returns-clause-frames : goal.returns-clause-frames
 returns-clause-frames c =
     let s : ChipState = c.self.inside.state in
     let apart : (chip_reach s c.args.memory.now).entangled ≡ false = rw (← c.self.view_is) at c.requires.apart in
     let by = by_rows-samples c.args.n c.self.inside.number s c.args.memory.now c.requires.few c.self.invariant.valid apart in
-    rw (← c.self.view_is, c.make_batch.ensures.frames, by) refl
+    let made = rw (c.after-samples.ensures.number, c.after-samples.ensures.count) at c.play_batch.ensures.frames in
+    rw (← c.self.view_is, made, by) refl

@@ -3,15 +3,19 @@ use Rattle.std.specs.Int.{w16}
 use Rattle.voice_unit.proofs.AtRest.{out_at_rest, looped_at_rest, answer_is}
 use Rattle.voice_unit.proofs.voice.Voice.answer_at_rest.Goals as goal
 
-pub returns-clause-answer : goal.returns-clause-answer
-returns-clause-answer c k at =
-    let out = c.play_at_rest-played.ensures.out k at ∙ out_at_rest c.args.regs.now c.args.input.now c.args.memory.now k c.args.rest c.args.self.now at c.requires.resting c.requires.unkeyed c.args.table.now in
-    let looped = c.play_at_rest-played.ensures.looped k at ∙ looped_at_rest c.args.regs.now c.args.input.now c.args.memory.now k c.args.rest c.args.self.now at c.requires.resting c.requires.unkeyed c.args.table.now in
+pub returns : goal.returns
+returns c k at =
+    let played = c.play_at_rest-played.ensures k at in
+    let out = played.out ∙ out_at_rest c.args.regs.now c.args.input.now c.args.memory.now k c.args.rest c.args.self.now at c.requires.resting c.requires.unkeyed c.args.table.now in
+    let looped = played.looped ∙ looped_at_rest c.args.regs.now c.args.input.now c.args.memory.now k c.args.rest c.args.self.now at c.requires.resting c.requires.unkeyed c.args.table.now in
     let whole : to_z w16 (of_z w16 c.play_at_rest-played.result.out) ≡ c.play_at_rest-played.result.out = search rules in
-    rw (
-      answer_is c.args.regs.now c.args.input.now c.args.memory.now k c.args.rest c.args.self.now at c.requires.resting c.requires.unkeyed c.args.table.now,
-      ← c.play_at_rest-played.ensures.voice k at,
-      ← out,
-      ← looped,
-      whole,
-    ) (search rules)
+    record {
+      voice = played.voice;
+      answer_is = rw (
+        answer_is c.args.regs.now c.args.input.now c.args.memory.now k c.args.rest c.args.self.now at c.requires.resting c.requires.unkeyed c.args.table.now,
+        ← played.voice,
+        ← out,
+        ← looped,
+        whole,
+      ) (search rules);
+    }

@@ -2,5 +2,5 @@ use Rattle.std.proofs.Common.{arith}
 use Rattle.voice_unit.proofs.voice.Voice.glide.Goals as goal
 
 pub returns-clause-way : goal.returns-clause-way
-returns-clause-way c plays before regs memory table glides way =
-    c.play_stretch.ensures.way plays before regs memory table (λ i since below. glides i since (omega (arith, below, c.glide_length-samples.ensures.to))) way
+returns-clause-way c lane before over glides way =
+    c.play_stretch.ensures.way lane before over (λ i since below. glides i since (omega (arith, below, c.glide_length-samples.ensures.to))) way

@@ -6,6 +6,7 @@ use Rattle.num_fix.specs.SignedWords.{number_at}
 use Rattle.rate_clock.specs.Counter.{counter_at}
 use Rattle.voice_unit.specs.Batch.{lane_input, lane_inputs}
 use Rattle.voice_unit.specs.Rest.{IsAtRest}
+use Rattle.voice_unit.specs.OneSample.{IsPlayedSample}
 use Rattle.voice_unit.specs.Play.{IsOnItsWay, lane_of}
 use Rattle.voice_unit.proofs.AtRest.{no_rest}
 use Rattle.voice_unit.proofs.Glided.{lane_glides}
@@ -15,14 +16,14 @@ use Rattle.voice_unit.proofs.voice.Voice.play_row.Goals as goal
 pub samples-init : goal.samples-init
 samples-init c = record {
   way = λ k at. record {
-    played = none_played (lane_of c.args.regs.now c.args.lane.now c.args.rows.now c.args.previous.now c.args.memory.now c.args.table.now c.args.self.now k) c.args.lane.now.voice c.args.loops.now c.args.outs.now;
+    played = none_played (lane_of c.args.reads.now c.args.previous.now c.args.self.now k) c.args.reads.now.shared.voice c.args.made.now.loops c.args.made.now.outs;
     at_rest =
         let none : k + 0 ≡ k = omega arith in
         rw none (rw c.has_bit-koff.ensures at (c.rest_from-rest.ensures k at));
   };
   within = omega arith;
   later = λ j above. refl;
-  room = λ j below. rw (doubled c.args.lane.now.voice) (omega (arith, c.requires.room j below));
+  lower = λ j below. rw (doubled c.args.reads.now.shared.voice) (omega (arith, c.requires.lower j below));
   outs_long = search rules;
   loops_long = search rules;
 }
@@ -35,46 +36,48 @@ samples-preserved c =
     let from : j ≤ to = c.glide-glided.ensures.from in
     let below : to < c.args.n = omega (arith, c.glide-glided.ensures.to, c.end_from-end.ensures.to, c.if-to-n.false) in
     let place : c.from-place.result ≡ to = c.from-place.ensures in
-    let way : (k : ℕ) → c.args.clock.now ≡ counter_at k
-    → IsOnItsWay c.args.lane.now (lane_of c.args.regs.now c.args.lane.now c.args.rows.now c.args.previous.now c.args.memory.now c.args.table.now c.args.self.now k)
-    to c.glide-glided.result.rest c.args.loops.now c.glide-glided.new.loops c.glide-glided.new.outs c.glide-glided.new.self =
-    λ k at. c.glide-glided.ensures.way _ c.args.loops.now refl refl refl
-    (lane_glides c.args.regs.now c.args.lane.now c.args.rows.now c.args.previous.now c.args.memory.now c.args.table.now c.args.self.now k c.samples.j c.end_from-end.result
+    let way : (k : ℕ) → c.args.reads.now.clock ≡ counter_at k
+    → IsOnItsWay c.args.reads.now.shared (lane_of c.args.reads.now c.args.previous.now c.args.self.now k)
+    to c.glide-glided.result.rest c.args.made.now.loops c.glide-glided.new.made.loops c.glide-glided.new.made.outs c.glide-glided.new.self =
+    λ k at. c.glide-glided.ensures.way _ c.args.made.now.loops (record { regs = refl; memory = refl; table = refl })
+    (lane_glides c.args.reads.now c.args.previous.now c.args.self.now k c.samples.j c.end_from-end.result
     (λ i since below. c.plain_samples-plain.ensures i (omega (arith, below, c.end_from-end.ensures.to, c.requires.few)) (c.end_from-end.ensures.plain i since below)))
     (c.samples.invariant.way k at) in
     let whole : to_z w16 (of_z w16 (number_at c.args.previous.now to)) ≡ number_at c.args.previous.now to = search rules in
-    let input : c.input-input.result ≡ lane_inputs c.args.lane.now c.args.rows.now c.args.previous.now to = rw whole at (rw place at c.input-input.ensures.value) in
-    let at_rest : (k : ℕ) → c.args.clock.now ≡ counter_at k
-    → IsAtRest c.input-input.result.reset c.input-input.result.koff c.args.regs.now c.args.memory.now (k + to) c.glide-glided.result.rest c.glide-glided.new.self =
+    let input : c.input-input.result ≡ lane_inputs c.args.reads.now.shared c.args.reads.now.rows.now c.args.previous.now to = rw whole at (rw place at c.input-input.ensures.value) in
+    let at_rest : (k : ℕ) → c.args.reads.now.clock ≡ counter_at k
+    → IsAtRest c.input-input.result.reset c.input-input.result.koff c.args.reads.now.regs c.args.reads.now.memory.now (k + to) c.glide-glided.result.rest c.glide-glided.new.self =
     λ k at. rw input (way k at).at_rest in
+    let sample : (k : ℕ) → c.args.reads.now.clock ≡ counter_at k
+    → IsPlayedSample c.args.reads.now.regs (lane_inputs c.args.reads.now.shared c.args.reads.now.rows.now c.args.previous.now to) c.args.reads.now.memory.now c.args.reads.now.table.now (k + to)
+    c.glide-glided.new.self c.play_sample-played.result c.play_sample-played.new.self =
+    λ k at. rw input at (c.play_sample-played.ensures k at (at_rest k at)) in
     let out : to_z w16 (of_z w16 c.play_sample-played.result.out) ≡ c.play_sample-played.result.out = search rules in
-    let outs_long : length c.glide-glided.new.outs ≡ 64 = search rules in
-    let within_outs : to < length c.glide-glided.new.outs = rw outs_long (omega (arith, below, c.requires.few)) in
-    let loops_long : length c.glide-glided.new.loops ≡ 64 = search rules in
-    let within_loops : to < length c.glide-glided.new.loops = rw loops_long (omega (arith, below, c.requires.few)) in
+    let outs_long : length c.glide-glided.new.made.outs ≡ 64 = search rules in
+    let within_outs : to < length c.glide-glided.new.made.outs = rw outs_long (omega (arith, below, c.requires.few)) in
+    let loops_long : length c.glide-glided.new.made.loops ≡ 64 = search rules in
+    let within_loops : to < length c.glide-glided.new.made.loops = rw loops_long (omega (arith, below, c.requires.few)) in
     record {
       way = λ k at.
           let further : k + (to + 1) ≡ k + to + 1 = omega arith in
           record {
             played = rw (place, out, c.mark_loop.ensures) (one_more_played
-                (lane_of c.args.regs.now c.args.lane.now c.args.rows.now c.args.previous.now c.args.memory.now c.args.table.now c.args.self.now k) c.args.lane.now.voice to
-                c.args.loops.now c.glide-glided.new.loops c.glide-glided.new.outs c.glide-glided.new.self c.play_sample-played.new.self c.play_sample-played.result.out c.play_sample-played.result.looped
+                (lane_of c.args.reads.now c.args.previous.now c.args.self.now k) c.args.reads.now.shared.voice to
+                c.args.made.now.loops c.glide-glided.new.made.loops c.glide-glided.new.made.outs c.glide-glided.new.self c.play_sample-played.new.self c.play_sample-played.result.out c.play_sample-played.result.looped
                 (way k at).played within_outs within_loops
-                (rw input at (c.play_sample-played.ensures.voice k at (at_rest k at)))
-                (rw input at (c.play_sample-played.ensures.out k at (at_rest k at)))
-                (rw input at (c.play_sample-played.ensures.looped k at (at_rest k at))));
-            at_rest = rw further (rw input at (c.play_sample-played.ensures.rest k at (at_rest k at)));
+                (sample k at).voice (sample k at).out (sample k at).looped);
+            at_rest = rw further (sample k at).rest;
           };
       within = omega (arith, below);
       later = λ i above.
           let other : i ≢ to = λ e. absurd (omega (arith, e, above)) in
-          rw c.mark_loop.ensures (with_loop-other c.glide-glided.new.loops to c.args.lane.now.voice i c.play_sample-played.result.looped other
+          rw c.mark_loop.ensures (with_loop-other c.glide-glided.new.made.loops to c.args.reads.now.shared.voice i c.play_sample-played.result.looped other
           ∙ c.glide-glided.ensures.later i (omega (arith, above)) ∙ c.samples.invariant.later i (omega (arith, above, from)));
-      room = λ i under.
-          let own : slice_index c.glide-glided.new.loops to < 2 ^ c.args.lane.now.voice = rw (c.glide-glided.ensures.later to (omega arith), c.samples.invariant.later to from) (c.requires.room to (omega (arith, below, c.requires.few))) in
-          rw c.mark_loop.ensures (with_loop-bound c.glide-glided.new.loops to c.args.lane.now.voice i c.play_sample-played.result.looped within_loops own (c.glide-glided.ensures.room i under));
-      outs_long = length-set c.glide-glided.new.outs c.from-place.result (to_z w16 (of_z w16 c.play_sample-played.result.out)) ∙ outs_long;
-      loops_long = c.mark_loop.array_long;
+      lower = λ i under.
+          let own : slice_index c.glide-glided.new.made.loops to < 2 ^ c.args.reads.now.shared.voice = rw (c.glide-glided.ensures.later to (omega arith), c.samples.invariant.later to from) (c.requires.lower to (omega (arith, below, c.requires.few))) in
+          rw c.mark_loop.ensures (with_loop-bound c.glide-glided.new.made.loops to c.args.reads.now.shared.voice i c.play_sample-played.result.looped within_loops own (c.glide-glided.ensures.lower i under));
+      outs_long = length-set c.glide-glided.new.made.outs c.from-place.result (to_z w16 (of_z w16 c.play_sample-played.result.out)) ∙ outs_long;
+      loops_long = c.mark_loop.array_long.1;
     }
 
 pub samples-smaller : goal.samples-smaller
@@ -89,14 +92,14 @@ pub returns-then-n-eq0-clause-way : goal.returns-then-n-eq0-clause-way
 returns-then-n-eq0-clause-way c k at =
     let none : c.args.n ≡ 0 = omega arith in
     rw none record {
-      played = none_played (lane_of c.args.regs.now c.args.lane.now c.args.rows.now c.args.previous.now c.args.memory.now c.args.table.now c.args.self.now k) c.args.lane.now.voice c.args.loops.now c.args.outs.now;
-      at_rest = no_rest c.args.lane.now.reset (has_bit c.args.lane.now.koff c.args.lane.now.voice) c.args.regs.now c.args.memory.now (k + 0) c.args.self.now;
+      played = none_played (lane_of c.args.reads.now c.args.previous.now c.args.self.now k) c.args.reads.now.shared.voice c.args.made.now.loops c.args.made.now.outs;
+      at_rest = no_rest c.args.reads.now.shared.reset (has_bit c.args.reads.now.shared.koff c.args.reads.now.shared.voice) c.args.reads.now.regs c.args.reads.now.memory.now (k + 0) c.args.self.now;
     }
 
 pub returns-then-to-n-clause-way : goal.returns-then-to-n-clause-way
 returns-then-to-n-clause-way c k at =
     let done : c.glide-glided.result.at ≡ c.args.n = c.if-to-n.true in
-    rw done at (c.glide-glided.ensures.way _ c.args.loops.now refl refl refl
-    (lane_glides c.args.regs.now c.args.lane.now c.args.rows.now c.args.previous.now c.args.memory.now c.args.table.now c.args.self.now k c.samples.j c.end_from-end.result
+    rw done at (c.glide-glided.ensures.way _ c.args.made.now.loops (record { regs = refl; memory = refl; table = refl })
+    (lane_glides c.args.reads.now c.args.previous.now c.args.self.now k c.samples.j c.end_from-end.result
     (λ i since below. c.plain_samples-plain.ensures i (omega (arith, below, c.end_from-end.ensures.to, c.requires.few)) (c.end_from-end.ensures.plain i since below)))
     (c.samples.invariant.way k at))

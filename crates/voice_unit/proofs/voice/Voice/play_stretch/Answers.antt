@@ -12,31 +12,34 @@ use Rattle.voice_unit.proofs.OverRow.{glided_over}
 use Rattle.voice_unit.proofs.voice.Voice.play_stretch.Goals as goal
 
 pub returns-clause-way : goal.returns-clause-way
-returns-clause-way c plays before regs memory table glides way =
+returns-clause-way c plays before over glides way =
+    let regs = over.regs in
+    let memory = over.memory in
+    let table = over.table in
     let v : VoiceState = c.args.self.now in
-    let row : List ℤ = c.read_stretch-stretch.new.row in
+    let row : List ℤ = c.read_stretch-stretch.new.work.row in
     let m : ℕ = c.read_stretch-stretch.result.samples in
-    let few : m ≤ c.args.n = c.read_stretch-stretch.ensures.few in
-    let groups = rw (c.course-course.ensures.position, c.course-course.ensures.pitch, ← regs) at c.read_stretch-stretch.ensures.groups in
-    let next = rw (c.course-course.ensures.loop_to, c.course-course.ensures.first, ← memory, ← regs) at c.read_stretch-stretch.ensures.next in
+    let few : m ≤ c.args.n = c.read_stretch-stretch.ensures.stretch.few in
+    let groups = rw (c.course-course.ensures.position, c.course-course.ensures.pitch, ← regs) at c.read_stretch-stretch.ensures.stretch.groups in
+    let next = rw (c.course-course.ensures.loop_to, c.course-course.ensures.first, ← memory, ← regs) at c.read_stretch-stretch.ensures.stretch.next in
     let kept = rw (c.course-course.ensures.loop_to, c.course-course.ensures.first, c.begin_row.ensures.row, ← memory, ← regs) at c.read_stretch-stretch.ensures.row in
-    let awake : is_silencing c.course-course.result.reset (byte_at c.args.memory.now c.course-course.result.first.block) ≡ true → c.course-course.result.silent ≡ true =
+    let awake : is_silencing c.course-course.result.reset (byte_at c.args.reads.now.memory.now c.course-course.result.first.block) ≡ true → c.course-course.result.silent ≡ true =
     λ loud. c.course-course.ensures.all_silent (way.at_rest.silencing (omega (arith, c.requires.some, c.requires.resting))
     (rw (c.course-course.ensures.reset, c.course-course.ensures.first, ← memory) at loud)) in
     let quiet = rw (c.course-course.ensures.position, c.course-course.ensures.pitch, c.course-course.ensures.reset, c.course-course.ensures.loop_to, c.course-course.ensures.first, ← memory, ← regs) at (c.read_stretch-stretch.ensures.quiet awake) in
-    let marks = rw (c.course-course.ensures.voice, c.course-course.ensures.loop_to, c.course-course.ensures.first, c.course-course.ensures.position, c.course-course.ensures.pitch, ← memory, ← regs) at c.read_stretch-stretch.ensures.marks in
-    let outs = rw (c.course-course.ensures.position, c.course-course.ensures.pitch, c.level-level.ensures.value, ← table, ← regs) at c.sound.ensures.outs in
+    let marks = rw (c.course-course.ensures.voice, c.course-course.ensures.loop_to, c.course-course.ensures.first, c.course-course.ensures.position, c.course-course.ensures.pitch, ← memory, ← regs) at c.read_stretch-stretch.ensures.loops.marks in
+    let outs = rw (c.course-course.ensures.position, c.course-course.ensures.pitch, c.course-course.ensures.level, ← table, ← regs) at c.sound.ensures.outs in
     let is_position = ap (λ (w : VoiceState). w.position + 0x4000 * c.read_stretch-stretch.result.groups) c.go_to.ensures ∙ c.position_after-position.ensures.value in
     let position = rw (groups, c.course-course.ensures.position, c.course-course.ensures.pitch, ← regs) at is_position in
     let twelve = ap (λ (w : VoiceState). w.samples) c.go_to.ensures ∙ last_twelve row (4 * c.read_stretch-stretch.result.groups) ∙ ap (drop (4 * c.read_stretch-stretch.result.groups)) kept in
     let ends : (b : Bool) → c.read_stretch-stretch.result.woken ≡ b
     → (c.rest_after.result ≡ 0) ⊎ ((c.rest_after.result ≡ c.args.rest - m)
     × (0 < groups_before v.position plays.regs.pitch m
-    → is_silencing c.args.lane.now.reset (byte_at plays.memory (place_after plays.memory (loop_word c.args.lane.now.dir plays.regs.srcn plays.memory) (place_of v) (groups_before v.position plays.regs.pitch m)).block) ≡ true
+    → is_silencing c.args.reads.now.shared.reset (byte_at plays.memory (place_after plays.memory (loop_word c.args.reads.now.shared.dir plays.regs.srcn plays.memory) (place_of v) (groups_before v.position plays.regs.pitch m)).block) ≡ true
     → IsSilent v.envelope)) = λ b. elim b as (λ b. c.read_stretch-stretch.result.woken ≡ b
     → (c.rest_after.result ≡ 0) ⊎ ((c.rest_after.result ≡ c.args.rest - m)
     × (0 < groups_before v.position plays.regs.pitch m
-    → is_silencing c.args.lane.now.reset (byte_at plays.memory (place_after plays.memory (loop_word c.args.lane.now.dir plays.regs.srcn plays.memory) (place_of v) (groups_before v.position plays.regs.pitch m)).block) ≡ true
+    → is_silencing c.args.reads.now.shared.reset (byte_at plays.memory (place_after plays.memory (loop_word c.args.reads.now.shared.dir plays.regs.srcn plays.memory) (place_of v) (groups_before v.position plays.regs.pitch m)).block) ≡ true
     → IsSilent v.envelope))) [
       | true ↦ λ e. inl (c.rest_after.ensures.woken e)
       | false ↦ λ e. inr (
@@ -44,28 +47,28 @@ returns-clause-way c plays before regs memory table glides way =
         λ some loud. c.course-course.ensures.silent (rw (c.course-course.ensures.reset, next, groups, ← memory) at (c.read_stretch-stretch.ensures.goes_on awake e) loud),
       )
     ] in
-    glided_over c.args.lane.now plays c.args.at m c.args.rest before c.args.loops.now c.args.outs.now v way c.begin_row.ensures.twelve
-    (rw c.course-course.ensures.position at c.course-course.ensures.within) (rw (← regs) at c.requires.pitch)
-    (λ j below. glides (c.args.at + j) (omega arith) (omega (arith, below, few))) c.read_stretch-stretch.ensures.some (omega (arith, few, c.requires.resting))
+    glided_over c.args.reads.now.shared plays c.args.at m c.args.rest before c.args.made.now.loops c.args.made.now.outs v way c.begin_row.ensures.twelve
+    (rw c.course-course.ensures.position at c.course-course.ensures.course.position) (rw (← regs) at c.requires.pitch)
+    (λ j below. glides (c.args.at + j) (omega arith) (omega (arith, below, few))) c.read_stretch-stretch.ensures.stretch.some (omega (arith, few, c.requires.resting))
     (λ j below some loud. c.course-course.ensures.silent (quiet j below loud))
     c.go_to.new.self c.rest_after.result c.read_stretch-stretch.new.loops c.sound.new.outs row
     (rw groups at kept) (rw groups at twelve) position
     (rw groups at (ap place_of c.go_to.ensures ∙ next)) (ap (λ (w : VoiceState). w.delay) c.go_to.ensures) (ap (λ (w : VoiceState). w.envelope) c.go_to.ensures)
     (ends c.read_stretch-stretch.result.woken refl)
-    c.sound.ensures.before outs c.read_stretch-stretch.ensures.before marks c.read_stretch-stretch.ensures.later
+    c.sound.ensures.before outs c.read_stretch-stretch.ensures.loops.before_it marks c.read_stretch-stretch.ensures.loops.later
 
-pub returns-clause-room : goal.returns-clause-room
-returns-clause-room c i from below = by (nat_lt i (c.args.at + c.read_stretch-stretch.result.samples)) refl
+pub returns-clause-lower : goal.returns-clause-lower
+returns-clause-lower c i from below = by (nat_lt i (c.args.at + c.read_stretch-stretch.result.samples)) refl
   where
-    by : (b : Bool) → nat_lt i (c.args.at + c.read_stretch-stretch.result.samples) ≡ b → slice_index c.read_stretch-stretch.new.loops i < 2 ^ (c.args.lane.now.voice + 1)
+    by : (b : Bool) → nat_lt i (c.args.at + c.read_stretch-stretch.result.samples) ≡ b → slice_index c.read_stretch-stretch.new.loops i < 2 ^ (c.args.reads.now.shared.voice + 1)
     by true e =
         let early : i < c.args.at + c.read_stretch-stretch.result.samples = grind (arith, nat_tests, e) in
         let part : c.args.at + (i - c.args.at) ≡ i = omega (arith, from) in
-        let old : slice_index c.args.loops.now (c.args.at + (i - c.args.at)) < 2 ^ c.args.lane.now.voice = rw part (c.requires.room i from below) in
-        let made = rw c.course-course.ensures.voice at (c.read_stretch-stretch.ensures.marks (i - c.args.at) (omega (arith, early, from))) in
-        let more = bit-bound (loops_in c.args.memory.now c.course-course.result.loop_to c.course-course.result.first c.course-course.result.position c.course-course.result.pitch (i - c.args.at))
-        c.args.lane.now.voice _ old in
+        let old : slice_index c.args.made.now.loops (c.args.at + (i - c.args.at)) < 2 ^ c.args.reads.now.shared.voice = rw part (c.requires.lower i from below) in
+        let made = rw c.course-course.ensures.voice at (c.read_stretch-stretch.ensures.loops.marks (i - c.args.at) (omega (arith, early, from))) in
+        let more = bit-bound (loops_in c.args.reads.now.memory.now c.course-course.result.loop_to c.course-course.result.first c.course-course.result.position c.course-course.result.pitch (i - c.args.at))
+        c.args.reads.now.shared.voice _ old in
         rw (← part) (rw made more)
     by false e =
         let late : c.args.at + c.read_stretch-stretch.result.samples ≤ i = grind (arith, nat_tests, e) in
-        rw (c.read_stretch-stretch.ensures.later i late, doubled c.args.lane.now.voice) (omega (arith, c.requires.room i from below))
+        rw (c.read_stretch-stretch.ensures.loops.later i late, doubled c.args.reads.now.shared.voice) (omega (arith, c.requires.lower i from below))

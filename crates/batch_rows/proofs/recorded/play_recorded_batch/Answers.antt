@@ -10,7 +10,7 @@ use Rattle.batch_rows.specs.Rows.{by_rows, echo_after, answers}
 use Rattle.batch_rows.proofs.KeyRows.{voices-keys_after, echo-keys_after}
 use Rattle.batch_rows.proofs.MakeBatch.{keyed_are}
 use Rattle.batch_rows.proofs.OneMore.{registers-keys_after, table-keys_after}
-use Rattle.batch_rows.proofs.recorded.make_recorded_batch.Goals as goal
+use Rattle.batch_rows.proofs.recorded.play_recorded_batch.Goals as goal
 
 pub step_keys-rows-requires-clause-rate : goal.step_keys-rows-requires-clause-rate
 unfolding settings_of
@@ -20,11 +20,11 @@ pub loop-j-init : goal.loop-j-init
 unfolding echo_after
 loop-j-init c =
     let s : ChipState = c.args.state.now in
-    let k : ℕ = c.args.number in
-    let n : ℕ = c.args.n in
+    let k : ℕ = c.args.samples.now.number in
+    let n : ℕ = c.args.samples.now.n in
     let voices : c.step_keys-rows.new.state.hidden.voices ≡ s.hidden.voices = ap (λ (t : ChipState). t.hidden.voices) c.step_keys-rows.ensures.state ∙ voices-keys_after k s n in
     let table : s.table ≡ c.step_keys-rows.new.state.table = sym (ap (λ (t : ChipState). t.table) c.step_keys-rows.ensures.state ∙ table-keys_after k s n) in
-    let run = rw voices at (c.run_voices.ensures.run k s (sym c.step_keys-rows.ensures.registers) table c.step_keys-rows.ensures.rows c.requires.clock) in
+    let run = rw voices at (c.run_voices.ensures.run k s (record { registers = sym c.step_keys-rows.ensures.registers; table = table; rows = c.step_keys-rows.ensures.rows; clock = c.requires.batch.clock })) in
     record {
       state = rw (run.voices_are, c.step_keys-rows.ensures.state, registers-keys_after k s n, echo-keys_after k s n) refl;
       memory = refl;
@@ -38,11 +38,11 @@ pub finish_sample-frame-requires : goal.finish_sample-frame-requires
 unfolding answers
 finish_sample-frame-requires c =
     let s : ChipState = c.args.state.now in
-    let k : ℕ = c.args.number in
-    let n : ℕ = c.args.n in
+    let k : ℕ = c.args.samples.now.number in
+    let n : ℕ = c.args.samples.now.n in
     let voices : c.step_keys-rows.new.state.hidden.voices ≡ s.hidden.voices = ap (λ (t : ChipState). t.hidden.voices) c.step_keys-rows.ensures.state ∙ voices-keys_after k s n in
     let table : s.table ≡ c.step_keys-rows.new.state.table = sym (ap (λ (t : ChipState). t.table) c.step_keys-rows.ensures.state ∙ table-keys_after k s n) in
-    let run = rw voices at (c.run_voices.ensures.run k s (sym c.step_keys-rows.ensures.registers) table c.step_keys-rows.ensures.rows c.requires.clock) in
+    let run = rw voices at (c.run_voices.ensures.run k s (record { registers = sym c.step_keys-rows.ensures.registers; table = table; rows = c.step_keys-rows.ensures.rows; clock = c.requires.batch.clock })) in
     let given : c.answers_in-answers.result ≡ answers k s c.args.memory.now c.loop-j.j = c.answers_in-answers.ensures ∙ run.answers_are c.loop-j.j c.loop-j-test.true in
     let eight : length s.hidden.voices ≡ 8 = rw voices at c.run_voices.ensures.eight in
     rw given (c.keyed_in.ensures ∙ keyed_are k n s c.args.memory.now c.step_keys-rows.result eight c.step_keys-rows.ensures.rows c.step_keys-rows.ensures.taken c.loop-j.j c.loop-j-test.true)
@@ -57,11 +57,11 @@ pub loop-j-preserved : goal.loop-j-preserved
 unfolding echo_after answers settings_of
 loop-j-preserved c =
     let s : ChipState = c.args.state.now in
-    let k : ℕ = c.args.number in
-    let n : ℕ = c.args.n in
+    let k : ℕ = c.args.samples.now.number in
+    let n : ℕ = c.args.samples.now.n in
     let voices : c.step_keys-rows.new.state.hidden.voices ≡ s.hidden.voices = ap (λ (t : ChipState). t.hidden.voices) c.step_keys-rows.ensures.state ∙ voices-keys_after k s n in
     let table : s.table ≡ c.step_keys-rows.new.state.table = sym (ap (λ (t : ChipState). t.table) c.step_keys-rows.ensures.state ∙ table-keys_after k s n) in
-    let run = rw voices at (c.run_voices.ensures.run k s (sym c.step_keys-rows.ensures.registers) table c.step_keys-rows.ensures.rows c.requires.clock) in
+    let run = rw voices at (c.run_voices.ensures.run k s (record { registers = sym c.step_keys-rows.ensures.registers; table = table; rows = c.step_keys-rows.ensures.rows; clock = c.requires.batch.clock })) in
     let given : c.answers_in-answers.result ≡ answers k s c.args.memory.now c.loop-j.j = c.answers_in-answers.ensures ∙ run.answers_are c.loop-j.j c.loop-j-test.true in
     let volumes : c.args.settings.now.volumes ≡ all_volumes s.registers = ap (λ (settings : Settings). settings.volumes) c.requires.settings in
     let regs : c.args.settings.now.echo ≡ echo_regs s.registers = ap (λ (settings : Settings). settings.echo) c.requires.settings in
@@ -77,16 +77,16 @@ loop-j-preserved c =
 
 pub returns-clause-state : goal.returns-clause-state
 unfolding by_rows
-returns-clause-state c = let done : c.loop-j.j ≡ c.args.n = omega (arith, c.loop-j.auto.j-end, c.loop-j-test.false) in rw done at c.loop-j.invariant.state
+returns-clause-state c = let done : c.loop-j.j ≡ c.args.samples.now.n = omega (arith, c.loop-j.auto.j-end, c.loop-j-test.false) in rw done at c.loop-j.invariant.state
 
 pub returns-clause-memory : goal.returns-clause-memory
 unfolding by_rows
-returns-clause-memory c = let done : c.loop-j.j ≡ c.args.n = omega (arith, c.loop-j.auto.j-end, c.loop-j-test.false) in rw done at c.loop-j.invariant.memory
+returns-clause-memory c = let done : c.loop-j.j ≡ c.args.samples.now.n = omega (arith, c.loop-j.auto.j-end, c.loop-j-test.false) in rw done at c.loop-j.invariant.memory
 
 pub returns-clause-frames : goal.returns-clause-frames
 unfolding by_rows
-returns-clause-frames c = let done : c.loop-j.j ≡ c.args.n = omega (arith, c.loop-j.auto.j-end, c.loop-j-test.false) in rw done at c.loop-j.invariant.frames
+returns-clause-frames c = let done : c.loop-j.j ≡ c.args.samples.now.n = omega (arith, c.loop-j.auto.j-end, c.loop-j-test.false) in rw done at c.loop-j.invariant.frames
 
 pub returns-clause-records : goal.returns-clause-records
 unfolding by_rows
-returns-clause-records c = let done : c.loop-j.j ≡ c.args.n = omega (arith, c.loop-j.auto.j-end, c.loop-j-test.false) in rw done at c.loop-j.invariant.records
+returns-clause-records c = let done : c.loop-j.j ≡ c.args.samples.now.n = omega (arith, c.loop-j.auto.j-end, c.loop-j-test.false) in rw done at c.loop-j.invariant.records

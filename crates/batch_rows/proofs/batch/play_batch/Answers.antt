@@ -10,7 +10,7 @@ use Rattle.batch_rows.specs.Once.{endx_after}
 use Rattle.batch_rows.proofs.KeyRows.{voices-keys_after, echo-keys_after}
 use Rattle.batch_rows.proofs.OneMore.{table-keys_after}
 use Rattle.batch_rows.proofs.MakeBatch.{echo_is, registers_are, bits_are}
-use Rattle.batch_rows.proofs.batch.make_batch.Goals as goal
+use Rattle.batch_rows.proofs.batch.play_batch.Goals as goal
 
 pub step_keys-rows-requires-clause-rate : goal.step_keys-rows-requires-clause-rate
 unfolding settings_of
@@ -20,49 +20,49 @@ pub returns-clause-state : goal.returns-clause-state
 unfolding by_rows settings_of
 returns-clause-state c =
     let s : ChipState = c.args.state.now in
-    let k : ℕ = c.args.number in
-    let n : ℕ = c.args.n in
+    let k : ℕ = c.args.samples.now.number in
+    let n : ℕ = c.args.samples.now.n in
     let volumes : c.args.settings.now.volumes ≡ all_volumes s.registers = ap (λ (settings : Settings). settings.volumes) c.requires.settings in
     let voices : c.step_keys-rows.new.state.hidden.voices ≡ s.hidden.voices = ap (λ (t : ChipState). t.hidden.voices) c.step_keys-rows.ensures.state ∙ voices-keys_after k s n in
     let table : s.table ≡ c.step_keys-rows.new.state.table = sym (ap (λ (t : ChipState). t.table) c.step_keys-rows.ensures.state ∙ table-keys_after k s n) in
-    let played = rw (volumes, voices) at (c.play_voices.ensures.played k s (sym c.step_keys-rows.ensures.registers) table c.step_keys-rows.ensures.rows (c.next_clock-first.ensures k c.requires.clock)) in
+    let played = rw (volumes, voices) at (c.play_voices.ensures.played k s (record { registers = sym c.step_keys-rows.ensures.registers; table = table; rows = c.step_keys-rows.ensures.rows; clock = c.requires.batch.clock })) in
     let regs : c.args.settings.now.echo ≡ echo_regs s.registers = ap (λ (settings : Settings). settings.echo) c.requires.settings in
     let echo : c.step_keys-rows.new.state.hidden.echo ≡ s.hidden.echo = ap (λ (t : ChipState). t.hidden.echo) c.step_keys-rows.ensures.state ∙ echo-keys_after k s n in
-    let ran = echo_is k n s c.args.memory.now c.play_voices.new.voices c.play_voices.new.answers c.play_voices.new.loops c.play_voices.new.sums played in
+    let ran = echo_is k n s c.args.memory.now c.play_voices.new.voices c.play_voices.new.made.last c.play_voices.new.made.rows.loops c.play_voices.new.made.sums played in
     let eight : length s.hidden.voices ≡ 8 = rw voices at c.play_voices.ensures.eight in
     let long : ENDX < length s.registers = search rules in
-    let bits = bits_are k n s c.args.memory.now c.play_voices.new.voices c.play_voices.new.answers c.play_voices.new.loops c.play_voices.new.sums played c.step_keys-rows.result eight c.step_keys-rows.ensures.rows c.step_keys-rows.ensures.taken in
+    let bits = bits_are k n s c.args.memory.now c.play_voices.new.voices c.play_voices.new.made.last c.play_voices.new.made.rows.loops c.play_voices.new.made.sums played c.step_keys-rows.result eight c.step_keys-rows.ensures.rows c.step_keys-rows.ensures.taken in
     let endx : c.endx_of_batch-endx.result ≡ endx_after (answers k s c.args.memory.now) (slice_index s.registers ENDX) n = rw c.step_keys-rows.ensures.registers at (c.endx_of_batch-endx.ensures (answers k s c.args.memory.now) bits) in
-    let registers = registers_are k n s c.args.memory.now c.play_voices.new.voices c.play_voices.new.answers c.play_voices.new.loops c.play_voices.new.sums played c.endx_of_batch-endx.result
-    c.requires.some eight long endx in
+    let registers = registers_are k n s c.args.memory.now c.play_voices.new.voices c.play_voices.new.made.last c.play_voices.new.made.rows.loops c.play_voices.new.made.sums played c.endx_of_batch-endx.result
+    c.requires.batch.some eight long endx in
     rw (c.put_all_levels.ensures, c.step_keys-rows.ensures.registers, registers, played.voices_are, c.play_echo.ensures.echo, regs, echo, ran, c.step_keys-rows.ensures.state) refl
 
 pub returns-clause-memory : goal.returns-clause-memory
 unfolding by_rows settings_of
 returns-clause-memory c =
     let s : ChipState = c.args.state.now in
-    let k : ℕ = c.args.number in
-    let n : ℕ = c.args.n in
+    let k : ℕ = c.args.samples.now.number in
+    let n : ℕ = c.args.samples.now.n in
     let volumes : c.args.settings.now.volumes ≡ all_volumes s.registers = ap (λ (settings : Settings). settings.volumes) c.requires.settings in
     let voices : c.step_keys-rows.new.state.hidden.voices ≡ s.hidden.voices = ap (λ (t : ChipState). t.hidden.voices) c.step_keys-rows.ensures.state ∙ voices-keys_after k s n in
     let table : s.table ≡ c.step_keys-rows.new.state.table = sym (ap (λ (t : ChipState). t.table) c.step_keys-rows.ensures.state ∙ table-keys_after k s n) in
-    let played = rw (volumes, voices) at (c.play_voices.ensures.played k s (sym c.step_keys-rows.ensures.registers) table c.step_keys-rows.ensures.rows (c.next_clock-first.ensures k c.requires.clock)) in
+    let played = rw (volumes, voices) at (c.play_voices.ensures.played k s (record { registers = sym c.step_keys-rows.ensures.registers; table = table; rows = c.step_keys-rows.ensures.rows; clock = c.requires.batch.clock })) in
     let regs : c.args.settings.now.echo ≡ echo_regs s.registers = ap (λ (settings : Settings). settings.echo) c.requires.settings in
     let echo : c.step_keys-rows.new.state.hidden.echo ≡ s.hidden.echo = ap (λ (t : ChipState). t.hidden.echo) c.step_keys-rows.ensures.state ∙ echo-keys_after k s n in
-    let ran = echo_is k n s c.args.memory.now c.play_voices.new.voices c.play_voices.new.answers c.play_voices.new.loops c.play_voices.new.sums played in
+    let ran = echo_is k n s c.args.memory.now c.play_voices.new.voices c.play_voices.new.made.last c.play_voices.new.made.rows.loops c.play_voices.new.made.sums played in
     rw (c.play_echo.ensures.memory, regs, echo, ran) refl
 
 pub returns-clause-frames : goal.returns-clause-frames
 unfolding by_rows settings_of
 returns-clause-frames c =
     let s : ChipState = c.args.state.now in
-    let k : ℕ = c.args.number in
-    let n : ℕ = c.args.n in
+    let k : ℕ = c.args.samples.now.number in
+    let n : ℕ = c.args.samples.now.n in
     let volumes : c.args.settings.now.volumes ≡ all_volumes s.registers = ap (λ (settings : Settings). settings.volumes) c.requires.settings in
     let voices : c.step_keys-rows.new.state.hidden.voices ≡ s.hidden.voices = ap (λ (t : ChipState). t.hidden.voices) c.step_keys-rows.ensures.state ∙ voices-keys_after k s n in
     let table : s.table ≡ c.step_keys-rows.new.state.table = sym (ap (λ (t : ChipState). t.table) c.step_keys-rows.ensures.state ∙ table-keys_after k s n) in
-    let played = rw (volumes, voices) at (c.play_voices.ensures.played k s (sym c.step_keys-rows.ensures.registers) table c.step_keys-rows.ensures.rows (c.next_clock-first.ensures k c.requires.clock)) in
+    let played = rw (volumes, voices) at (c.play_voices.ensures.played k s (record { registers = sym c.step_keys-rows.ensures.registers; table = table; rows = c.step_keys-rows.ensures.rows; clock = c.requires.batch.clock })) in
     let regs : c.args.settings.now.echo ≡ echo_regs s.registers = ap (λ (settings : Settings). settings.echo) c.requires.settings in
     let echo : c.step_keys-rows.new.state.hidden.echo ≡ s.hidden.echo = ap (λ (t : ChipState). t.hidden.echo) c.step_keys-rows.ensures.state ∙ echo-keys_after k s n in
-    let ran = echo_is k n s c.args.memory.now c.play_voices.new.voices c.play_voices.new.answers c.play_voices.new.loops c.play_voices.new.sums played in
+    let ran = echo_is k n s c.args.memory.now c.play_voices.new.voices c.play_voices.new.made.last c.play_voices.new.made.rows.loops c.play_voices.new.made.sums played in
     rw (c.play_echo.ensures.frames, regs, echo, ran) refl

@@ -1,7 +1,0 @@
-use Rattle.std.proofs.Common.{◌+◌, slice_index, arith}
-use Rattle.voice_unit.proofs.LoopBits.{no_end}
-use Rattle.voice_unit.proofs.course.Course.go_on.Goals as goal
-
-pub returns-then-place-ne7-clause-marks : goal.returns-then-place-ne7-clause-marks
-returns-then-place-ne7-clause-marks c j below =
-    no_end c.args.memory.now c.args.now.now.place c.args.self.now.position c.args.self.now.pitch c.args.group j c.args.self.now.voice (slice_index c.args.loops.now (c.args.at + j)) (omega arith)

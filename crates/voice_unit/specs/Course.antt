@@ -1,0 +1,54 @@
+-- The course of a voice at rest over a stretch of samples.
+use Rattle.std.specs.Prelude.{◌≡◌, ℕ, ◌+◌, ◌^◌, ◌<◌, ◌≤◌, List, Bool, true, slice_index, if◌then◌else◌}
+use Rattle.num_fix.specs.declared.TheConstants.{BATCH_SIZE}
+use Rattle.aram_core.specs.Memory.{byte_at}
+use Rattle.voice_unit.specs.Voice.{is_silencing}
+use Rattle.voice_unit.specs.Row.{IsGroup, place_after, groups_before, ends_in, loops_in}
+use Rattle.voice_unit.specs.declared.course.Course.{Course}
+use Rattle.voice_unit.specs.declared.course.Headed.{Headed}
+use Rattle.voice_unit.specs.declared.course.Stretch.{Stretch}
+use Rattle.voice_unit.specs.declared.row.Place.{Place}
+
+-- the bounds of what a voice goes by
+pub record IsCourse (course : Course) : Type 0 where
+  pub voice : course.voice < 8
+  pub position : course.position < 0x8000
+  pub pitch : course.pitch < 0x4000
+  pub level : course.level ≤ 0x7ff
+  pub group : IsGroup course.first
+
+-- the group that is next in sample j
+abbrev pub place_at : Course → (memory : List ℕ) → (j : ℕ) → Place
+place_at course memory j = place_after memory course.loop_to course.first (groups_before course.position course.pitch j)
+
+-- sample j reads a group, after so many others, that ends a block which has its end bit
+abbrev pub ends_at : Course → (memory : List ℕ) → Place → (group j : ℕ) → Bool
+ends_at course memory place group j = ends_in memory place course.position course.pitch group j
+
+-- the voice loops in sample j
+abbrev pub loops_at : Course → (memory : List ℕ) → (j : ℕ) → Bool
+loops_at course memory j = loops_in memory course.loop_to course.first course.position course.pitch j
+
+-- a group with the header of its block
+pub record IsHeaded (memory : List ℕ) (now : Headed) : Type 0 where
+  pub group : IsGroup now.place
+  pub header : now.header ≡ byte_at memory now.place.block
+
+-- a stretch of n samples at most: the groups that it reads, and the one that follows
+pub record IsStretch (course : Course) (memory : List ℕ) (n : ℕ) (stretch : Stretch) : Type 0 where
+  pub some : 0 < stretch.samples
+  pub few : stretch.samples ≤ n
+  pub groups : stretch.groups ≡ groups_before course.position course.pitch stretch.samples
+  pub few_groups : stretch.groups ≤ BATCH_SIZE
+  pub next : stretch.next ≡ place_after memory course.loop_to course.first stretch.groups
+  pub group : IsGroup stretch.next
+
+-- in each of so many samples from sample `at` on the bit of the voice is added where it loops, and all other bytes stay
+pub record AreLoopsMarked (at samples voice : ℕ) (loops : ℕ → Bool) (before after : List ℕ) : Type 0 where
+  pub marks : (j : ℕ) → j < samples → slice_index after (at + j) ≡ slice_index before (at + j) + (if loops j then 2 ^ voice else 0)
+  pub before_it : (i : ℕ) → i < at → slice_index after i ≡ slice_index before i
+  pub later : (i : ℕ) → at + samples ≤ i → slice_index after i ≡ slice_index before i
+
+-- the header of a block silences no voice that sounds
+abbrev pub LeavesSounding : Course → (memory : List ℕ) → (block : ℕ) → Type 0
+LeavesSounding course memory block = is_silencing course.reset (byte_at memory block) ≡ true → course.silent ≡ true
