@@ -47,11 +47,12 @@ impl Voice {
         ensures { (k : ℕ) → reads.now.clock ≡ counter_at k
             → IsRun (lane_of reads.now (outs_of previous.now) self.old k) n out.old out.new self.new }
     {
+        let mut clock = reads.clock;
         for j in 0..n {
-            let clock = reads.clock.after_samples(j);
             let input = reads.shared.input(reads.rows, previous.out(j), j);
             let answer = self.step(&reads.regs, &input, reads.memory, reads.table, &clock);
             out.items[usize::from(j)] = answer;
+            clock.step();
         }
     }
 }

@@ -1,4 +1,4 @@
-use Rattle.std.proofs.Common.{rules, ◌≡◌, ◌+◌, ◌<◌, length, to_z, of_z, ◌∙◌, arith}
+use Rattle.std.proofs.Common.{rules, ◌≡◌, ◌+◌, ◌<◌, length, to_z, of_z, suc, ◌∙◌, add-one, arith}
 use Rattle.std.specs.Int.{w16}
 use Rattle.std.proofs.lemmas.List.{length-set}
 use Rattle.num_fix.specs.SignedWords.{number_at}
@@ -11,6 +11,7 @@ use Rattle.voice_unit.proofs.voice.Voice.run.Goals as goal
 
 pub loop-j-init : goal.loop-j-init
 loop-j-init c = record {
+  clock = λ k is. let none : k + 0 ≡ k = omega arith in rw none is;
   run = λ k is. none_run (lane_of c.args.reads.now (outs_of c.args.previous.now) c.args.self.now k) c.args.out.now;
   long = search rules;
 }
@@ -25,8 +26,11 @@ loop-j-preserved c =
     let input : c.input-input.result ≡ lane_input c.args.reads.now.shared c.args.reads.now.rows.now (number_at (outs_of c.args.previous.now) j) j =
     rw (whole, previous) at c.input-input.ensures.value in
     record {
+      clock = λ k is.
+          let further : k + (j + 1) ≡ suc (k + j) = omega arith in
+          rw further (rw add-one at (c.step.ensures.counts (suc (k + j)) (c.loop-j.invariant.clock k is)));
       run = λ k is.
-          let counter : c.after_samples-clock.result ≡ counter_at (k + j) = c.after_samples-clock.ensures.at k is in
+          let counter : c.loop-j.clock ≡ counter_at (k + j) = c.loop-j.invariant.clock k is in
           rw place (one_more_run (lane_of c.args.reads.now (outs_of c.args.previous.now) c.args.self.now k) j
           c.args.out.now c.loop-j.out c.loop-j.self c.step-answer.new.self c.step-answer.result (c.loop-j.invariant.run k is) long
           (rw (input, counter) at c.step-answer.ensures.voice) (rw (input, counter) at c.step-answer.ensures.answer));
