@@ -119,6 +119,14 @@ impl<C: Chip> CutServer<C> {
         self.render.total()
     }
 
+    /// The chip in hand. It made the samples that `work` tells, and its next sample is that at the position.
+    pub fn chip(&self) -> &C
+        ensures made { C.total result.now ≡ (book_of self.now).made }
+        ensures position { C.sample result.now ≡ (book_of self.now).position }
+    {
+        self.render.chip()
+    }
+
     /// Goes back to a checkpoint.
     fn load(&mut self, index: usize)
         requires { index < length (samples_of self.old.table) }

@@ -228,7 +228,7 @@ impl Dsp {
     }
 
     /// Whether the next n samples may be made by rows, and it pays: they are more than two, and the echo can't write what the voices
-    /// read.
+    /// read. A `false` is free: no clause says when it comes, and one by one the samples are the same.
     fn goes_by_rows(&self, n: u8, memory: &Aram) -> bool
         ensures some { result ≡ true → 0 < n }
         ensures apart { result ≡ true → (chip_reach self.now.state memory.now).entangled ≡ false }

@@ -25,7 +25,8 @@ pub trait DrainedBus: Bus {
         ensures { result ≡ nat_le (Self.means.calls self.now) most_calls_before_step };
 
     /// Takes steps of the processor, one at least, of which none begins at the end of a run to so many samples. The bus may begin its
-    /// calls anew, where nothing is to be drained, so many times; the answer is how many of these times are left.
+    /// calls anew, where nothing is to be drained, so many times; the answer is a hint, which no clause ties down: how many of these times
+    /// are left.
     fn take_steps(&mut self, cpu: &mut Cpu, samples: u32, rooms: u8) -> u8
         requires calls { Self.means.calls self.old ≤ most_calls_before_step }
         requires more { Self.means.made self.old < samples }

@@ -1,5 +1,5 @@
 // The two loops over a host: a whole piece is written, and a whole input is read.
-ghost use Rattle.std.specs.Prelude.{◌≡◌, ◌≢◌, ◌+◌, ◌<◌, ◌≤◌, ℕ, List, length, Option, IsSome, IsOk, IsErrOf, IsSomeAnd, IfOk, OnOk, OnErr, slice_index, vec_len};
+ghost use Rattle.std.specs.Prelude.{◌≡◌, ◌≢◌, ◌+◌, ◌<◌, ◌≤◌, ℕ, List, [], length, drop, Option, Some, IsSome, IsOk, IsErrOf, IsSomeAnd, IfOk, OnOk, OnErr, slice_index, vec_len};
 ghost use Rattle.snd_host.specs.Host.{HostState, IfTold, IsOpen, ChangesInputs, WritesAll, Rose, greatest_limit};
 ghost use Rattle.snd_host.specs.declared.calls.ReadRefusal.TheVariants.{Failed as Fault, OutOfMemory as NoMemory};
 
@@ -58,6 +58,11 @@ pub fn read_whole<H: Host>(
     ensures bounded { IfOk result (λ bytes. length bytes.items ≤ limit) }
     ensures too_long { IsErrOf result ReadRefusal.TooLong →
         IfTold (H.state host.old).holds (λ files. IsSomeAnd (files name.now) (λ bytes. limit < length bytes)) }
+
+    // It is read to its end, or to its limit and one byte, and no further.
+    ensures end { OnOk result (IfTold (H.state host.old).holds (λ files. (H.state host.new).left ≡ Some [])) }
+    ensures left { IsErrOf result ReadRefusal.TooLong → IfTold (H.state host.old).holds (λ files.
+        IfTold (files name.now) (λ bytes. (H.state host.new).left ≡ Some (drop (limit + 1) bytes))) }
 
     // The count of faults rises at `Failed` alone, and nothing but the inputs has changed.
     ensures failed { IsErrOf result ReadRefusal.Failed →

@@ -30,17 +30,29 @@ impl DripHost {
     }
 }
 
-// The clauses of `read` and `write` are the trait's, and then that they move at most one byte.
+// The clauses of each call are the trait's, and then that the host inside counts it as one call; of `read` and `write`, that
+// they move at most one byte.
 impl Host for DripHost {
-    ghost use Rattle.std.specs.Prelude.{◌-◌, ◌<◌, [], length, take, drop, Some, IsSome, IsOk, IfOk, OnErr, slice_index};
-    ghost use Rattle.snd_host.specs.Host.{IfTold, HasCause, CountsWrite, IsOpen, ChangesInputs, Writes};
-    ghost use Rattle.snd_host.specs.Memory.{tells_each_lem};
+    ghost use Rattle.std.specs.Prelude.{◌≢◌, ◌-◌, ◌+◌, ◌<◌, [], ◌∷◌, ◌++◌, false, true, length, take, drop, Some, None, IsSome, IsOk, IfOk, OnOk, OnErr, slice_get, slice_index, slice_set};
+    ghost use Rattle.snd_host.specs.Host.{IfTold, HasCause, CountsWrite, IsOpen, ChangesInputs, ChangesOutputs, KeepsRooms, Writes, most_outputs, longest_name};
+    ghost use Rattle.snd_host.specs.Memory.{tells_each_lem, CountsCall};
 
     ghost state = { drip_state };
 
     ghost tells_each = { λ host. tells_each_lem (inside host) };
 
-    fn open_in(&mut self, name: &str) -> Result<InFile, Failed> {
+    fn open_in(&mut self, name: &str) -> Result<InFile, Failed>
+        ensures current { IfOk result (λ file. (drip_state self.new).current ≡ Some file.0) }
+        ensures fresh { IfOk result (λ file. (drip_state self.old).current ≢ Some file.0) }
+        ensures none_current { OnErr result ((drip_state self.new).current ≡ None) }
+        ensures there { OnOk result (IfTold (drip_state self.old).holds (λ files. IsSome (files name.now))) }
+        ensures left { OnOk result (IfTold (drip_state self.old).holds (λ files. (drip_state self.new).left ≡ files name.now)) }
+        ensures others { ChangesInputs (drip_state self.old) (drip_state self.new) }
+        ensures cause { HasCause (drip_state self.old).faults.inputs (drip_state self.new).faults.inputs result }
+        ensures steady { IsSome (drip_state self.old).steady →
+            IfTold (drip_state self.old).holds (λ files. IsSome (files name.now) → IsOk result) }
+        ensures counted { CountsCall (inside self.old) (inside self.new) }
+    {
         self.host.open_in(name)
     }
 
@@ -60,12 +72,28 @@ impl Host for DripHost {
         ensures cause { HasCause (drip_state self.old).faults.inputs (drip_state self.new).faults.inputs result }
         ensures steady { IsSome (drip_state self.old).steady → IsOk result }
         ensures at_most_one { IfOk result (λ count. count ≤ 1) }
+        ensures counted { CountsCall (inside self.old) (inside self.new) }
     {
         let most = buf.len().min(1);
         self.host.read(file, &mut buf[..most])
     }
 
-    fn create(&mut self, name: &str) -> Result<OutFile, Failed> {
+    fn create(&mut self, name: &str) -> Result<OutFile, Failed>
+        requires { length (drip_state self.old).ended < most_outputs }
+        ensures number { IfOk result (λ file. file.0 ≡ length (drip_state self.old).ended + 2) }
+        ensures ended { OnOk result ((drip_state self.new).ended ≡ (drip_state self.old).ended ++ false ∷ []) }
+        ensures created { OnOk result (IfTold (drip_state self.old).given (λ given. (drip_state self.new).given ≡
+            Some (record given { created = given.created ++ record { name = name.now; bytes = [] } ∷ [] }))) }
+        ensures not_ended { OnErr result ((drip_state self.new).ended ≡ (drip_state self.old).ended) }
+        ensures not_created { OnErr result ((drip_state self.new).given ≡ (drip_state self.old).given) }
+        ensures others { ChangesOutputs (drip_state self.old) (drip_state self.new) }
+        ensures notes { (drip_state self.new).faults.notes ≡ (drip_state self.old).faults.notes }
+        ensures cause { HasCause (drip_state self.old).faults.outputs (drip_state self.new).faults.outputs result }
+        ensures steady { IfTold (drip_state self.old).steady (λ rooms.
+            length (drip_state self.old).ended + 2 < length rooms → length name.now ≤ longest_name → IsOk result) }
+        ensures rooms { KeepsRooms (drip_state self.old) (drip_state self.new) }
+        ensures counted { CountsCall (inside self.old) (inside self.new) }
+    {
         self.host.create(name)
     }
 
@@ -78,12 +106,25 @@ impl Host for DripHost {
         ensures cause { CountsWrite file.0 (drip_state self.old).faults (drip_state self.new).faults result }
         ensures steady { IfTold (drip_state self.old).steady (λ rooms. length piece.now ≤ slice_index rooms file.0 → IsOk result) }
         ensures at_most_one { IfOk result (λ count. count ≤ 1) }
+        ensures counted { CountsCall (inside self.old) (inside self.new) }
     {
         let most = piece.len().min(1);
         self.host.write(file, &piece[..most])
     }
 
-    fn finish(&mut self, file: OutFile) -> Result<(), Failed> {
+    fn finish(&mut self, file: OutFile) -> Result<(), Failed>
+        requires created { 2 ≤ file.0 }
+        requires open_yet { slice_get (drip_state self.old).ended (file.0 - 2) ≡ Some false }
+        ensures ended { OnOk result ((drip_state self.new).ended ≡ slice_set (drip_state self.old).ended (file.0 - 2) true) }
+        ensures not_ended { OnErr result ((drip_state self.new).ended ≡ (drip_state self.old).ended) }
+        ensures given { (drip_state self.new).given ≡ (drip_state self.old).given }
+        ensures others { ChangesOutputs (drip_state self.old) (drip_state self.new) }
+        ensures notes { (drip_state self.new).faults.notes ≡ (drip_state self.old).faults.notes }
+        ensures cause { HasCause (drip_state self.old).faults.outputs (drip_state self.new).faults.outputs result }
+        ensures steady { IsSome (drip_state self.old).steady → IsOk result }
+        ensures rooms { KeepsRooms (drip_state self.old) (drip_state self.new) }
+        ensures counted { CountsCall (inside self.old) (inside self.new) }
+    {
         self.host.finish(file)
     }
 }

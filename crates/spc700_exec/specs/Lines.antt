@@ -1,5 +1,5 @@
 -- The instructions once the opcode was read, one line for each operation: its accesses in their order and its results
--- (Anomie's SPC700 Doc; the order of the accesses is this project's own).
+-- (Anomie's SPC700 Doc; own: the order of the accesses, that a halt is for good, and up to which multiple of 32 cycles it passes).
 use Rattle.std.specs.Prelude.{ℕ, ◌+◌, ◌-◌, ◌/◌, ◌%◌, ◌^◌, Bool, true, false, not, ◌==◌}
 use Rattle.spc700_alu.specs.declared.Out8.{Out8}
 use Rattle.spc700_alu.specs.declared.Out16.{Out16}

@@ -1,5 +1,6 @@
--- What each kind of instruction does (Anomie's SPC700 Doc, the instruction list): one table of all kinds. An operation says
--- which accesses are made and in what order; it carries the arithmetic, the condition or the flag in which its kinds differ.
+-- What each kind of instruction does (Anomie's SPC700 Doc, the instruction list; that SLEEP and STOP halt for good is own): one table of
+-- all kinds. An operation says which accesses are made and in what order; it carries the arithmetic, the condition or the flag in which
+-- its kinds differ.
 use Rattle.std.specs.Prelude.{ℕ, ◌+◌, ◌-◌, ◌*◌, ◌/◌, ◌%◌, bit_and, bit_or, Bool, true, false, not}
 use Rattle.spc700_alu.specs.declared.Out8.{Out8}
 use Rattle.spc700_alu.specs.declared.Out16.{Out16}

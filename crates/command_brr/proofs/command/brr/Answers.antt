@@ -1,4 +1,4 @@
-use Rattle.std.proofs.Common.{rules}
+use Rattle.std.proofs.Common.{rules, refl}
 use Rattle.command_brr.specs.Brr.{brr_answer}
 use Rattle.snd_host.specs.Host.{Files}
 use Rattle.command_frame.specs.Plan.{plan_makes}
@@ -11,6 +11,6 @@ returns-clause-attempts g c =
     c.prepare-prepared.result c.carry_out.result _ c.prepare-prepared.ensures (carries_same plan_makes c.prepare-prepared.result _ _ _ _ c.carry_out.ensures (search rules)) (search rules)
 
 pub returns-clause-not_usage : goal.returns-clause-not_usage
-returns-clause-not_usage g c =
+returns-clause-not_usage g c = λ usage.
     attempts_no_usage plan_makes (λ (files : Files). brr_answer c.args.output.now (files c.args.input.now)) (g.H.Host.state c.args.host.now) (g.H.Host.state c.prepare-prepared.new.host) (g.H.Host.state c.carry_out.new.host)
-    c.prepare-prepared.result c.carry_out.result _ c.prepare-prepared.ensures (carries_same plan_makes c.prepare-prepared.result _ _ _ _ c.carry_out.ensures (search rules)) (search rules)
+    c.prepare-prepared.result c.carry_out.result c.carry_out.result c.prepare-prepared.ensures (carries_same plan_makes c.prepare-prepared.result _ _ _ _ c.carry_out.ensures (search rules)) refl (search rules)

@@ -35,9 +35,9 @@ returns-clause-attempts g c =
     (carries_same (list_makes to_come_of) c.plan_file-planned.result _ _ _ _ c.carry_all.ensures (search rules)) (search rules)
 
 pub returns-clause-not_usage : goal.returns-clause-not_usage
-returns-clause-not_usage g c =
+returns-clause-not_usage g c = λ usage.
     let x = g.H.Host.state c.args.host.now in
     let y = g.H.Host.state c.read_file.new.host in
-    attempts_no_usage (list_makes to_come_of) (λ (files : Files). rip_answer c.args.prefix.now c.args.range (files c.args.input.now)) x y (g.H.Host.state c.carry_all.new.host) c.plan_file-planned.result c.carry_all.result _
+    attempts_no_usage (list_makes to_come_of) (λ (files : Files). rip_answer c.args.prefix.now c.args.range (files c.args.input.now)) x y (g.H.Host.state c.carry_all.new.host) c.plan_file-planned.result c.carry_all.result c.carry_all.result
     (reads_plan (list_makes to_come_of) (λ (files : Files). file_in (files c.args.input.now)) (file_answer c.args.prefix.now c.args.range) x y c.in-Ok.file c.plan_file-planned.result c.in-Ok.ensures c.plan_file-planned.ensures.plans)
-    (carries_same (list_makes to_come_of) c.plan_file-planned.result _ _ _ _ c.carry_all.ensures (search rules)) (search rules)
+    (carries_same (list_makes to_come_of) c.plan_file-planned.result _ _ _ _ c.carry_all.ensures (search rules)) refl (search rules)

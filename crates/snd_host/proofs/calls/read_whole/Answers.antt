@@ -1,4 +1,4 @@
-use Rattle.std.proofs.Common.{rules, ◌≡◌, ◌+◌, ◌≤◌, ℕ, List, Some, Ok, length, take, drop, sym, ◌∙◌, ap, arith, length-drop, length-take, vec_len}
+use Rattle.std.proofs.Common.{rules, ◌≡◌, ◌+◌, ◌≤◌, ℕ, List, [], Some, Ok, length, take, drop, sym, ◌∙◌, ap, arith, length-drop, length-take, vec_len}
 use Rattle.std.proofs.lemmas.List.{drop-drop, places}
 use Rattle.snd_host.proofs.WholeInput.{some_is, none_unless, front_is_whole, is_some_and, length_front, read_more, inputs_then}
 use Rattle.snd_host.proofs.calls.read_whole.Goals as goal
@@ -38,3 +38,15 @@ pub returns-clause-too_long : goal.returns-clause-too_long
 returns-clause-too_long g c = λ _ files told.
     let whole = some_is _ (c.in_ok-file.ensures.there files told) in
     is_some_and _ whole.0 _ whole.1 (let long = c.reading.invariant.available files whole.0 told whole.1 in omega arith)
+
+pub returns-then-count-eq0-clause-end : goal.returns-then-count-eq0-clause-end
+returns-then-count-eq0-clause-end g c = λ files told.
+    let whole = some_is _ (c.in_ok-file.ensures.there files told) in
+    let left = c.reading.invariant.left files whole.0 told whole.1 in
+    let none = c.in_ok-count.ensures.end (ap (λ (n : ℕ). Ok n) c.if-count-eq0.true) (search (rules, places)) _ left in
+    c.in_ok-count.ensures.left _ left ∙ ap (λ (l : List ℕ). Some (drop c.in_ok-count.count l)) none ∙ ap (λ (n : ℕ). Some (drop n [])) c.if-count-eq0.true
+
+pub returns-clause-left : goal.returns-clause-left
+returns-clause-left g c = λ _ files told bytes is.
+    let all : vec_len c.reading.bytes ≡ c.args.limit + 1 = omega (arith, c.reading.invariant.within) in
+    c.reading.invariant.left files bytes told is ∙ ap (λ (n : ℕ). Some (drop n bytes)) all
