@@ -11,7 +11,7 @@ COMMANDS = [
     ('render', ['render', 'tune.spc', 'gauss.table', 'OUT', '--samples', '300', '--trace', 'TRACE', '--voices', 'ff']),
     ('info', ['info', 'tune.spc']),
     ('brr', ['brr', 'in.brr', 'OUT']),
-    ('encode', ['encode', 'in.wav', 'OUT', '--loop']),
+    ('encode', ['encode', 'in.wav', 'OUT', '--loop-at', '0', '--search', '2']),
     ('demo', ['demo', '7', 'OUT']),
     ('check', ['check', '7']),
     ('asm', ['asm', 'tune.asm', '0400', 'OUT']),

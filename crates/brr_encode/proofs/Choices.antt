@@ -4,7 +4,7 @@ use Rattle.brr_encode.specs.Least.{least_place}
 use Rattle.brr_encode.proofs.Leasts.{least_place-more}
 use Rattle.brr_encode.specs.Greedy.{digit_distance, nearest_digit, nearest_sample, distance}
 use Rattle.brr_encode.specs.EncoderParts.{IsAt}
-use Rattle.brr_encode.specs.declared.nearest.Choice.{Choice}
+use Rattle.brr_encode.specs.declared.choice.Choice.{Choice}
 
 by_test : (h : ℕ) (t p1 p2 : ℤ) (place other : ℕ) (first second : Choice) (b : Bool) → IsAt h t p1 p2 place first → IsAt h t p1 p2 other second
     → IsAt h t p1 p2 (if b then other else place) (if b then second else first)

@@ -75,7 +75,7 @@ filters_within : (first : Bool) (place : ℕ) → place < header_count first →
 filters_within true place h = omega arith
 filters_within false place h = omega arith
 
-header_at-allowed : (first : Bool) (place : ℕ) → place < header_count first → IsAllowedHeader first (header_at place)
+pub header_at-allowed : (first : Bool) (place : ℕ) → place < header_count first → IsAllowedHeader first (header_at place)
 header_at-allowed first place h =
     let few = filters_are_four first place h in
     record {

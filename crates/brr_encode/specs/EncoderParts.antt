@@ -1,12 +1,12 @@
 -- Words of the contracts of the encoder's parts; the promise on an encoding doesn't speak of them.
-use Rattle.std.specs.Prelude.{◌≡◌, ℕ, zero, suc, ◌+◌, ◌*◌, ◌<◌, ◌==◌, ◌/◌, length, max, Bool, true, false, ℤ, pos, List, [], ◌∷◌, take, drop, None, IfSome}
+use Rattle.std.specs.Prelude.{◌≡◌, ℕ, zero, suc, ◌+◌, ◌*◌, ◌<◌, ◌==◌, ◌/◌, length, max, Bool, ℤ, pos, List, [], ◌∷◌, take, drop, None, IfSome}
 use Rattle.num_fix.specs.SignedWords.{number_at}
 use Rattle.brr_decode.specs.Kept.{kept_sample}
 use Rattle.brr_encode.specs.Greedy.{digit_at, digit_distance, distance, nearest_sample, squares}
-use Rattle.brr_encode.specs.Encoding.{best_header, end_bits, block_samples, padded_samples}
+use Rattle.brr_encode.specs.Encoding.{best_header, end_bits, block_samples, padded_samples, stands_alone}
 use Rattle.brr_encode.specs.Report.{worst}
 use Rattle.brr_encode.specs.Least.{least_place}
-use Rattle.brr_encode.specs.declared.nearest.Choice.{Choice}
+use Rattle.brr_encode.specs.declared.choice.Choice.{Choice}
 use Rattle.brr_encode.specs.declared.search.Cheapest.{Cheapest}
 use Rattle.brr_encode.specs.declared.block.Coder.{Coder}
 use Rattle.brr_encode.specs.declared.report.BlockReport.{BlockReport}
@@ -51,13 +51,14 @@ block_report first last looped p1 p2 targets =
     record { header = best_header first p1 p2 targets + end_bits last looped; worst = worst kept targets; squares = squares kept targets }
 
 -- the reports of so many blocks
-abbrev pub block_reports : (count : ℕ) → (first looped : Bool) → (p1 p2 : ℤ) → (targets : List ℤ) → List BlockReport
-block_reports zero first looped p1 p2 targets = []
-block_reports (suc count) first looped p1 p2 targets =
-    let kept = block_samples first p1 p2 (take 16 targets) in
-    block_report first (count == 0) looped p1 p2 (take 16 targets)
-    ∷ block_reports count false looped (number_at kept 15) (number_at kept 14) (drop 16 targets)
+abbrev pub block_reports : (count index loop_block : ℕ) → (looped : Bool) → (p1 p2 : ℤ) → (targets : List ℤ) → List BlockReport
+block_reports zero index loop_block looped p1 p2 targets = []
+block_reports (suc count) index loop_block looped p1 p2 targets =
+    let kept = block_samples (stands_alone index loop_block) p1 p2 (take 16 targets) in
+    block_report (stands_alone index loop_block) (count == 0) looped p1 p2 (take 16 targets)
+    ∷ block_reports count (suc index) loop_block looped (number_at kept 15) (number_at kept 14) (drop 16 targets)
 
 -- the reports of all blocks of an encoding
-abbrev pub all_reports : (samples : List ℤ) → (looped : Bool) → List BlockReport
-all_reports samples looped = block_reports (length (padded_samples samples) / 16) true looped (pos 0) (pos 0) (padded_samples samples)
+abbrev pub all_reports : (loop_block : ℕ) → (samples : List ℤ) → (looped : Bool) → List BlockReport
+all_reports loop_block samples looped =
+    block_reports (length (padded_samples samples) / 16) 0 loop_block looped (pos 0) (pos 0) (padded_samples samples)

@@ -1,5 +1,5 @@
 -- The encoding of samples: blocks of sixteen, each under the header that costs least.
-use Rattle.std.specs.Prelude.{ℕ, zero, suc, ◌+◌, ◌-◌, ◌*◌, ◌/◌, ◌%◌, List, [], ◌∷◌, ◌++◌, length, take, drop, replicate, Bool, true, false, ◌==◌, nat_lt, Result, Ok, Err, ℤ, pos, unsigned_abs, if◌then◌else◌}
+use Rattle.std.specs.Prelude.{ℕ, zero, suc, ◌+◌, ◌-◌, ◌*◌, ◌/◌, ◌%◌, List, [], ◌∷◌, ◌++◌, length, take, drop, replicate, Bool, ◌==◌, ◌||◌, nat_lt, Result, Ok, Err, ℤ, pos, unsigned_abs, if◌then◌else◌}
 use Rattle.std.specs.Int.{int_rem_euclid}
 use Rattle.num_fix.specs.SignedWords.{number_at}
 use Rattle.brr_encode.specs.Least.{least_place}
@@ -51,17 +51,26 @@ block_of first last looped p1 p2 targets =
 abbrev pub block_samples : (first : Bool) → (p1 p2 : ℤ) → (targets : List ℤ) → List ℤ
 block_samples first p1 p2 targets = greedy_samples (best_header first p1 p2 targets) p1 p2 targets
 
--- so many blocks, after the kept samples p1 and p2
-abbrev pub blocks_of : (count : ℕ) → (first looped : Bool) → (p1 p2 : ℤ) → (targets : List ℤ) → List ℕ
-blocks_of zero first looped p1 p2 targets = []
-blocks_of (suc count) first looped p1 p2 targets =
-    let kept = block_samples first p1 p2 (take 16 targets) in
-    block_of first (count == 0) looped p1 p2 (take 16 targets)
-    ++ blocks_of count false looped (number_at kept 15) (number_at kept 14) (drop 16 targets)
+-- a block that tries filter 0 alone: the first one, as nothing stands before it, and the one from which a loop goes on
+abbrev pub stands_alone : (index loop_block : ℕ) → Bool
+stands_alone index loop_block = (index == 0) || (index == loop_block)
 
--- the encoding of samples
-unfoldable pub encoding : (samples : List ℤ) → (looped : Bool) → List ℕ
-encoding samples looped = blocks_of (length (padded_samples samples) / 16) true looped (pos 0) (pos 0) (padded_samples samples)
+-- so many blocks from this index on, after the kept samples p1 and p2
+abbrev pub blocks_of : (count index loop_block : ℕ) → (looped : Bool) → (p1 p2 : ℤ) → (targets : List ℤ) → List ℕ
+blocks_of zero index loop_block looped p1 p2 targets = []
+blocks_of (suc count) index loop_block looped p1 p2 targets =
+    let kept = block_samples (stands_alone index loop_block) p1 p2 (take 16 targets) in
+    block_of (stands_alone index loop_block) (count == 0) looped p1 p2 (take 16 targets)
+    ++ blocks_of count (suc index) loop_block looped (number_at kept 15) (number_at kept 14) (drop 16 targets)
+
+-- the encoding of samples, where a loop goes on from the block of an index
+unfoldable pub encoding_from : (loop_block : ℕ) → (samples : List ℤ) → (looped : Bool) → List ℕ
+encoding_from loop_block samples looped =
+    blocks_of (length (padded_samples samples) / 16) 0 loop_block looped (pos 0) (pos 0) (padded_samples samples)
+
+-- the encoding of samples, where a loop goes on from the first block
+abbrev pub encoding : (samples : List ℤ) → (looped : Bool) → List ℕ
+encoding samples looped = encoding_from 0 samples looped
 
 -- the most blocks of an encoding, and their samples
 abbrev pub most_blocks : ℕ
@@ -70,9 +79,17 @@ most_blocks = 7280
 abbrev pub most_samples : ℕ
 most_samples = 116480
 
--- the blocks of samples, or why there are none
-unfoldable pub encoded_samples : (samples : List ℤ) → (looped : Bool) → Result (List ℕ) EncodeRefusal
-encoded_samples samples looped =
+-- the blocks of samples, or why there are none: of no samples, and of too many
+abbrev pub unless_refused : (samples : List ℤ) → (blocks : List ℕ) → Result (List ℕ) EncodeRefusal
+unless_refused samples blocks =
     if length samples == 0 then Err Empty
     else if nat_lt most_samples (length samples) then Err TooLong
-    else Ok (encoding samples looped)
+    else Ok blocks
+
+-- the blocks of samples, where a loop goes on from the block of an index, or why there are none
+unfoldable pub encoded_from : (loop_block : ℕ) → (samples : List ℤ) → (looped : Bool) → Result (List ℕ) EncodeRefusal
+encoded_from loop_block samples looped = unless_refused samples (encoding_from loop_block samples looped)
+
+-- the blocks of samples, or why there are none
+unfoldable pub encoded_samples : (samples : List ℤ) → (looped : Bool) → Result (List ℕ) EncodeRefusal
+encoded_samples samples looped = unless_refused samples (encoding samples looped)

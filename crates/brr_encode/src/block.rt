@@ -6,7 +6,7 @@ ghost use Rattle.brr_encode.specs.Report.{most_squares};
 ghost use Rattle.brr_encode.specs.EncoderParts.{after_target, after_targets, coder_after};
 
 use crate::OutOfMemory;
-use crate::nearest::nearest;
+use crate::choice::nearest;
 
 /// Where an encoder stands in a block: the last two kept samples, and the errors of the block so far.
 #[derive(Clone, Copy)]

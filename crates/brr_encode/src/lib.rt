@@ -2,13 +2,17 @@
 #![tactic(auto)]
 
 mod block;
+mod choice;
 mod encoder;
 mod laws;
-mod nearest;
 mod report;
 mod search;
 
-pub use encoder::{EncodeRefusal, Encoded, encode};
+pub use choice::{Choice, distance, nearest};
+pub use encoder::{
+    EncodeRefusal, Encoded, encode, encode_from, end_bits, padded_samples, stands_alone,
+};
 pub use laws::{best_header_has_the_least_triple, least_place_is_first};
 pub use report::BlockReport;
+pub use search::{header_at, header_count, squared};
 pub use std::alloc::AllocError as OutOfMemory;

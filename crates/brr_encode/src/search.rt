@@ -3,10 +3,10 @@ ghost use Rattle.std.specs.Prelude.{◌≡◌, ◌*◌, ◌<◌, ◌≤◌, leng
 ghost use Rattle.brr_encode.specs.Encoding.{header_at, header_count, best_header};
 ghost use Rattle.brr_encode.specs.Greedy.{distance, greedy_squares};
 
-use crate::nearest::nearest;
+use crate::choice::nearest;
 
 /// The square of a distance.
-fn squared(distance: u32) -> u64
+pub fn squared(distance: u32) -> u64
     requires { distance < 0x10000 }
     ensures value { result ≡ distance * distance }
     ensures bound { result < 0x100000000 }
@@ -51,7 +51,7 @@ fn squares_below(header: u8, targets: &[i16], p1: i16, p2: i16, limit: Option<u6
 }
 
 /// The header at a place of the order in which they are tried.
-fn header_at(place: u8) -> u8
+pub fn header_at(place: u8) -> u8
     requires { place < 52 }
     ensures header { result ≡ header_at place }
     ensures bound { result ≤ 0xcc }
@@ -60,7 +60,7 @@ fn header_at(place: u8) -> u8
 }
 
 /// How many headers a block tries.
-fn header_count(first: bool) -> u8
+pub fn header_count(first: bool) -> u8
     ensures count { result ≡ header_count first }
     ensures some { 0 < result }
     ensures bound { result ≤ 52 }

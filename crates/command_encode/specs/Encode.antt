@@ -1,11 +1,14 @@
 -- What `encode` answers.
-use Rattle.std.specs.Prelude.{ℕ, ◌+◌, ℤ, Bool, List, [], ◌∷◌, ◌++◌, length, Option, Result, Ok, Err, codes, decimal}
+use Rattle.std.specs.Prelude.{ℕ, ◌+◌, ℤ, List, [], ◌∷◌, ◌++◌, length, Option, None, Some, Result, Ok, Err, codes, decimal, if◌then◌else◌}
 use Rattle.text_form.specs.Digits.{two_digits}
-use Rattle.brr_encode.specs.Encoding.{padded_samples, encoded_samples}
+use Rattle.brr_encode.specs.Encoding.{padded_samples}
 use Rattle.brr_encode.specs.Report.{reports_of}
 use Rattle.brr_encode.specs.declared.encoder.EncodeRefusal.{EncodeRefusal}
 use Rattle.brr_encode.specs.declared.encoder.EncodeRefusal.TheVariants as encoder
 use Rattle.brr_encode.specs.declared.report.BlockReport.{BlockReport}
+use Rattle.brr_search.specs.Found.{found_samples}
+use Rattle.brr_search.specs.Options.{ways_of, is_looped, loop_block_of, is_past}
+use Rattle.brr_search.specs.declared.options.EncodeOptions.{EncodeOptions}
 use Rattle.wav_form.specs.Mono.{mono_samples}
 use Rattle.wav_form.specs.declared.refusal.WavRefusal.{WavRefusal}
 use Rattle.command_frame.specs.Answer.{Answer, done, refused}
@@ -32,28 +35,37 @@ abbrev pub block_lines : (place : ℕ) → List BlockReport → List ℕ
 block_lines place [] = []
 block_lines place (report ∷ reports) = block_line place report ++ block_lines (place + 1) reports
 
--- a line for each block, and how many there are
-abbrev pub encode_report : List BlockReport → List ℕ
-encode_report reports = block_lines 0 reports ++ codes "blocks " ++ decimal (length reports) ++ codes "\n"
+-- the line of the place at which a loop goes on, where the words say it
+abbrev pub loop_line : (loop_at : Option ℕ) → List ℕ
+loop_line None = []
+loop_line (Some sample) = codes "loop " ++ decimal sample ++ codes "\n"
+
+-- a line for each block, how many there are, and the place of the loop
+abbrev pub encode_report : List BlockReport → (loop_at : Option ℕ) → List ℕ
+encode_report reports loop_at = block_lines 0 reports ++ codes "blocks " ++ decimal (length reports) ++ codes "\n" ++ loop_line loop_at
 
 -- the output of this name with these blocks, and the report on them
-abbrev pub blocks_answer : (output : List ℕ) → (samples : List ℤ) → (blocks : List ℕ) → Answer Cause
-blocks_answer output samples blocks = done (record { name = output; bytes = blocks } ∷ []) (encode_report (reports_of blocks (padded_samples samples)))
+abbrev pub blocks_answer : (output : List ℕ) → EncodeOptions → (samples : List ℤ) → (blocks : List ℕ) → Answer Cause
+blocks_answer output options samples blocks =
+    done (record { name = output; bytes = blocks } ∷ []) (encode_report (reports_of blocks (padded_samples samples)) options.loop_at)
 
 -- what the encoding of samples to this name answers
-abbrev pub encoding_answer : (output : List ℕ) → (looped : Bool) → (samples : List ℤ) → Answer Cause
-encoding_answer output looped samples =
-    answer_from (refused_by (encode_refusal (length samples)) (encoded_samples samples looped)) (blocks_answer output samples)
+abbrev pub encoding_answer : (output : List ℕ) → EncodeOptions → (samples : List ℤ) → Answer Cause
+encoding_answer output options samples =
+    if is_past (length samples) options.loop_at then refused (Input (EncodeSize (length samples)))
+    else answer_from
+    (refused_by (encode_refusal (length samples)) (found_samples (ways_of options) (loop_block_of options) samples (is_looped options)))
+    (blocks_answer output options samples)
 
 -- the same by what the bytes of the input are: samples, or no file of one channel
-abbrev pub samples_answer : (output : List ℕ) → (looped : Bool) → Result (List ℤ) WavRefusal → Answer Cause
-samples_answer output looped (Ok samples) = encoding_answer output looped samples
-samples_answer output looped (Err refusal) = refused (Input WavForm)
+abbrev pub samples_answer : (output : List ℕ) → EncodeOptions → Result (List ℤ) WavRefusal → Answer Cause
+samples_answer output options (Ok samples) = encoding_answer output options samples
+samples_answer output options (Err refusal) = refused (Input WavForm)
 
 -- the same by the bytes of the input
-abbrev pub wave_answer : (output : List ℕ) → (looped : Bool) → (bytes : List ℕ) → Answer Cause
-wave_answer output looped bytes = samples_answer output looped (mono_samples bytes)
+abbrev pub wave_answer : (output : List ℕ) → EncodeOptions → (bytes : List ℕ) → Answer Cause
+wave_answer output options bytes = samples_answer output options (mono_samples bytes)
 
 -- the same by what the input holds
-abbrev pub encode_answer : (output : List ℕ) → (looped : Bool) → (held : Option (List ℕ)) → Answer Cause
-encode_answer output looped held = answer_from (bytes_in wave_limit InputTooLong held) (wave_answer output looped)
+abbrev pub encode_answer : (output : List ℕ) → EncodeOptions → (held : Option (List ℕ)) → Answer Cause
+encode_answer output options held = answer_from (bytes_in wave_limit InputTooLong held) (wave_answer output options)

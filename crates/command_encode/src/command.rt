@@ -4,9 +4,11 @@ ghost use Rattle.snd_host.specs.Host.{HostState, Files};
 ghost use Rattle.command_frame.specs.Conduct.{Plans, Prepares, Attempts};
 ghost use Rattle.command_frame.specs.Delivery.{CanDeliver};
 ghost use Rattle.command_frame.specs.Plan.{plan_makes};
-ghost use Rattle.command_encode.specs.Encode.{block_line, encode_report, encoding_answer, wave_answer, encode_answer};
+ghost use Rattle.brr_search.specs.Options.{AreInRange};
+ghost use Rattle.command_encode.specs.Encode.{block_line, loop_line, encode_report, encoding_answer, wave_answer, encode_answer};
 
 use brr_encode::{BlockReport, EncodeRefusal};
+use brr_search::{EncodeOptions, find_encoding};
 use command_frame::{OutOfMemory, Plan, PlannedOutput, Refusal, carry_out};
 use exit_status::Cause;
 use input_files::{WAVE_LIMIT, read_input};
@@ -27,9 +29,26 @@ fn put_block(report: &mut Vec<u8>, place: usize, block: &BlockReport) -> Result<
     report.extend_from_slice(b"\n")
 }
 
-/// The lines of the blocks, and how many there are.
-fn report(alloc: Global, blocks: &[BlockReport]) -> Result<Vec<u8>, OutOfMemory>
-    ensures { IfOk result (λ report. report.items ≡ encode_report blocks.now) }
+/// Prints the line of the place at which a loop goes on, where there is one.
+fn put_loop(report: &mut Vec<u8>, loop_at: Option<u32>) -> Result<(), OutOfMemory>
+    ensures { OnOk result (report.new.items ≡ report.old.items ++ loop_line loop_at) }
+{
+    match loop_at {
+        Some(sample) => {
+            put_named(report, b"loop ", u64::from(sample))?;
+            report.extend_from_slice(b"\n")
+        }
+        None => Ok(()),
+    }
+}
+
+/// The lines of the blocks, how many there are, and the place of the loop.
+fn report(
+    alloc: Global,
+    blocks: &[BlockReport],
+    loop_at: Option<u32>,
+) -> Result<Vec<u8>, OutOfMemory>
+    ensures { IfOk result (λ report. report.items ≡ encode_report blocks.now loop_at) }
 {
     let mut report = Vec::new(alloc);
     for (place, block) in blocks.iter().enumerate() {
@@ -37,6 +56,7 @@ fn report(alloc: Global, blocks: &[BlockReport]) -> Result<Vec<u8>, OutOfMemory>
     }
     put_named(&mut report, b"blocks ", blocks.len() as u64)?;
     report.extend_from_slice(b"\n")?;
+    put_loop(&mut report, loop_at)?;
     Ok(report)
 }
 
@@ -45,18 +65,24 @@ fn plan_samples<'a>(
     alloc: Global,
     samples: &[i16],
     output: &'a str,
-    looped: bool,
+    options: EncodeOptions,
 ) -> Result<Plan<'a>, Refusal<Cause>>
-    ensures { Plans plan_makes (encoding_answer output.now looped samples.now) result }
+    requires { AreInRange options }
+    ensures { Plans plan_makes (encoding_answer output.now options samples.now) result }
 {
-    let encoded = match brr_encode::encode(alloc, samples, looped) {
+    let count = samples.len();
+    if options.is_past(count) {
+        return Err(Refusal::Input(Cause::EncodeSize(count)));
+    }
+    let (ways, loop_block, looped) = (options.ways(), options.loop_block(), options.is_looped());
+    let encoded = match find_encoding(alloc, ways, loop_block, samples, looped) {
         Ok(encoded) => encoded,
         Err(EncodeRefusal::Empty | EncodeRefusal::TooLong) => {
-            return Err(Refusal::Input(Cause::EncodeSize(samples.len())));
+            return Err(Refusal::Input(Cause::EncodeSize(count)));
         }
         Err(EncodeRefusal::OutOfMemory) => return Err(Refusal::OutOfMemory),
     };
-    let Ok(report) = report(alloc, &encoded.reports) else {
+    let Ok(report) = report(alloc, &encoded.reports, options.loop_at) else {
         return Err(Refusal::OutOfMemory);
     };
     Ok(Plan {
@@ -73,12 +99,13 @@ fn plan<'a>(
     alloc: Global,
     bytes: &[u8],
     output: &'a str,
-    looped: bool,
+    options: EncodeOptions,
 ) -> Result<Plan<'a>, Refusal<Cause>>
-    ensures { Plans plan_makes (wave_answer output.now looped bytes.now) result }
+    requires { AreInRange options }
+    ensures { Plans plan_makes (wave_answer output.now options bytes.now) result }
 {
     match read_mono(alloc, bytes) {
-        Ok(samples) => plan_samples(alloc, &samples, output, looped),
+        Ok(samples) => plan_samples(alloc, &samples, output, options),
         Err(WavRefusal::OutOfMemory) => Err(Refusal::OutOfMemory),
         Err(_) => Err(Refusal::Input(Cause::WavForm)),
     }
@@ -90,31 +117,34 @@ fn prepare<'a, H: Host>(
     host: &mut H,
     input: &str,
     output: &'a str,
-    looped: bool,
+    options: EncodeOptions,
 ) -> Result<Plan<'a>, Refusal<Cause>>
-    ensures { let answer = λ (files : Files). encode_answer output.now looped (files input.now) in
+    requires { AreInRange options }
+    ensures { let answer = λ (files : Files). encode_answer output.now options (files input.now) in
         Prepares plan_makes answer (H.state host.old) (H.state host.new) result }
 {
     match read_input(alloc, host, input, WAVE_LIMIT, Cause::InputTooLong) {
-        Ok(bytes) => plan(alloc, bytes.as_slice(), output, looped),
+        Ok(bytes) => plan(alloc, bytes.as_slice(), output, options),
         Err(refusal) => Err(refusal),
     }
 }
 
-/// Encodes the sound file of one channel that the input holds to blocks, the output, and reports on each block. The last
-/// block says whether the sound goes on from the first one: `looped`.
+/// Encodes the sound file of one channel that the input holds to blocks, the output, and reports on each block. The options say whether
+/// the sound loops and from where, and how many ways are kept open. A loop that is to go on from a sample that isn't there is refused as
+/// a sound is that has too few samples or too many.
 pub fn encode<H: Host>(
     alloc: Global,
     host: &mut H,
     input: &str,
     output: &str,
-    looped: bool,
+    options: EncodeOptions,
 ) -> Option<Refusal<Cause>>
-    requires { CanDeliver (H.state host.old) }
-    ensures attempts { let answer = λ (files : Files). encode_answer output.now looped (files input.now) in
+    requires deliver { CanDeliver (H.state host.old) }
+    requires in_range { AreInRange options }
+    ensures attempts { let answer = λ (files : Files). encode_answer output.now options (files input.now) in
         Attempts answer true result (H.state host.old) (H.state host.new) }
     ensures not_usage { result ≡ Some Refusal.Usage → ⊥ }
 {
-    let prepared = prepare(alloc, host, input, output, looped);
+    let prepared = prepare(alloc, host, input, output, options);
     carry_out(host, prepared)
 }

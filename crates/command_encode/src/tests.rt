@@ -1,9 +1,24 @@
 // Runs of `encode` over a host in memory.
 use crate::encode;
+use brr_search::EncodeOptions;
 use exit_status::Status;
 use std::alloc::Global;
 use std::test::Fail;
 use test_support::{MONO, Outcome, ROOM, host_with};
+
+/// As it is encoded where the words say no more.
+const PLAIN: EncodeOptions = EncodeOptions {
+    looped: false,
+    ways: None,
+    loop_at: None,
+};
+
+/// The same with a loop.
+const LOOPED: EncodeOptions = EncodeOptions {
+    looped: true,
+    ways: None,
+    loop_at: None,
+};
 
 /// `MONO` with two channels.
 const STEREO: [u8; 44] =
@@ -24,7 +39,7 @@ fn sound_of(alloc: Global, front: &[u8], samples: &[u8], length: usize) -> Resul
 /// Encodes a file of this front, these samples, and zeros up to this length, where the calls of these numbers fail.
 fn encode_file(
     alloc: Global,
-    looped: bool,
+    options: EncodeOptions,
     front: &[u8],
     samples: &[u8],
     length: usize,
@@ -32,14 +47,14 @@ fn encode_file(
 ) -> Result<Outcome, Fail> {
     let bytes = sound_of(alloc, front, samples, length)?;
     let mut host = host_with(alloc, &[("IN", bytes.as_slice())], failing, ROOM)?;
-    let refusal = encode(alloc, &mut host, "IN", "OUT", looped);
+    let refusal = encode(alloc, &mut host, "IN", "OUT", options);
     Ok(Outcome::of(refusal, host))
 }
 
 /// A file of one channel that is encoded, and what it becomes.
 #[derive(Drop)]
 struct Encoded {
-    looped: bool,
+    options: EncodeOptions,
     samples: &'static [u8],
     length: usize,
     blocks: &'static [u8],
@@ -55,28 +70,28 @@ const STEEP_REPORT: &str = "block 0 header c1 worst 4095 squares 134152200\nbloc
 /// Sounds and their blocks.
 const ENCODED: &[Encoded] = &[
     Encoded {
-        looped: false,
+        options: PLAIN,
         samples: &[],
         length: 76,
         blocks: b"\x01\0\0\0\0\0\0\0\0",
         report: "block 0 header 01 worst 0 squares 0\nblocks 1\n",
     },
     Encoded {
-        looped: true,
+        options: LOOPED,
         samples: &[],
         length: 76,
         blocks: b"\x03\0\0\0\0\0\0\0\0",
         report: "block 0 header 03 worst 0 squares 0\nblocks 1\n",
     },
     Encoded {
-        looped: false,
+        options: PLAIN,
         samples: &[],
         length: 78,
         blocks: b"\0\0\0\0\0\0\0\0\0\x01\0\0\0\0\0\0\0\0",
         report: "block 0 header 00 worst 0 squares 0\nblock 1 header 01 worst 0 squares 0\nblocks 2\n",
     },
     Encoded {
-        looped: false,
+        options: PLAIN,
         samples: &STEEP,
         length: 76,
         blocks: STEEP_BLOCK,
@@ -87,7 +102,7 @@ const ENCODED: &[Encoded] = &[
 #[test]
 fn each_sound_has_its_blocks(rt: HostRuntime) -> Result<(), Fail> {
     for row in ENCODED {
-        let outcome = encode_file(rt.alloc(), row.looped, MONO, row.samples, row.length, &[])?;
+        let outcome = encode_file(rt.alloc(), row.options, MONO, row.samples, row.length, &[])?;
         assert!(rt; outcome.is_done(row.blocks, row.report), "{}", row.report);
     }
     Ok(())
@@ -130,7 +145,7 @@ const REFUSED: &[(&[u8], usize, Status, &str)] = &[
 #[test]
 fn other_sounds_are_refused(rt: HostRuntime) -> Result<(), Fail> {
     for (front, length, wanted, line) in REFUSED {
-        let outcome = encode_file(rt.alloc(), false, front, &[], *length, &[])?;
+        let outcome = encode_file(rt.alloc(), PLAIN, front, &[], *length, &[])?;
         assert!(rt; outcome.is_refused(*wanted, line), "{line}");
     }
     Ok(())
@@ -148,9 +163,9 @@ fn may_end_so(outcome: &Outcome, call: u32) -> bool {
 
 #[test]
 fn each_call_of_the_host_may_fail(rt: HostRuntime) -> Result<(), Fail> {
-    let calls = encode_file(rt.alloc(), false, MONO, &STEEP, 76, &[])?.calls();
+    let calls = encode_file(rt.alloc(), PLAIN, MONO, &STEEP, 76, &[])?.calls();
     for call in 0..calls {
-        let outcome = encode_file(rt.alloc(), false, MONO, &STEEP, 76, &[call])?;
+        let outcome = encode_file(rt.alloc(), PLAIN, MONO, &STEEP, 76, &[call])?;
         assert!(rt; may_end_so(&outcome, call), "at {call}");
     }
     Ok(())

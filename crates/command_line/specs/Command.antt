@@ -1,7 +1,9 @@
 -- The commands of the program, as its words say them.
 use Rattle.std.specs.Prelude.{ℕ, ◌&&◌, ◌||◌, Bool, true, false, List, [], ◌∷◌, Option, Some, None, codes, if◌then◌else◌}
 use Rattle.std.specs.Str.{bytes_eq}
+use Rattle.brr_search.specs.declared.options.EncodeOptions.{EncodeOptions}
 use Rattle.render_options.specs.Options.{Options}
+use Rattle.command_line.specs.EncodeWords.{encode_options_in}
 use Rattle.command_line.specs.Options.{is_name, options_in, demo_number_in, origin_in, range_in, usual_pages, pages_in}
 
 -- a command with its names
@@ -15,8 +17,8 @@ pub data Command : Type 0 where
   brr : (input output : List ℕ) → Command
   -- tells the fields of an SPC file
   info : (input : List ℕ) → Command
-  -- encodes the sound file of the first name to blocks under the second, with a loop or without
-  encode : (input output : List ℕ) → (looped : Bool) → Command
+  -- encodes the sound file of the first name to blocks under the second: with a loop or without, and along so many ways
+  encode : (input output : List ℕ) → (options : EncodeOptions) → Command
   -- renders the SPC file of the first name over the table of the second to a sound file of the third, and maybe to a trace
   render : (file table wave : List ℕ) → (options : Options) → Command
   -- makes the demo file of a number under the name
@@ -51,11 +53,14 @@ abbrev pub info_command : List (List ℕ) → Command
 info_command (input ∷ []) = if is_name input then info input else usage
 info_command words = usage
 
+-- `encode` with these names and options
+abbrev pub encode_with : (input output : List ℕ) → Option EncodeOptions → Command
+encode_with input output None = usage
+encode_with input output (Some options) = encode input output options
+
 -- the words after `encode`
 abbrev pub encode_command : List (List ℕ) → Command
-encode_command (input ∷ output ∷ []) = if is_name input && is_name output then encode input output false else usage
-encode_command (input ∷ output ∷ option ∷ []) =
-    if is_name input && (is_name output && bytes_eq option (codes "--loop")) then encode input output true else usage
+encode_command (input ∷ output ∷ words) = if is_name input && is_name output then encode_with input output (encode_options_in words) else usage
 encode_command words = usage
 
 -- the sound file and the trace have the same name
@@ -177,7 +182,7 @@ names_input help = false
 names_input version = false
 names_input (brr input output) = true
 names_input (info input) = true
-names_input (encode input output looped) = true
+names_input (encode input output options) = true
 names_input (render file table wave options) = true
 names_input (demo number output) = false
 names_input (check number) = false

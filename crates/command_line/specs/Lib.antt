@@ -1,5 +1,7 @@
 -- the commands, as words say them
 pub mod Command
+-- the options of `encode`, as words say them
+pub mod EncodeWords
 -- the options of `render`, numbers, addresses and pages, as words say them
 pub mod Options
 -- what the words that were read mean

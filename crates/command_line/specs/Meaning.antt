@@ -1,20 +1,21 @@
 -- What the words that were read mean.
 use Rattle.std.specs.Prelude.{◌≤◌}
 use Rattle.page_pool.specs.Pool.{most_pages}
+use Rattle.brr_search.specs.Options as encoding
 use Rattle.command_line.specs.Command as command
 use Rattle.cut_form.specs.Checkpoints.{fewest_pages}
 use Rattle.render_options.specs.Options.{options_of, SamplesWithinHour}
 use Rattle.command_line.specs.declared.words.Command.{Command}
 use Rattle.command_line.specs.declared.words.Command.TheVariants.{Usage, Help, Version, Brr, Info, Encode, Render, Demo, Check, Asm, Dis, Rip, Cuts, Serve}
 
--- The numbers are in range: an hour of frames at most, and pages that a pool may have.
+-- The numbers are in range: an hour of frames at most, as many ways as may be kept open, and pages that a pool may have.
 abbrev pub AreInRange : Command → Type 0
 AreInRange Usage = Unit {0}
 AreInRange Help = Unit {0}
 AreInRange Version = Unit {0}
 AreInRange (Brr input output) = Unit {0}
 AreInRange (Info input) = Unit {0}
-AreInRange (Encode input output looped) = Unit {0}
+AreInRange (Encode input output options) = encoding.AreInRange options
 AreInRange (Render file table wave options) = SamplesWithinHour options.samples
 AreInRange (Demo number output) = Unit {0}
 AreInRange (Check number) = Unit {0}
@@ -30,7 +31,7 @@ meaning_of Help = command.help
 meaning_of Version = command.version
 meaning_of (Brr input output) = command.brr input.now output.now
 meaning_of (Info input) = command.info input.now
-meaning_of (Encode input output looped) = command.encode input.now output.now looped
+meaning_of (Encode input output options) = command.encode input.now output.now options
 meaning_of (Render file table wave options) = command.render file.now table.now wave.now (options_of options)
 meaning_of (Demo number output) = command.demo number output.now
 meaning_of (Check number) = command.check number

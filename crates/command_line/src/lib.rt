@@ -2,6 +2,7 @@
 #![tactic(auto)]
 
 mod cut_words;
+mod encode_words;
 mod options;
 mod words;
 

@@ -1,11 +1,14 @@
 // The words of the command line.
 ghost use Rattle.std.specs.Prelude.{◌≡◌, map, string_bytes, option_map, IfSome};
-ghost use Rattle.command_line.specs.Command.{command_of, alone, brr_command, info_command, encode_command, have_same_name, render_with, render_command, demo_command, check_command, asm_command, dis_command, rip_with, rip_over, rip_command};
+ghost use Rattle.command_line.specs.Command.{command_of, alone, brr_command, info_command, encode_with, encode_command, have_same_name, render_with, render_command, demo_command, check_command, asm_command, dis_command, rip_with, rip_over, rip_command};
+ghost use Rattle.brr_search.specs.Options as encoding;
 ghost use Rattle.render_options.specs.Options.{options_of, SamplesWithinHour};
 ghost use Rattle.command_line.specs.Meaning.{meaning_of, AreInRange};
 
 use crate::cut_words::{read_cuts_command, read_serve_command};
+use crate::encode_words::read_encode_options;
 use crate::options::{demo_number_in, is_name, origin_in, range_in, read_options};
+use brr_search::EncodeOptions;
 use render_options::RenderOptions;
 
 /// A command with its names.
@@ -24,7 +27,7 @@ pub enum Command<'a> {
     Encode {
         input: &'a str,
         output: &'a str,
-        looped: bool,
+        options: EncodeOptions,
     },
     Render {
         file: &'a str,
@@ -109,28 +112,35 @@ fn read_info(words: &[String]) -> Command<'_>
     }
 }
 
+/// The command `encode` with these names and options.
+fn encode_with<'a>(input: &'a str, output: &'a str, options: Option<EncodeOptions>) -> Command<'a>
+    requires { IfSome options (λ options. encoding.AreInRange options) }
+    ensures meaning { meaning_of result ≡ encode_with input.now output.now options }
+    ensures in_range { AreInRange result }
+{
+    match options {
+        Some(options) => Command::Encode {
+            input,
+            output,
+            options,
+        },
+        None => Command::Usage,
+    }
+}
+
 /// Reads the words after `encode`.
 fn read_encode(words: &[String]) -> Command<'_>
     ensures meaning { meaning_of result ≡ encode_command (map string_bytes words.now) }
     ensures in_range { AreInRange result }
 {
     match words {
-        [input, output] if is_name(input.as_str()) && is_name(output.as_str()) => {
-            Command::Encode {
-                input: input.as_str(),
-                output: output.as_str(),
-                looped: false,
-            }
+        [input, output, options @ ..] if is_name(input.as_str()) && is_name(output.as_str()) => {
+            encode_with(
+                input.as_str(),
+                output.as_str(),
+                read_encode_options(options),
+            )
         }
-        [input, output, option]
-            if is_name(input.as_str()) && is_name(output.as_str()) && option.as_str() == "--loop" =>
-            {
-                Command::Encode {
-                    input: input.as_str(),
-                    output: output.as_str(),
-                    looped: true,
-                }
-            }
         _ => Command::Usage,
     }
 }

@@ -40,8 +40,8 @@ fn attempt<H: Host>(alloc: Global, words: &[String], host: &mut H) -> Option<Ref
         Command::Encode {
             input,
             output,
-            looped,
-        } => encode(alloc, host, input, output, looped),
+            options,
+        } => encode(alloc, host, input, output, options),
         Command::Render {
             file,
             table,

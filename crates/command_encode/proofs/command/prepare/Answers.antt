@@ -10,11 +10,11 @@ use Rattle.command_encode.proofs.command.prepare.Goals as goal
 
 pub returns-in-Ok : goal.returns-in-Ok
 returns-in-Ok g c =
-    reads_plan plan_makes (λ (files : Files). bytes_in wave_limit InputTooLong (files c.args.input.now)) (wave_answer c.args.output.now c.args.looped)
+    reads_plan plan_makes (λ (files : Files). bytes_in wave_limit InputTooLong (files c.args.input.now)) (wave_answer c.args.output.now c.args.options)
     (g.H.Host.state c.args.host.now) (g.H.Host.state c.read_input.new.host) c.in-Ok.bytes c.plan.result c.in-Ok.ensures.reads
-    (subst (λ (l : List ℕ). Plans plan_makes (wave_answer c.args.output.now c.args.looped l) c.plan.result) c.as_slice.ensures c.plan.ensures)
+    (subst (λ (l : List ℕ). Plans plan_makes (wave_answer c.args.output.now c.args.options l) c.plan.result) c.as_slice.ensures c.plan.ensures)
 
 pub returns-in-Err : goal.returns-in-Err
 returns-in-Err g c =
-    reads_declined plan_makes (λ (files : Files). bytes_in wave_limit InputTooLong (files c.args.input.now)) (λ (files : Files). wave_answer c.args.output.now c.args.looped)
+    reads_declined plan_makes (λ (files : Files). bytes_in wave_limit InputTooLong (files c.args.input.now)) (λ (files : Files). wave_answer c.args.output.now c.args.options)
     (g.H.Host.state c.args.host.now) (g.H.Host.state c.read_input.new.host) c.in-Err.refusal c.in-Err.ensures.reads

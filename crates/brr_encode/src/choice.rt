@@ -15,7 +15,7 @@ pub struct Choice {
 
 /// How far two samples lie apart, 0 to 65,535.
 #[tactic(auto, unfolding(crate::specs::Greedy::distance))]
-fn distance(a: i16, b: i16) -> u32
+pub fn distance(a: i16, b: i16) -> u32
     ensures value { result ≡ distance a b }
     ensures bound { result < 0x10000 }
 {

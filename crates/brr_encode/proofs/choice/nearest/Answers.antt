@@ -2,7 +2,7 @@ use Rattle.std.proofs.Common.{◌≡◌, arith, rules, to_z, of_z, w16}
 use Rattle.brr_encode.specs.Greedy.{nearest_digit, nearest_sample, distance}
 use Rattle.brr_encode.proofs.Leasts.{least_place-one}
 use Rattle.brr_encode.proofs.Choices.{nearer_is, nearest_is}
-use Rattle.brr_encode.proofs.nearest.nearest.Goals as goal
+use Rattle.brr_encode.proofs.choice.nearest.Goals as goal
 
 pub places-init : goal.places-init
 places-init c = rw (least_place-one _) c.digit_at-best.ensures

@@ -1,0 +1,40 @@
+-- The encoding that is found: the plain one, or a cheaper one along other ways.
+use Rattle.std.specs.Prelude.{ℕ, ◌+◌, ◌-◌, ◌*◌, ◌/◌, ◌==◌, ◌&&◌, List, [], ◌∷◌, length, nat_lt, nat_le, ℤ, Bool, Result, if◌then◌else◌}
+use Rattle.brr_encode.specs.Encoding.{padded_samples, encoding_from, unless_refused}
+use Rattle.brr_encode.specs.Report.{reports_of}
+use Rattle.brr_encode.specs.declared.report.BlockReport.{BlockReport}
+use Rattle.brr_encode.specs.declared.encoder.EncodeRefusal.{EncodeRefusal}
+use Rattle.brr_search.specs.Ways.{no_way}
+use Rattle.brr_search.specs.Beam.{blocks_through}
+
+-- the squares of all blocks
+abbrev pub sum_of_squares : List BlockReport → ℕ
+sum_of_squares [] = 0
+sum_of_squares (report ∷ reports) = report.squares + sum_of_squares reports
+
+-- what blocks cost: the sum of the squared distances of the samples that they are decoded to from their targets
+abbrev pub cost_of : (blocks : List ℕ) → (targets : List ℤ) → ℕ
+cost_of blocks targets = sum_of_squares (reports_of blocks targets)
+
+-- the blocks along the cheapest of so many ways through targets
+unfoldable pub searched : (most loop_block : ℕ) → (targets : List ℤ) → (looped : Bool) → List ℕ
+searched most loop_block targets looped = blocks_through most (length targets / 16) 0 loop_block looped (no_way ∷ []) (λ _. []) targets
+
+-- blocks are as many as the targets want, and cost less than this
+abbrev pub is_cheaper : (cost : ℕ) → (targets : List ℤ) → (blocks : List ℕ) → Bool
+is_cheaper cost targets blocks = (length blocks == 9 * (length targets / 16)) && nat_lt (cost_of blocks targets) cost
+
+-- of the plain blocks and others the cheaper, of equals the plain ones
+abbrev pub cheaper : (targets : List ℤ) → (plain others : List ℕ) → List ℕ
+cheaper targets plain others = if is_cheaper (cost_of plain targets) targets others then others else plain
+
+-- the encoding of samples that is found by so many ways, of which the plain encoding is one; a loop goes on from the block of an index
+unfoldable pub found_encoding : (ways loop_block : ℕ) → (samples : List ℤ) → (looped : Bool) → List ℕ
+found_encoding ways loop_block samples looped =
+    let plain = encoding_from loop_block samples looped in
+    let targets = padded_samples samples in
+    if nat_le ways 1 then plain else cheaper targets plain (searched (ways - 1) loop_block targets looped)
+
+-- the same, or why there is none
+unfoldable pub found_samples : (ways loop_block : ℕ) → (samples : List ℤ) → (looped : Bool) → Result (List ℕ) EncodeRefusal
+found_samples ways loop_block samples looped = unless_refused samples (found_encoding ways loop_block samples looped)

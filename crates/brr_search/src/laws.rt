@@ -1,0 +1,26 @@
+// What the definitions come to.
+ghost use Rattle.std.specs.Prelude.{◌≡◌, ◌≤◌, ℕ, ℤ, List, Bool, All};
+ghost use Rattle.brr_encode.specs.Encoding.{encoding_from, header_count, padded_samples};
+ghost use Rattle.brr_encode.specs.Triples.{IsAllowedHeader};
+ghost use Rattle.brr_search.specs.Beam.{best_ways};
+ghost use Rattle.brr_search.specs.Found.{cost_of, found_encoding};
+ghost use Rattle.brr_search.specs.declared.way.Way.{Way};
+
+/// What is found never costs more than the plain encoding: the squared differences of all samples sum to no more.
+pub fn what_is_found_is_never_dearer()
+    ensures { (ways loop_block : ℕ) (samples : List ℤ) (looped : Bool) →
+        let targets = padded_samples samples in
+        cost_of (found_encoding ways loop_block samples looped) targets ≤ cost_of (encoding_from loop_block samples looped) targets }
+{}
+
+/// One way alone is the plain encoding.
+pub fn one_way_is_the_plain_encoding()
+    ensures { (loop_block : ℕ) (samples : List ℤ) (looped : Bool) → found_encoding 1 loop_block samples looped ≡ encoding_from loop_block samples looped }
+{}
+
+/// Each way that stays has a header that its block may have: filter 0 in a block that stands alone, a shift of at most 12, and neither the
+/// loop bit nor the end bit, which are added when the ways are followed.
+pub fn each_way_has_an_allowed_header()
+    ensures { (most : ℕ) (ways : List Way) (targets : List ℤ) (alone : Bool) →
+        All (λ way. IsAllowedHeader alone way.header) (best_ways most ways targets (header_count alone)) }
+{}

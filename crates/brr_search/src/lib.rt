@@ -1,0 +1,21 @@
+//! Encodes samples as BRR blocks along the cheapest of several ways.
+#![tactic(auto)]
+
+mod beam;
+mod errors;
+mod found;
+mod header_ways;
+mod keeping;
+mod laws;
+mod links;
+mod options;
+#[cfg(test)]
+mod tests;
+mod way;
+
+pub use found::find_encoding;
+pub use laws::{
+    each_way_has_an_allowed_header, one_way_is_the_plain_encoding, what_is_found_is_never_dearer,
+};
+pub use options::EncodeOptions;
+pub use std::alloc::AllocError as OutOfMemory;
