@@ -1,4 +1,6 @@
 // Runs of `encode` over a host in memory.
+ghost use Rattle.brr_search.specs.Options.{AreInRange};
+
 use crate::encode;
 use brr_search::EncodeOptions;
 use exit_status::Status;
@@ -20,6 +22,13 @@ const LOOPED: EncodeOptions = EncodeOptions {
     loop_at: None,
 };
 
+/// With a loop that goes on from the first sample, which the words say.
+const LOOPED_AT_0: EncodeOptions = EncodeOptions {
+    looped: false,
+    ways: Some(2),
+    loop_at: Some(0),
+};
+
 /// `MONO` with two channels.
 const STEREO: [u8; 44] =
     *b"RIFF\xff\xff\xff\xffWAVEfmt \x10\0\0\0\x01\0\x02\0\0\x7d\0\0\0\xfa\0\0\x02\0\x10\0data\xff\xff\xff\xff";
@@ -36,6 +45,19 @@ fn sound_of(alloc: Global, front: &[u8], samples: &[u8], length: usize) -> Resul
     Ok(bytes)
 }
 
+/// The options, with no more ways than may be kept open.
+fn in_range(options: EncodeOptions) -> EncodeOptions
+    ensures { AreInRange result }
+{
+    match options.ways {
+        Some(ways) => EncodeOptions {
+            ways: Some(ways.min(64)),
+            ..options
+        },
+        None => options,
+    }
+}
+
 /// Encodes a file of this front, these samples, and zeros up to this length, where the calls of these numbers fail.
 fn encode_file(
     alloc: Global,
@@ -47,7 +69,7 @@ fn encode_file(
 ) -> Result<Outcome, Fail> {
     let bytes = sound_of(alloc, front, samples, length)?;
     let mut host = host_with(alloc, &[("IN", bytes.as_slice())], failing, ROOM)?;
-    let refusal = encode(alloc, &mut host, "IN", "OUT", options);
+    let refusal = encode(alloc, &mut host, "IN", "OUT", in_range(options));
     Ok(Outcome::of(refusal, host))
 }
 
@@ -89,6 +111,13 @@ const ENCODED: &[Encoded] = &[
         length: 78,
         blocks: b"\0\0\0\0\0\0\0\0\0\x01\0\0\0\0\0\0\0\0",
         report: "block 0 header 00 worst 0 squares 0\nblock 1 header 01 worst 0 squares 0\nblocks 2\n",
+    },
+    Encoded {
+        options: LOOPED_AT_0,
+        samples: &[],
+        length: 76,
+        blocks: b"\x03\0\0\0\0\0\0\0\0",
+        report: "block 0 header 03 worst 0 squares 0\nblocks 1\nloop 0\n",
     },
     Encoded {
         options: PLAIN,
@@ -148,6 +177,24 @@ fn other_sounds_are_refused(rt: HostRuntime) -> Result<(), Fail> {
         let outcome = encode_file(rt.alloc(), PLAIN, front, &[], *length, &[])?;
         assert!(rt; outcome.is_refused(*wanted, line), "{line}");
     }
+    Ok(())
+}
+
+#[test]
+fn a_loop_goes_on_from_a_sample_that_is_there(rt: HostRuntime) -> Result<(), Fail> {
+    let options = EncodeOptions {
+        looped: true,
+        ways: None,
+        loop_at: Some(16),
+    };
+    let past = encode_file(rt.alloc(), options, MONO, &STEEP, 76, &[])?;
+    let line = "spcwave: 16 samples cannot be encoded\n";
+    assert!(rt; past.is_refused(Status::EncodeSize, line));
+    let outcome = encode_file(rt.alloc(), options, MONO, &[], 78, &[])?;
+    let blocks = b"\0\0\0\0\0\0\0\0\0\x03\0\0\0\0\0\0\0\0";
+    let report =
+        "block 0 header 00 worst 0 squares 0\nblock 1 header 03 worst 0 squares 0\nblocks 2\nloop 16\n";
+    assert!(rt; outcome.is_done(blocks, report));
     Ok(())
 }
 
