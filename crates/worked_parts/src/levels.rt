@@ -62,3 +62,32 @@ fn each_gain_sets_or_slopes_the_level(rt: HostRuntime) {
         }
     }
 }
+
+/// How many samples lie between two falls of a decay to nothing.
+fn samples_between_falls(adsr1: u8) -> u32 {
+    let mut clock = RateClock::new();
+    let mut envelope = Envelope::released();
+    envelope.key();
+    let mut falls = 0u32;
+    let mut samples = 0u32;
+    for _ in 0..1000 {
+        let before = envelope.level();
+        clock.step();
+        envelope.step(adsr1, 0, 0, &clock);
+        if envelope.level() < before {
+            falls = falls.wrapping_add(1);
+        }
+        if falls == 1 {
+            samples = samples.wrapping_add(1);
+        }
+    }
+    samples
+}
+
+/// Decay 0, 3 and 7 go by the rates 16, 22 and 30, which fire every 64, 16 and 2 samples.
+#[test]
+fn a_decay_falls_at_its_own_rate(rt: HostRuntime) {
+    for (adsr1, want) in [(0x8f, 64), (0xbf, 16), (0xff, 2)] {
+        assert!(rt; samples_between_falls(adsr1) == want, "at {adsr1:02x}");
+    }
+}

@@ -39,6 +39,18 @@ fn timer_2_ticks_every_16_cycles(rt: HostRuntime) {
     assert!(rt; io.read(0xFF) == Some(1));
 }
 
+// The targets 1, 2 and 3 over 2,560 cycles, in which timers 0 and 1 have 20 ticks and timer 2 has 160: 20, 10 and 53 times, of which a
+// counter keeps four bits.
+#[test]
+fn each_timer_counts_to_its_own_target(rt: HostRuntime) {
+    let mut io = Io::from_cells([0; 16], [0; 64]);
+    for (address, value) in [(0xFA, 1), (0xFB, 2), (0xFC, 3), (0xF1, 0x07)] {
+        io.write(address, value);
+    }
+    tick_from(&mut io, 0, 2560);
+    assert!(rt; (io.read(0xFD), io.read(0xFE), io.read(0xFF)) == (Some(4), Some(10), Some(5)));
+}
+
 // Over cells of zeros: the ROM is behind memory until control bit 7 shows it.
 #[test]
 fn the_rom_shows_once_it_is_switched_on(rt: HostRuntime) {
