@@ -16,7 +16,7 @@ returns-in_err-pump-clause-fills g c =
 pub end-requires : goal.end-requires
 end-requires g c =
     let opened = subst (λ (l : List Bool). AreOpen l c.in_ok-targets.targets) (sym (c.in_ok-pump.ensures.puts.ended ∙ c.in_ok-put.ensures.ended))
-        (head_open c.args.first.now (option_map (λ name. name.now) c.args.second) c.args.head.now c.args.head.now c.args.head.now _ _ _ c.in_ok-targets.ensures.ok) in
+    (head_open c.args.first.now (option_map (λ name. name.now) c.args.second) c.args.head.now c.args.head.now c.args.head.now _ _ _ c.in_ok-targets.ensures.ok) in
     record { low = opened.low; first_open = opened.first_open; second_open = search (rules, opened.second_open) }
 
 pub returns-clause-fills : goal.returns-clause-fills
