@@ -28,6 +28,25 @@ const TAGS: Pieces = &[(0x23, b"\x1a"), (0x2e, b"Theme"), (0x4e, b"a\\\x07")];
 const TAGGED: &str =
     "tags yes\ntitle Theme\ngame a\\x5c\\x07\ndumper \ncomments \ndate \nseconds \nfade \nartist \n";
 
+/// All tags, each as long as its field.
+const FILLED: Pieces = &[
+    (0x23, b"\x1a"),
+    (0x2e, b"A title of thirty-two characters"),
+    (0x4e, b"The game has as many: thirty-two"),
+    (0x6e, b"Sixteen is a lot"),
+    (0x7e, b"comments of thirty-two, and full"),
+    (0x9e, b"29.11.2026."),
+    (0xa9, b"123"),
+    (0xac, b"45678"),
+    (0xb1, b"Artist, whose name is very long."),
+];
+
+/// The lines on those tags.
+const FULL: &str = "tags yes\ntitle A title of thirty-two characters\n\
+    game The game has as many: thirty-two\ndumper Sixteen is a lot\n\
+    comments comments of thirty-two, and full\ndate 29.11.2026.\nseconds 123\nfade 45678\n\
+    artist Artist, whose name is very long.\n";
+
 /// A title, and 60 bytes of extended tags behind the file, which nobody reads.
 const EXTENDED: Pieces = &[(0x23, b"\x1a"), (0x2e, b"Theme"), (66048, b"xid6")];
 
@@ -42,6 +61,7 @@ const SHOWN: &[(usize, Pieces, &str)] = &[
     (1048576, &[], "tags no\n"),
     (66048, &[(31, b"1")], "tags no\n"),
     (66048, TAGS, TAGGED),
+    (66048, FILLED, FULL),
     (66108, EXTENDED, TITLED),
 ];
 
@@ -53,6 +73,17 @@ fn each_file_shows_its_fields(rt: HostRuntime) -> Result<(), Fail> {
             "at {length}"
         );
     }
+    Ok(())
+}
+
+/// Another minor version, and registers that differ from one another.
+const REGISTERS: Pieces = &[(0x24, b"\x0a\x34\x12\x01\x02\x03\x04\x05")];
+
+#[test]
+fn each_register_is_shown(rt: HostRuntime) -> Result<(), Fail> {
+    let outcome = fields(rt.alloc(), 66048, REGISTERS, &[])?;
+    let report = "length 66048\nminor 10\ntags no\npc 1234 a 01 x 02 y 03 psw 04 sp 05\n";
+    assert!(rt; outcome.is_done(&[], report));
     Ok(())
 }
 

@@ -17,6 +17,8 @@ mod entries;
 #[cfg(test)]
 mod hosts;
 #[cfg(test)]
+mod opcodes;
+#[cfg(test)]
 mod reports;
 #[cfg(test)]
 mod scripts;

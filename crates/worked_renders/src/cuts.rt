@@ -39,6 +39,8 @@ struct Told {
     frames: Vec<Frame>,
     marks: Vec<Marked>,
     standing: Standing,
+    /// The number of the next sample of the chip in hand, and the samples that it made.
+    chip: (u32, u64),
     /// The samples below 100 at which a checkpoint stands.
     live: Vec<u32>,
 }
@@ -71,6 +73,7 @@ fn make<C: Chip>(
         _ => {}
     }
     told.standing = (server.at(), server.count(), server.free(), server.work());
+    told.chip = (server.chip().sample(), server.chip().total());
     Ok(())
 }
 
@@ -120,6 +123,7 @@ fn served(alloc: Global, more: Pieces, pages: u32, calls: &[Call]) -> Result<Tol
         frames: Vec::new(alloc),
         marks: Vec::new(alloc),
         standing: (0, 0, 0, 0),
+        chip: (0, 0),
         live: Vec::new(alloc),
     };
     let file = file(alloc, more)?;
@@ -152,6 +156,7 @@ fn cuts_of_three_checkpoints(rt: HostRuntime) -> Result<(), Fail> {
     let told = served(rt.alloc(), ENDS_THE_BLOCK, 4096, &calls)?;
     assert!(rt; told.frames.as_slice() == [SILENT, SILENT, LOUD, LOUD].as_slice());
     assert!(rt; told.standing == (62, 3, 4096 - 258, 133));
+    assert!(rt; told.chip == (62, 133));
     assert!(rt; told.live.as_slice() == [0, 60, 70].as_slice());
     Ok(())
 }

@@ -1,0 +1,261 @@
+"""Slips, each made in a definition and in the code alike, for `tools/slips`.
+
+A slip is a name, the crates whose own proofs and laws may see it, the crates whose rows may, and the edits: a file under crates/, a text
+that stands in it once, and what stands there instead. A text with {N} before it is the Nth of several, counted from 1.
+"""
+import collections
+
+Slip = collections.namedtuple('Slip', 'name crates rows edits')
+
+ASM = 'spc700_asm/specs/Characters.antt'
+ASM_CODE = 'spc700_asm/src/characters.rt'
+PATTERNS = 'spc700_asm/specs/Patterns.antt'
+PATTERNS_CODE = 'spc700_asm/src/pattern.rt'
+MNEMONICS = 'spc700_table/specs/Mnemonics.antt'
+MNEMONICS_CODE = 'spc700_table/src/mnemonics.rt'
+TAGS = 'spc_form/specs/Tags.antt'
+TAGS_CODE = 'spc_form/src/tags.rt'
+ACCEPTED = 'spc_form/specs/Accepted.antt'
+READING = 'spc_form/src/reading.rt'
+WAVE = 'wav_form/specs/Wave.antt'
+WAVE_CODE = 'wav_form/src/written.rt'
+MONO = 'wav_form/specs/Mono.antt'
+MONO_CODE = 'wav_form/src/mono.rt'
+LINE = 'trace_form/specs/Line.antt'
+LINE_CODE = 'trace_form/src/text.rt'
+COUNTER = 'rate_clock/specs/Counter.antt'
+CLOCK = 'rate_clock/src/clock.rt'
+NOISE = 'rate_clock/specs/Noise.antt'
+NOISE_CODE = 'rate_clock/src/noise.rt'
+IO = 'ports_timers/specs/Io.antt'
+IO_CODE = 'ports_timers/src/io.rt'
+TIMER = 'ports_timers/specs/Timer.antt'
+TIMER_CODE = 'ports_timers/src/timer.rt'
+ENVELOPE = 'envelope/specs/Envelope.antt'
+TARGET = 'envelope/src/target.rt'
+ENVELOPE_CODE = 'envelope/src/lib.rt'
+KEPT = 'brr_decode/specs/Kept.antt'
+HEADER = 'brr_decode/specs/Header.antt'
+DIGIT = 'brr_decode/src/digit.rt'
+BLOCK = 'brr_decode/src/block.rt'
+MIX = 'gauss_table/specs/Interpolation.antt'
+QUAD = 'gauss_table/src/quad.rt'
+TAPS = 'gauss_table/src/taps.rt'
+FLG = 'echo_unit/specs/Flg.antt'
+FLG_CODE = 'echo_unit/src/flg.rt'
+REGISTERS = 'dsp_state/src/registers.rt'
+STATUSES = 'exit_status/specs/Statuses.antt'
+STATUS = 'exit_status/src/status.rt'
+LINES = 'exit_status/specs/Lines.antt'
+LINES_CODE = 'exit_status/src/lines.rt'
+DRAWS = 'demo_gen/specs/Draws.antt'
+DRAWS_CODE = 'demo_gen/src/draws.rt'
+INFO = 'command_info/specs/Info.antt'
+INFO_CODE = 'command_info/src/command.rt'
+DECIMAL = 'spc700_alu/specs/Decimal.antt'
+DECIMAL_CODE = 'spc700_alu/src/decimal.rt'
+SESSION = 'cut_form/specs/Session.antt'
+REPLIES = 'session_files/src/replies.rt'
+
+SLIPS = [
+    # the assembler's text
+    Slip('the mnemonics EI and DI exchanged', ['spc700_table'], ['worked_files'], [
+        (MNEMONICS, 'mnemonic_of Ei = codes "EI"', 'mnemonic_of Ei = codes "DI"'),
+        (MNEMONICS, 'mnemonic_of Di = codes "DI"', 'mnemonic_of Di = codes "EI"'),
+        (MNEMONICS_CODE, 'Ei => b"EI"', 'Ei => b"DI"'), (MNEMONICS_CODE, 'Di => b"DI"', 'Di => b"EI"')]),
+    Slip('the mnemonics SLEEP and STOP exchanged', ['spc700_table'], ['worked_files'], [
+        (MNEMONICS, 'mnemonic_of Sleep = codes "SLEEP"', 'mnemonic_of Sleep = codes "STOP"'),
+        (MNEMONICS, 'mnemonic_of Stop = codes "STOP"', 'mnemonic_of Stop = codes "SLEEP"'),
+        (MNEMONICS_CODE, 'Sleep => b"SLEEP"', 'Sleep => b"STOP"'), (MNEMONICS_CODE, 'Stop => b"STOP"', 'Stop => b"SLEEP"')]),
+    Slip('the mnemonics TSET1 and TCLR1 exchanged', ['spc700_table'], ['worked_files'], [
+        (MNEMONICS, 'codes "TSET1"', 'codes "TXXX1"'), (MNEMONICS, 'codes "TCLR1"', 'codes "TSET1"'), (MNEMONICS, 'codes "TXXX1"', 'codes "TCLR1"'),
+        (MNEMONICS_CODE, 'b"TSET1"', 'b"TXXX1"'), (MNEMONICS_CODE, 'b"TCLR1"', 'b"TSET1"'), (MNEMONICS_CODE, 'b"TXXX1"', 'b"TCLR1"')]),
+    Slip('(X)+ written (X+)', ['spc700_asm'], ['worked_files'], [
+        (PATTERNS, '(codes "X") (codes ")+")', '(codes "X") (codes "+)")'), (PATTERNS_CODE, 'b"X", b")+")', 'b"X", b"+)")')]),
+    Slip('[d]+Y written [d+Y]', ['spc700_asm'], ['worked_files'], [
+        (PATTERNS, '(codes "]+Y")', '(codes "+Y]")'), (PATTERNS_CODE, 'b"]+Y")', 'b"+Y]")')]),
+    Slip('/m.b written !m.b', ['spc700_asm'], ['worked_files'], [
+        (PATTERNS, '(codes "/")', '(codes "-")'), (PATTERNS_CODE, 'b"/", Slot', 'b"-", Slot')]),
+    Slip('PSW written P', ['spc700_asm'], ['worked_files'], [
+        (PATTERNS, '(codes "PSW")', '(codes "P")'), (PATTERNS_CODE, 'b"PSW"', 'b"P"')]),
+    Slip('names of 33 characters', ['spc700_asm'], ['worked_files'], [
+        (ASM, 'nat_le (length text) 32', 'nat_le (length text) 33'), (ASM_CODE, 'text.len() > 32', 'text.len() > 33')]),
+    Slip('names of 31 characters at most', ['spc700_asm'], ['worked_files'], [
+        (ASM, 'nat_le (length text) 32', 'nat_le (length text) 31'), (ASM_CODE, 'text.len() > 32', 'text.len() > 31')]),
+    Slip('a carriage return is no blank', ['spc700_asm'], ['worked_files'], [
+        (ASM, '((character == 9) || (character == 13))', '(character == 9)'), (ASM_CODE, " || character == b'\\r'", '')]),
+    Slip('a tab is no blank', ['spc700_asm'], ['worked_files'], [
+        (ASM, '((character == 9) || (character == 13))', '(character == 13)'), (ASM_CODE, " || character == b'\\t'", '')]),
+    Slip('a vertical tab is a blank', ['spc700_asm'], ['worked_files'], [
+        (ASM, '(character == 13))', '((character == 13) || (character == 11)))'), (ASM_CODE, " || character == b'\\r'", " || character == b'\\r' || character == 11")]),
+    Slip('a hyphen in place of _ in names', ['spc700_asm'], ['worked_files'], [
+        (ASM, '(character == byte "_")', '(character == byte "-")'), (ASM_CODE, "character == b'_'", "character == b'-'")]),
+    Slip('.word 99999 taken', ['spc700_asm'], ['worked_files'], [
+        ('spc700_asm/specs/Faults.antt', 'list_any (is_above 0xFFFF) words', 'list_any (is_above 0x1FFFF) words'),
+        ('spc700_asm/src/faults.rt', 'list_any (is_above 0xFFFF) (unwrap_or', 'list_any (is_above 0x1FFFF) (unwrap_or'),
+        ('spc700_asm/src/faults.rt', 'is_above(0xffff, written_in(trim(item))', 'is_above(0x1ffff, written_in(trim(item))')]),
+    Slip('bits of memory from 2000h on', ['spc700_asm'], ['worked_files'], [
+        ('spc700_asm/specs/Operands.antt', 'is_above 0x1FFF value', 'is_above 0x3FFF value'),
+        ('spc700_asm/src/faults.rt', 'is_above(0x1fff, operand.value)', 'is_above(0x3fff, operand.value)')]),
+
+    # the processor's arithmetic
+    Slip('DAA adds 61h to the tens', ['spc700_alu'], ['worked_parts'], [
+        (DECIMAL, '(a + 0x60) % 0x100', '(a + 0x61) % 0x100'), (DECIMAL_CODE, 'a.wrapping_add(0x60)', 'a.wrapping_add(0x61)')]),
+    Slip('DAS takes 5 from the ones', ['spc700_alu'], ['worked_parts'], [
+        (DECIMAL, '(adjusted + 0x100 - 6) % 0x100', '(adjusted + 0x100 - 5) % 0x100'), (DECIMAL_CODE, 'adjusted.wrapping_sub(6)', 'adjusted.wrapping_sub(5)')]),
+
+    # SPC files and what is shown of them
+    Slip("the dumper's and the date's places exchanged", ['spc_form'], ['command_info'], [
+        (TAGS, 'field_start Dumper = 0x6E', 'field_start Dumper = 0x9E'), (TAGS, 'field_start Date = 0x9E', 'field_start Date = 0x6E'),
+        (TAGS_CODE, 'Tag::Dumper => 0x6E', 'Tag::Dumper => 0x9E'), (TAGS_CODE, 'Tag::Date => 0x9E', 'Tag::Date => 0x6E')]),
+    Slip("the title's and the game's places exchanged", ['spc_form'], ['command_info'], [
+        (TAGS, 'field_start Title = 0x2E', 'field_start Title = 0x4E'), (TAGS, 'field_start Game = 0x4E', 'field_start Game = 0x2E'),
+        (TAGS_CODE, 'Tag::Title => 0x2E', 'Tag::Title => 0x4E'), (TAGS_CODE, 'Tag::Game => 0x4E', 'Tag::Game => 0x2E')]),
+    Slip('the artist one byte later', ['spc_form'], ['command_info'], [
+        (TAGS, 'field_start Artist = 0xB1', 'field_start Artist = 0xB0'), (TAGS_CODE, 'Tag::Artist => 0xB1', 'Tag::Artist => 0xB0')]),
+    Slip('a date of ten bytes', ['spc_form'], ['command_info'], [
+        (TAGS, 'field_size Date = 11', 'field_size Date = 10'), (TAGS_CODE, 'Tag::Date => 11', 'Tag::Date => 10')]),
+    Slip('a dumper of 32 bytes', ['spc_form'], ['command_info'], [
+        (TAGS, 'field_size Dumper = 16', 'field_size Dumper = 32'), (TAGS_CODE, 'Tag::Dumper => 16', 'Tag::Dumper => 32')]),
+    Slip('an artist of 31 bytes', ['spc_form'], ['command_info'], [
+        (TAGS, 'field_size Artist = 32', 'field_size Artist = 31'),
+        (TAGS_CODE, 'Tag::Title | Tag::Game | Tag::Comments | Tag::Artist => 32', 'Tag::Artist => 31, Tag::Title | Tag::Game | Tag::Comments => 32')]),
+    Slip('33 frames a millisecond of a fade', ['spc_form'], ['worked_files'], [
+        (TAGS, 'frames = 32000 * seconds + 32 * milliseconds; fade = 32 * milliseconds', 'frames = 32000 * seconds + 31 * milliseconds; fade = 31 * milliseconds'),
+        (TAGS_CODE, '32 * fade.unwrap_or(0)', '31 * fade.unwrap_or(0)')]),
+    Slip('another length without tags', ['spc_form'], ['worked_files'], [
+        (TAGS, 'frames = 5760000;', 'frames = 5760001;'), (TAGS_CODE, '5_760_000', '5_760_001')]),
+    Slip('a signature in small letters', ['spc_form'], ['worked_files', 'command_info'], [
+        (ACCEPTED, 'codes "SNES-SPC700 Sound File Data"', 'codes "SNES-SPC700 sound File Data"'),
+        (READING, '*b"SNES-SPC700 Sound File Data"', '*b"SNES-SPC700 sound File Data"')]),
+    Slip('files of 65,919 bytes accepted', ['spc_form'], ['worked_files', 'command_info'], [
+        (ACCEPTED, 'least_length = 65920', 'least_length = 65919'), (READING, 'bytes.len() < 65920', 'bytes.len() < 65919')]),
+    Slip('A shown for X and X for A', ['command_info'], ['command_info'], [
+        (INFO, 'register_text (codes "a") (slice_index file 0x27) ++ register_text (codes "x") (slice_index file 0x28)',
+         'register_text (codes "a") (slice_index file 0x28) ++ register_text (codes "x") (slice_index file 0x27)'),
+        (INFO_CODE, 'put_register(report, b"a", file.a())?', 'put_register(report, b"a", file.x())?'),
+        (INFO_CODE, 'put_register(report, b"x", file.x())?', 'put_register(report, b"x", file.a())?')]),
+    Slip('the status and the stack pointer exchanged', ['command_info'], ['command_info'], [
+        (INFO, 'register_text (codes "psw") (slice_index file 0x2A) ++ register_text (codes "sp") (slice_index file 0x2B)',
+         'register_text (codes "psw") (slice_index file 0x2B) ++ register_text (codes "sp") (slice_index file 0x2A)'),
+        (INFO_CODE, 'put_register(report, b"psw", file.psw())?', 'put_register(report, b"psw", file.sp())?'),
+        (INFO_CODE, 'put_register(report, b"sp", file.sp())', 'put_register(report, b"sp", file.psw())')]),
+    Slip('the tag named author', ['command_info'], ['command_info'], [
+        (INFO, 'codes "artist"', 'codes "author"'), (INFO_CODE, 'b"artist"', 'b"author"')]),
+
+    # sound files
+    Slip('a rate of 32,040 in the head', ['wav_form'], ['worked_files'], [
+        (WAVE, 'little_bytes 4 32000 ++', 'little_bytes 4 32040 ++'), (WAVE_CODE, '\\x00\\x7d', '\\x28\\x7d')]),
+    Slip('another byte rate', ['wav_form'], ['worked_files'], [
+        (WAVE, 'little_bytes 4 (32000 * frame_size channels)', 'little_bytes 4 (32040 * frame_size channels)'),
+        (WAVE_CODE, '32000 * frame_size', '32040 * frame_size')]),
+    Slip('a size of 44 and the frames after RIFF', ['wav_form'], ['worked_files'], [
+        (WAVE, '(36 + frames * frame_size channels)', '(44 + frames * frame_size channels)'), (WAVE_CODE, '36 + size', '44 + size')]),
+    Slip('right before left', ['wav_form'], ['worked_files'], [
+        (WAVE, 'sample_bytes frame.left ++ sample_bytes frame.right', 'sample_bytes frame.right ++ sample_bytes frame.left'),
+        (WAVE_CODE, 'write_i16(&mut bytes, frame.left)', 'write_i16(&mut bytes, frame.right)'),
+        (WAVE_CODE, 'write_i16(&mut bytes[2..], frame.right)', 'write_i16(&mut bytes[2..], frame.left)')]),
+    Slip('format 3 read as PCM', ['wav_form'], ['worked_files'], [
+        (MONO, '(little_number 2 body == 1)', '(little_number 2 body == 3)'), (MONO_CODE, 'read_u16(body) == 1', 'read_u16(body) == 3')]),
+    Slip('two channels read as one', ['wav_form'], ['worked_files'], [
+        (MONO, '(little_number 2 (drop 2 body) == 1)', '(little_number 2 (drop 2 body) == 2)'), (MONO_CODE, 'read_u16(&body[2..]) == 1', 'read_u16(&body[2..]) == 2')]),
+
+    # traces
+    Slip('the letters of registers and ports exchanged', ['trace_form'], ['worked_parts'], [
+        (LINE, 'codes "R "', 'codes "Q "'), (LINE, 'codes "P "', 'codes "R "'), (LINE, 'codes "Q "', 'codes "P "'),
+        (LINE_CODE, 'b"R "', 'b"Q "'), (LINE_CODE, 'b"P "', 'b"R "'), (LINE_CODE, 'b"Q "', 'b"P "')]),
+    Slip('another letter for a key on', ['trace_form'], ['worked_parts'], [
+        (LINE, '(codes "k")', '(codes "K")'), (LINE_CODE, 'b"k"', 'b"K"')]),
+
+    # rates, noise, timers and ports
+    Slip('rate 1 fires every 1,024 samples', ['rate_clock'], ['worked_parts'], [
+        (COUNTER, '0 ∷ 2048 ∷ 1536', '0 ∷ 1024 ∷ 1536'), (CLOCK, '0, 2048, 1536', '0, 1024, 1536'), (CLOCK, '0, 2047, 511', '0, 1023, 511')]),
+    Slip('rate 30 fires every sample', ['rate_clock'], ['worked_parts'], [
+        (COUNTER, '3 ∷ 2 ∷ 1 ∷ []', '3 ∷ 1 ∷ 1 ∷ []'), (CLOCK, '4, 3, 2, 1,', '4, 3, 1, 1,'), (CLOCK, '0, 3, 0, 1, 0,', '0, 3, 0, 0, 0,')]),
+    Slip('the noise begins at 2000h', ['rate_clock'], ['worked_parts'], [
+        (NOISE, 'noise_at zero = 0x4000', 'noise_at zero = 0x2000'), (NOISE_CODE, 'Noise { value: 0x4000 }', 'Noise { value: 0x2000 }')]),
+    Slip('the noise looks at its bits 0 and 2', ['rate_clock'], ['worked_parts'], [
+        (NOISE, 'n % 2 == n / 2 % 2', 'n % 2 == n / 4 % 2'), (NOISE_CODE, '(n ^ (n >> 1))', '(n ^ (n >> 2))')]),
+    Slip('timer 2 ticks every 32 cycles', ['ports_timers'], ['worked_parts'], [
+        (IO, '(is_enabled 2 io.control) 16 clock', '(is_enabled 2 io.control) 32 clock'), (IO_CODE, 'has_bit(control, 2), 16,', 'has_bit(control, 2), 32,')]),
+    Slip('timer 1 ticks every 64 cycles', ['ports_timers'], ['worked_parts'], [
+        (IO, '(is_enabled 1 io.control) 128 clock', '(is_enabled 1 io.control) 64 clock'), (IO_CODE, 'has_bit(control, 1), 128,', 'has_bit(control, 1), 64,')]),
+    Slip('output counters of three bits', ['ports_timers'], ['worked_parts'], [
+        (TIMER, '(timer.output + 1) % 16', '(timer.output + 1) % 8'), (TIMER_CODE, 'timer.output.wrapping_add(1) % 16', 'timer.output.wrapping_add(1) % 8')]),
+    Slip('bits 4 and 5 of the control exchanged', ['ports_timers'], ['worked_parts'], [
+        (IO, 'has_bit value 4', 'has_bit value 6'), (IO, 'has_bit value 5', 'has_bit value 4'), (IO, 'has_bit value 6', 'has_bit value 5'),
+        (IO_CODE, 'has_bit(value, 4)', 'has_bit(value, 6)'), (IO_CODE, 'has_bit(value, 5)', 'has_bit(value, 4)'), (IO_CODE, 'has_bit(value, 6)', 'has_bit(value, 5)')]),
+    Slip('bit 6 shows the ROM', ['ports_timers'], ['worked_parts'], [
+        (IO, 'has_bit control 7', 'has_bit control 6'), (IO_CODE, 'has_bit(self.control, 7)', 'has_bit(self.control, 6)')]),
+    Slip('the targets of timers 0 and 1 exchanged', ['ports_timers'], ['worked_parts'], [
+        (IO, 'at == 0xFA then', 'at == 0xFE then'), (IO, 'at == 0xFB then', 'at == 0xFA then'), (IO, '{3}at == 0xFE then', 'at == 0xFB then'),
+        (IO_CODE, '0xFA => self.timer0', '0xFB => self.timer0'), (IO_CODE, '0xFB => self.timer1', '0xFA => self.timer1')]),
+
+    # envelopes
+    Slip('the fastest attack rises by 200h', ['envelope', 'envelope_laws'], ['worked_parts'], [
+        (ENVELOPE, 'then 0x400 else 0x20', 'then 0x200 else 0x20'), (TARGET, '{ 0x400 } else', '{ 0x200 } else')]),
+    Slip('decay at rates two lower', ['envelope', 'envelope_laws'], ['worked_parts'], [
+        (ENVELOPE, '% 8) + 0x10', '% 8) + 0x0E'), (TARGET, '% 8) + 0x10', '% 8) + 0x0E')]),
+    Slip('the bend at 500h', ['envelope', 'envelope_laws'], ['worked_parts'], [
+        (ENVELOPE, 'int_lt hidden (pos 0x600)', 'int_lt hidden (pos 0x500)'), (TARGET, 'hidden < 0x600', 'hidden < 0x500')]),
+    Slip('a fixed gain eight times its number', ['envelope', 'envelope_laws'], ['worked_parts'], [
+        (ENVELOPE, 'pos (16 * gain)', 'pos (8 * gain)'), (TARGET, 'i32::from(gain) * 16', 'i32::from(gain) * 8')]),
+    Slip('a fall by a 128th', ['envelope', 'envelope_laws'], ['worked_parts'], [
+        (ENVELOPE, 'floor_shift e 8', 'floor_shift e 7'), (TARGET, 'less >> 8', 'less >> 7')]),
+    Slip('a release by 16', ['envelope', 'envelope_laws'], ['worked_parts'], [
+        (ENVELOPE, 's.level - 8', 's.level - 16'), (ENVELOPE_CODE, 'self.level.saturating_sub(8)', 'self.level.saturating_sub(16)')]),
+
+    # BRR and interpolation
+    Slip('filter 1 takes a 16th', ['brr_decode'], ['worked_parts'], [
+        (KEPT, 'scaled p1 (neg_ℤ (pos 1)) 5', 'scaled p1 (neg_ℤ (pos 1)) 4'),
+        (DIGIT, 'scaled p1 (neg_ℤ (pos 1)) 5', 'scaled p1 (neg_ℤ (pos 1)) 4'), (DIGIT, 'scaled(p1, -1, 5)', 'scaled(p1, -1, 4)')]),
+    Slip('great shifts leave 1024', ['brr_decode'], ['worked_parts'], [
+        (KEPT, 'neg_ℤ (pos 2048)', 'neg_ℤ (pos 1024)'), (DIGIT, '-2048', '-1024')]),
+    Slip('loop bit and end bit exchanged', ['brr_decode'], ['worked_parts'], [
+        (HEADER, 'has_loop header = has_bit header 1', 'has_loop header = has_bit header 0'),
+        (HEADER, 'has_end header = has_bit header 0', 'has_end header = has_bit header 1'),
+        (DIGIT, 'has_bit(header, 0)', 'has_bit(header, 2)'), (DIGIT, 'has_bit(header, 1)', 'has_bit(header, 0)'), (DIGIT, 'has_bit(header, 2)', 'has_bit(header, 1)')]),
+    Slip('the low digit of a byte first', ['brr_decode'], ['worked_parts'], [
+        (KEPT, 'value = sign4 (byte / 0x10) } ∷ record { header = header; value = sign4 byte }', 'value = sign4 byte } ∷ record { header = header; value = sign4 (byte / 0x10) }'),
+        (BLOCK, 'digit(b0 / 16)', 'digit(b0 / 1)'), (BLOCK, 'digit(b0))', 'digit(b0 / 16))'),
+        (BLOCK, 'digit(b1 / 16)', 'digit(b1 / 1)'), (BLOCK, 'digit(b1))', 'digit(b1 / 16))')]),
+    Slip('the older weights exchanged', ['gauss_table'], ['worked_parts'], [
+        (MIX, 'number_at table (255 - i)', 'number_at table (510 - i)'), (MIX, 'number_at table (511 - i)', 'number_at table (255 - i)'), (MIX, 'number_at table (510 - i)', 'number_at table (511 - i)'),
+        (QUAD, 'weights[255 - place]', 'weights[510 - place]'), (QUAD, 'weights[511 - place]', 'weights[255 - place]'), (QUAD, 'weights[510 - place]', 'weights[511 - place]')]),
+    Slip('weights over 1,024', ['gauss_table'], ['worked_parts'], [
+        (MIX, 'scaled weight sample 11', 'scaled weight sample 10'), (TAPS, 'scaled(weight, sample, 11)', 'scaled(weight, sample, 10)')]),
+
+    # the echo and the registers of the S-DSP
+    Slip('mute by bit 7 of FLG', ['echo_unit'], ['worked_sounds'], [
+        (FLG, 'has_bit flg 6', 'has_bit flg 7'), (FLG_CODE, 'has_bit(flg, 6)', 'has_bit(flg, 7)')]),
+    Slip('echo writes by bit 4 of FLG', ['echo_unit'], ['worked_sounds'], [
+        (FLG, 'has_bit flg 5', 'has_bit flg 4'), (FLG_CODE, 'has_bit(flg, 5)', 'has_bit(flg, 4)')]),
+    Slip("the echo's volumes exchanged", ['dsp_state'], ['worked_sounds', 'worked_renders'], [
+        (REGISTERS, 'EVOLL: usize = 0x2c', 'EVOLL: usize = 0x3c'), (REGISTERS, 'EVOLR: usize = 0x3c', 'EVOLR: usize = 0x2c')]),
+    Slip('ESA and EDL exchanged', ['dsp_state'], ['worked_sounds', 'worked_renders'], [
+        (REGISTERS, 'ESA: usize = 0x6d', 'ESA: usize = 0x7d'), (REGISTERS, 'EDL: usize = 0x7d', 'EDL: usize = 0x6d')]),
+    Slip('KON and KOFF exchanged', ['dsp_state'], ['worked_sounds', 'worked_renders'], [
+        (REGISTERS, 'KON: usize = 0x4c', 'KON: usize = 0x5c'), (REGISTERS, 'KOFF: usize = 0x5c', 'KOFF: usize = 0x4c')]),
+    Slip('PMON and NON exchanged', ['dsp_state'], ['worked_sounds', 'worked_renders'], [
+        (REGISTERS, 'PMON: usize = 0x2d', 'PMON: usize = 0x3d'), (REGISTERS, 'NON: usize = 0x3d', 'NON: usize = 0x2d')]),
+
+    # statuses and complaints
+    Slip('the numbers 5 and 6 exchanged', ['exit_status'], ['worked_files'], [
+        (STATUSES, 'code_of statuses.SpcSignature = 5', 'code_of statuses.SpcSignature = 6'), (STATUSES, 'code_of statuses.TableLength = 6', 'code_of statuses.TableLength = 5'),
+        (STATUS, 'Status::SpcSignature => 5', 'Status::SpcSignature => 6'), (STATUS, 'Status::TableLength => 6', 'Status::TableLength => 5')]),
+    Slip('the line on memory', ['exit_status'], ['worked_files'], [
+        (LINES, '"spcwave: out of memory\\n"', '"spcwave: no memory\\n"'), (LINES_CODE, '"spcwave: out of memory\\n"', '"spcwave: no memory\\n"')]),
+    Slip('the faults far and long exchanged', ['exit_status'], ['worked_files'], [
+        (LINES, 'codes ": far\\n"', 'codes ": faar\\n"'), (LINES, 'codes ": long\\n"', 'codes ": far\\n"'), (LINES, 'codes ": faar\\n"', 'codes ": long\\n"'),
+        (LINES_CODE, 'b": far\\n"', 'b": faar\\n"'), (LINES_CODE, 'b": long\\n"', 'b": far\\n"'), (LINES_CODE, 'b": faar\\n"', 'b": long\\n"')]),
+
+    # demo files, cuts and sessions
+    Slip('another factor of the draws', ['demo_gen'], ['worked_files'], [
+        (DRAWS, '1664525', '1664527'), (DRAWS_CODE, '1664525', '1664527')]),
+    Slip('another byte of a state drawn', ['demo_gen'], ['worked_files'], [
+        (DRAWS, 's / 0x1000000', 's / 0x10000 % 0x100'), (DRAWS_CODE, '(state >> 24) as u8', '(state >> 16) as u8')]),
+    Slip('lists of 1,001 cuts', ['cut_form', 'cut_text'], ['worked_files'], [
+        ('cut_form/specs/CutList.antt', 'most_cuts = 1000', 'most_cuts = 1001'), ('cut_text/src/cuts.rt', 'MOST_CUTS: usize = 1000', 'MOST_CUTS: usize = 1001')]),
+    Slip('the text of a mark', ['cut_form', 'session_files'], ['command_serve'], [
+        (SESSION, 'codes " gave "', 'codes " gives "'), (REPLIES, 'b" gave "', 'b" gives "')]),
+]
