@@ -20,8 +20,9 @@ use Rattle.voice_unit.specs.OutsOverRow.{out_over_row}
 use Rattle.voice_unit.specs.Voice.{is_silencing, VoiceState, interpolation, output, source_sample, needs_group, is_at_last_group, after_reading, after_pitch, voice_step}
 use Rattle.voice_unit.specs.declared.batch.SharedRegs.{SharedRegs}
 use Rattle.voice_unit.specs.declared.interface.VoiceIn.{VoiceIn}
+use Rattle.voice_unit.specs.declared.interface.VoiceOut.{VoiceOut}
 use Rattle.voice_unit.specs.declared.row.Place.{Place}
-use Rattle.voice_unit.proofs.AtRest.{step_at_rest, out_at_rest, looped_at_rest, rests_on, envelope-after_reading, no_rest}
+use Rattle.voice_unit.proofs.AtRest.{step_at_rest, out_at_rest, answer_is, looped_at_rest, rests_on, envelope-after_reading, no_rest}
 use Rattle.voice_unit.proofs.Glided.{own_pitch}
 use Rattle.voice_unit.proofs.Counting.{groups_before-more, groups_before-rise}
 use Rattle.voice_unit.proofs.RowOfVoice.{plays_row, reads_row}
@@ -184,6 +185,20 @@ module _ (own : SharedRegs) (lane : Lane) (n m rest : ℕ) (before loops : List 
       let same : interpolation lane.table (row_of lane.regs own.dir lane.memory voice (g m)) total ≡ interpolation lane.table row total =
       interpolation-same lane.table _ row total (λ k few. ap (λ (xs : List ℤ). number_at xs k) (sym is) ∙ get_or-take (12 + 4 * g m) row k (pos 0) (omega (arith, few, here, inside, rise))) in
       rw (on j) (gave ∙ sampled_output (s j) (lane.inputs (n + j)) lane.table (interpolation lane.table row total) voice.envelope.level plain.sampled (at_row ∙ same) (ap (λ (e : EnvelopeState). e.level) now.1))
+
+  -- the level that makes it
+  level_is : (j : ℕ) → j < m → (answer_at lane (n + j)).level ≡ voice.envelope.level
+  unfolding answer_of_step
+  level_is j below =
+      let plain = glides j below in
+      let now = rests j below in
+      let at : IsAtRest (lane.inputs (n + j)).reset (lane.inputs (n + j)).koff lane.regs lane.memory (lane.k + (n + j)) (rest - j) (s j) = rw (plain.reset, plain.koff) now.0 in
+      let made = answer_is lane.regs (lane.inputs (n + j)) lane.memory (lane.k + (n + j)) (rest - j) (s j) at (omega (arith, below, resting)) plain.unkeyed lane.table in
+      rw (on j) (ap (λ (answer : VoiceOut). answer.level) made ∙ ap (λ (e : EnvelopeState). e.level) now.1)
+
+  -- that of the last sample
+  pub last_level : (answer_at lane (n + m - 1)).level ≡ voice.envelope.level
+  last_level = let last : n + m - 1 ≡ n + (m - 1) = omega (arith, some) in rw last (level_is (m - 1) (omega (arith, some)))
 
   looped_is : (j : ℕ) → j < m → (answer_at lane (n + j)).looped ≡ loops_in lane.memory loop_to (place_of voice) voice.position lane.regs.pitch j
   unfolding answer_of_step

@@ -1,12 +1,13 @@
 -- One sample more of a voice over a batch.
-use Rattle.std.proofs.Common.{◌≡◌, ◌≢◌, ℕ, ◌+◌, ◌^◌, ◌<◌, ◌==◌, List, ℤ, pos, Bool, true, false, length, slice_index, slice_set, if◌then◌else◌, refl, ◌∙◌, add-one, arith}
+use Rattle.std.proofs.Common.{◌≡◌, ◌≢◌, ℕ, ◌+◌, ◌/◌, ◌^◌, ◌<◌, ◌≤◌, ◌==◌, List, ℤ, pos, Bool, true, false, length, slice_index, slice_set, if◌then◌else◌, refl, ◌∙◌, add-one, arith}
 use Rattle.std.proofs.lemmas.Bool.Decides.{nat_tests}
 use Rattle.std.proofs.lemmas.List.{get_or-set_same, get_or-set_other}
 use Rattle.std.proofs.lemmas.Nat.{pow-add}
+use Rattle.num_fix.specs.Arithmetic.{high_byte}
 use Rattle.num_fix.specs.SignedWords.{number_at}
 use Rattle.rate_clock.specs.Counter.{counter_at}
 use Rattle.voice_unit.specs.Batch.{steps, answer_of_step}
-use Rattle.voice_unit.specs.Voice.{VoiceState, voice_step, voice_answer}
+use Rattle.voice_unit.specs.Voice.{VoiceState, is_keyed, voice_step, voice_answer}
 use Rattle.voice_unit.specs.Play.{Lane, voice_at, answer_at, IsPlayed}
 
 -- a voice before its first sample
@@ -83,3 +84,36 @@ one_more_played lane v n before loops outs voice now out looped played long_outs
     loops_by j false e below =
         let other : j ≢ n = grind (arith, nat_tests, e) in
         with_loop-other loops n v j looped other ∙ played.loops_are j (omega (arith, below, other))
+
+-- an answer by its output, its level, whether it loops, the voice after it and whether it is keyed
+answer_is : (lane : Lane) (j : ℕ) → answer_at lane j ≡ record {
+  out = (answer_at lane j).out;
+  level = (answer_at lane j).level;
+  envx = (answer_at lane j).level / 0x10;
+  outx = high_byte (answer_at lane j).out;
+  block = (voice_at lane (j + 1)).block;
+  looped = (answer_at lane j).looped;
+  keyed = is_keyed (lane.inputs j);
+}
+unfolding answer_of_step voice_answer
+answer_is lane j = rw (more_steps lane j) refl
+
+-- the answer of the last sample, read off what the samples leave
+pub last_answer : (lane : Lane) (v j : ℕ) (before after : List ℕ) (outs : List ℤ) (voice : VoiceState) (level : ℕ) (looped : Bool)
+    → IsPlayed lane v (j + 1) before after outs voice → level ≡ (answer_at lane j).level → slice_index before j < 2 ^ v
+    → (slice_index after j < 2 ^ v → looped ≡ false) → (2 ^ v ≤ slice_index after j → looped ≡ true)
+    → record {
+      out = number_at outs j;
+      level = level;
+      envx = level / 0x10;
+      outx = high_byte (number_at outs j);
+      block = voice.block;
+      looped = looped;
+      keyed = is_keyed (lane.inputs j);
+    } ≡ answer_at lane j
+last_answer lane v j before after outs voice level looped played level_is lower unmarked marked =
+    rw (answer_is lane j, played.outs_are j (omega arith), level_is, played.voice_is, looped_by (answer_at lane j).looped (played.loops_are j (omega arith))) refl
+  where
+    looped_by : (b : Bool) → slice_index after j ≡ slice_index before j + (if b then 2 ^ v else 0) → looped ≡ b
+    looped_by true is = marked (omega (arith, is))
+    looped_by false is = unmarked (omega (arith, is, lower))

@@ -5,7 +5,7 @@ ghost use Rattle.voice_unit.specs.Directory.{loop_word};
 ghost use Rattle.voice_unit.specs.Rest.{IsSilent};
 ghost use Rattle.voice_unit.specs.Course.{IsCourse};
 ghost use Rattle.voice_unit.specs.Row.{groups_before, place_of};
-ghost use Rattle.voice_unit.specs.Play.{Lane, IsLaneOver, Glides, IsOnItsWay};
+ghost use Rattle.voice_unit.specs.Play.{Lane, IsLaneOver, Glides, IsOnItsWay, answer_at};
 
 use crate::batch::{PlayedRows, VoiceReads};
 use crate::course::{Course, Stretch};
@@ -109,6 +109,9 @@ impl Voice {
         ensures way { (lane : Lane) (before : List ℕ) → IsLaneOver reads.now lane
             → Glides reads.now.shared lane at (at + n) → IsOnItsWay reads.now.shared lane at rest before made.old.loops made.old.outs self.old
             → IsOnItsWay reads.now.shared lane result.at result.rest before made.new.loops made.new.outs self.new }
+        ensures level { (lane : Lane) (before : List ℕ) → IsLaneOver reads.now lane
+            → Glides reads.now.shared lane at (at + n) → IsOnItsWay reads.now.shared lane at rest before made.old.loops made.old.outs self.old
+            → self.new.envelope.level ≡ (answer_at lane (result.at - 1)).level }
         ensures later { (i : ℕ) → result.at ≤ i → slice_index made.new.loops i ≡ slice_index made.old.loops i }
         ensures before { (i : ℕ) → i < at → slice_index made.new.loops i ≡ slice_index made.old.loops i }
         ensures lower { (i : ℕ) → at ≤ i → i < BATCH_SIZE → slice_index made.new.loops i < 2 ^ (reads.now.shared.voice + 1) }
@@ -142,7 +145,7 @@ impl Voice {
         work: &mut Workspace,
         made: &mut PlayedRows,
     ) -> Glided
-        requires few { end < BATCH_SIZE }
+        requires few { end ≤ BATCH_SIZE }
         requires from { j ≤ end }
         requires voice { reads.now.shared.voice < 8 }
         requires pitch { reads.now.regs.pitch < 0x4000 }
@@ -153,6 +156,9 @@ impl Voice {
         ensures way { (lane : Lane) (before : List ℕ) → IsLaneOver reads.now lane
             → Glides reads.now.shared lane j end → IsOnItsWay reads.now.shared lane j rest before made.old.loops made.old.outs self.old
             → IsOnItsWay reads.now.shared lane result.at result.rest before made.new.loops made.new.outs self.new }
+        ensures level { (lane : Lane) (before : List ℕ) → IsLaneOver reads.now lane
+            → Glides reads.now.shared lane j end → IsOnItsWay reads.now.shared lane j rest before made.old.loops made.old.outs self.old
+            → j < result.at → self.new.envelope.level ≡ (answer_at lane (result.at - 1)).level }
         ensures later { (i : ℕ) → result.at ≤ i → slice_index made.new.loops i ≡ slice_index made.old.loops i }
         ensures lower { (i : ℕ) → i < BATCH_SIZE → slice_index made.new.loops i < 2 ^ (reads.now.shared.voice + 1) }
     {

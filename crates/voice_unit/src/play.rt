@@ -1,13 +1,16 @@
 //! A voice over a batch of samples, as rows of numbers alone.
 
-ghost use Rattle.std.specs.Prelude.{◌≡◌, ◌<◌, ◌≤◌, ◌+◌, ◌-◌, ◌^◌, ℕ, length, slice_index, slice_set, if◌then◌else◌};
+ghost use Rattle.std.specs.Prelude.{◌≡◌, ◌<◌, ◌≤◌, ◌+◌, ◌-◌, ◌^◌, ℕ, List, true, false, length, slice_index, slice_set, if◌then◌else◌};
 ghost use Rattle.rate_clock.specs.Counter.{counter_at};
 ghost use Rattle.voice_unit.specs.Rest.{IsAtRest};
+ghost use Rattle.voice_unit.specs.Voice.{VoiceState};
 ghost use Rattle.voice_unit.specs.OneSample.{IsStep, IsPlayedSample};
 ghost use Rattle.voice_unit.specs.Play.{IsPlayed, IsOnItsWay, answer_at, lane_of};
 
 use crate::batch::{PlayedRows, VoiceReads};
+use crate::glide::Glided;
 use crate::interface::{VoiceIn, VoiceOut, is_keyed};
+use crate::level::high_byte;
 use crate::rest::Played;
 use crate::voice::Voice;
 use crate::workspace::Workspace;
@@ -24,6 +27,16 @@ pub(crate) fn mark_loop(loops: &mut [u8; BATCH_SIZE], j: u8, looped: bool, voice
     if looped {
         loops[usize::from(j)] += 1 << voice;
     }
+}
+
+/// Whether the bit of a voice stands in the byte of sample `j`, where none of a voice after it does.
+fn is_marked(loops: &[u8; BATCH_SIZE], j: u8, voice: u8) -> bool
+    requires few { j < BATCH_SIZE }
+    requires voice { voice < 8 }
+    ensures unmarked { slice_index loops.now j < 2 ^ voice → result ≡ false }
+    ensures marked { 2 ^ voice ≤ slice_index loops.now j → result ≡ true }
+{
+    loops[usize::from(j)] >= 1 << voice
 }
 
 impl Voice {
@@ -75,7 +88,7 @@ impl Voice {
         self.answer_at_rest(rest, &reads.regs, input, reads.memory, reads.table, groups)
     }
 
-    /// Makes n samples, and tells for how many more the envelope rests.
+    /// Makes n samples, or all of them but the last, where the voice doesn't glide over that.
     fn play_row(
         &mut self,
         n: u8,
@@ -83,19 +96,25 @@ impl Voice {
         previous: &[i16; BATCH_SIZE],
         work: &mut Workspace,
         made: &mut PlayedRows,
-    ) -> u16
-        requires few { n < BATCH_SIZE }
+    ) -> Glided
+        requires some { 0 < n }
+        requires few { n ≤ BATCH_SIZE }
         requires voice { reads.now.shared.voice < 8 }
         requires pitch { reads.now.regs.pitch < 0x4000 }
         requires noise { (j : ℕ) → j < n → slice_index reads.now.rows.now.noise j < 0x8000 }
         requires lower { (j : ℕ) → j < BATCH_SIZE → slice_index made.old.loops j < 2 ^ reads.now.shared.voice }
-        ensures way { (k : ℕ) → reads.now.clock ≡ counter_at k
-            → IsOnItsWay reads.now.shared (lane_of reads.now previous.now self.old k) n result made.old.loops made.new.loops made.new.outs self.new }
-        ensures others { (j : ℕ) → n ≤ j → slice_index made.new.loops j ≡ slice_index made.old.loops j }
+        ensures from { n - 1 ≤ result.at }
+        ensures to { result.at ≤ n }
+        ensures way { (k : ℕ) → reads.now.clock ≡ counter_at k → let lane = lane_of reads.now previous.now self.old k in
+            IsOnItsWay reads.now.shared lane result.at result.rest made.old.loops made.new.loops made.new.outs self.new }
+        ensures level { (k : ℕ) → reads.now.clock ≡ counter_at k → result.at ≡ n
+            → self.new.envelope.level ≡ (answer_at (lane_of reads.now previous.now self.old k) (n - 1)).level }
+        ensures others { (j : ℕ) → result.at ≤ j → slice_index made.new.loops j ≡ slice_index made.old.loops j }
         ensures lower { (j : ℕ) → j < BATCH_SIZE → slice_index made.new.loops j < 2 ^ (reads.now.shared.voice + 1) }
     {
-        if n == 0 {
-            return 0;
+        let last = n - 1;
+        if last == 0 {
+            return Glided { at: 0, rest: 0 };
         }
         // a copy, so that what is the same in all samples is worked out once
         let shared = reads.shared;
@@ -103,12 +122,12 @@ impl Voice {
         let mut rest = self.rest_from(&reads.regs, shared.reset, koff, reads.memory, &reads.clock);
         let plain = shared.plain_samples(reads.rows);
         let mut j = 0;
-        'samples: while j < n {
+        'samples: while j < last {
             let end = plain.end_from(j, n);
             let glided = self.glide(j, end, rest, reads, work, made);
             let to = glided.at;
-            if to == n {
-                return glided.rest;
+            if last <= to {
+                return glided;
             }
             let place = usize::from(to);
             let input = shared.input(reads.rows, previous[place], to);
@@ -118,7 +137,37 @@ impl Voice {
             rest = played.rest;
             j = to + 1;
         }
-        rest
+        Glided { at: j, rest }
+    }
+
+    /// What sample `j` gave, the last over which the voice glided.
+    fn glided_answer(
+        &self,
+        j: u8,
+        reads: &VoiceReads,
+        previous: &[i16; BATCH_SIZE],
+        made: &PlayedRows,
+    ) -> VoiceOut
+        requires few { j < BATCH_SIZE }
+        requires voice { reads.now.shared.voice < 8 }
+        ensures { (k : ℕ) (before : List ℕ) (begun : VoiceState) → let lane = lane_of reads.now previous.now begun k in
+            IsPlayed lane reads.now.shared.voice (j + 1) before made.now.loops made.now.outs self.now
+            → slice_index before j < 2 ^ reads.now.shared.voice
+            → self.now.envelope.level ≡ (answer_at lane j).level → result ≡ answer_at lane j }
+    {
+        let place = usize::from(j);
+        let input = reads.shared.input(reads.rows, previous[place], j);
+        let out = made.outs[place];
+        let level = self.level();
+        VoiceOut {
+            out,
+            level,
+            envx: (level / 0x10) as u8,
+            outx: high_byte(out),
+            block: self.block(),
+            looped: is_marked(&made.loops, j, reads.shared.voice),
+            keyed: is_keyed(&input),
+        }
     }
 
     /// Plays a batch of n samples over the row of outputs of the voice before. Its outputs are put into a row, and the bit of the voice is added to the byte
@@ -143,11 +192,14 @@ impl Voice {
         ensures lower { (j : ℕ) → j < BATCH_SIZE → slice_index made.new.loops j < 2 ^ (reads.now.shared.voice + 1) }
         ensures last { (k : ℕ) → reads.now.clock ≡ counter_at k → result ≡ answer_at (lane_of reads.now previous.now self.old k) (n - 1) }
     {
+        let glided = self.play_row(n, reads, previous, work, made);
         let last = n - 1;
-        let rest = self.play_row(last, reads, previous, work, made);
+        if glided.at == n {
+            return self.glided_answer(last, reads, previous, made);
+        }
         let place = usize::from(last);
         let input = reads.shared.input(reads.rows, previous[place], last);
-        let answer = self.play_last(last, rest, reads, &input, &mut work.groups);
+        let answer = self.play_last(last, glided.rest, reads, &input, &mut work.groups);
         made.outs[place] = answer.out;
         mark_loop(&mut made.loops, last, answer.looped, reads.shared.voice);
         answer

@@ -10,7 +10,8 @@ use Rattle.voice_unit.proofs.voice.Voice.play.Goals as goal
 pub mark_loop-requires-clause-lower : goal.mark_loop-requires-clause-lower
 mark_loop-requires-clause-lower c =
     let last : ℕ = c.args.n - 1 in
-    let same : slice_index c.play_row-rest.new.made.loops last ≡ slice_index c.args.made.now.loops last = c.play_row-rest.ensures.others last (omega arith) in
+    let here : c.play_row-glided.result.at ≡ last = omega (arith, c.play_row-glided.ensures.from, c.play_row-glided.ensures.to, c.if-glided-n.false, c.requires.some) in
+    let same : slice_index c.play_row-glided.new.made.loops last ≡ slice_index c.args.made.now.loops last = c.play_row-glided.ensures.others last (omega (arith, here)) in
     rw same (c.requires.lower last (omega (arith, c.requires.some, c.requires.few)))
 
 pub returns-clause-played : goal.returns-clause-played
@@ -22,11 +23,12 @@ returns-clause-played c k at =
     let whole : to_z w16 (of_z w16 (number_at c.args.previous.now j)) ≡ number_at c.args.previous.now j = search rules in
     let input : c.input-input.result ≡ lane_inputs c.args.reads.now.shared c.args.reads.now.rows.now c.args.previous.now j = rw whole at (rw place at c.input-input.ensures.value) in
     let out : to_z w16 (of_z w16 c.play_last-answer.result.out) ≡ c.play_last-answer.result.out = search rules in
-    let way = c.play_row-rest.ensures.way k at in
+    let here : c.play_row-glided.result.at ≡ j = omega (arith, c.play_row-glided.ensures.from, c.play_row-glided.ensures.to, c.if-glided-n.false, c.requires.some) in
+    let way = rw here at (c.play_row-glided.ensures.way k at) in
     let step = rw input at (c.play_last-answer.ensures k at (rw input way.at_rest)) in
     rw (← all, place, out, c.mark_loop.ensures) (one_more_played
     (lane_of c.args.reads.now c.args.previous.now c.args.self.now k) c.args.reads.now.shared.voice j
-    c.args.made.now.loops c.play_row-rest.new.made.loops c.play_row-rest.new.made.outs c.play_row-rest.new.self c.play_last-answer.new.self c.play_last-answer.result.out c.play_last-answer.result.looped
+    c.args.made.now.loops c.play_row-glided.new.made.loops c.play_row-glided.new.made.outs c.play_row-glided.new.self c.play_last-answer.new.self c.play_last-answer.result.out c.play_last-answer.result.looped
     way.played (search rules) (search rules)
     step.voice (ap (λ (answer : VoiceOut). answer.out) step.answer_is) (ap (λ (answer : VoiceOut). answer.looped) step.answer_is))
 
@@ -37,13 +39,26 @@ returns-clause-last c k at =
     let place : c.from-place.result ≡ j = c.from-place.ensures in
     let whole : to_z w16 (of_z w16 (number_at c.args.previous.now j)) ≡ number_at c.args.previous.now j = search rules in
     let input : c.input-input.result ≡ lane_inputs c.args.reads.now.shared c.args.reads.now.rows.now c.args.previous.now j = rw whole at (rw place at c.input-input.ensures.value) in
-    let way = c.play_row-rest.ensures.way k at in
+    let here : c.play_row-glided.result.at ≡ j = omega (arith, c.play_row-glided.ensures.from, c.play_row-glided.ensures.to, c.if-glided-n.false, c.requires.some) in
+    let way = rw here at (c.play_row-glided.ensures.way k at) in
     let step = rw input at (c.play_last-answer.ensures k at (rw input way.at_rest)) in
     rw way.played.voice_is at step.answer_is
 
 pub returns-clause-lower : goal.returns-clause-lower
 returns-clause-lower c j below =
     let last : ℕ = c.args.n - 1 in
-    let same : slice_index c.play_row-rest.new.made.loops last ≡ slice_index c.args.made.now.loops last = c.play_row-rest.ensures.others last (omega arith) in
-    let own : slice_index c.play_row-rest.new.made.loops last < 2 ^ c.args.reads.now.shared.voice = rw same (c.requires.lower last (omega (arith, c.requires.some, c.requires.few))) in
-    rw c.mark_loop.ensures (with_loop-bound c.play_row-rest.new.made.loops last c.args.reads.now.shared.voice j c.play_last-answer.result.looped (search rules) own (c.play_row-rest.ensures.lower j below))
+    let here : c.play_row-glided.result.at ≡ last = omega (arith, c.play_row-glided.ensures.from, c.play_row-glided.ensures.to, c.if-glided-n.false, c.requires.some) in
+    let same : slice_index c.play_row-glided.new.made.loops last ≡ slice_index c.args.made.now.loops last = c.play_row-glided.ensures.others last (omega (arith, here)) in
+    let own : slice_index c.play_row-glided.new.made.loops last < 2 ^ c.args.reads.now.shared.voice = rw same (c.requires.lower last (omega (arith, c.requires.some, c.requires.few))) in
+    rw c.mark_loop.ensures (with_loop-bound c.play_row-glided.new.made.loops last c.args.reads.now.shared.voice j c.play_last-answer.result.looped (search rules) own (c.play_row-glided.ensures.lower j below))
+
+pub returns-then-glided-n-clause-played : goal.returns-then-glided-n-clause-played
+returns-then-glided-n-clause-played c k at = let way = rw c.if-glided-n.true at (c.play_row-glided.ensures.way k at) in way.played
+
+pub returns-then-glided-n-clause-last : goal.returns-then-glided-n-clause-last
+returns-then-glided-n-clause-last c k at =
+    let all : c.args.n ≡ c.args.n - 1 + 1 = omega (arith, c.requires.some) in
+    let whole : c.play_row-glided.result.at ≡ c.args.n = c.if-glided-n.true in
+    let way = rw whole at (c.play_row-glided.ensures.way k at) in
+    c.glided_answer.ensures k c.args.made.now.loops c.args.self.now (rw all at way.played)
+    (c.requires.lower (c.args.n - 1) (omega (arith, c.requires.some, c.requires.few))) (c.play_row-glided.ensures.level k at whole)

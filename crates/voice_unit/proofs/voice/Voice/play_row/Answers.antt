@@ -34,7 +34,7 @@ samples-preserved c =
     let j : ℕ = c.samples.j in
     let to : ℕ = c.glide-glided.result.at in
     let from : j ≤ to = c.glide-glided.ensures.from in
-    let below : to < c.args.n = omega (arith, c.glide-glided.ensures.to, c.end_from-end.ensures.to, c.if-to-n.false) in
+    let below : to < c.args.n = omega (arith, c.if-last-to.false) in
     let place : c.from-place.result ≡ to = c.from-place.ensures in
     let way : (k : ℕ) → c.args.reads.now.clock ≡ counter_at k
     → IsOnItsWay c.args.reads.now.shared (lane_of c.args.reads.now c.args.previous.now c.args.self.now k)
@@ -68,7 +68,7 @@ samples-preserved c =
                 (sample k at).voice (sample k at).out (sample k at).looped);
             at_rest = rw further (sample k at).rest;
           };
-      within = omega (arith, below);
+      within = omega (arith, c.if-last-to.false);
       later = λ i above.
           let other : i ≢ to = λ e. absurd (omega (arith, e, above)) in
           rw c.mark_loop.ensures (with_loop-other c.glide-glided.new.made.loops to c.args.reads.now.shared.voice i c.play_sample-played.result.looped other
@@ -84,22 +84,25 @@ pub samples-smaller : goal.samples-smaller
 samples-smaller c = omega (arith, c.samples-test.true, c.glide-glided.ensures.from, c.glide-glided.ensures.to, c.end_from-end.ensures.to)
 
 pub returns-clause-way : goal.returns-clause-way
-returns-clause-way c k at =
-    let done : c.samples.j ≡ c.args.n = omega (arith, c.samples-test.false, c.samples.invariant.within) in
-    rw done at (c.samples.invariant.way k at)
+returns-clause-way c k at = c.samples.invariant.way k at
 
-pub returns-then-n-eq0-clause-way : goal.returns-then-n-eq0-clause-way
-returns-then-n-eq0-clause-way c k at =
-    let none : c.args.n ≡ 0 = omega arith in
-    rw none record {
-      played = none_played (lane_of c.args.reads.now c.args.previous.now c.args.self.now k) c.args.reads.now.shared.voice c.args.made.now.loops c.args.made.now.outs;
-      at_rest = no_rest c.args.reads.now.shared.reset (has_bit c.args.reads.now.shared.koff c.args.reads.now.shared.voice) c.args.reads.now.regs c.args.reads.now.memory.now (k + 0) c.args.self.now;
-    }
+pub returns-then-last-eq0-clause-way : goal.returns-then-last-eq0-clause-way
+returns-then-last-eq0-clause-way c k at = record {
+  played = none_played (lane_of c.args.reads.now c.args.previous.now c.args.self.now k) c.args.reads.now.shared.voice c.args.made.now.loops c.args.made.now.outs;
+  at_rest = no_rest c.args.reads.now.shared.reset (has_bit c.args.reads.now.shared.koff c.args.reads.now.shared.voice) c.args.reads.now.regs c.args.reads.now.memory.now (k + 0) c.args.self.now;
+}
 
-pub returns-then-to-n-clause-way : goal.returns-then-to-n-clause-way
-returns-then-to-n-clause-way c k at =
-    let done : c.glide-glided.result.at ≡ c.args.n = c.if-to-n.true in
-    rw done at (c.glide-glided.ensures.way _ c.args.made.now.loops (record { regs = refl; memory = refl; table = refl })
+pub returns-then-last-to-clause-way : goal.returns-then-last-to-clause-way
+returns-then-last-to-clause-way c k at =
+    c.glide-glided.ensures.way _ c.args.made.now.loops (record { regs = refl; memory = refl; table = refl })
     (lane_glides c.args.reads.now c.args.previous.now c.args.self.now k c.samples.j c.end_from-end.result
     (λ i since below. c.plain_samples-plain.ensures i (omega (arith, below, c.end_from-end.ensures.to, c.requires.few)) (c.end_from-end.ensures.plain i since below)))
-    (c.samples.invariant.way k at))
+    (c.samples.invariant.way k at)
+
+pub returns-then-last-to-clause-level : goal.returns-then-last-to-clause-level
+returns-then-last-to-clause-level c k at all =
+    let level = c.glide-glided.ensures.level _ c.args.made.now.loops (record { regs = refl; memory = refl; table = refl })
+    (lane_glides c.args.reads.now c.args.previous.now c.args.self.now k c.samples.j c.end_from-end.result
+    (λ i since below. c.plain_samples-plain.ensures i (omega (arith, below, c.end_from-end.ensures.to, c.requires.few)) (c.end_from-end.ensures.plain i since below)))
+    (c.samples.invariant.way k at) (omega (arith, all, c.samples-test.true)) in
+    rw all at level

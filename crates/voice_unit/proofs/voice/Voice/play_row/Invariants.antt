@@ -7,7 +7,7 @@ abbrev pub invariant-samples : goal.invariant-samples
 invariant-samples l = record {
   way : (k : ℕ) → l.reads.clock ≡ counter_at k
       → IsOnItsWay l.reads.shared (lane_of l.reads l.previous l.initial.self k) l.j l.rest l.initial.made.loops l.made.loops l.made.outs l.self;
-  within : l.j ≤ l.n;
+  within : l.j ≤ l.last;
   later : (j : ℕ) → l.j ≤ j → slice_index l.made.loops j ≡ slice_index l.initial.made.loops j;
   lower : (j : ℕ) → j < 64 → slice_index l.made.loops j < 2 ^ (l.reads.shared.voice + 1);
   outs_long : length l.made.outs ≡ 64;
@@ -15,4 +15,4 @@ invariant-samples l = record {
 }
 
 abbrev pub decreases-samples : goal.decreases-samples
-decreases-samples l = l.n - l.j
+decreases-samples l = l.last - l.j

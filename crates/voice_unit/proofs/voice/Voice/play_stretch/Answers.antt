@@ -1,4 +1,4 @@
-use Rattle.std.proofs.Common.{◌≡◌, ◌+◌, ◌-◌, ◌*◌, ◌^◌, ◌<◌, ◌≤◌, nat_lt, ℕ, Bool, true, false, List, ℤ, ◌⊎◌, inl, inr, drop, slice_index, refl, ap, ◌∙◌, arith}
+use Rattle.std.proofs.Common.{◌≡◌, ◌+◌, ◌-◌, ◌*◌, ◌^◌, ◌<◌, ◌≤◌, nat_lt, ℕ, Bool, true, false, List, ℤ, ◌⊎◌, inl, inr, drop, slice_index, refl, ap, sym, ◌∙◌, arith}
 use Rattle.std.proofs.lemmas.Bool.Decides.{nat_tests}
 use Rattle.aram_core.specs.Memory.{byte_at}
 use Rattle.voice_unit.specs.Directory.{loop_word}
@@ -8,7 +8,7 @@ use Rattle.voice_unit.specs.Voice.{is_silencing, VoiceState}
 use Rattle.voice_unit.proofs.LoopBits.{bit-bound}
 use Rattle.voice_unit.proofs.Played.{doubled}
 use Rattle.voice_unit.proofs.PartsOfRow.{last_twelve}
-use Rattle.voice_unit.proofs.OverRow.{glided_over}
+use Rattle.voice_unit.proofs.OverRow.{glided_over, last_level}
 use Rattle.voice_unit.proofs.voice.Voice.play_stretch.Goals as goal
 
 pub returns-clause-way : goal.returns-clause-way
@@ -56,6 +56,21 @@ returns-clause-way c plays before over glides way =
     (rw groups at (ap place_of c.go_to.ensures ∙ next)) (ap (λ (w : VoiceState). w.delay) c.go_to.ensures) (ap (λ (w : VoiceState). w.envelope) c.go_to.ensures)
     (ends c.read_stretch-stretch.result.woken refl)
     c.sound.ensures.before outs c.read_stretch-stretch.ensures.loops.before_it marks c.read_stretch-stretch.ensures.loops.later
+
+pub returns-clause-level : goal.returns-clause-level
+returns-clause-level c plays before over glides way =
+    let regs = over.regs in
+    let memory = over.memory in
+    let few : c.read_stretch-stretch.result.samples ≤ c.args.n = c.read_stretch-stretch.ensures.stretch.few in
+    let awake : is_silencing c.course-course.result.reset (byte_at c.args.reads.now.memory.now c.course-course.result.first.block) ≡ true → c.course-course.result.silent ≡ true =
+    λ loud. c.course-course.ensures.all_silent (way.at_rest.silencing (omega (arith, c.requires.some, c.requires.resting))
+    (rw (c.course-course.ensures.reset, c.course-course.ensures.first, ← memory) at loud)) in
+    let quiet = rw (c.course-course.ensures.position, c.course-course.ensures.pitch, c.course-course.ensures.reset, c.course-course.ensures.loop_to, c.course-course.ensures.first, ← memory, ← regs) at (c.read_stretch-stretch.ensures.quiet awake) in
+    let same = last_level c.args.reads.now.shared plays c.args.at c.read_stretch-stretch.result.samples c.args.rest before c.args.made.now.loops c.args.made.now.outs c.args.self.now way c.begin_row.ensures.twelve
+    (rw c.course-course.ensures.position at c.course-course.ensures.course.position) (rw (← regs) at c.requires.pitch)
+    (λ j below. glides (c.args.at + j) (omega arith) (omega (arith, below, few))) c.read_stretch-stretch.ensures.stretch.some (omega (arith, few, c.requires.resting))
+    (λ j below some loud. c.course-course.ensures.silent (quiet j below loud)) in
+    ap (λ (w : VoiceState). w.envelope.level) c.go_to.ensures ∙ sym same
 
 pub returns-clause-lower : goal.returns-clause-lower
 returns-clause-lower c i from below = by (nat_lt i (c.args.at + c.read_stretch-stretch.result.samples)) refl
