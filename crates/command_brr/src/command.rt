@@ -79,10 +79,8 @@ fn prepare<'a, H: Host>(
     ensures { let answer = λ (files : Files). brr_answer output.now (files input.now) in
         Prepares plan_makes answer (H.state host.old) (H.state host.new) result }
 {
-    match read_input(alloc, host, input, INPUT_LIMIT, Cause::InputTooLong) {
-        Ok(bytes) => plan(alloc, bytes.as_slice(), output),
-        Err(refusal) => Err(refusal),
-    }
+    let bytes = read_input(alloc, host, input, INPUT_LIMIT, Cause::InputTooLong)?;
+    plan(alloc, bytes.as_slice(), output)
 }
 
 /// Decodes the blocks of the input to a sound file of one channel, the output, and reports how many there were.

@@ -75,10 +75,8 @@ fn prepare<'a, H: Host>(
     ensures { let answer = λ (files : Files). dis_answer origin output.now (files input.now) in
         Prepares plan_makes answer (H.state host.old) (H.state host.new) result }
 {
-    match read_input(alloc, host, input, INPUT_LIMIT, Cause::InputTooLong) {
-        Ok(bytes) => plan(alloc, bytes.as_slice(), origin, output),
-        Err(refusal) => Err(refusal),
-    }
+    let bytes = read_input(alloc, host, input, INPUT_LIMIT, Cause::InputTooLong)?;
+    plan(alloc, bytes.as_slice(), origin, output)
 }
 
 /// Lists the code that the input holds, its first byte at the origin, to the output, and reports how many lines there are.

@@ -123,10 +123,8 @@ fn prepare<'a, H: Host>(
     ensures { let answer = λ (files : Files). encode_answer output.now options (files input.now) in
         Prepares plan_makes answer (H.state host.old) (H.state host.new) result }
 {
-    match read_input(alloc, host, input, WAVE_LIMIT, Cause::InputTooLong) {
-        Ok(bytes) => plan(alloc, bytes.as_slice(), output, options),
-        Err(refusal) => Err(refusal),
-    }
+    let bytes = read_input(alloc, host, input, WAVE_LIMIT, Cause::InputTooLong)?;
+    plan(alloc, bytes.as_slice(), output, options)
 }
 
 /// Encodes the sound file of one channel that the input holds to blocks, the output, and reports on each block. The options say whether

@@ -129,10 +129,7 @@ fn report(alloc: Global, size: usize, file: &SpcFile) -> Result<Vec<u8>, OutOfMe
 fn plan(alloc: Global, bytes: &[u8]) -> Result<Plan<'static>, Refusal<Cause>>
     ensures { Plans plan_makes (fields_answer bytes.now) result }
 {
-    let file = match accept_file(alloc, bytes) {
-        Ok(file) => file,
-        Err(refusal) => return Err(refusal),
-    };
+    let file = accept_file(alloc, bytes)?;
     let Ok(report) = report(alloc, bytes.len(), &file) else {
         return Err(Refusal::OutOfMemory);
     };
@@ -151,16 +148,14 @@ fn prepare<H: Host>(
     ensures { let answer = λ (files : Files). info_answer (files input.now) in
         Prepares plan_makes answer (H.state host.old) (H.state host.new) result }
 {
-    match read_input(
+    let bytes = read_input(
         alloc,
         host,
         input,
         INPUT_LIMIT,
         Cause::SpcLength(INPUT_LIMIT + 1),
-    ) {
-        Ok(bytes) => plan(alloc, bytes.as_slice()),
-        Err(refusal) => Err(refusal),
-    }
+    )?;
+    plan(alloc, bytes.as_slice())
 }
 
 /// Reports the fields of the SPC file that the input holds.

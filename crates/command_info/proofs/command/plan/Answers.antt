@@ -3,22 +3,15 @@ use Rattle.command_frame.specs.Answer.{Answer, done}
 use Rattle.command_frame.specs.Plan.{plan_makes}
 use Rattle.command_info.specs.Info.{info_report}
 use Rattle.input_files.specs.Reading.{answer_from}
-use Rattle.input_files.specs.Inputs.{file_of}
 use Rattle.exit_status.specs.declared.cause.Cause.{Cause}
-use Rattle.input_files.proofs.Readings.{plans_declined}
 use Rattle.command_info.proofs.command.plan.Goals as goal
-
-pub returns-in-Err : goal.returns-in-Err
-returns-in-Err c =
-    let told : List ℕ → Answer Cause = λ file. done [] (info_report (length c.args.bytes.now) file) in
-    plans_declined plan_makes (file_of c.args.bytes.now) told c.in-Err.refusal c.in-Err.ensures.err
 
 pub returns : goal.returns
 returns c =
     let told : List ℕ → Answer Cause = λ file. done [] (info_report (length c.args.bytes.now) file) in
     let made : List ℕ → Answer Cause = λ report. done [] report in
     record {
-      ok = ap (λ given. answer_from given told) c.in-Ok.ensures.ok ∙ ap made (sym c.in-Ok-report.ensures);
+      ok = ap (λ given. answer_from given told) c.in_ok-file.ensures.ok ∙ ap made (sym c.in-Ok.ensures);
       err = tt;
       no_usage = λ wrong. absurd (cc);
       no_read = λ wrong. absurd (cc);
