@@ -80,10 +80,8 @@ fn prepare_list<'a, H: Host>(
     ensures { let answer = λ (files : Files). table_answer wave.now (files list.now) file.now table in
         Prepares (stream_makes (to_come_of dsp_chip dsp_saving) (report_of dsp_chip dsp_saving)) answer (H.state host.old) (H.state host.new) result }
 {
-    match read_list(alloc, host, list) {
-        Ok(cuts) => plan(alloc, file, table, cuts, wave),
-        Err(refusal) => Err(refusal),
-    }
+    let cuts = read_list(alloc, host, list)?;
+    plan(alloc, file, table, cuts, wave)
 }
 
 /// Reads the table and the list and makes the plan for them and a file.
@@ -98,10 +96,8 @@ fn prepare_table<'a, H: Host>(
     ensures { let answer = λ (files : Files). file_answer wave.now (files table.now) (files list.now) file.now in
         Prepares (stream_makes (to_come_of dsp_chip dsp_saving) (report_of dsp_chip dsp_saving)) answer (H.state host.old) (H.state host.new) result }
 {
-    match read_table(alloc, host, table) {
-        Ok(table) => prepare_list(alloc, host, file, table, list, wave),
-        Err(refusal) => Err(refusal),
-    }
+    let table = read_table(alloc, host, table)?;
+    prepare_list(alloc, host, file, table, list, wave)
 }
 
 /// Reads the file, the table and the list and makes the plan for them.
@@ -116,10 +112,8 @@ fn prepare<'a, H: Host>(
     ensures { let answer = λ (files : Files). cuts_answer wave.now (files file.now) (files table.now) (files list.now) in
         Prepares (stream_makes (to_come_of dsp_chip dsp_saving) (report_of dsp_chip dsp_saving)) answer (H.state host.old) (H.state host.new) result }
 {
-    match read_file(alloc, host, file) {
-        Ok(file) => prepare_table(alloc, host, &file, table, list, wave),
-        Err(refusal) => Err(refusal),
-    }
+    let file = read_file(alloc, host, file)?;
+    prepare_table(alloc, host, &file, table, list, wave)
 }
 
 /// Renders the cuts of the list, of the tune of the file and the table, joined to the sound file, and reports how many they

@@ -30,8 +30,6 @@ pub(crate) fn read_list<H: Host>(
 ) -> Result<CutList, Refusal<Cause>>
     ensures { Reads (λ files. cuts_in (files name.now)) (H.state host.old) (H.state host.new) result }
 {
-    match read_input(alloc, host, name, INPUT_LIMIT, Cause::InputTooLong) {
-        Ok(bytes) => accept_list(alloc, bytes.as_slice()),
-        Err(refusal) => Err(refusal),
-    }
+    let bytes = read_input(alloc, host, name, INPUT_LIMIT, Cause::InputTooLong)?;
+    accept_list(alloc, bytes.as_slice())
 }

@@ -8,9 +8,9 @@ use Rattle.cut_files.specs.CutFiles.{to_come_of, report_of}
 use Rattle.command_cuts.specs.Cuts.{file_answer}
 use Rattle.command_cuts.proofs.command.prepare.Goals as goal
 
-pub returns-in-Ok : goal.returns-in-Ok
-returns-in-Ok g c =
+pub returns : goal.returns
+returns g c =
     reads_then (stream_makes (to_come_of dsp_chip dsp_saving) (report_of dsp_chip dsp_saving)) (λ (files : Files). file_in (files c.args.file.now))
     (λ (files : Files) (file : List ℕ). file_answer c.args.wave.now (files c.args.table.now) (files c.args.list.now) file)
-    (g.H.Host.state c.args.host.now) (g.H.Host.state c.read_file.new.host) (g.H.Host.state c.prepare_table.new.host) c.in-Ok.file c.prepare_table.result
-    c.in-Ok.ensures c.prepare_table.ensures
+    (g.H.Host.state c.args.host.now) (g.H.Host.state c.read_file.new.host) (g.H.Host.state c.prepare_table.new.host) c.in_ok-file.file c.prepare_table.result
+    c.in_ok-file.ensures c.prepare_table.ensures

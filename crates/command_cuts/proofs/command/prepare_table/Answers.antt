@@ -8,9 +8,9 @@ use Rattle.cut_files.specs.CutFiles.{to_come_of, report_of}
 use Rattle.command_cuts.specs.Cuts.{table_answer}
 use Rattle.command_cuts.proofs.command.prepare_table.Goals as goal
 
-pub returns-in-Ok : goal.returns-in-Ok
-returns-in-Ok g c =
+pub returns : goal.returns
+returns g c =
     reads_then (stream_makes (to_come_of dsp_chip dsp_saving) (report_of dsp_chip dsp_saving)) (λ (files : Files). table_in (files c.args.table.now))
     (λ (files : Files) (table : List ℤ). table_answer c.args.wave.now (files c.args.list.now) c.args.file.now table)
-    (g.H.Host.state c.args.host.now) (g.H.Host.state c.read_table.new.host) (g.H.Host.state c.prepare_list.new.host) c.in-Ok.table c.prepare_list.result
-    c.in-Ok.ensures c.prepare_list.ensures
+    (g.H.Host.state c.args.host.now) (g.H.Host.state c.read_table.new.host) (g.H.Host.state c.prepare_list.new.host) c.in_ok-table.table c.prepare_list.result
+    c.in_ok-table.ensures c.prepare_list.ensures
