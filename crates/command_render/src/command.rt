@@ -113,10 +113,8 @@ fn prepare_with<'a, H: Host>(
     ensures { let answer = λ (files : Files). file_answer wave.now (options_of options.entry) (files table.now) file.now in
         Prepares (stream_makes (to_come_of dsp_chip) (report_of dsp_chip)) answer (H.state host.old) (H.state host.new) result }
 {
-    match read_table(alloc, host, table) {
-        Ok(table) => plan(alloc, file, table, wave, options),
-        Err(refusal) => Err(refusal),
-    }
+    let table = read_table(alloc, host, table)?;
+    plan(alloc, file, table, wave, options)
 }
 
 /// Reads the file and the table and makes the plan for them.
@@ -132,10 +130,8 @@ fn prepare<'a, H: Host>(
     ensures { let answer = λ (files : Files). render_answer wave.now (options_of options.entry) (files file.now) (files table.now) in
         Prepares (stream_makes (to_come_of dsp_chip) (report_of dsp_chip)) answer (H.state host.old) (H.state host.new) result }
 {
-    match read_file(alloc, host, file) {
-        Ok(file) => prepare_with(alloc, host, &file, table, wave, options),
-        Err(refusal) => Err(refusal),
-    }
+    let file = read_file(alloc, host, file)?;
+    prepare_with(alloc, host, &file, table, wave, options)
 }
 
 /// Renders the file over the table to the sound file, and to the trace where it has a name.

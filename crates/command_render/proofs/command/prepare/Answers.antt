@@ -9,9 +9,9 @@ use Rattle.render_options.specs.Options.{options_of}
 use Rattle.command_render.specs.Render.{file_answer}
 use Rattle.command_render.proofs.command.prepare.Goals as goal
 
-pub returns-in-Ok : goal.returns-in-Ok
-returns-in-Ok g c =
+pub returns : goal.returns
+returns g c =
     reads_then (stream_makes (to_come_of dsp_chip) (report_of dsp_chip)) (λ (files : Files). file_in (files c.args.file.now))
     (λ (files : Files) (file : List ℕ). file_answer c.args.wave.now (options_of c.args.options) (files c.args.table.now) file)
-    (g.H.Host.state c.args.host.now) (g.H.Host.state c.read_file.new.host) (g.H.Host.state c.prepare_with.new.host) c.in-Ok.file c.prepare_with.result
-    c.in-Ok.ensures c.prepare_with.ensures
+    (g.H.Host.state c.args.host.now) (g.H.Host.state c.read_file.new.host) (g.H.Host.state c.prepare_with.new.host) c.in_ok-file.file c.prepare_with.result
+    c.in_ok-file.ensures c.prepare_with.ensures
