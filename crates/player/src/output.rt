@@ -1,0 +1,53 @@
+// What callers get in arrays of their own: frames, and text.
+ghost use Rattle.std.specs.Prelude.{◌≡◌, ◌+◌, ◌≤◌, ◌++◌, length, take, drop, map};
+ghost use Rattle.player.specs.Output.{stereo, with_text};
+
+use num_fix::Frame;
+
+/// One stereo frame, as C lays it out: a signed 16-bit number for each side, left first; 32,000 frames are a second.
+#[repr(C)]
+#[derive(Clone, Copy, Debug, PartialEq, Eq)]
+pub struct StereoFrame {
+    pub left: i16,
+    pub right: i16,
+}
+
+/// A frame as callers take it.
+fn stereo(frame: Frame) -> StereoFrame
+    ensures { result ≡ stereo frame }
+{
+    StereoFrame {
+        left: frame.left,
+        right: frame.right,
+    }
+}
+
+/// Puts frames into others from a place on.
+pub(crate) fn put_frames(frames: &[Frame], out: &mut [StereoFrame], from: usize)
+    requires { from + length frames.now ≤ length out.old }
+    ensures { out.new ≡ take from out.old ++ map stereo frames.now ++ drop (from + length frames.now) out.old }
+{
+    for place in 0..frames.len() {
+        out[from + place] = stereo(frames[place]);
+    }
+}
+
+/// Writes so many bytes of a text.
+fn put_bytes(text: &[u8], out: &mut [u8], count: usize)
+    requires text { count ≤ length text.now }
+    requires room { count ≤ length out.old }
+    ensures { out.new ≡ take count text.now ++ drop count out.old }
+{
+    out[..count].copy_from_slice(&text[..count]);
+}
+
+/// Writes as much of a text as an array has room for, and a zero byte; nothing into an array of no bytes.
+pub fn put_text(text: &[u8], out: &mut [u8])
+    ensures text { out.new ≡ with_text text.now out.old }
+{
+    if let Some(most) = out.len().checked_sub(1) {
+        let count = text.len().min(most);
+        put_bytes(text, out, count);
+        out[count] = 0;
+    }
+}
