@@ -1,0 +1,39 @@
+-- The handle that C keeps, and what calls make of it.
+use Rattle.std.specs.Prelude.{◌≡◌, ◌-◌, ℕ, List, [], Option, Some, None, is_some, min, map}
+use Rattle.num_fix.specs.Limits.{most_frames}
+use Rattle.cut_form.specs.Checkpoints.{Checkpoint}
+use Rattle.cut_form.specs.Slices.{slice_of}
+use Rattle.player.specs.declared.output.StereoFrame.{StereoFrame}
+use Rattle.player.specs.Output.{stereo}
+use Rattle.player.specs.Player.{PlayerState, frames_of, position_of, marks_of, KeepsPlayer}
+use Rattle.player.specs.Inputs.{IsOpened}
+use Rattle.player_c.specs.declared.handle.SpcwavePlayer.{SpcwavePlayer}
+
+-- it says itself whether it has a player
+abbrev pub IsKept : SpcwavePlayer → Type 0
+IsKept handle = is_some handle.engine.playing ≡ handle.is_open
+
+-- the player of a handle that has one
+abbrev pub playing : SpcwavePlayer → Option PlayerState
+playing handle = handle.engine.playing
+
+-- how many frames are given where there is room for so many
+abbrev pub frames_given : Option PlayerState → (room : ℕ) → ℕ
+frames_given None room = 0
+frames_given (Some player) room = min room (most_frames - position_of player)
+
+-- and which they are
+abbrev pub frames_played : Option PlayerState → (count : ℕ) → List StereoFrame
+frames_played None count = []
+frames_played (Some player) count = map stereo (slice_of (frames_of player) (position_of player) count)
+
+-- A player has come to a position and has these marks, and its tune, its file and its room are the same; or there was none, and is none.
+abbrev pub Moved : (at : PlayerState → ℕ) → (marks : PlayerState → List Checkpoint) → (old new : Option PlayerState) → Type 0
+Moved at marks None new = new ≡ None
+Moved at marks (Some old) None = ⊥
+Moved at marks (Some old) (Some new) = KeepsPlayer old new × (position_of new ≡ at old) × (marks_of new ≡ marks old)
+
+-- a player stands at the opening of a tune
+abbrev pub IsOpening : (bytes table : List ℕ) → (pages : ℕ) → Option PlayerState → Type 0
+IsOpening bytes table pages None = ⊥
+IsOpening bytes table pages (Some player) = IsOpened bytes table pages player

@@ -1,0 +1,10 @@
+-- the handle that C keeps, and what calls make of it
+pub mod Handle
+-- what a handle ends as, once its player was lent
+pub mod Lending
+-- what a handle owns
+pub mod Owned
+-- the numbers that calls answer
+pub mod Status
+-- tags by their numbers
+pub mod Tags

@@ -1,0 +1,20 @@
+// The part of a handle that keeps the player.
+ghost use Rattle.std.specs.Prelude.{Option};
+ghost use Rattle.std.specs.Coded.{coded_option};
+ghost use Rattle.player.specs.Player.{PlayerState};
+ghost use Rattle.player.specs.declared.player.Player.{the_code};
+
+use std::marker::Model;
+
+/// A pointer to a player on the heap, or any pointer where there is none.
+#[repr(C)]
+pub struct Engine {
+    pub(crate) at: *mut u8,
+    pub ghost playing: { Option PlayerState } by { coded_option the_code },
+}
+
+impl Model for Engine {
+    ghost use Rattle.player_c.specs.Owned.{owns_playing};
+
+    ghost also_owns = { λ e. owns_playing e.at e.playing };
+}

@@ -1,0 +1,57 @@
+// What a handle keeps, lends and gives back.
+ghost use Rattle.std.specs.Prelude.{◌≡◌, Some, None, IsSome};
+ghost use Rattle.std.specs.Borrow.{sem};
+ghost use Rattle.player_c.specs.Lending.{LendsPlayer};
+
+use crate::engine::Engine;
+use crate::parts::Parts;
+use player::Player;
+use std::alloc::Global;
+
+impl Engine {
+    /// Keeps what a box owns.
+    fn put_parts(&mut self, player: Parts<Player, Global>)
+        requires { self.old.playing ≡ None }
+        ensures { self.new.playing ≡ Some player.value }
+    {
+        let Parts { ptr, alloc: _ } = player;
+        self.at = ptr as *mut u8;
+    }
+
+    /// Gives it back.
+    fn take_parts(&mut self, alloc: Global) -> Parts<Player, Global>
+        requires { IsSome self.old.playing }
+        ensures player { Some result.value ≡ self.old.playing }
+        ensures none { self.new.playing ≡ None }
+    {
+        let ptr = self.at as *mut Player;
+        Parts { ptr, alloc }
+    }
+
+    /// Keeps a player.
+    pub fn put(&mut self, player: Box<Player>)
+        requires { self.old.playing ≡ None }
+        ensures { self.new.playing ≡ Some player.value }
+    {
+        self.put_parts(Parts::of(player));
+    }
+
+    /// Takes the player back.
+    pub fn take(&mut self, alloc: Global) -> Box<Player>
+        requires { IsSome self.old.playing }
+        ensures player { Some result.value ≡ self.old.playing }
+        ensures none { self.new.playing ≡ None }
+    {
+        self.take_parts(alloc).into_box()
+    }
+
+    /// Lends the player.
+    pub fn player(&mut self) -> &mut Player
+        requires { IsSome self.old.playing }
+        ensures* writes_back { sem 𝓛 (LendsPlayer self.entry result) }
+        ensures player { Some result.now ≡ self.old.playing }
+    {
+        let at = self.at as *mut Player;
+        unsafe { &mut *at }
+    }
+}
