@@ -1,0 +1,74 @@
+#!/usr/bin/env python3
+"""Plays an SPC file by libspcwave: player.py LIBRARY TUNE.spc TABLE OUT.wav [FROM_SECOND [SECONDS]]. Standard library alone."""
+import ctypes
+import sys
+import wave
+
+
+class Handle(ctypes.Structure):
+    _fields_ = [('engine', ctypes.c_void_p), ('is_open', ctypes.c_bool)]
+
+
+class Player:
+    """A player of the tune of some bytes; `play` gives frames of 4 bytes, as they stand in a WAV file."""
+
+    NAMES = {4: 'no SPC length', 5: 'no SPC signature', 6: 'no table', 7: 'out of memory', 16: 'not open', 17: 'out of range'}
+
+    def __init__(self, library, spc, table, pages=4096):
+        self.lib, self.handle = ctypes.CDLL(library), Handle()
+        handle, number, size = ctypes.POINTER(Handle), ctypes.c_uint32, ctypes.c_size_t
+        self.lib.spcwave_open.argtypes = [handle, ctypes.c_char_p, size, ctypes.c_char_p, size, number]
+        self.lib.spcwave_play.argtypes, self.lib.spcwave_play.restype = [handle, ctypes.c_void_p, size], size
+        self.lib.spcwave_seek.argtypes = [handle, number]
+        self.lib.spcwave_mark.argtypes = self.lib.spcwave_close.argtypes = [handle]
+        self.lib.spcwave_length.argtypes = [handle, ctypes.POINTER(number), ctypes.POINTER(number)]
+        self.lib.spcwave_tag.argtypes, self.lib.spcwave_tag.restype = [handle, number, ctypes.c_char_p, size], size
+        self.told(self.lib.spcwave_open(self.handle, spc, len(spc), table, len(table), pages))
+
+    def told(self, status):
+        if status:
+            raise ValueError(self.NAMES.get(status, status))
+
+    def length(self):
+        frames, fade = ctypes.c_uint32(), ctypes.c_uint32()
+        self.told(self.lib.spcwave_length(self.handle, frames, fade))
+        return frames.value, fade.value
+
+    def tag(self, number):
+        """The text of a tag: 0 is the title, 1 the game, 2 the artist; spcwave.h has the others."""
+        text = ctypes.create_string_buffer(33)
+        self.lib.spcwave_tag(self.handle, number, text, len(text))
+        return text.value.decode('latin-1')
+
+    def seek(self, frame):
+        self.told(self.lib.spcwave_seek(self.handle, frame))
+
+    def mark(self):
+        self.told(self.lib.spcwave_mark(self.handle))
+
+    def play(self, count):
+        room = ctypes.create_string_buffer(4 * count)
+        given = self.lib.spcwave_play(self.handle, room, count)
+        return room.raw[:4 * given]
+
+    def close(self):
+        self.lib.spcwave_close(self.handle)
+
+
+def main():
+    library, tune, table, out = sys.argv[1:5]
+    begin, seconds = (float(it) for it in (sys.argv[5:] + ['0', '-1'][len(sys.argv) - 5:])[:2])
+    player = Player(library, open(tune, 'rb').read(), open(table, 'rb').read())
+    print(' / '.join(player.tag(number) for number in range(3)))
+    player.seek(int(begin * 32000))
+    count = int(seconds * 32000) if seconds >= 0 else player.length()[0] - int(begin * 32000)
+    with wave.open(out, 'wb') as sound:
+        sound.setparams((2, 2, 32000, 0, 'NONE', 'not compressed'))
+        while count > 0 and (piece := player.play(min(count, 32000))):
+            sound.writeframes(piece)
+            count -= len(piece) // 4
+    player.close()
+
+
+if __name__ == '__main__':
+    main()

@@ -1,0 +1,106 @@
+/* spcwave.h: plays SPC music files of the Super Nintendo's sound unit, 16-bit stereo at 32,000 frames a second.
+ *
+ * The sound: the frames that spcwave_play gives are, whatever was sought, marked or played before, frames [position, position + given)
+ * of the run of the machine that the file opens, its processor and S-DSP in lock step. The library is proved to do what each comment
+ * below says, where its caller keeps the following, which nothing checks.
+ *
+ * You owe, for every call:
+ *  - a handle that was zeroed once (SPCWAVE_CLOSED, or memset) and since then was written by these functions alone. It may be moved
+ *    (memcpy, and the old one forgotten), never copied. No two calls may use it at once, and it stays on the thread that opened it;
+ *  - pointers that aren't null, also where the length is 0, to memory that nobody else reads or writes during the call;
+ *  - malloc, realloc and free of one allocator; 128 KB of stack for spcwave_open, 32 KB for the others; no call from a signal handler.
+ * Nothing is global: any number of handles may be used side by side.
+ * Only spcwave_open takes memory: half a megabyte, and 256 bytes a page. Only spcwave_close, and spcwave_open of an open handle, gives it back.
+ */
+#ifndef SPCWAVE_H
+#define SPCWAVE_H
+
+#include <stdbool.h>
+#include <stddef.h>
+#include <stdint.h>
+
+#ifdef __cplusplus
+extern "C" {
+#endif
+
+#define SPCWAVE_RATE 32000          /* frames a second */
+#define SPCWAVE_MOST 115200000u     /* the last position: an hour */
+#define SPCWAVE_PAGES 4096u         /* a good number of pages for marks: 1 MB */
+#define SPCWAVE_TAG_SIZE 33         /* bytes that the text of any tag fits in, with its zero byte */
+
+/* What calls answer. 0 to 15 are the statuses of the program spcwave. */
+enum spcwave_status {
+    SPCWAVE_OK = 0,
+    SPCWAVE_SPC_LENGTH = 4,     /* the length is not that of an SPC file: 65,920 to 1,048,576 bytes */
+    SPCWAVE_SPC_SIGNATURE = 5,  /* it doesn't begin with "SNES-SPC700 Sound File Data" */
+    SPCWAVE_TABLE_LENGTH = 6,   /* the table hasn't 1,024 bytes */
+    SPCWAVE_OUT_OF_MEMORY = 7,
+    SPCWAVE_NOT_OPEN = 16,      /* the handle has no player */
+    SPCWAVE_OUT_OF_RANGE = 17   /* a number is out of its range */
+};
+
+/* The tags of a file, whose texts spcwave_tag gives. */
+enum spcwave_tags {
+    SPCWAVE_TITLE,
+    SPCWAVE_GAME,
+    SPCWAVE_ARTIST,     /* who wrote the tune */
+    SPCWAVE_DUMPER,     /* who made the file */
+    SPCWAVE_COMMENTS,
+    SPCWAVE_DATE,       /* the day on which the file was made */
+    SPCWAVE_SECONDS,    /* the length before the fade, in digits */
+    SPCWAVE_FADE        /* the length of the fade in milliseconds, in digits */
+};
+
+/* A player, or none. Look at no field. */
+typedef struct spcwave_player {
+    void *engine;
+    bool is_open;
+} spcwave_player;
+
+#define SPCWAVE_CLOSED { 0, false }
+
+/* One stereo sample. An array of n of them is an int16_t[2 * n], left first. */
+typedef struct spcwave_frame {
+    int16_t left, right;
+} spcwave_frame;
+
+/* Opens a player at the opening of a tune. `table` is the table of weights by which voices interpolate, 512 numbers of 16 bits,
+ * low byte first: spcwave_table.h makes the console's. `pages` of 256 bytes are kept for marks, 256 to 65,536. A player that was open is
+ * closed first. Answers OK; or OUT_OF_RANGE exactly where the pages are; or SPC_LENGTH or SPC_SIGNATURE, or else
+ * TABLE_LENGTH; or OUT_OF_MEMORY. Where it isn't OK none is open. Neither the file nor the table is needed afterwards. */
+uint32_t spcwave_open(spcwave_player *player, const uint8_t *spc, size_t spc_length, const uint8_t *table, size_t table_length, uint32_t pages);
+
+/* Gives the player's memory back, if one is open. */
+void spcwave_close(spcwave_player *player);
+
+/* Plays: writes min(count, MOST - position) frames, moves the position behind them, and tells how many; 0 where none is open. Frames of the
+ * array behind those stay as they were. */
+size_t spcwave_play(spcwave_player *player, spcwave_frame *frames, size_t count);
+
+/* Goes to a frame, 0 to MOST: the machine makes the frames between it and the position, or the last mark up to it where that is nearer,
+ * as fast as if they were played. Answers OK; or NOT_OPEN or OUT_OF_RANGE, and then nothing has changed. */
+uint32_t spcwave_seek(spcwave_player *player, uint32_t frame);
+
+/* Keeps the state at the position, so that a later seek to it or soon behind it is quick. There are 64 marks at most, that of frame 0
+ * among them, which always stays; the oldest others are given up where pages or places are short. Answers OK or NOT_OPEN. */
+uint32_t spcwave_mark(spcwave_player *player);
+
+/* The position: how many frames stand before it. 0 where none is open. */
+uint32_t spcwave_position(spcwave_player *player);
+
+/* How many of the pages are free for marks. 0 where none is open. */
+uint32_t spcwave_free_pages(spcwave_player *player);
+
+/* The length by the file's tags, and how many of its last frames fade out, in frames; three minutes without a fade where the tags
+ * tell none. Frames can be played behind it. Answers OK; or NOT_OPEN, and then both numbers stay as they were. */
+uint32_t spcwave_length(spcwave_player *player, uint32_t *frames, uint32_t *fade);
+
+/* Writes the text of a tag: as many of its bytes as `size` has room for with a zero byte behind them, whatever bytes the file has there, up
+ * to its first zero byte; nothing where `size` is 0. Tells the whole text's length. The text is empty where none is open or no tag has
+ * the number. */
+size_t spcwave_tag(spcwave_player *player, uint32_t tag, char *text, size_t size);
+
+#ifdef __cplusplus
+}
+#endif
+#endif

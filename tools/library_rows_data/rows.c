@@ -1,0 +1,140 @@
+/* Rows of the library beside the sound file of the program: rows TUNE.spc TABLE TUNE.wav [SEEKS]. Status 0 where all hold. */
+#include <stdio.h>
+#include <stdlib.h>
+#include <string.h>
+#include <time.h>
+#include "spcwave.h"
+
+static uint8_t *whole(const char *name, size_t *length) {
+    FILE *in = fopen(name, "rb");
+    uint8_t *bytes;
+    if (!in) { perror(name); exit(2); }
+    fseek(in, 0, SEEK_END);
+    *length = (size_t)ftell(in);
+    rewind(in);
+    bytes = malloc(*length + 1);
+    if (fread(bytes, 1, *length, in) != *length) exit(2);
+    fclose(in);
+    return bytes;
+}
+
+static int failures, rows;
+static void row(int holds, const char *what) {
+    rows++;
+    if (!holds) { failures++; printf("FAILS: %s\n", what); }
+}
+static double now(void) { struct timespec t; clock_gettime(CLOCK_MONOTONIC, &t); return (double)t.tv_sec + 1e-9 * (double)t.tv_nsec; }
+static uint64_t seed = 1;
+static uint32_t below(uint32_t n) { seed = seed * 6364136223846793005u + 1442695040888963407u; return (uint32_t)((seed >> 33) % n); }
+
+int main(int argc, char **argv) {
+    size_t spc_length, table_length, wave_length, i;
+    uint8_t *spc = whole(argv[1], &spc_length), *table = whole(argv[2], &table_length), *wave = whole(argv[3], &wave_length);
+    const spcwave_frame *ref = (const spcwave_frame *)(wave + 44);
+    uint32_t count = (uint32_t)((wave_length - 44) / 4), length, fade, steady;
+    int seeks = argc > 4 ? atoi(argv[4]) : 1000, n, marks;
+    char text[SPCWAVE_TAG_SIZE];
+    spcwave_player player = SPCWAVE_CLOSED, other = SPCWAVE_CLOSED;
+    spcwave_frame *got = malloc(sizeof *got * (count + 8));
+
+    /* closed handles */
+    memset(got, 0x55, sizeof *got * 8);
+    row(spcwave_play(&player, got, 8) == 0 && ((uint8_t *)got)[0] == 0x55, "a closed handle plays nothing");
+    row(spcwave_seek(&player, 0) == SPCWAVE_NOT_OPEN, "or seeks");
+    row(spcwave_mark(&player) == SPCWAVE_NOT_OPEN, "or marks");
+    row(spcwave_position(&player) == 0, "or stands");
+    length = 1, fade = 2;
+    row(spcwave_length(&player, &length, &fade) == SPCWAVE_NOT_OPEN && length == 1 && fade == 2, "or has a length");
+    row(spcwave_free_pages(&player) == 0, "or free pages");
+    row(spcwave_tag(&player, SPCWAVE_TITLE, text, sizeof text) == 0 && text[0] == 0, "or a title");
+    spcwave_close(&player);
+    spcwave_close(&player);
+    /* refusals */
+    row(spcwave_open(&player, spc, 65919, table, 1024, 4096) == SPCWAVE_SPC_LENGTH, "too short");
+    row(spcwave_open(&player, spc, 0, table, 1024, 4096) == SPCWAVE_SPC_LENGTH, "empty");
+    row(spcwave_open(&player, wave, 65920, table, 1024, 4096) == SPCWAVE_SPC_SIGNATURE, "no signature");
+    row(spcwave_open(&player, spc, spc_length, table, 1023, 4096) == SPCWAVE_TABLE_LENGTH, "short table");
+    row(spcwave_open(&player, spc, spc_length, table, 1024, 255) == SPCWAVE_OUT_OF_RANGE, "few pages");
+    row(spcwave_open(&player, spc, spc_length, table, 1024, 65537) == SPCWAVE_OUT_OF_RANGE, "many pages");
+    row(!player.is_open, "refusals open none");
+    /* the whole tune */
+    row(spcwave_open(&player, spc, spc_length, table, table_length, 4096) == SPCWAVE_OK, "opens");
+    row(spcwave_length(&player, &length, &fade) == SPCWAVE_OK && length == count, "its length is that of the sound file");
+    steady = length - fade;
+    /* its tags, which stand in the file's bytes from 2Eh on */
+    for (i = 0; i < 32 && spc[0x2E + i]; i++) {}
+    row(spcwave_tag(&player, SPCWAVE_TITLE, text, sizeof text) == i && memcmp(text, spc + 0x2E, i) == 0 && text[i] == 0, "its title");
+    for (i = 0; i < 32 && spc[0xB1 + i]; i++) {}
+    row(spcwave_tag(&player, SPCWAVE_ARTIST, text, sizeof text) == i && memcmp(text, spc + 0xB1, i) == 0 && text[i] == 0, "its artist");
+    memset(text, 0x55, sizeof text);
+    n = (int)spcwave_tag(&player, SPCWAVE_TITLE, text, 4);
+    row(n < 3 || (memcmp(text, spc + 0x2E, 3) == 0 && text[3] == 0 && text[4] == 0x55), "cut off with a zero byte");
+    row(spcwave_tag(&player, SPCWAVE_TITLE, text, 0) == (size_t)n && (n < 1 || text[0] == (char)spc[0x2E]), "no room, and nothing written");
+    row(spcwave_tag(&player, 8, text, sizeof text) == 0 && text[0] == 0, "no tag has number 8");
+    row(spcwave_free_pages(&player) == 4096 - 256, "the mark of frame 0 has 256 pages");
+    row(spcwave_position(&player) == 0, "stands at 0");
+    double t = now();
+    row(spcwave_play(&player, got, count) == count, "plays all at once");
+    t = now() - t;
+    printf("played %u frames in %.3f s, %.1f ns a frame\n", count, t, 1e9 * t / count);
+    row(memcmp(got, ref, steady * sizeof *got) == 0, "and they are those of the sound file");
+    row(spcwave_position(&player) == count, "stands at the end");
+    spcwave_frame *mine = malloc(sizeof *mine * (count + 8));
+    memcpy(mine, got, sizeof *mine * count);
+    /* in odd pieces, beside a second player that is moved in memory */
+    row(spcwave_open(&other, spc, spc_length, table, table_length, 256) == SPCWAVE_OK, "a second player");
+    row(spcwave_seek(&player, 0) == SPCWAVE_OK && spcwave_position(&player) == 0, "back to 0");
+    uint32_t at = 0;
+    int same = 1;
+    while (at < count / 4) {
+        uint32_t piece = 1 + below(700);
+        spcwave_player moved;
+        row(spcwave_play(&player, got, piece) == piece, "a piece");
+        same &= memcmp(got, mine + at, piece * sizeof *got) == 0;
+        memcpy(&moved, &other, sizeof moved);
+        memset(&other, 0xAA, sizeof other);
+        row(spcwave_play(&moved, got, piece) == piece, "a piece of the other");
+        same &= memcmp(got, mine + at, piece * sizeof *got) == 0;
+        memcpy(&other, &moved, sizeof moved);
+        at += piece;
+    }
+    row(same, "pieces of both are those of the tune");
+    spcwave_close(&other);
+    row(!other.is_open && spcwave_play(&other, got, 1) == 0, "closed");
+    /* frames behind those given are left */
+    spcwave_seek(&player, 10);
+    memset(got, 0x55, sizeof *got * 8);
+    row(spcwave_play(&player, got, 3) == 3 && memcmp(got, mine + 10, 12) == 0 && ((uint8_t *)got)[12] == 0x55, "frames behind are left");
+    row(spcwave_play(&player, got, 0) == 0 && spcwave_position(&player) == 13, "none are none");
+    /* the hour's end, and past it */
+    row(spcwave_seek(&player, SPCWAVE_MOST + 1) == SPCWAVE_OUT_OF_RANGE && spcwave_position(&player) == 13, "past the hour");
+    /* seeks */
+    for (marks = 0; marks < 2; marks++) {
+        double worst = 0, all = 0, each;
+        row(spcwave_open(&player, spc, spc_length, table, table_length, 65536 / 8) == SPCWAVE_OK, "opens again");
+        if (marks) {
+            t = now();
+            for (i = 1; i < 64; i++) {
+                spcwave_seek(&player, (uint32_t)(count * i / 64));
+                row(spcwave_mark(&player) == SPCWAVE_OK, "marks");
+            }
+            printf("63 marks in %.3f s\n", now() - t);
+        }
+        for (n = 0, same = 1; n < seeks; n++) {
+            uint32_t to = below(count - 64), want = 1 + below(64);
+            t = now();
+            spcwave_seek(&player, to);
+            each = now() - t;
+            all += each;
+            if (each > worst) worst = each;
+            spcwave_play(&player, got, want);
+            if (memcmp(got, mine + to, want * sizeof *got)) same = 0;
+        }
+        row(same, "seeks give slices");
+        printf("%d seeks %s marks: %.3f ms each, %.3f ms at most\n", seeks, marks ? "with" : "without", 1e3 * all / seeks, 1e3 * worst);
+    }
+    spcwave_close(&player);
+    free(got); free(mine); free(spc); free(table); free(wave);
+    printf("%d rows, %d fail\n", rows, failures);
+    return failures != 0;
+}
