@@ -14,7 +14,7 @@ use Rattle.dsp_state.specs.declared.state.ChipState.{ChipState}
 use Rattle.batch_rows.specs.KeyRows.{AreKeyRows}
 use Rattle.batch_rows.specs.Lane.{voice_after, lane}
 use Rattle.batch_rows.specs.PlayedLane.{IsPlayedLane}
-use Rattle.batch_rows.specs.Reads.{shared_regs}
+use Rattle.batch_rows.specs.Reads.{voice_view}
 use Rattle.batch_rows.specs.Rows.{inputs}
 use Rattle.batch_rows.proofs.OneMore.{registers-keys_after, table-keys_after}
 
@@ -22,7 +22,7 @@ use Rattle.batch_rows.proofs.OneMore.{registers-keys_after, table-keys_after}
 abbrev pub chip_lane : ChipState → (v : ℕ) → BatchRows → (previous : List ℤ) → (memory : List ℕ) → VoiceState → (k : ℕ) → Lane
 chip_lane s v rows previous memory voice k = record {
   regs = voice_regs s.registers v;
-  inputs = lane_inputs (shared_regs s.registers v) rows previous;
+  inputs = lane_inputs (voice_view s.registers v) rows previous;
   memory = memory;
   table = s.table;
   k = k;
@@ -31,13 +31,13 @@ chip_lane s v rows previous memory voice k = record {
 
 module _ (k n v : ℕ) (s : ChipState) (memory : List ℕ) (rows : BatchRows) (previous : List ℤ) (voice : VoiceState) (are : AreKeyRows k n s rows) where
   -- what it reads in a sample
-  reads : (j : ℕ) → j < n → lane_inputs (shared_regs s.registers v) rows previous j ≡ voice_in s.registers (inputs k s memory j).common v (number_at previous j)
+  reads : (j : ℕ) → j < n → lane_inputs (voice_view s.registers v) rows previous j ≡ voice_in s.registers (inputs k s memory j).common v (number_at previous j)
   unfolding lane_input voice_in voice_settings inputs
   reads j few = rw (are.noise j few, are.polls j few, are.taken j few) refl
 
   -- its steps
   pub steps_are : (j : ℕ) → j ≤ n
-      → steps (voice_regs s.registers v) (lane_inputs (shared_regs s.registers v) rows previous) memory (λ j. counter_at (k + j)) voice j
+      → steps (voice_regs s.registers v) (lane_inputs (voice_view s.registers v) rows previous) memory (λ j. counter_at (k + j)) voice j
       ≡ voice_after (inputs k s memory) v (number_at previous) voice j
   unfolding steps voice_after voice_result inputs
   steps_are zero few = refl
@@ -45,7 +45,7 @@ module _ (k n v : ℕ) (s : ChipState) (memory : List ℕ) (rows : BatchRows) (p
 
   -- and its answers
   pub answers_are : (j : ℕ) → j < n
-      → answer_of_step (voice_regs s.registers v) (lane_inputs (shared_regs s.registers v) rows previous) memory s.table (λ j. counter_at (k + j)) voice j
+      → answer_of_step (voice_regs s.registers v) (lane_inputs (voice_view s.registers v) rows previous) memory s.table (λ j. counter_at (k + j)) voice j
       ≡ (lane (inputs k s memory) v (number_at previous) voice j).answer
   unfolding answer_of_step lane voice_result inputs
   answers_are j few = rw (steps_are j (omega (arith, few)), reads j few, registers-keys_after k s (suc j), table-keys_after k s (suc j)) refl

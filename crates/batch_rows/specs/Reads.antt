@@ -1,7 +1,7 @@
 -- What the voices of a batch read.
 use Rattle.std.specs.Prelude.{◌≡◌, ℕ, ◌+◌, ◌<◌, ◌≤◌, List, slice_index}
 use Rattle.rate_clock.specs.Counter.{counter_at}
-use Rattle.voice_unit.specs.declared.batch.SharedRegs.{SharedRegs}
+use Rattle.voice_unit.specs.declared.batch.VoiceView.{VoiceView}
 use Rattle.chip_form.specs.Limits.{most_samples_of_chip, most_samples_of_batch}
 use Rattle.dsp_state.specs.Registers.{is_soft_reset}
 use Rattle.chip_form.specs.Samples.{SamplesResult}
@@ -12,9 +12,9 @@ use Rattle.batch_rows.specs.Rows.{by_rows}
 use Rattle.batch_rows.specs.declared.reads.BatchReads.{BatchReads}
 use Rattle.batch_rows.specs.declared.reads.BatchSamples.{BatchSamples}
 
--- the registers that all voices share, as voice v reads them
-abbrev pub shared_regs : (registers : List ℕ) → (v : ℕ) → SharedRegs
-shared_regs registers v = record {
+-- what voice v sees of the registers that all voices share
+abbrev pub voice_view : (registers : List ℕ) → (v : ℕ) → VoiceView
+voice_view registers v = record {
   voice = v;
   dir = slice_index registers DIR;
   pmon = slice_index registers PMON;

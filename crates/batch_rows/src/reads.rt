@@ -3,14 +3,14 @@
 ghost use Rattle.std.specs.Prelude.{◌≡◌, ◌<◌};
 ghost use Rattle.rate_clock.specs.Counter.{counter_at, counter_after};
 ghost use Rattle.dsp_state.specs.Registers.{voice_regs};
-ghost use Rattle.batch_rows.specs.Reads.{shared_regs};
+ghost use Rattle.batch_rows.specs.Reads.{voice_view};
 
 use crate::keys::next_clock;
 use aram_core::Aram;
 use dsp_state::registers::{DIR, FLG, KOFF, NON, PMON, Registers, is_soft_reset, voice_regs};
 use gauss_table::GaussTable;
 use rate_clock::RateClock;
-use voice_unit::{BatchRows, SharedRegs, VoiceReads};
+use voice_unit::{BatchRows, VoiceReads, VoiceView};
 
 /// The samples of a batch.
 #[derive(Clone, Copy, Debug)]
@@ -53,12 +53,12 @@ pub struct BatchReads<'a> {
     pub clock: RateClock,
 }
 
-/// The registers that all voices share, as voice `v` reads them.
-fn shared_regs(registers: &Registers, v: u8) -> SharedRegs
+/// What voice `v` sees of the registers that all voices share.
+fn voice_view(registers: &Registers, v: u8) -> VoiceView
     requires { v < 8 }
-    ensures { result ≡ shared_regs registers.now v }
+    ensures { result ≡ voice_view registers.now v }
 {
-    SharedRegs {
+    VoiceView {
         voice: v,
         dir: registers[DIR],
         pmon: registers[PMON],
@@ -74,7 +74,7 @@ impl<'a> BatchReads<'a> {
         requires { v < 8 }
         ensures reads { result ≡ record {
           regs = voice_regs self.now.registers.now v;
-          shared = shared_regs self.now.registers.now v;
+          seen = voice_view self.now.registers.now v;
           rows = self.now.rows;
           memory = self.now.memory;
           table = self.now.table;
@@ -84,7 +84,7 @@ impl<'a> BatchReads<'a> {
     {
         VoiceReads {
             regs: voice_regs(self.registers, v),
-            shared: shared_regs(self.registers, v),
+            seen: voice_view(self.registers, v),
             rows: self.rows,
             memory: self.memory,
             table: self.table,

@@ -15,14 +15,14 @@ own_pitch r i unbent = rw unbent refl
 
 -- a voice glides over plain samples
 pub lane_glides : (reads : VoiceReads) (previous : List ℤ) (voice : VoiceState) (k from end : ℕ)
-    → ((j : ℕ) → from ≤ j → j < end → IsPlain reads.shared reads.rows.now j)
-    → Glides reads.shared (lane_of reads previous voice k) from end
+    → ((j : ℕ) → from ≤ j → j < end → IsPlain reads.seen reads.rows.now j)
+    → Glides reads.seen (lane_of reads previous voice k) from end
 unfolding lane_input
 lane_glides reads previous voice k from end plain = λ j since below. record {
   dir = refl;
   reset = refl;
   koff = refl;
   unkeyed = rw (plain j since below).unkeyed (and_right (get_or reads.rows.now.poll j false) false refl);
-  unbent = rw (plain j since below).unbent (and_right (nat_lt 0 reads.shared.voice) false refl);
+  unbent = rw (plain j since below).unbent (and_right (nat_lt 0 reads.seen.voice) false refl);
   sampled = (plain j since below).sampled;
 }

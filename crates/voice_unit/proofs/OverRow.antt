@@ -18,7 +18,7 @@ use Rattle.voice_unit.specs.Rest.{IsSilent, IsAtRest}
 use Rattle.voice_unit.specs.Row.{place_after, groups_before, is_end, is_read_in, loops_in, PlaysOn, row_of, place_of, StandsAt}
 use Rattle.voice_unit.specs.OutsOverRow.{out_over_row}
 use Rattle.voice_unit.specs.Voice.{is_silencing, VoiceState, interpolation, output, source_sample, needs_group, is_at_last_group, after_reading, after_pitch, voice_step}
-use Rattle.voice_unit.specs.declared.batch.SharedRegs.{SharedRegs}
+use Rattle.voice_unit.specs.declared.batch.VoiceView.{VoiceView}
 use Rattle.voice_unit.specs.declared.interface.VoiceIn.{VoiceIn}
 use Rattle.voice_unit.specs.declared.interface.VoiceOut.{VoiceOut}
 use Rattle.voice_unit.specs.declared.row.Place.{Place}
@@ -77,7 +77,7 @@ regrouped : (a b c : Bool) → (a && b && c) ≡ (a && (b && c))
 regrouped true b c = refl
 regrouped false b c = refl
 
-module _ (own : SharedRegs) (lane : Lane) (n m rest : ℕ) (before loops : List ℕ) (outs : List ℤ) (voice : VoiceState)
+module _ (own : VoiceView) (lane : Lane) (n m rest : ℕ) (before loops : List ℕ) (outs : List ℤ) (voice : VoiceState)
     (way : IsOnItsWay own lane n rest before loops outs voice) (twelve : length voice.samples ≡ 12) (low : voice.position < 0x8000) (slow : lane.regs.pitch < 0x4000)
     (glides : (j : ℕ) → j < m → PlaysPlainly own (lane.inputs (n + j))) (some : 0 < m) (resting : m ≤ rest)
     (quiet : (j : ℕ) → j < m → 0 < groups_before voice.position lane.regs.pitch j

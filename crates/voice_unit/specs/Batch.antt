@@ -7,10 +7,10 @@ use Rattle.voice_unit.specs.declared.interface.VoiceRegs.{VoiceRegs}
 use Rattle.voice_unit.specs.declared.interface.VoiceIn.{VoiceIn}
 use Rattle.voice_unit.specs.declared.interface.VoiceOut.{VoiceOut}
 use Rattle.voice_unit.specs.declared.batch.BatchRows.{BatchRows}
-use Rattle.voice_unit.specs.declared.batch.SharedRegs.{SharedRegs}
+use Rattle.voice_unit.specs.declared.batch.VoiceView.{VoiceView}
 
 -- what a voice reads in sample j, after the output of the voice before it
-unfoldable pub lane_input : SharedRegs → BatchRows → (previous : ℤ) → (j : ℕ) → VoiceIn
+unfoldable pub lane_input : VoiceView → BatchRows → (previous : ℤ) → (j : ℕ) → VoiceIn
 lane_input lane rows previous j = record {
   dir = lane.dir;
   modulated = is_modulated lane.pmon lane.voice;
@@ -24,7 +24,7 @@ lane_input lane rows previous j = record {
 }
 
 -- what it reads in each sample, over the row of outputs of the voice before it
-abbrev pub lane_inputs : SharedRegs → BatchRows → (previous : List ℤ) → ℕ → VoiceIn
+abbrev pub lane_inputs : VoiceView → BatchRows → (previous : List ℤ) → ℕ → VoiceIn
 lane_inputs lane rows previous j = lane_input lane rows (number_at previous j) j
 
 -- a voice after so many steps, by the rows of its inputs and of counters

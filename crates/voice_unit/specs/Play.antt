@@ -7,7 +7,7 @@ use Rattle.voice_unit.specs.Voice.{VoiceState}
 use Rattle.voice_unit.specs.Rest.{IsAtRest}
 use Rattle.voice_unit.specs.Plain.{PlaysPlainly}
 use Rattle.voice_unit.specs.Batch.{lane_inputs, steps, answer_of_step}
-use Rattle.voice_unit.specs.declared.batch.SharedRegs.{SharedRegs}
+use Rattle.voice_unit.specs.declared.batch.VoiceView.{VoiceView}
 use Rattle.voice_unit.specs.declared.batch.VoiceReads.{VoiceReads}
 use Rattle.voice_unit.specs.declared.interface.VoiceRegs.{VoiceRegs}
 use Rattle.voice_unit.specs.declared.interface.VoiceIn.{VoiceIn}
@@ -26,7 +26,7 @@ pub record Lane : Type 0 where
 abbrev pub lane_of : VoiceReads → (previous : List ℤ) → VoiceState → (k : ℕ) → Lane
 lane_of reads previous voice k = record {
   regs = reads.regs;
-  inputs = lane_inputs reads.shared reads.rows.now previous;
+  inputs = lane_inputs reads.seen reads.rows.now previous;
   memory = reads.memory.now;
   table = reads.table.now;
   k = k;
@@ -54,10 +54,10 @@ pub record IsPlayed (lane : Lane) (v n : ℕ) (before after : List ℕ) (outs : 
   pub others : (j : ℕ) → n ≤ j → slice_index after j ≡ slice_index before j
 
 -- in each sample from one up to another a voice plays plainly
-abbrev pub Glides : (own : SharedRegs) → (lane : Lane) → (from end : ℕ) → Type 0
+abbrev pub Glides : (own : VoiceView) → (lane : Lane) → (from end : ℕ) → Type 0
 Glides own lane from end = (j : ℕ) → from ≤ j → j < end → PlaysPlainly own (lane.inputs j)
 
 -- what n samples of the voice of a row leave, which then rests for so many
-pub record IsOnItsWay (own : SharedRegs) (lane : Lane) (n rest : ℕ) (before loops : List ℕ) (outs : List ℤ) (voice : VoiceState) : Type 0 where
+pub record IsOnItsWay (own : VoiceView) (lane : Lane) (n rest : ℕ) (before loops : List ℕ) (outs : List ℤ) (voice : VoiceState) : Type 0 where
   pub played : IsPlayed lane own.voice n before loops outs voice
   pub at_rest : IsAtRest own.reset (has_bit own.koff own.voice) lane.regs lane.memory (lane.k + n) rest voice

@@ -20,9 +20,9 @@ pub struct BatchRows {
     pub kon: [u8; BATCH_SIZE],
 }
 
-/// The registers that all voices share, and the number of the voice that reads them.
+/// What a voice sees of the registers that all voices share, and its number, which tells its bits in them.
 #[derive(Clone, Copy, Debug)]
-pub struct SharedRegs {
+pub struct VoiceView {
     /// The number of the voice, 0 to 7.
     pub voice: u8,
     /// The page of the directory.
@@ -42,8 +42,8 @@ pub struct SharedRegs {
 pub struct VoiceReads<'a> {
     /// Its own registers.
     pub regs: VoiceRegs,
-    /// The registers that all voices share, and its number.
-    pub shared: SharedRegs,
+    /// What it sees of the registers that all voices share, and its number.
+    pub seen: VoiceView,
     /// The keys and the noise of each sample.
     pub rows: &'a BatchRows,
     /// The memory, which stays as it is throughout the batch.
@@ -63,7 +63,7 @@ pub struct PlayedRows {
     pub loops: [u8; BATCH_SIZE],
 }
 
-impl SharedRegs {
+impl VoiceView {
     /// What the voice reads in sample `j`, after the output of the voice before it.
     #[tactic(auto, unfolding(crate::specs::Batch::lane_input))]
     pub fn input(&self, rows: &BatchRows, previous: i16, j: u8) -> VoiceIn

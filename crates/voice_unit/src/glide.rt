@@ -63,27 +63,27 @@ pub(crate) struct Glided {
 impl Voice {
     /// What the voice goes by in a stretch of samples.
     fn course(&self, reads: &VoiceReads) -> Course
-        requires voice { reads.now.shared.voice < 8 }
+        requires voice { reads.now.seen.voice < 8 }
         requires pitch { reads.now.regs.pitch < 0x4000 }
-        ensures voice { result.voice ≡ reads.now.shared.voice }
+        ensures voice { result.voice ≡ reads.now.seen.voice }
         ensures first { result.first ≡ place_of self.now }
-        ensures loop_to { result.loop_to ≡ loop_word reads.now.shared.dir reads.now.regs.srcn reads.now.memory.now }
+        ensures loop_to { result.loop_to ≡ loop_word reads.now.seen.dir reads.now.regs.srcn reads.now.memory.now }
         ensures position { result.position ≡ self.now.position }
         ensures pitch { result.pitch ≡ reads.now.regs.pitch }
         ensures level { result.level ≡ self.now.envelope.level }
-        ensures reset { result.reset ≡ reads.now.shared.reset }
+        ensures reset { result.reset ≡ reads.now.seen.reset }
         ensures silent { result.silent ≡ true → IsSilent self.now.envelope }
         ensures all_silent { IsSilent self.now.envelope → result.silent ≡ true }
         ensures course { IsCourse result }
     {
         Course {
-            voice: reads.shared.voice,
+            voice: reads.seen.voice,
             first: self.place(),
-            loop_to: loop_word(reads.shared.dir, reads.regs.srcn, reads.memory),
+            loop_to: loop_word(reads.seen.dir, reads.regs.srcn, reads.memory),
             position: self.position(),
             pitch: reads.regs.pitch,
             level: self.level(),
-            reset: reads.shared.reset,
+            reset: reads.seen.reset,
             silent: is_silent(&self.envelope()),
         }
     }
@@ -101,20 +101,20 @@ impl Voice {
         requires some { 0 < n }
         requires few { at + n ≤ BATCH_SIZE }
         requires resting { n ≤ rest }
-        requires voice { reads.now.shared.voice < 8 }
+        requires voice { reads.now.seen.voice < 8 }
         requires pitch { reads.now.regs.pitch < 0x4000 }
-        requires lower { (i : ℕ) → at ≤ i → i < BATCH_SIZE → slice_index made.old.loops i < 2 ^ reads.now.shared.voice }
+        requires lower { (i : ℕ) → at ≤ i → i < BATCH_SIZE → slice_index made.old.loops i < 2 ^ reads.now.seen.voice }
         ensures from { at ≤ result.at }
         ensures to { result.at ≤ at + n }
         ensures way { (lane : Lane) (before : List ℕ) → IsLaneOver reads.now lane
-            → Glides reads.now.shared lane at (at + n) → IsOnItsWay reads.now.shared lane at rest before made.old.loops made.old.outs self.old
-            → IsOnItsWay reads.now.shared lane result.at result.rest before made.new.loops made.new.outs self.new }
+            → Glides reads.now.seen lane at (at + n) → IsOnItsWay reads.now.seen lane at rest before made.old.loops made.old.outs self.old
+            → IsOnItsWay reads.now.seen lane result.at result.rest before made.new.loops made.new.outs self.new }
         ensures level { (lane : Lane) (before : List ℕ) → IsLaneOver reads.now lane
-            → Glides reads.now.shared lane at (at + n) → IsOnItsWay reads.now.shared lane at rest before made.old.loops made.old.outs self.old
+            → Glides reads.now.seen lane at (at + n) → IsOnItsWay reads.now.seen lane at rest before made.old.loops made.old.outs self.old
             → self.new.envelope.level ≡ (answer_at lane (result.at - 1)).level }
         ensures later { (i : ℕ) → result.at ≤ i → slice_index made.new.loops i ≡ slice_index made.old.loops i }
         ensures before { (i : ℕ) → i < at → slice_index made.new.loops i ≡ slice_index made.old.loops i }
-        ensures lower { (i : ℕ) → at ≤ i → i < BATCH_SIZE → slice_index made.new.loops i < 2 ^ (reads.now.shared.voice + 1) }
+        ensures lower { (i : ℕ) → at ≤ i → i < BATCH_SIZE → slice_index made.new.loops i < 2 ^ (reads.now.seen.voice + 1) }
     {
         let course = self.course(reads);
         self.begin_row(&mut work.row);
@@ -147,20 +147,20 @@ impl Voice {
     ) -> Glided
         requires few { end ≤ BATCH_SIZE }
         requires from { j ≤ end }
-        requires voice { reads.now.shared.voice < 8 }
+        requires voice { reads.now.seen.voice < 8 }
         requires pitch { reads.now.regs.pitch < 0x4000 }
-        requires lower { (i : ℕ) → j ≤ i → i < BATCH_SIZE → slice_index made.old.loops i < 2 ^ reads.now.shared.voice }
-        requires before { (i : ℕ) → i < BATCH_SIZE → slice_index made.old.loops i < 2 ^ (reads.now.shared.voice + 1) }
+        requires lower { (i : ℕ) → j ≤ i → i < BATCH_SIZE → slice_index made.old.loops i < 2 ^ reads.now.seen.voice }
+        requires before { (i : ℕ) → i < BATCH_SIZE → slice_index made.old.loops i < 2 ^ (reads.now.seen.voice + 1) }
         ensures from { j ≤ result.at }
         ensures to { result.at ≤ end }
         ensures way { (lane : Lane) (before : List ℕ) → IsLaneOver reads.now lane
-            → Glides reads.now.shared lane j end → IsOnItsWay reads.now.shared lane j rest before made.old.loops made.old.outs self.old
-            → IsOnItsWay reads.now.shared lane result.at result.rest before made.new.loops made.new.outs self.new }
+            → Glides reads.now.seen lane j end → IsOnItsWay reads.now.seen lane j rest before made.old.loops made.old.outs self.old
+            → IsOnItsWay reads.now.seen lane result.at result.rest before made.new.loops made.new.outs self.new }
         ensures level { (lane : Lane) (before : List ℕ) → IsLaneOver reads.now lane
-            → Glides reads.now.shared lane j end → IsOnItsWay reads.now.shared lane j rest before made.old.loops made.old.outs self.old
+            → Glides reads.now.seen lane j end → IsOnItsWay reads.now.seen lane j rest before made.old.loops made.old.outs self.old
             → j < result.at → self.new.envelope.level ≡ (answer_at lane (result.at - 1)).level }
         ensures later { (i : ℕ) → result.at ≤ i → slice_index made.new.loops i ≡ slice_index made.old.loops i }
-        ensures lower { (i : ℕ) → i < BATCH_SIZE → slice_index made.new.loops i < 2 ^ (reads.now.shared.voice + 1) }
+        ensures lower { (i : ℕ) → i < BATCH_SIZE → slice_index made.new.loops i < 2 ^ (reads.now.seen.voice + 1) }
     {
         let samples = glide_length(j, end, rest);
         if samples == 0 {

@@ -17,7 +17,7 @@ mod sounding;
 mod voice;
 mod workspace;
 
-pub use batch::{BatchRows, PlayedRows, SharedRegs, VoiceReads};
+pub use batch::{BatchRows, PlayedRows, VoiceReads, VoiceView};
 pub use directory::{entry_address, loop_word, start_word};
 pub use interface::{UNHEARD, VoiceIn, VoiceOut, VoiceRegs, is_modulated};
 pub use laws::kept_rows;

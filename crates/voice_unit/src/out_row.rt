@@ -41,7 +41,7 @@ impl Voice {
     /// Makes n steps over the row of what the voice before it gave, and puts what each of them gives into a row.
     pub fn run(&mut self, n: u8, reads: &VoiceReads, previous: &OutRow, out: &mut OutRow)
         requires few { n ≤ BATCH_SIZE }
-        requires voice { reads.now.shared.voice < 8 }
+        requires voice { reads.now.seen.voice < 8 }
         requires pitch { reads.now.regs.pitch < 0x4000 }
         requires noise { (j : ℕ) → j < n → slice_index reads.now.rows.now.noise j < 0x8000 }
         ensures { (k : ℕ) → reads.now.clock ≡ counter_at k
@@ -49,7 +49,7 @@ impl Voice {
     {
         let mut clock = reads.clock;
         for j in 0..n {
-            let input = reads.shared.input(reads.rows, previous.out(j), j);
+            let input = reads.seen.input(reads.rows, previous.out(j), j);
             let answer = self.step(&reads.regs, &input, reads.memory, reads.table, &clock);
             out.items[usize::from(j)] = answer;
             clock.step();

@@ -4,7 +4,7 @@ ghost use Rattle.std.specs.Prelude.{◌≡◌, ◌<◌, ◌≤◌, ℕ, false, s
 ghost use Rattle.num_fix.specs.Arithmetic.{has_bit};
 ghost use Rattle.voice_unit.specs.Plain.{IsPlain, IsToldPlain};
 
-use crate::batch::{BatchRows, SharedRegs};
+use crate::batch::{BatchRows, VoiceView};
 use num_fix::{BATCH_SIZE, has_bit};
 
 /// The sample after the last one of a batch.
@@ -74,7 +74,7 @@ impl PlainSamples {
     }
 }
 
-impl SharedRegs {
+impl VoiceView {
     /// The samples in which the voice plays plainly: those before and after its key on, unless it plays noise or its pitch is bent.
     pub(crate) fn plain_samples(&self, rows: &BatchRows) -> PlainSamples
         requires { self.now.voice < 8 }

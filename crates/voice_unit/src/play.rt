@@ -99,28 +99,28 @@ impl Voice {
     ) -> Glided
         requires some { 0 < n }
         requires few { n ≤ BATCH_SIZE }
-        requires voice { reads.now.shared.voice < 8 }
+        requires voice { reads.now.seen.voice < 8 }
         requires pitch { reads.now.regs.pitch < 0x4000 }
         requires noise { (j : ℕ) → j < n → slice_index reads.now.rows.now.noise j < 0x8000 }
-        requires lower { (j : ℕ) → j < BATCH_SIZE → slice_index made.old.loops j < 2 ^ reads.now.shared.voice }
+        requires lower { (j : ℕ) → j < BATCH_SIZE → slice_index made.old.loops j < 2 ^ reads.now.seen.voice }
         ensures from { n - 1 ≤ result.at }
         ensures to { result.at ≤ n }
         ensures way { (k : ℕ) → reads.now.clock ≡ counter_at k → let lane = lane_of reads.now previous.now self.old k in
-            IsOnItsWay reads.now.shared lane result.at result.rest made.old.loops made.new.loops made.new.outs self.new }
+            IsOnItsWay reads.now.seen lane result.at result.rest made.old.loops made.new.loops made.new.outs self.new }
         ensures level { (k : ℕ) → reads.now.clock ≡ counter_at k → result.at ≡ n
             → self.new.envelope.level ≡ (answer_at (lane_of reads.now previous.now self.old k) (n - 1)).level }
         ensures others { (j : ℕ) → result.at ≤ j → slice_index made.new.loops j ≡ slice_index made.old.loops j }
-        ensures lower { (j : ℕ) → j < BATCH_SIZE → slice_index made.new.loops j < 2 ^ (reads.now.shared.voice + 1) }
+        ensures lower { (j : ℕ) → j < BATCH_SIZE → slice_index made.new.loops j < 2 ^ (reads.now.seen.voice + 1) }
     {
         let last = n - 1;
         if last == 0 {
             return Glided { at: 0, rest: 0 };
         }
         // a copy, so that what is the same in all samples is worked out once
-        let shared = reads.shared;
-        let koff = has_bit(shared.koff, shared.voice);
-        let mut rest = self.rest_from(&reads.regs, shared.reset, koff, reads.memory, &reads.clock);
-        let plain = shared.plain_samples(reads.rows);
+        let seen = reads.seen;
+        let koff = has_bit(seen.koff, seen.voice);
+        let mut rest = self.rest_from(&reads.regs, seen.reset, koff, reads.memory, &reads.clock);
+        let plain = seen.plain_samples(reads.rows);
         let mut j = 0;
         'samples: while j < last {
             let end = plain.end_from(j, n);
@@ -130,10 +130,10 @@ impl Voice {
                 return glided;
             }
             let place = usize::from(to);
-            let input = shared.input(reads.rows, previous[place], to);
+            let input = seen.input(reads.rows, previous[place], to);
             let played = self.play_sample(to, glided.rest, reads, &input, &mut work.groups);
             made.outs[place] = played.out;
-            mark_loop(&mut made.loops, to, played.looped, shared.voice);
+            mark_loop(&mut made.loops, to, played.looped, seen.voice);
             rest = played.rest;
             j = to + 1;
         }
@@ -149,14 +149,14 @@ impl Voice {
         made: &PlayedRows,
     ) -> VoiceOut
         requires few { j < BATCH_SIZE }
-        requires voice { reads.now.shared.voice < 8 }
+        requires voice { reads.now.seen.voice < 8 }
         ensures { (k : ℕ) (before : List ℕ) (begun : VoiceState) → let lane = lane_of reads.now previous.now begun k in
-            IsPlayed lane reads.now.shared.voice (j + 1) before made.now.loops made.now.outs self.now
-            → slice_index before j < 2 ^ reads.now.shared.voice
+            IsPlayed lane reads.now.seen.voice (j + 1) before made.now.loops made.now.outs self.now
+            → slice_index before j < 2 ^ reads.now.seen.voice
             → self.now.envelope.level ≡ (answer_at lane j).level → result ≡ answer_at lane j }
     {
         let place = usize::from(j);
-        let input = reads.shared.input(reads.rows, previous[place], j);
+        let input = reads.seen.input(reads.rows, previous[place], j);
         let out = made.outs[place];
         let level = self.level();
         VoiceOut {
@@ -165,7 +165,7 @@ impl Voice {
             envx: (level / 0x10) as u8,
             outx: high_byte(out),
             block: self.block(),
-            looped: is_marked(&made.loops, j, reads.shared.voice),
+            looped: is_marked(&made.loops, j, reads.seen.voice),
             keyed: is_keyed(&input),
         }
     }
@@ -182,14 +182,14 @@ impl Voice {
     ) -> VoiceOut
         requires some { 0 < n }
         requires few { n ≤ BATCH_SIZE }
-        requires voice { reads.now.shared.voice < 8 }
+        requires voice { reads.now.seen.voice < 8 }
         requires pitch { reads.now.regs.pitch < 0x4000 }
         requires noise { (j : ℕ) → j < n → slice_index reads.now.rows.now.noise j < 0x8000 }
-        requires lower { (j : ℕ) → j < BATCH_SIZE → slice_index made.old.loops j < 2 ^ reads.now.shared.voice }
+        requires lower { (j : ℕ) → j < BATCH_SIZE → slice_index made.old.loops j < 2 ^ reads.now.seen.voice }
         ensures played { (k : ℕ) → reads.now.clock ≡ counter_at k
             → let lane = lane_of reads.now previous.now self.old k in
-            IsPlayed lane reads.now.shared.voice n made.old.loops made.new.loops made.new.outs self.new }
-        ensures lower { (j : ℕ) → j < BATCH_SIZE → slice_index made.new.loops j < 2 ^ (reads.now.shared.voice + 1) }
+            IsPlayed lane reads.now.seen.voice n made.old.loops made.new.loops made.new.outs self.new }
+        ensures lower { (j : ℕ) → j < BATCH_SIZE → slice_index made.new.loops j < 2 ^ (reads.now.seen.voice + 1) }
         ensures last { (k : ℕ) → reads.now.clock ≡ counter_at k → result ≡ answer_at (lane_of reads.now previous.now self.old k) (n - 1) }
     {
         let glided = self.play_row(n, reads, previous, work, made);
@@ -198,10 +198,10 @@ impl Voice {
             return self.glided_answer(last, reads, previous, made);
         }
         let place = usize::from(last);
-        let input = reads.shared.input(reads.rows, previous[place], last);
+        let input = reads.seen.input(reads.rows, previous[place], last);
         let answer = self.play_last(last, glided.rest, reads, &input, &mut work.groups);
         made.outs[place] = answer.out;
-        mark_loop(&mut made.loops, last, answer.looped, reads.shared.voice);
+        mark_loop(&mut made.loops, last, answer.looped, reads.seen.voice);
         answer
     }
 }

@@ -6,7 +6,7 @@ use crate::sources::memory_of_a_source;
 use gauss_table::GaussTable;
 use rate_clock::RateClock;
 use std::test::Fail;
-use voice_unit::{BatchRows, OutRow, SharedRegs, Voice, VoiceIn, VoiceOut, VoiceReads, VoiceRegs};
+use voice_unit::{BatchRows, OutRow, Voice, VoiceIn, VoiceOut, VoiceReads, VoiceRegs, VoiceView};
 
 /// What a step reads in sample `k`, where a key on waits for the first poll.
 fn input_of(k: u32) -> VoiceIn
@@ -83,7 +83,7 @@ fn a_run_gives_the_answers_of_its_steps(rt: HostRuntime) -> Result<(), Fail> {
     let rows = rows_with_a_key_on();
     let reads = VoiceReads {
         regs: registers(),
-        shared: SharedRegs {
+        seen: VoiceView {
             voice: 3,
             dir: 2,
             pmon: 0,

@@ -21,13 +21,13 @@ returns-clause-played c k at =
     let all : j + 1 ≡ c.args.n = omega (arith, c.requires.some) in
     let place : c.from-place.result ≡ j = c.from-place.ensures in
     let whole : to_z w16 (of_z w16 (number_at c.args.previous.now j)) ≡ number_at c.args.previous.now j = search rules in
-    let input : c.input-input.result ≡ lane_inputs c.args.reads.now.shared c.args.reads.now.rows.now c.args.previous.now j = rw whole at (rw place at c.input-input.ensures.value) in
+    let input : c.input-input.result ≡ lane_inputs c.args.reads.now.seen c.args.reads.now.rows.now c.args.previous.now j = rw whole at (rw place at c.input-input.ensures.value) in
     let out : to_z w16 (of_z w16 c.play_last-answer.result.out) ≡ c.play_last-answer.result.out = search rules in
     let here : c.play_row-glided.result.at ≡ j = omega (arith, c.play_row-glided.ensures.from, c.play_row-glided.ensures.to, c.if-glided-n.false, c.requires.some) in
     let way = rw here at (c.play_row-glided.ensures.way k at) in
     let step = rw input at (c.play_last-answer.ensures k at (rw input way.at_rest)) in
     rw (← all, place, out, c.mark_loop.ensures) (one_more_played
-    (lane_of c.args.reads.now c.args.previous.now c.args.self.now k) c.args.reads.now.shared.voice j
+    (lane_of c.args.reads.now c.args.previous.now c.args.self.now k) c.args.reads.now.seen.voice j
     c.args.made.now.loops c.play_row-glided.new.made.loops c.play_row-glided.new.made.outs c.play_row-glided.new.self c.play_last-answer.new.self c.play_last-answer.result.out c.play_last-answer.result.looped
     way.played (search rules) (search rules)
     step.voice (ap (λ (answer : VoiceOut). answer.out) step.answer_is) (ap (λ (answer : VoiceOut). answer.looped) step.answer_is))
@@ -38,7 +38,7 @@ returns-clause-last c k at =
     let j : ℕ = c.args.n - 1 in
     let place : c.from-place.result ≡ j = c.from-place.ensures in
     let whole : to_z w16 (of_z w16 (number_at c.args.previous.now j)) ≡ number_at c.args.previous.now j = search rules in
-    let input : c.input-input.result ≡ lane_inputs c.args.reads.now.shared c.args.reads.now.rows.now c.args.previous.now j = rw whole at (rw place at c.input-input.ensures.value) in
+    let input : c.input-input.result ≡ lane_inputs c.args.reads.now.seen c.args.reads.now.rows.now c.args.previous.now j = rw whole at (rw place at c.input-input.ensures.value) in
     let here : c.play_row-glided.result.at ≡ j = omega (arith, c.play_row-glided.ensures.from, c.play_row-glided.ensures.to, c.if-glided-n.false, c.requires.some) in
     let way = rw here at (c.play_row-glided.ensures.way k at) in
     let step = rw input at (c.play_last-answer.ensures k at (rw input way.at_rest)) in
@@ -49,8 +49,8 @@ returns-clause-lower c j below =
     let last : ℕ = c.args.n - 1 in
     let here : c.play_row-glided.result.at ≡ last = omega (arith, c.play_row-glided.ensures.from, c.play_row-glided.ensures.to, c.if-glided-n.false, c.requires.some) in
     let same : slice_index c.play_row-glided.new.made.loops last ≡ slice_index c.args.made.now.loops last = c.play_row-glided.ensures.others last (omega (arith, here)) in
-    let own : slice_index c.play_row-glided.new.made.loops last < 2 ^ c.args.reads.now.shared.voice = rw same (c.requires.lower last (omega (arith, c.requires.some, c.requires.few))) in
-    rw c.mark_loop.ensures (with_loop-bound c.play_row-glided.new.made.loops last c.args.reads.now.shared.voice j c.play_last-answer.result.looped (search rules) own (c.play_row-glided.ensures.lower j below))
+    let own : slice_index c.play_row-glided.new.made.loops last < 2 ^ c.args.reads.now.seen.voice = rw same (c.requires.lower last (omega (arith, c.requires.some, c.requires.few))) in
+    rw c.mark_loop.ensures (with_loop-bound c.play_row-glided.new.made.loops last c.args.reads.now.seen.voice j c.play_last-answer.result.looped (search rules) own (c.play_row-glided.ensures.lower j below))
 
 pub returns-then-glided-n-clause-played : goal.returns-then-glided-n-clause-played
 returns-then-glided-n-clause-played c k at = let way = rw c.if-glided-n.true at (c.play_row-glided.ensures.way k at) in way.played

@@ -16,14 +16,14 @@ use Rattle.voice_unit.proofs.voice.Voice.play_row.Goals as goal
 pub samples-init : goal.samples-init
 samples-init c = record {
   way = λ k at. record {
-    played = none_played (lane_of c.args.reads.now c.args.previous.now c.args.self.now k) c.args.reads.now.shared.voice c.args.made.now.loops c.args.made.now.outs;
+    played = none_played (lane_of c.args.reads.now c.args.previous.now c.args.self.now k) c.args.reads.now.seen.voice c.args.made.now.loops c.args.made.now.outs;
     at_rest =
         let none : k + 0 ≡ k = omega arith in
         rw none (rw c.has_bit-koff.ensures at (c.rest_from-rest.ensures k at));
   };
   within = omega arith;
   later = λ j above. refl;
-  lower = λ j below. rw (doubled c.args.reads.now.shared.voice) (omega (arith, c.requires.lower j below));
+  lower = λ j below. rw (doubled c.args.reads.now.seen.voice) (omega (arith, c.requires.lower j below));
   outs_long = search rules;
   loops_long = search rules;
 }
@@ -37,19 +37,19 @@ samples-preserved c =
     let below : to < c.args.n = omega (arith, c.if-last-to.false) in
     let place : c.from-place.result ≡ to = c.from-place.ensures in
     let way : (k : ℕ) → c.args.reads.now.clock ≡ counter_at k
-    → IsOnItsWay c.args.reads.now.shared (lane_of c.args.reads.now c.args.previous.now c.args.self.now k)
+    → IsOnItsWay c.args.reads.now.seen (lane_of c.args.reads.now c.args.previous.now c.args.self.now k)
     to c.glide-glided.result.rest c.args.made.now.loops c.glide-glided.new.made.loops c.glide-glided.new.made.outs c.glide-glided.new.self =
     λ k at. c.glide-glided.ensures.way _ c.args.made.now.loops (record { regs = refl; memory = refl; table = refl })
     (lane_glides c.args.reads.now c.args.previous.now c.args.self.now k c.samples.j c.end_from-end.result
     (λ i since below. c.plain_samples-plain.ensures i (omega (arith, below, c.end_from-end.ensures.to, c.requires.few)) (c.end_from-end.ensures.plain i since below)))
     (c.samples.invariant.way k at) in
     let whole : to_z w16 (of_z w16 (number_at c.args.previous.now to)) ≡ number_at c.args.previous.now to = search rules in
-    let input : c.input-input.result ≡ lane_inputs c.args.reads.now.shared c.args.reads.now.rows.now c.args.previous.now to = rw whole at (rw place at c.input-input.ensures.value) in
+    let input : c.input-input.result ≡ lane_inputs c.args.reads.now.seen c.args.reads.now.rows.now c.args.previous.now to = rw whole at (rw place at c.input-input.ensures.value) in
     let at_rest : (k : ℕ) → c.args.reads.now.clock ≡ counter_at k
     → IsAtRest c.input-input.result.reset c.input-input.result.koff c.args.reads.now.regs c.args.reads.now.memory.now (k + to) c.glide-glided.result.rest c.glide-glided.new.self =
     λ k at. rw input (way k at).at_rest in
     let sample : (k : ℕ) → c.args.reads.now.clock ≡ counter_at k
-    → IsPlayedSample c.args.reads.now.regs (lane_inputs c.args.reads.now.shared c.args.reads.now.rows.now c.args.previous.now to) c.args.reads.now.memory.now c.args.reads.now.table.now (k + to)
+    → IsPlayedSample c.args.reads.now.regs (lane_inputs c.args.reads.now.seen c.args.reads.now.rows.now c.args.previous.now to) c.args.reads.now.memory.now c.args.reads.now.table.now (k + to)
     c.glide-glided.new.self c.play_sample-played.result c.play_sample-played.new.self =
     λ k at. rw input at (c.play_sample-played.ensures k at (at_rest k at)) in
     let out : to_z w16 (of_z w16 c.play_sample-played.result.out) ≡ c.play_sample-played.result.out = search rules in
@@ -62,7 +62,7 @@ samples-preserved c =
           let further : k + (to + 1) ≡ k + to + 1 = omega arith in
           record {
             played = rw (place, out, c.mark_loop.ensures) (one_more_played
-                (lane_of c.args.reads.now c.args.previous.now c.args.self.now k) c.args.reads.now.shared.voice to
+                (lane_of c.args.reads.now c.args.previous.now c.args.self.now k) c.args.reads.now.seen.voice to
                 c.args.made.now.loops c.glide-glided.new.made.loops c.glide-glided.new.made.outs c.glide-glided.new.self c.play_sample-played.new.self c.play_sample-played.result.out c.play_sample-played.result.looped
                 (way k at).played within_outs within_loops
                 (sample k at).voice (sample k at).out (sample k at).looped);
@@ -71,11 +71,11 @@ samples-preserved c =
       within = omega (arith, c.if-last-to.false);
       later = λ i above.
           let other : i ≢ to = λ e. absurd (omega (arith, e, above)) in
-          rw c.mark_loop.ensures (with_loop-other c.glide-glided.new.made.loops to c.args.reads.now.shared.voice i c.play_sample-played.result.looped other
+          rw c.mark_loop.ensures (with_loop-other c.glide-glided.new.made.loops to c.args.reads.now.seen.voice i c.play_sample-played.result.looped other
           ∙ c.glide-glided.ensures.later i (omega (arith, above)) ∙ c.samples.invariant.later i (omega (arith, above, from)));
       lower = λ i under.
-          let own : slice_index c.glide-glided.new.made.loops to < 2 ^ c.args.reads.now.shared.voice = rw (c.glide-glided.ensures.later to (omega arith), c.samples.invariant.later to from) (c.requires.lower to (omega (arith, below, c.requires.few))) in
-          rw c.mark_loop.ensures (with_loop-bound c.glide-glided.new.made.loops to c.args.reads.now.shared.voice i c.play_sample-played.result.looped within_loops own (c.glide-glided.ensures.lower i under));
+          let own : slice_index c.glide-glided.new.made.loops to < 2 ^ c.args.reads.now.seen.voice = rw (c.glide-glided.ensures.later to (omega arith), c.samples.invariant.later to from) (c.requires.lower to (omega (arith, below, c.requires.few))) in
+          rw c.mark_loop.ensures (with_loop-bound c.glide-glided.new.made.loops to c.args.reads.now.seen.voice i c.play_sample-played.result.looped within_loops own (c.glide-glided.ensures.lower i under));
       outs_long = length-set c.glide-glided.new.made.outs c.from-place.result (to_z w16 (of_z w16 c.play_sample-played.result.out)) ∙ outs_long;
       loops_long = c.mark_loop.array_long.1;
     }
@@ -88,8 +88,8 @@ returns-clause-way c k at = c.samples.invariant.way k at
 
 pub returns-then-last-eq0-clause-way : goal.returns-then-last-eq0-clause-way
 returns-then-last-eq0-clause-way c k at = record {
-  played = none_played (lane_of c.args.reads.now c.args.previous.now c.args.self.now k) c.args.reads.now.shared.voice c.args.made.now.loops c.args.made.now.outs;
-  at_rest = no_rest c.args.reads.now.shared.reset (has_bit c.args.reads.now.shared.koff c.args.reads.now.shared.voice) c.args.reads.now.regs c.args.reads.now.memory.now (k + 0) c.args.self.now;
+  played = none_played (lane_of c.args.reads.now c.args.previous.now c.args.self.now k) c.args.reads.now.seen.voice c.args.made.now.loops c.args.made.now.outs;
+  at_rest = no_rest c.args.reads.now.seen.reset (has_bit c.args.reads.now.seen.koff c.args.reads.now.seen.voice) c.args.reads.now.regs c.args.reads.now.memory.now (k + 0) c.args.self.now;
 }
 
 pub returns-then-last-to-clause-way : goal.returns-then-last-to-clause-way

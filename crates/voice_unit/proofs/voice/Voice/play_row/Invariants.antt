@@ -6,10 +6,10 @@ use Rattle.voice_unit.proofs.voice.Voice.play_row.Given as goal
 abbrev pub invariant-samples : goal.invariant-samples
 invariant-samples l = record {
   way : (k : ℕ) → l.reads.clock ≡ counter_at k
-      → IsOnItsWay l.reads.shared (lane_of l.reads l.previous l.initial.self k) l.j l.rest l.initial.made.loops l.made.loops l.made.outs l.self;
+      → IsOnItsWay l.reads.seen (lane_of l.reads l.previous l.initial.self k) l.j l.rest l.initial.made.loops l.made.loops l.made.outs l.self;
   within : l.j ≤ l.last;
   later : (j : ℕ) → l.j ≤ j → slice_index l.made.loops j ≡ slice_index l.initial.made.loops j;
-  lower : (j : ℕ) → j < 64 → slice_index l.made.loops j < 2 ^ (l.reads.shared.voice + 1);
+  lower : (j : ℕ) → j < 64 → slice_index l.made.loops j < 2 ^ (l.reads.seen.voice + 1);
   outs_long : length l.made.outs ≡ 64;
   loops_long : length l.made.loops ≡ 64;
 }

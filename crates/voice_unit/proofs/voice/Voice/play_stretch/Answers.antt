@@ -35,11 +35,11 @@ returns-clause-way c plays before over glides way =
     let ends : (b : Bool) → c.read_stretch-stretch.result.woken ≡ b
     → (c.rest_after.result ≡ 0) ⊎ ((c.rest_after.result ≡ c.args.rest - m)
     × (0 < groups_before v.position plays.regs.pitch m
-    → is_silencing c.args.reads.now.shared.reset (byte_at plays.memory (place_after plays.memory (loop_word c.args.reads.now.shared.dir plays.regs.srcn plays.memory) (place_of v) (groups_before v.position plays.regs.pitch m)).block) ≡ true
+    → is_silencing c.args.reads.now.seen.reset (byte_at plays.memory (place_after plays.memory (loop_word c.args.reads.now.seen.dir plays.regs.srcn plays.memory) (place_of v) (groups_before v.position plays.regs.pitch m)).block) ≡ true
     → IsSilent v.envelope)) = λ b. elim b as (λ b. c.read_stretch-stretch.result.woken ≡ b
     → (c.rest_after.result ≡ 0) ⊎ ((c.rest_after.result ≡ c.args.rest - m)
     × (0 < groups_before v.position plays.regs.pitch m
-    → is_silencing c.args.reads.now.shared.reset (byte_at plays.memory (place_after plays.memory (loop_word c.args.reads.now.shared.dir plays.regs.srcn plays.memory) (place_of v) (groups_before v.position plays.regs.pitch m)).block) ≡ true
+    → is_silencing c.args.reads.now.seen.reset (byte_at plays.memory (place_after plays.memory (loop_word c.args.reads.now.seen.dir plays.regs.srcn plays.memory) (place_of v) (groups_before v.position plays.regs.pitch m)).block) ≡ true
     → IsSilent v.envelope))) [
       | true ↦ λ e. inl (c.rest_after.ensures.woken e)
       | false ↦ λ e. inr (
@@ -47,7 +47,7 @@ returns-clause-way c plays before over glides way =
         λ some loud. c.course-course.ensures.silent (rw (c.course-course.ensures.reset, next, groups, ← memory) at (c.read_stretch-stretch.ensures.goes_on awake e) loud),
       )
     ] in
-    glided_over c.args.reads.now.shared plays c.args.at m c.args.rest before c.args.made.now.loops c.args.made.now.outs v way c.begin_row.ensures.twelve
+    glided_over c.args.reads.now.seen plays c.args.at m c.args.rest before c.args.made.now.loops c.args.made.now.outs v way c.begin_row.ensures.twelve
     (rw c.course-course.ensures.position at c.course-course.ensures.course.position) (rw (← regs) at c.requires.pitch)
     (λ j below. glides (c.args.at + j) (omega arith) (omega (arith, below, few))) c.read_stretch-stretch.ensures.stretch.some (omega (arith, few, c.requires.resting))
     (λ j below some loud. c.course-course.ensures.silent (quiet j below loud))
@@ -66,7 +66,7 @@ returns-clause-level c plays before over glides way =
     λ loud. c.course-course.ensures.all_silent (way.at_rest.silencing (omega (arith, c.requires.some, c.requires.resting))
     (rw (c.course-course.ensures.reset, c.course-course.ensures.first, ← memory) at loud)) in
     let quiet = rw (c.course-course.ensures.position, c.course-course.ensures.pitch, c.course-course.ensures.reset, c.course-course.ensures.loop_to, c.course-course.ensures.first, ← memory, ← regs) at (c.read_stretch-stretch.ensures.quiet awake) in
-    let same = last_level c.args.reads.now.shared plays c.args.at c.read_stretch-stretch.result.samples c.args.rest before c.args.made.now.loops c.args.made.now.outs c.args.self.now way c.begin_row.ensures.twelve
+    let same = last_level c.args.reads.now.seen plays c.args.at c.read_stretch-stretch.result.samples c.args.rest before c.args.made.now.loops c.args.made.now.outs c.args.self.now way c.begin_row.ensures.twelve
     (rw c.course-course.ensures.position at c.course-course.ensures.course.position) (rw (← regs) at c.requires.pitch)
     (λ j below. glides (c.args.at + j) (omega arith) (omega (arith, below, few))) c.read_stretch-stretch.ensures.stretch.some (omega (arith, few, c.requires.resting))
     (λ j below some loud. c.course-course.ensures.silent (quiet j below loud)) in
@@ -75,15 +75,15 @@ returns-clause-level c plays before over glides way =
 pub returns-clause-lower : goal.returns-clause-lower
 returns-clause-lower c i from below = by (nat_lt i (c.args.at + c.read_stretch-stretch.result.samples)) refl
   where
-    by : (b : Bool) → nat_lt i (c.args.at + c.read_stretch-stretch.result.samples) ≡ b → slice_index c.read_stretch-stretch.new.loops i < 2 ^ (c.args.reads.now.shared.voice + 1)
+    by : (b : Bool) → nat_lt i (c.args.at + c.read_stretch-stretch.result.samples) ≡ b → slice_index c.read_stretch-stretch.new.loops i < 2 ^ (c.args.reads.now.seen.voice + 1)
     by true e =
         let early : i < c.args.at + c.read_stretch-stretch.result.samples = grind (arith, nat_tests, e) in
         let part : c.args.at + (i - c.args.at) ≡ i = omega (arith, from) in
-        let old : slice_index c.args.made.now.loops (c.args.at + (i - c.args.at)) < 2 ^ c.args.reads.now.shared.voice = rw part (c.requires.lower i from below) in
+        let old : slice_index c.args.made.now.loops (c.args.at + (i - c.args.at)) < 2 ^ c.args.reads.now.seen.voice = rw part (c.requires.lower i from below) in
         let made = rw c.course-course.ensures.voice at (c.read_stretch-stretch.ensures.loops.marks (i - c.args.at) (omega (arith, early, from))) in
         let more = bit-bound (loops_in c.args.reads.now.memory.now c.course-course.result.loop_to c.course-course.result.first c.course-course.result.position c.course-course.result.pitch (i - c.args.at))
-        c.args.reads.now.shared.voice _ old in
+        c.args.reads.now.seen.voice _ old in
         rw (← part) (rw made more)
     by false e =
         let late : c.args.at + c.read_stretch-stretch.result.samples ≤ i = grind (arith, nat_tests, e) in
-        rw (c.read_stretch-stretch.ensures.loops.later i late, doubled c.args.reads.now.shared.voice) (omega (arith, c.requires.lower i from below))
+        rw (c.read_stretch-stretch.ensures.loops.later i late, doubled c.args.reads.now.seen.voice) (omega (arith, c.requires.lower i from below))

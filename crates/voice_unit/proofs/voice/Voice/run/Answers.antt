@@ -23,7 +23,7 @@ loop-j-preserved c =
     let whole : to_z w16 (of_z w16 c.out.result) ≡ c.out.result = search rules in
     let previous : c.out.result ≡ number_at (outs_of c.args.previous.now) j = c.out.ensures in
     let long : j < length c.loop-j.out.items = rw c.loop-j.invariant.long (omega (arith, c.loop-j-test.true, c.requires.few)) in
-    let input : c.input-input.result ≡ lane_input c.args.reads.now.shared c.args.reads.now.rows.now (number_at (outs_of c.args.previous.now) j) j =
+    let input : c.input-input.result ≡ lane_input c.args.reads.now.seen c.args.reads.now.rows.now (number_at (outs_of c.args.previous.now) j) j =
     rw (whole, previous) at c.input-input.ensures.value in
     record {
       clock = λ k is.
