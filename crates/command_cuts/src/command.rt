@@ -34,7 +34,7 @@ fn open_cuts(
     table: GaussTable,
     cuts: CutList,
 ) -> Result<CutFiles<Dsp>, OutOfMemory>
-    ensures wave { IfOk result (λ files. header_of 2 (cut_samples cuts) ++ (to_come_of dsp_chip dsp_saving files).first
+    ensures wave { IfOk result (λ files. header_of 2 (cut_samples cuts) ++ (to_come_of dsp_chip dsp_saving files).wave
         ≡ stereo_wave (cut_frames (tune_frames file.now table 0) cuts)) }
     ensures report { IfOk result (λ files. report_of dsp_chip dsp_saving files ≡ cuts_report cuts (cut_book (tune_pages file.now table) cuts)) }
 {
@@ -61,8 +61,8 @@ fn plan<'a>(
         return Err(Refusal::OutOfMemory);
     };
     Ok(StreamedPlan {
-        first: wave,
-        second: None,
+        wave,
+        trace: None,
         head,
         source,
     })

@@ -120,32 +120,32 @@ targets_open first (Some name) us vs targets a c are s = let is = are.first in r
 
 -- the loop begins
 pub pumps_first : (targets : Targets) (all : Both) (old : HostState) → Pumps targets all all old old
-pumps_first targets all old = record { xs = []; ys = []; first_split = refl; second_split = refl; puts = puts_nothing targets old }
+pumps_first targets all old = record { xs = []; ys = []; wave_split = refl; trace_split = refl; puts = puts_nothing targets old }
 
 -- a piece was written
-pub pumps_next : (targets : Targets) (all left held more : Both) (old mid new : HostState) (y : Unit {0}) → left.first ≡ held.first ++ more.first → left.second ≡ held.second ++ more.second →
-    Pumps targets all left old mid → Puts targets held.first held.second mid new (Ok y) → Pumps targets all more old new
-pumps_next targets all left held more old mid new y first second p puts = record {
-  xs = p.xs ++ held.first;
-  ys = p.ys ++ held.second;
-  first_split = append_assoc p.xs held.first more.first ∙ ap (λ (l : List ℕ). p.xs ++ l) (sym first) ∙ p.first_split;
-  second_split = append_assoc p.ys held.second more.second ∙ ap (λ (l : List ℕ). p.ys ++ l) (sym second) ∙ p.second_split;
-  puts = puts_then targets p.xs p.ys held.first held.second old mid new (tt {0}) y p.puts puts;
+pub pumps_next : (targets : Targets) (all left held more : Both) (old mid new : HostState) (y : Unit {0}) → left.wave ≡ held.wave ++ more.wave → left.trace ≡ held.trace ++ more.trace →
+    Pumps targets all left old mid → Puts targets held.wave held.trace mid new (Ok y) → Pumps targets all more old new
+pumps_next targets all left held more old mid new y wave trace p puts = record {
+  xs = p.xs ++ held.wave;
+  ys = p.ys ++ held.trace;
+  wave_split = append_assoc p.xs held.wave more.wave ∙ ap (λ (l : List ℕ). p.xs ++ l) (sym wave) ∙ p.wave_split;
+  trace_split = append_assoc p.ys held.trace more.trace ∙ ap (λ (l : List ℕ). p.ys ++ l) (sym trace) ∙ p.trace_split;
+  puts = puts_then targets p.xs p.ys held.wave held.trace old mid new (tt {0}) y p.puts puts;
 }
 
 -- a piece could not be written
-pub pumps_failed : (targets : Targets) (all left held more : Both) (old mid new : HostState) (e : Failed) → left.first ≡ held.first ++ more.first → left.second ≡ held.second ++ more.second →
-    Pumps targets all left old mid → Puts targets held.first held.second mid new (Err e) → Puts targets all.first all.second old new (Err e)
-pumps_failed targets all left held more old mid new e first second p puts =
-    puts_failed targets p.xs p.ys held.first held.second all.first all.second more.first more.second old mid new (tt {0}) e
-    (ap (λ (l : List ℕ). p.xs ++ l) (sym first) ∙ p.first_split) (ap (λ (l : List ℕ). p.ys ++ l) (sym second) ∙ p.second_split) p.puts puts
+pub pumps_failed : (targets : Targets) (all left held more : Both) (old mid new : HostState) (e : Failed) → left.wave ≡ held.wave ++ more.wave → left.trace ≡ held.trace ++ more.trace →
+    Pumps targets all left old mid → Puts targets held.wave held.trace mid new (Err e) → Puts targets all.wave all.trace old new (Err e)
+pumps_failed targets all left held more old mid new e wave trace p puts =
+    puts_failed targets p.xs p.ys held.wave held.trace all.wave all.trace more.wave more.trace old mid new (tt {0}) e
+    (ap (λ (l : List ℕ). p.xs ++ l) (sym wave) ∙ p.wave_split) (ap (λ (l : List ℕ). p.ys ++ l) (sym trace) ∙ p.trace_split) p.puts puts
 
 -- nothing is left
-pub pumps_done : (targets : Targets) (all left : Both) (old new : HostState) → left.first ≡ [] → left.second ≡ [] → Pumps targets all left old new → Puts targets all.first all.second old new (Ok (tt {0}))
-pumps_done targets all left old new first second p =
-    let xs : p.xs ≡ all.first = sym (append-nil p.xs) ∙ ap (λ (l : List ℕ). p.xs ++ l) (sym first) ∙ p.first_split in
-    let ys : p.ys ≡ all.second = sym (append-nil p.ys) ∙ ap (λ (l : List ℕ). p.ys ++ l) (sym second) ∙ p.second_split in
-    subst (λ (l : List ℕ). Puts targets l all.second old new (Ok (tt {0}))) xs (subst (λ (l : List ℕ). Puts targets p.xs l old new (Ok (tt {0}))) ys p.puts)
+pub pumps_done : (targets : Targets) (all left : Both) (old new : HostState) → left.wave ≡ [] → left.trace ≡ [] → Pumps targets all left old new → Puts targets all.wave all.trace old new (Ok (tt {0}))
+pumps_done targets all left old new wave trace p =
+    let xs : p.xs ≡ all.wave = sym (append-nil p.xs) ∙ ap (λ (l : List ℕ). p.xs ++ l) (sym wave) ∙ p.wave_split in
+    let ys : p.ys ≡ all.trace = sym (append-nil p.ys) ∙ ap (λ (l : List ℕ). p.ys ++ l) (sym trace) ∙ p.trace_split in
+    subst (λ (l : List ℕ). Puts targets l all.trace old new (Ok (tt {0}))) xs (subst (λ (l : List ℕ). Puts targets p.xs l old new (Ok (tt {0}))) ys p.puts)
 
 -- the first output could not be created
 pub begin_failed : (first : List ℕ) (second : Option (List ℕ)) (a b : HostState) (e : Failed) → ((given : Given) → a.given ≡ Some given → length given.created ≡ length a.ended) →

@@ -8,7 +8,7 @@ use Rattle.command_frame.specs.declared.lists.ListPlan.{ListPlan}
 
 -- an output of the list, by what its source is to make
 abbrev pub listed_output : {P : Type 0} → (to_come : P → Both) → ListedOutput P → Output
-listed_output to_come output = record { name = string_bytes output.name; bytes = output.head.items ++ (to_come output.source).first }
+listed_output to_come output = record { name = string_bytes output.name; bytes = output.head.items ++ (to_come output.source).wave }
 
 abbrev pub list_makes : {P : Type 0} → (to_come : P → Both) → ListPlan P → Delivery
 list_makes to_come plan = record { outputs = map (listed_output to_come) plan.outputs.items; report = plan.report.items }

@@ -16,9 +16,9 @@ planned_outputs (Some output) = record { name = output.name.now; bytes = output.
 abbrev pub plan_makes : Plan → Delivery
 plan_makes plan = record { outputs = planned_outputs plan.output; report = plan.report.items }
 
--- what a plan in pieces makes: the head is written to the first output alone
+-- what a plan in pieces makes: the head is written to the sound file alone
 abbrev pub stream_makes : {P : Type 0} → (to_come : P → Both) → (report : P → List ℕ) → StreamedPlan P → Delivery
 stream_makes to_come report plan = record {
-  outputs = stream_outputs plan.first.now (option_map (λ name. name.now) plan.second) plan.head.items (to_come plan.source);
+  outputs = stream_outputs plan.wave.now (option_map (λ name. name.now) plan.trace) plan.head.items (to_come plan.source);
   report = report plan.source;
 }

@@ -6,10 +6,10 @@ use Rattle.snd_host.specs.declared.host.OutFile.{OutFile}
 use Rattle.command_frame.specs.declared.streaming.Targets.{Targets}
 use Rattle.command_frame.specs.Delivery.{Gains, Delivers, all_ended}
 
--- bytes of a first and of a second output
+-- bytes of a sound file and of a trace
 pub record Both : Type 0 where
-  pub first : List ℕ
-  pub second : List ℕ
+  pub wave : List ℕ
+  pub trace : List ℕ
 
 -- the bytes of the output of this place
 abbrev pub bytes_of : List Output → ℕ → List ℕ
@@ -65,7 +65,7 @@ pair first (Some second) xs ys = record { name = first; bytes = xs } ∷ record 
 
 -- the outputs of a stream: the head of the first, and what is made of each
 abbrev pub stream_outputs : (first : List ℕ) (second : Option (List ℕ)) (head : List ℕ) → Both → List Output
-stream_outputs first second head made = pair first second (head ++ made.first) made.second
+stream_outputs first second head made = pair first second (head ++ made.wave) made.trace
 
 -- a flag for each output of a stream
 abbrev pub flags_of : Option (List ℕ) → Bool → List Bool
@@ -119,6 +119,6 @@ pub record Ends (targets : Targets) (old new : HostState) (result : Result (Unit
 pub record Pumps (targets : Targets) (all left : Both) (old new : HostState) : Type 0 where
   pub xs : List ℕ
   pub ys : List ℕ
-  pub first_split : xs ++ left.first ≡ all.first
-  pub second_split : ys ++ left.second ≡ all.second
+  pub wave_split : xs ++ left.wave ≡ all.wave
+  pub trace_split : ys ++ left.trace ≡ all.trace
   pub puts : Puts targets xs ys old new (Ok (tt {0}))

@@ -24,11 +24,12 @@ pub struct PlannedOutput<'a> {
     pub bytes: Vec<u8>,
 }
 
-/// The outputs of a command that are made in pieces, after the head of the first, by a source that then has the report.
+/// The sound file and the trace of a command that are made in pieces, after the head of the sound file, by a source that then
+/// has the report.
 #[derive(Drop)]
 pub struct StreamedPlan<'a, P: Pieces + Drop> {
-    pub first: &'a str,
-    pub second: Option<&'a str>,
+    pub wave: &'a str,
+    pub trace: Option<&'a str>,
     pub head: Vec<u8>,
     pub source: P,
 }
@@ -80,12 +81,12 @@ pub fn carry_stream<H: Host, P: Pieces + Drop, C: Drop>(
     match prepared {
         Ok(plan) => {
             let StreamedPlan {
-                first,
-                second,
+                wave,
+                trace,
                 head,
                 mut source,
             } = plan;
-            match stream(host, first, second, head.as_slice(), &mut source) {
+            match stream(host, wave, trace, head.as_slice(), &mut source) {
                 Ok(()) => None,
                 Err(_) => Some(Refusal::WriteFault),
             }

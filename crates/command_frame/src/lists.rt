@@ -6,7 +6,7 @@ ghost use Rattle.command_frame.specs.Delivery.{CanDeliverAll, Delivers};
 ghost use Rattle.command_frame.specs.Listed.{listed_output, list_makes};
 ghost use Rattle.command_frame.specs.Stream.{Fills};
 
-use crate::streaming::{REPORT, fill};
+use crate::streaming::{REPORT, fill_outputs};
 use crate::{Pieces, Refusal};
 use snd_host::{Failed, Host, write_all};
 
@@ -35,7 +35,7 @@ fn fill_one<H: Host, P: Pieces + Drop>(host: &mut H, output: ListedOutput<P>) ->
         head,
         mut source,
     } = output;
-    fill(host, name.as_str(), None, head.as_slice(), &mut source)
+    fill_outputs(host, name.as_str(), None, head.as_slice(), &mut source)
 }
 
 /// Creates the outputs, writes them and ends them, one after another.

@@ -1,8 +1,8 @@
-// What makes two outputs at once, piece by piece, and then a report.
+// What makes a sound file and a trace at once, piece by piece, and then a report.
 ghost use Rattle.std.specs.Prelude.{◌≡◌, ◌<◌, ℕ, List, [], ◌++◌, Bool, true, false};
 ghost use Rattle.command_frame.specs.Stream.{Both};
 
-/// A source of two outputs that are made at once, in pieces, and of a report on them.
+/// A source of a sound file and of a trace that are made at once, in pieces, and of a report on them.
 pub trait Pieces {
     /// The piece that was made last.
     ghost held: { Self → Both };
@@ -21,21 +21,21 @@ pub trait Pieces {
 
     /// Makes the next piece, and answers whether nothing is left after it.
     fn make_next(&mut self) -> bool
-        ensures first { (to_come self.old).first ≡ (held self.new).first ++ (to_come self.new).first }
-        ensures second { (to_come self.old).second ≡ (held self.new).second ++ (to_come self.new).second }
-        ensures first_done { result ≡ true → (to_come self.new).first ≡ [] }
-        ensures second_done { result ≡ true → (to_come self.new).second ≡ [] }
+        ensures wave { (to_come self.old).wave ≡ (held self.new).wave ++ (to_come self.new).wave }
+        ensures trace { (to_come self.old).trace ≡ (held self.new).trace ++ (to_come self.new).trace }
+        ensures wave_done { result ≡ true → (to_come self.new).wave ≡ [] }
+        ensures trace_done { result ≡ true → (to_come self.new).trace ≡ [] }
         ensures report { report self.new ≡ report self.old }
         ensures is_done { is_done self.new ≡ result }
         ensures less_work { result ≡ false → work self.new < work self.old };
 
-    /// The piece's part of the first output.
-    fn first(&self) -> &[u8]
-        ensures { result.now ≡ (held self.now).first };
+    /// The piece's part of the sound file.
+    fn wave(&self) -> &[u8]
+        ensures { result.now ≡ (held self.now).wave };
 
-    /// The piece's part of the second output.
-    fn second(&self) -> &[u8]
-        ensures { result.now ≡ (held self.now).second };
+    /// The piece's part of the trace.
+    fn trace(&self) -> &[u8]
+        ensures { result.now ≡ (held self.now).trace };
 
     /// The report on all pieces.
     fn report(&self) -> &[u8]
@@ -50,9 +50,9 @@ pub(crate) struct NoPieces<'a> {
 }
 
 impl Pieces for NoPieces<'_> {
-    ghost held = { λ _. record { first = []; second = [] } };
+    ghost held = { λ _. record { wave = []; trace = [] } };
 
-    ghost to_come = { λ _. record { first = []; second = [] } };
+    ghost to_come = { λ _. record { wave = []; trace = [] } };
 
     ghost report = { λ s. s.report.now };
 
@@ -64,11 +64,11 @@ impl Pieces for NoPieces<'_> {
         true
     }
 
-    fn first(&self) -> &[u8] {
+    fn wave(&self) -> &[u8] {
         &[]
     }
 
-    fn second(&self) -> &[u8] {
+    fn trace(&self) -> &[u8] {
         &[]
     }
 

@@ -53,13 +53,13 @@ fn put<H: Host>(host: &mut H, targets: Targets, first: &[u8], second: &[u8]) -> 
 fn pump<H: Host, P: Pieces>(host: &mut H, targets: Targets, source: &mut P) -> Result<(), Failed>
     requires { AreOpen (H.state host.old).ended targets }
     ensures puts { let made = P.to_come source.old in
-        Puts targets made.first made.second (H.state host.old) (H.state host.new) result }
+        Puts targets made.wave made.trace (H.state host.old) (H.state host.new) result }
     ensures report { P.report source.new ≡ P.report source.old }
     ensures is_done { OnOk result (P.is_done source.new ≡ true) }
 {
     'pieces: loop {
         let done = source.make_next();
-        put(host, targets, source.first(), source.second())?;
+        put(host, targets, source.wave(), source.trace())?;
         if done {
             return Ok(());
         }
@@ -79,7 +79,7 @@ fn end<H: Host>(host: &mut H, targets: Targets) -> Result<(), Failed>
 }
 
 /// Creates the outputs, writes the head and all pieces to them, and ends them.
-pub(crate) fn fill<H: Host, P: Pieces>(
+pub(crate) fn fill_outputs<H: Host, P: Pieces>(
     host: &mut H,
     first: &str,
     second: Option<&str>,
@@ -110,6 +110,6 @@ pub fn stream<H: Host, P: Pieces>(
     ensures { let outputs = stream_outputs first.now (option_map (λ name. name.now) second.entry) head.now (P.to_come source.old) in
         Delivers outputs (P.report source.old) (H.state host.old) (H.state host.new) result }
 {
-    fill(host, first, second, head, source)?;
+    fill_outputs(host, first, second, head, source)?;
     write_all(host, REPORT, source.report())
 }

@@ -61,9 +61,9 @@ fn open_files(
 ) -> Result<RenderFiles<Dsp>, OutOfMemory>
     requires limit { length.frames ≤ most_frames }
     requires within { length.fade ≤ length.frames }
-    ensures wave { IfOk result (λ files. header_of 2 length.frames ++ (to_come_of dsp_chip files).first
+    ensures wave { IfOk result (λ files. header_of 2 length.frames ++ (to_come_of dsp_chip files).wave
         ≡ stereo_wave (faded_frames (tune_frames file.now table (unwrap_or voices 0) length.frames) length.fade)) }
-    ensures trace { IfOk result (λ files. (to_come_of dsp_chip files).second
+    ensures trace { IfOk result (λ files. (to_come_of dsp_chip files).trace
         ≡ trace_of (is_some voices) (tune_records file.now table (unwrap_or voices 0) length.frames)) }
     ensures report { IfOk result (λ files. report_of dsp_chip files
         ≡ sound_report length.frames (tune_counts file.now table (unwrap_or voices 0) length.frames)) }
@@ -93,8 +93,8 @@ fn plan<'a>(
         return Err(Refusal::OutOfMemory);
     };
     Ok(StreamedPlan {
-        first: wave,
-        second: options.trace,
+        wave,
+        trace: options.trace,
         head,
         source,
     })

@@ -18,10 +18,10 @@ wave_bytes samples = flat_map sample_bytes samples
 
 -- the piece that was made last, for the only output
 abbrev pub held_of : PiecesState → Both
-held_of source = record { first = if source.is_done then [] else source.piece; second = [] }
+held_of source = record { wave = if source.is_done then [] else source.piece; trace = [] }
 
 abbrev pub to_come_of : PiecesState → Both
-to_come_of source = record { first = wave_bytes (samples_ahead source.memory source.walk); second = [] }
+to_come_of source = record { wave = wave_bytes (samples_ahead source.memory source.walk); trace = [] }
 
 -- the blocks that are left
 abbrev pub work_of : PiecesState → ℕ

@@ -46,7 +46,7 @@ fn wave_bytes(block: [i16; 16]) -> [u8; BLOCK_BYTES]
 impl<'a> RipPieces<'a> {
     /// A source of all samples of a rip.
     pub fn new(memory: &'a Aram, found: &RipFound) -> RipPieces<'a>
-        ensures { header_of 1 (16 * found.now.blocks) ++ (to_come_of result).first ≡ mono_wave (rip_samples memory.now found.now) }
+        ensures { header_of 1 (16 * found.now.blocks) ++ (to_come_of result).wave ≡ mono_wave (rip_samples memory.now found.now) }
     {
         RipPieces {
             memory,
@@ -79,11 +79,11 @@ impl Pieces for RipPieces<'_> {
         self.is_done
     }
 
-    fn first(&self) -> &[u8] {
+    fn wave(&self) -> &[u8] {
         if self.is_done { &[] } else { &self.piece }
     }
 
-    fn second(&self) -> &[u8] {
+    fn trace(&self) -> &[u8] {
         &[]
     }
 

@@ -40,7 +40,7 @@ fn open_session(
 ) -> Result<SessionFiles<Dsp>, OutOfMemory>
     requires enough { fewest_pages ≤ pages }
     requires few { pages ≤ most_pages }
-    ensures wave { IfOk result (λ files. header_of 2 (played_frames 0 0 script) ++ (to_come_of dsp_chip dsp_saving files).first
+    ensures wave { IfOk result (λ files. header_of 2 (played_frames 0 0 script) ++ (to_come_of dsp_chip dsp_saving files).wave
         ≡ stereo_wave (cut_frames (tune_frames file.now table 0) (played_cuts (tune_replies pages file.now table script)))) }
     ensures report { IfOk result (λ files. report_of dsp_chip dsp_saving files ≡ report_on (tune_replies pages file.now table script)) }
 {
@@ -70,8 +70,8 @@ fn plan<'a>(
         return Err(Refusal::OutOfMemory);
     };
     Ok(StreamedPlan {
-        first: wave,
-        second: None,
+        wave,
+        trace: None,
         head,
         source,
     })

@@ -40,10 +40,10 @@ abbrev pub book_ahead : {S V : Type 0} → ChipMeaning S → ChipSaving S V → 
 book_ahead chip saving files = fold (after_cut (pages_at chip saving files.server)) (after_play (book_of files.server) files.left) (rest_of files)
 
 abbrev pub held_of : {S V : Type 0} → FilesState S V → Both
-held_of files = record { first = files.wave; second = [] }
+held_of files = record { wave = files.wave; trace = [] }
 
 abbrev pub to_come_of : {S V : Type 0} → ChipMeaning S → ChipSaving S V → FilesState S V → Both
-to_come_of chip saving files = record { first = flat_map frame_bytes (frames_ahead chip saving files); second = [] }
+to_come_of chip saving files = record { wave = flat_map frame_bytes (frames_ahead chip saving files); trace = [] }
 
 -- the report on cuts, with the book once they are played
 unfoldable pub cuts_report : List Cut → CutBook → List ℕ

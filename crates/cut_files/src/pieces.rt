@@ -79,7 +79,7 @@ impl<C: Chip> CutFiles<C> {
         requires slots { slots_of server ≡ slots_for_cuts }
         requires run { AreOfRun (frames_to C.meaning C.saving server) }
         requires book { book_of server ≡ opened_book (pages_at C.meaning C.saving server) }
-        ensures wave { IfOk result (λ files. header_of 2 (cut_samples cuts) ++ (to_come_of C.meaning C.saving files).first
+        ensures wave { IfOk result (λ files. header_of 2 (cut_samples cuts) ++ (to_come_of C.meaning C.saving files).wave
             ≡ stereo_wave (cut_frames (frames_to C.meaning C.saving server) cuts)) }
         ensures report { IfOk result (λ files. report_of C.meaning C.saving files ≡ cuts_report cuts (cut_book (pages_at C.meaning C.saving server) cuts)) }
     {
@@ -100,7 +100,7 @@ impl<C: Chip> CutFiles<C> {
     /// there is none.
     fn begin(&mut self) -> bool
         requires { self.old.left ≡ 0 }
-        ensures first { (to_come_of C.meaning C.saving self.new).first ≡ (to_come_of C.meaning C.saving self.old).first }
+        ensures wave_to_come { (to_come_of C.meaning C.saving self.new).wave ≡ (to_come_of C.meaning C.saving self.old).wave }
         ensures report { report_of C.meaning C.saving self.new ≡ report_of C.meaning C.saving self.old }
         ensures wave { self.new.wave ≡ self.old.wave }
         ensures done { result ≡ true → work_of self.new ≡ 0 }
@@ -121,7 +121,7 @@ impl<C: Chip> CutFiles<C> {
     fn play(&mut self)
         requires some { 1 ≤ self.old.left }
         requires room { length self.old.wave + most_played_bytes ≤ room_size }
-        ensures first { self.old.wave ++ (to_come_of C.meaning C.saving self.old).first ≡ self.new.wave ++ (to_come_of C.meaning C.saving self.new).first }
+        ensures wave_to_come { self.old.wave ++ (to_come_of C.meaning C.saving self.old).wave ≡ self.new.wave ++ (to_come_of C.meaning C.saving self.new).wave }
         ensures report { report_of C.meaning C.saving self.new ≡ report_of C.meaning C.saving self.old }
         ensures less_work { work_of self.new < work_of self.old }
     {
@@ -132,9 +132,9 @@ impl<C: Chip> CutFiles<C> {
     }
 
     /// Begins cuts and plays while there is room, and answers whether all are played.
-    fn fill(&mut self) -> bool
+    fn play_cuts(&mut self) -> bool
         requires { self.old.wave ≡ [] }
-        ensures first { (to_come_of C.meaning C.saving self.old).first ≡ self.new.wave ++ (to_come_of C.meaning C.saving self.new).first }
+        ensures wave_to_come { (to_come_of C.meaning C.saving self.old).wave ≡ self.new.wave ++ (to_come_of C.meaning C.saving self.new).wave }
         ensures report { report_of C.meaning C.saving self.new ≡ report_of C.meaning C.saving self.old }
         ensures done { result ≡ true → work_of self.new ≡ 0 }
         ensures less_work { result ≡ false → work_of self.new < work_of self.old }
@@ -176,7 +176,7 @@ impl<C: Chip> Pieces for CutFiles<C> {
 
     fn make_next(&mut self) -> bool {
         self.wave.clear();
-        let done = self.fill();
+        let done = self.play_cuts();
         self.is_done = false;
         if done {
             self.tell();
@@ -184,11 +184,11 @@ impl<C: Chip> Pieces for CutFiles<C> {
         done
     }
 
-    fn first(&self) -> &[u8] {
+    fn wave(&self) -> &[u8] {
         self.wave.as_slice()
     }
 
-    fn second(&self) -> &[u8] {
+    fn trace(&self) -> &[u8] {
         &[]
     }
 

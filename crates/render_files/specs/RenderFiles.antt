@@ -43,13 +43,13 @@ abbrev pub wave_of : {S : Type 0} → FilesState S → (made : ℕ) → List Fra
 wave_of files made frames = flat_map frame_bytes (faded_from made files.samples files.fade frames)
 
 abbrev pub held_of : {S : Type 0} → FilesState S → Both
-held_of files = record { first = files.wave; second = files.trace }
+held_of files = record { wave = files.wave; trace = files.trace }
 
 -- what is still to come after the piece
 abbrev pub to_come_of : {S : Type 0} → ChipMeaning S → FilesState S → Both
 to_come_of chip files = record {
-  first = wave_of files files.made (frames_to_come chip files.render);
-  second = trace_of files.is_traced (records_to_come chip files.render);
+  wave = wave_of files files.made (frames_to_come chip files.render);
+  trace = trace_of files.is_traced (records_to_come chip files.render);
 }
 
 -- the report on all of it

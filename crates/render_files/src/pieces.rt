@@ -129,9 +129,9 @@ impl<C: Chip> RenderFiles<C> {
         requires unmade { IsUnmade C.meaning render samples }
         requires limit { samples ≤ most_frames }
         requires within { fade ≤ samples }
-        ensures wave { IfOk result (λ files. header_of 2 samples ++ (to_come_of C.meaning files).first
+        ensures wave { IfOk result (λ files. header_of 2 samples ++ (to_come_of C.meaning files).wave
             ≡ stereo_wave (faded_frames (frames_to_come C.meaning render) fade)) }
-        ensures trace { IfOk result (λ files. (to_come_of C.meaning files).second ≡ trace_of is_traced (records_to_come C.meaning render)) }
+        ensures trace { IfOk result (λ files. (to_come_of C.meaning files).trace ≡ trace_of is_traced (records_to_come C.meaning render)) }
         ensures report { IfOk result (λ files. report_of C.meaning files ≡ sound_report samples (counts_to_come C.meaning render)) }
     {
         let rooms = RenderRooms::reserve(alloc)?;
@@ -152,10 +152,10 @@ impl<C: Chip> RenderFiles<C> {
     fn add_piece(&mut self) -> bool
         requires wave_room { length self.old.wave + most_bytes_of_frames ≤ room_size }
         requires trace_room { length self.old.trace + most_bytes_of_lines ≤ room_size }
-        ensures first { self.old.wave ++ (to_come_of C.meaning self.old).first ≡ self.new.wave ++ (to_come_of C.meaning self.new).first }
-        ensures second { self.old.trace ++ (to_come_of C.meaning self.old).second ≡ self.new.trace ++ (to_come_of C.meaning self.new).second }
-        ensures first_done { result ≡ true → (to_come_of C.meaning self.new).first ≡ [] }
-        ensures second_done { result ≡ true → (to_come_of C.meaning self.new).second ≡ [] }
+        ensures wave_to_come { self.old.wave ++ (to_come_of C.meaning self.old).wave ≡ self.new.wave ++ (to_come_of C.meaning self.new).wave }
+        ensures trace_to_come { self.old.trace ++ (to_come_of C.meaning self.old).trace ≡ self.new.trace ++ (to_come_of C.meaning self.new).trace }
+        ensures wave_done { result ≡ true → (to_come_of C.meaning self.new).wave ≡ [] }
+        ensures trace_done { result ≡ true → (to_come_of C.meaning self.new).trace ≡ [] }
         ensures less_work { result ≡ false → work_of self.new < work_of self.old }
         ensures report { report_of C.meaning self.new ≡ report_of C.meaning self.old }
         ensures counted { result ≡ true → self.new.render.bus.book.counts ≡ counts_to_come C.meaning self.new.render }
@@ -186,13 +186,13 @@ impl<C: Chip> RenderFiles<C> {
     }
 
     /// Adds pieces while there is room for one more, and answers whether the last one is among them.
-    fn fill(&mut self) -> bool
+    fn add_pieces(&mut self) -> bool
         requires wave { self.old.wave ≡ [] }
         requires trace { self.old.trace ≡ [] }
-        ensures first { (to_come_of C.meaning self.old).first ≡ self.new.wave ++ (to_come_of C.meaning self.new).first }
-        ensures second { (to_come_of C.meaning self.old).second ≡ self.new.trace ++ (to_come_of C.meaning self.new).second }
-        ensures first_done { result ≡ true → (to_come_of C.meaning self.new).first ≡ [] }
-        ensures second_done { result ≡ true → (to_come_of C.meaning self.new).second ≡ [] }
+        ensures wave_to_come { (to_come_of C.meaning self.old).wave ≡ self.new.wave ++ (to_come_of C.meaning self.new).wave }
+        ensures trace_to_come { (to_come_of C.meaning self.old).trace ≡ self.new.trace ++ (to_come_of C.meaning self.new).trace }
+        ensures wave_done { result ≡ true → (to_come_of C.meaning self.new).wave ≡ [] }
+        ensures trace_done { result ≡ true → (to_come_of C.meaning self.new).trace ≡ [] }
         ensures less_work { result ≡ false → work_of self.new < work_of self.old }
         ensures report { report_of C.meaning self.new ≡ report_of C.meaning self.old }
         ensures counted { result ≡ true → self.new.render.bus.book.counts ≡ counts_to_come C.meaning self.new.render }
@@ -220,7 +220,7 @@ impl<C: Chip> Pieces for RenderFiles<C> {
     fn make_next(&mut self) -> bool {
         self.wave.clear();
         self.trace.clear();
-        let done = self.fill();
+        let done = self.add_pieces();
         self.is_done = false;
         if done {
             self.tell();
@@ -228,11 +228,11 @@ impl<C: Chip> Pieces for RenderFiles<C> {
         done
     }
 
-    fn first(&self) -> &[u8] {
+    fn wave(&self) -> &[u8] {
         self.wave.as_slice()
     }
 
-    fn second(&self) -> &[u8] {
+    fn trace(&self) -> &[u8] {
         self.trace.as_slice()
     }
 

@@ -40,11 +40,11 @@ frames_left chip saving files =
     left_to_play chip saving files.player ++ cut_frames (frames_to chip saving files.player.server) (played_cuts (replies_to_come chip saving files))
 
 abbrev pub held_of : {S V : Type 0} → FilesState S V → Both
-held_of files = record { first = files.wave; second = [] }
+held_of files = record { wave = files.wave; trace = [] }
 
 -- what is still to come after the piece
 abbrev pub to_come_of : {S V : Type 0} → ChipMeaning S → ChipSaving S V → FilesState S V → Both
-to_come_of chip saving files = record { first = flat_map frame_bytes (frames_left chip saving files); second = [] }
+to_come_of chip saving files = record { wave = flat_map frame_bytes (frames_left chip saving files); trace = [] }
 
 -- the report on all of it
 abbrev pub report_of : {S V : Type 0} → ChipMeaning S → ChipSaving S V → FilesState S V → List ℕ

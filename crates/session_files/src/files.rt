@@ -102,7 +102,7 @@ impl<C: Chip> SessionFiles<C> {
         requires run { AreOfRun (frames_to C.meaning C.saving server) }
         requires opened { book_of server ≡ opened_book (pages_at C.meaning C.saving server) }
         ensures wave { let told = replies_of_server C.meaning C.saving server script in
-            IfOk result (λ files. header_of 2 (played_frames 0 0 script) ++ (to_come_of C.meaning C.saving files).first
+            IfOk result (λ files. header_of 2 (played_frames 0 0 script) ++ (to_come_of C.meaning C.saving files).wave
             ≡ stereo_wave (cut_frames (frames_to C.meaning C.saving server) (played_cuts told))) }
         ensures report { let told = replies_of_server C.meaning C.saving server script in
             IfOk result (λ files. report_of C.meaning C.saving files ≡ report_on told) }
@@ -122,7 +122,7 @@ impl<C: Chip> SessionFiles<C> {
     /// Whether all lines are answered and played.
     fn is_finished(&self) -> bool
         ensures finished { result ≡ is_finished self.now }
-        ensures nothing { result ≡ true → (to_come_of C.meaning C.saving self.now).first ≡ [] }
+        ensures nothing { result ≡ true → (to_come_of C.meaning C.saving self.now).wave ≡ [] }
     {
         self.player.left() == 0 && self.next == self.script.len()
     }
@@ -164,9 +164,9 @@ impl<C: Chip> SessionFiles<C> {
     }
 
     /// Goes on while there is room for more frames.
-    fn fill(&mut self)
+    fn follow_script(&mut self)
         requires { self.old.wave ≡ [] }
-        ensures first { (to_come_of C.meaning C.saving self.old).first ≡ self.new.wave ++ (to_come_of C.meaning C.saving self.new).first }
+        ensures wave_to_come { (to_come_of C.meaning C.saving self.old).wave ≡ self.new.wave ++ (to_come_of C.meaning C.saving self.new).wave }
         ensures report { report_of C.meaning C.saving self.new ≡ report_of C.meaning C.saving self.old }
         ensures less_work { is_finished self.new ≡ false → work_of self.new < work_of self.old }
     {
@@ -189,15 +189,15 @@ impl<C: Chip> Pieces for SessionFiles<C> {
 
     fn make_next(&mut self) -> bool {
         self.wave.clear();
-        self.fill();
+        self.follow_script();
         self.is_finished()
     }
 
-    fn first(&self) -> &[u8] {
+    fn wave(&self) -> &[u8] {
         self.wave.as_slice()
     }
 
-    fn second(&self) -> &[u8] {
+    fn trace(&self) -> &[u8] {
         &[]
     }
 

@@ -11,9 +11,9 @@ use Rattle.command_frame.proofs.delivery.carry_stream.Goals as goal
 
 -- the bytes that were passed are those of the plan
 of_plan : {P : Type 0} (to_come : P → Both) (report : P → List ℕ) (plan : StreamedPlan P) (head : List ℕ) (x y : HostState) (r : Result (Unit {0}) Failed) → head ≡ plan.head.items →
-    Delivers (pair plan.first.now (option_map (λ name. name.now) plan.second) (head ++ (to_come plan.source).first) (to_come plan.source).second) (report plan.source) x y r → Delivers (stream_makes to_come report plan).outputs (stream_makes to_come report plan).report x y r
+    Delivers (pair plan.wave.now (option_map (λ name. name.now) plan.trace) (head ++ (to_come plan.source).wave) (to_come plan.source).trace) (report plan.source) x y r → Delivers (stream_makes to_come report plan).outputs (stream_makes to_come report plan).report x y r
 of_plan to_come report plan head x y r heads d =
-    subst (λ (l : List ℕ). Delivers (pair plan.first.now (option_map (λ name. name.now) plan.second) (l ++ (to_come plan.source).first) (to_come plan.source).second) (report plan.source) x y r) heads d
+    subst (λ (l : List ℕ). Delivers (pair plan.wave.now (option_map (λ name. name.now) plan.trace) (l ++ (to_come plan.source).wave) (to_come plan.source).trace) (report plan.source) x y r) heads d
 
 pub returns-in-Ok-stream : goal.returns-in-Ok-stream
 returns-in-Ok-stream g c =

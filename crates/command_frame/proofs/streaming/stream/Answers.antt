@@ -5,13 +5,13 @@ use Rattle.command_frame.proofs.Delivering.{then_report}
 use Rattle.command_frame.proofs.Standing.{delivered}
 use Rattle.command_frame.proofs.streaming.stream.Goals as goal
 
-pub returns-in_err-fill : goal.returns-in_err-fill
-returns-in_err-fill g c =
+pub returns-in_err-fill_outputs : goal.returns-in_err-fill_outputs
+returns-in_err-fill_outputs g c =
     let p = err_from_is_err_and c.from_residual.result c.from_residual.ensures.1 in
-    rw (p.1) (c.in_err-fill.ensures.fills.err (g.P.Pieces.report c.args.source.now) c.in_err-fill.field-0.0)
+    rw (p.1) (c.in_err-fill_outputs.ensures.fills.err (g.P.Pieces.report c.args.source.now) c.in_err-fill_outputs.field-0.0)
 
 pub returns : goal.returns
 returns g c =
-    then_report _ (g.P.Pieces.report c.args.source.now) _ (g.H.Host.state c.fill.new.host) _ _ _
-    (delivered _ _ _ (tt {0}) c.in_ok-fill.ensures.fills.ok)
-    (subst (λ (l : List ℕ). WritesAll 0 l (g.H.Host.state c.fill.new.host) (g.H.Host.state c.write_all.new.host) c.write_all.result) (c.report.ensures ∙ c.in_ok-fill.ensures.report) c.write_all.ensures)
+    then_report _ (g.P.Pieces.report c.args.source.now) _ (g.H.Host.state c.fill_outputs.new.host) _ _ _
+    (delivered _ _ _ (tt {0}) c.in_ok-fill_outputs.ensures.fills.ok)
+    (subst (λ (l : List ℕ). WritesAll 0 l (g.H.Host.state c.fill_outputs.new.host) (g.H.Host.state c.write_all.new.host) c.write_all.result) (c.report.ensures ∙ c.in_ok-fill_outputs.ensures.report) c.write_all.ensures)

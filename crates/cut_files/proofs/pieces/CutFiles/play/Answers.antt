@@ -10,8 +10,8 @@ use Rattle.render_files.proofs.Waves.{moved}
 use Rattle.cut_files.proofs.Cutting.{counted_same, report_played}
 use Rattle.cut_files.proofs.pieces.CutFiles.play.Goals as goal
 
-pub returns-clause-first : goal.returns-clause-first
-returns-clause-first g c =
+pub returns-clause-wave_to_come : goal.returns-clause-wave_to_come
+returns-clause-wave_to_come g c =
     let inside = c.self.inside in
     let f = frames_to g.C.Chip.meaning g.C.Chip.saving inside.server in
     let h = frames_to g.C.Chip.meaning g.C.Chip.saving c.play.new.self in

@@ -1,13 +1,13 @@
 use Rattle.std.proofs.Common.{◌≡◌, ◌+◌, ◌≤◌, ◌++◌, length}
 use Rattle.report_text.specs.Room.{room_size}
 use Rattle.render_files.specs.RenderFiles.{to_come_of, report_of, work_of}
-use Rattle.render_files.proofs.pieces.RenderFiles.fill.Given as goal
+use Rattle.render_files.proofs.pieces.RenderFiles.add_pieces.Given as goal
 
 -- what was to come is the piece so far and what is to come, and there is room for more
 abbrev pub invariant-pieces : goal.invariant-pieces
 invariant-pieces g l = record {
-  first : l.self.wave ++ (to_come_of g.C.Chip.meaning l.self).first ≡ (to_come_of g.C.Chip.meaning l.fn.self).first;
-  second : l.self.trace ++ (to_come_of g.C.Chip.meaning l.self).second ≡ (to_come_of g.C.Chip.meaning l.fn.self).second;
+  wave_to_come : l.self.wave ++ (to_come_of g.C.Chip.meaning l.self).wave ≡ (to_come_of g.C.Chip.meaning l.fn.self).wave;
+  trace_to_come : l.self.trace ++ (to_come_of g.C.Chip.meaning l.self).trace ≡ (to_come_of g.C.Chip.meaning l.fn.self).trace;
   wave_room : length l.self.wave + 512 ≤ room_size;
   trace_room : length l.self.trace + 64512 ≤ room_size;
   report : report_of g.C.Chip.meaning l.self ≡ report_of g.C.Chip.meaning l.fn.self;

@@ -3,7 +3,7 @@ use Rattle.std.specs.Prelude.{option_map}
 use Rattle.std.proofs.lemmas.Result.{err_from_is_err_and}
 use Rattle.command_frame.specs.Stream.{AreOpen}
 use Rattle.command_frame.proofs.Streams.{pieces_failed, all_filled, head_open}
-use Rattle.command_frame.proofs.streaming.fill.Goals as goal
+use Rattle.command_frame.proofs.streaming.fill_outputs.Goals as goal
 
 pub returns-in_err-pump-clause-fills : goal.returns-in_err-pump-clause-fills
 returns-in_err-pump-clause-fills g c =
