@@ -2,20 +2,13 @@
 use Rattle.std.specs.Prelude.{ℕ, true, false}
 use Rattle.spc700_alu.specs.declared.Out8.{Out8}
 use Rattle.spc700_alu.specs.declared.Out16.{Out16}
-use Rattle.spc700_alu.specs.Bytes.{adc_of, sbc_of, logic_of, shift_of, bump_of}
+use Rattle.spc700_alu.specs.Bytes.{shift_of, bump_of}
 use Rattle.spc700_alu.specs.WordArithmetic.{addw_of, subw_of}
-use Rattle.spc700_exec.specs.declared.bytes.Calculation.{Calculation}
-use Rattle.spc700_exec.specs.declared.bytes.Calculation.TheVariants as Calculate
 use Rattle.spc700_exec.specs.declared.bytes.Modification.{Modification}
 use Rattle.spc700_exec.specs.declared.bytes.Modification.TheVariants as Modify
 use Rattle.spc700_exec.specs.declared.word_instructions.WordCalculation.{WordCalculation}
 use Rattle.spc700_exec.specs.declared.word_instructions.WordCalculation.TheVariants as Word
 use Rattle.spc700_exec.specs.Operations.{movw_of, kept_after_cmpw}
-
-abbrev pub calculation : Calculation → (a b psw : ℕ) → Out8
-calculation (Calculate.Logic kind) = logic_of kind
-calculation Calculate.Adc = adc_of
-calculation Calculate.Sbc = sbc_of
 
 abbrev pub modification : Modification → (v psw : ℕ) → Out8
 modification (Modify.Shift kind) = shift_of kind

@@ -3,7 +3,9 @@
 ghost use Rattle.std.specs.Prelude.{◌≡◌, ℕ};
 ghost use Rattle.spc700_exec.specs.Operations as operations;
 ghost use Rattle.spc700_exec.specs.Lines.{with_nz_of_move};
-ghost use Rattle.spc700_exec.specs.Calculations.{calculation, modification};
+ghost use Rattle.spc700_alu.specs.declared.Out8.{Out8};
+ghost use Rattle.spc700_alu.specs.Bytes.{adc_of, sbc_of, logic_of};
+ghost use Rattle.spc700_exec.specs.Calculations.{modification};
 
 use crate::bus::Bus;
 use crate::cpu::Cpu;
@@ -13,15 +15,50 @@ use spc700_alu::flags::put_nz;
 use spc700_alu::{LogicKind, Out8, ShiftKind, adc, bump, cmp, logic, sbc, shift};
 use spc700_table::OpRow;
 
-/// What is calculated of two bytes.
-#[derive(Clone, Copy, Debug, PartialEq, Eq)]
-pub enum Calculation {
-    /// OR, AND or EOR.
-    Logic(LogicKind),
-    /// ADC.
-    Adc,
-    /// SBC.
-    Sbc,
+/// What is calculated of two bytes. Each calculation is a type, so that an arm has the code of its own alone.
+pub trait Calculation: Copy {
+    /// The result of two bytes and the status.
+    ghost result_of: { Self → ℕ → ℕ → ℕ → Out8 };
+
+    /// The result of two bytes, and the status.
+    fn calculate(self, a: u8, b: u8, psw: u8) -> Out8
+        ensures { result ≡ result_of self a b psw };
+}
+
+/// OR, AND and EOR.
+impl Calculation for LogicKind {
+    ghost result_of = { logic_of };
+
+    #[inline(always)]
+    fn calculate(self, a: u8, b: u8, psw: u8) -> Out8 {
+        logic(self, a, b, psw)
+    }
+}
+
+/// ADC.
+#[derive(Clone, Copy)]
+pub struct Adc;
+
+impl Calculation for Adc {
+    ghost result_of = { λ _. adc_of };
+
+    #[inline(always)]
+    fn calculate(self, a: u8, b: u8, psw: u8) -> Out8 {
+        adc(a, b, psw)
+    }
+}
+
+/// SBC.
+#[derive(Clone, Copy)]
+pub struct Sbc;
+
+impl Calculation for Sbc {
+    ghost result_of = { λ _. sbc_of };
+
+    #[inline(always)]
+    fn calculate(self, a: u8, b: u8, psw: u8) -> Out8 {
+        sbc(a, b, psw)
+    }
 }
 
 /// What a byte is changed by.
@@ -33,18 +70,6 @@ pub enum Modification {
     Up,
     /// DEC.
     Down,
-}
-
-/// The result of two bytes, and the status.
-#[inline(always)]
-fn byte_result(kind: Calculation, a: u8, b: u8, psw: u8) -> Out8
-    ensures { result ≡ calculation kind a b psw }
-{
-    match kind {
-        Calculation::Logic(kind) => logic(kind, a, b, psw),
-        Calculation::Adc => adc(a, b, psw),
-        Calculation::Sbc => sbc(a, b, psw),
-    }
 }
 
 /// The changed byte, and the status.
@@ -87,15 +112,19 @@ impl Execute for Move {
     }
 }
 
-impl Execute for Calculation {
-    ghost operation = { λ kind. operations.Calculate (calculation kind) };
+/// OR, AND, EOR, ADC and SBC.
+#[derive(Clone, Copy)]
+pub struct Calculate<K>(pub K);
+
+impl<K: Calculation> Execute for Calculate<K> {
+    ghost operation = { λ calculate. operations.Calculate (K.result_of calculate.0) };
 
     #[inline(always)]
     fn execute<B: Bus>(self, cpu: &mut Cpu, bus: &mut B, row: OpRow) -> u8 {
         let both = address_both(cpu, bus, row);
         let b = load(cpu, bus, both.second);
         let a = load(cpu, bus, both.first);
-        let out = byte_result(self, a, b, cpu.psw);
+        let out = self.0.calculate(a, b, cpu.psw);
         cpu.psw = out.psw;
         store(cpu, bus, both.first, out.value);
         row.cycles

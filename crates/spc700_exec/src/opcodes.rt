@@ -10,9 +10,8 @@ ghost use Rattle.spc700_exec.specs.Pieces.{HasRoom, IsWholeInstruction};
 use crate::bits::{BitInPlace, BitToCarry, TestAndClear, TestAndSet};
 use crate::branches::{BranchAlways, BranchIfDifferent, BranchOnBit, BranchOnFlag, CountDown};
 use crate::bus::Bus;
-use crate::bytes::Calculation::{Adc, Logic, Sbc};
 use crate::bytes::Modification::{Down, Shift, Up};
-use crate::bytes::{Compare, Move};
+use crate::bytes::{Adc, Calculate, Compare, Move, Sbc};
 use crate::cpu::Cpu;
 use crate::execute::execute_whole;
 use crate::jumps::{Break, Call, InterruptReturn, Jump, Pop, Push, Return, TableCall, halt};
@@ -46,7 +45,7 @@ fn from_00<B: Bus>(cpu: &mut Cpu, bus: &mut B, low: u8)
         0x1 => TableCall,
         0x2 => BitInPlace(BitKind::Set),
         0x3 => BranchOnBit(true),
-        0x4 | 0x5 | 0x6 | 0x7 | 0x8 | 0x9 => Logic(LogicKind::Or),
+        0x4 | 0x5 | 0x6 | 0x7 | 0x8 | 0x9 => Calculate(LogicKind::Or),
         0xA => BitToCarry(BitKind::Or),
         0xB | 0xC => Shift(ShiftKind::Asl),
         0xD => Push,
@@ -67,7 +66,7 @@ fn from_10<B: Bus>(cpu: &mut Cpu, bus: &mut B, low: u8)
         0x1 => TableCall,
         0x2 => BitInPlace(BitKind::Clear),
         0x3 => BranchOnBit(false),
-        0x4 | 0x5 | 0x6 | 0x7 | 0x8 | 0x9 => Logic(LogicKind::Or),
+        0x4 | 0x5 | 0x6 | 0x7 | 0x8 | 0x9 => Calculate(LogicKind::Or),
         0xA => WordDown,
         0xB | 0xC => Shift(ShiftKind::Asl),
         0xD => Down,
@@ -88,7 +87,7 @@ fn from_20<B: Bus>(cpu: &mut Cpu, bus: &mut B, low: u8)
         0x1 => TableCall,
         0x2 => BitInPlace(BitKind::Set),
         0x3 => BranchOnBit(true),
-        0x4 | 0x5 | 0x6 | 0x7 | 0x8 | 0x9 => Logic(LogicKind::And),
+        0x4 | 0x5 | 0x6 | 0x7 | 0x8 | 0x9 => Calculate(LogicKind::And),
         0xA => BitToCarry(BitKind::OrNot),
         0xB | 0xC => Shift(ShiftKind::Rol),
         0xD => Push,
@@ -109,7 +108,7 @@ fn from_30<B: Bus>(cpu: &mut Cpu, bus: &mut B, low: u8)
         0x1 => TableCall,
         0x2 => BitInPlace(BitKind::Clear),
         0x3 => BranchOnBit(false),
-        0x4 | 0x5 | 0x6 | 0x7 | 0x8 | 0x9 => Logic(LogicKind::And),
+        0x4 | 0x5 | 0x6 | 0x7 | 0x8 | 0x9 => Calculate(LogicKind::And),
         0xA => WordUp,
         0xB | 0xC => Shift(ShiftKind::Rol),
         0xD => Up,
@@ -130,7 +129,7 @@ fn from_40<B: Bus>(cpu: &mut Cpu, bus: &mut B, low: u8)
         0x1 => TableCall,
         0x2 => BitInPlace(BitKind::Set),
         0x3 => BranchOnBit(true),
-        0x4 | 0x5 | 0x6 | 0x7 | 0x8 | 0x9 => Logic(LogicKind::Eor),
+        0x4 | 0x5 | 0x6 | 0x7 | 0x8 | 0x9 => Calculate(LogicKind::Eor),
         0xA => BitToCarry(BitKind::And),
         0xB | 0xC => Shift(ShiftKind::Lsr),
         0xD => Push,
@@ -151,7 +150,7 @@ fn from_50<B: Bus>(cpu: &mut Cpu, bus: &mut B, low: u8)
         0x1 => TableCall,
         0x2 => BitInPlace(BitKind::Clear),
         0x3 => BranchOnBit(false),
-        0x4 | 0x5 | 0x6 | 0x7 | 0x8 | 0x9 => Logic(LogicKind::Eor),
+        0x4 | 0x5 | 0x6 | 0x7 | 0x8 | 0x9 => Calculate(LogicKind::Eor),
         0xA => WordCalculation::Compare,
         0xB | 0xC => Shift(ShiftKind::Lsr),
         0xD => Move,
@@ -213,7 +212,7 @@ fn from_80<B: Bus>(cpu: &mut Cpu, bus: &mut B, low: u8)
         0x1 => TableCall,
         0x2 => BitInPlace(BitKind::Set),
         0x3 => BranchOnBit(true),
-        0x4 | 0x5 | 0x6 | 0x7 | 0x8 | 0x9 => Adc,
+        0x4 | 0x5 | 0x6 | 0x7 | 0x8 | 0x9 => Calculate(Adc),
         0xA => BitToCarry(BitKind::Eor),
         0xB | 0xC => Down,
         0xD => Move,
@@ -234,7 +233,7 @@ fn from_90<B: Bus>(cpu: &mut Cpu, bus: &mut B, low: u8)
         0x1 => TableCall,
         0x2 => BitInPlace(BitKind::Clear),
         0x3 => BranchOnBit(false),
-        0x4 | 0x5 | 0x6 | 0x7 | 0x8 | 0x9 => Adc,
+        0x4 | 0x5 | 0x6 | 0x7 | 0x8 | 0x9 => Calculate(Adc),
         0xA => WordCalculation::Subtract,
         0xB | 0xC => Down,
         0xD => Move,
@@ -255,7 +254,7 @@ fn from_a0<B: Bus>(cpu: &mut Cpu, bus: &mut B, low: u8)
         0x1 => TableCall,
         0x2 => BitInPlace(BitKind::Set),
         0x3 => BranchOnBit(true),
-        0x4 | 0x5 | 0x6 | 0x7 | 0x8 | 0x9 => Sbc,
+        0x4 | 0x5 | 0x6 | 0x7 | 0x8 | 0x9 => Calculate(Sbc),
         0xA => BitToCarry(BitKind::Load),
         0xB | 0xC => Up,
         0xD => Compare,
@@ -276,7 +275,7 @@ fn from_b0<B: Bus>(cpu: &mut Cpu, bus: &mut B, low: u8)
         0x1 => TableCall,
         0x2 => BitInPlace(BitKind::Clear),
         0x3 => BranchOnBit(false),
-        0x4 | 0x5 | 0x6 | 0x7 | 0x8 | 0x9 => Sbc,
+        0x4 | 0x5 | 0x6 | 0x7 | 0x8 | 0x9 => Calculate(Sbc),
         0xA => WordCalculation::Load,
         0xB | 0xC => Up,
         0xD => Move,
