@@ -7,6 +7,9 @@ use crate::OutOfMemory;
 use std::alloc::Global;
 use std::marker::Model;
 
+/// The bytes of the memory.
+pub const MEMORY_SIZE: usize = 0x10000;
+
 /// The bytes of a page.
 const PAGE: usize = 256;
 
@@ -18,18 +21,19 @@ pub struct Aram {
 
 impl Model for Aram {
     ghost use Rattle.std.specs.Prelude.{◌≡◌, List, ℕ, length};
+    ghost use Rattle.aram_core.specs.declared.aram.TheConstants.{MEMORY_SIZE};
 
     ghost Value = { List ℕ };
 
     ghost view = { λ a. a.bytes.items };
 
-    ghost invariant = { λ a. length a.bytes.items ≡ 0x10000 };
+    ghost invariant = { λ a. length a.bytes.items ≡ MEMORY_SIZE };
 }
 
 impl Aram {
-    /// A copy of an image of 65,536 bytes.
+    /// A copy of an image of the memory.
     pub fn from_image(alloc: Global, bytes: &[u8]) -> Result<Aram, OutOfMemory>
-        requires { length bytes.now ≡ 0x10000 }
+        requires { length bytes.now ≡ MEMORY_SIZE }
         ensures { IfOk result (λ memory. memory ≡ bytes.now) }
     {
         let bytes = Vec::from_slice(alloc, bytes)?;
@@ -62,7 +66,7 @@ impl Aram {
     pub fn page(&self, page: u8) -> &[u8]
         ensures bytes { result.now ≡ page_bytes self.now page }
         ensures length { length result.now ≡ 256 }
-        ensures memory { length self.now ≡ 0x10000 }
+        ensures memory { length self.now ≡ MEMORY_SIZE }
     {
         let first = PAGE * usize::from(page);
         &self.bytes[first..first + PAGE]
@@ -72,7 +76,7 @@ impl Aram {
     pub fn set_page(&mut self, page: u8, bytes: &[u8])
         requires { length bytes.now ≡ 256 }
         ensures bytes { self.new ≡ with_page self.old page bytes.now }
-        ensures memory { length self.old ≡ 0x10000 }
+        ensures memory { length self.old ≡ MEMORY_SIZE }
     {
         let first = PAGE * usize::from(page);
         self.bytes[first..first + PAGE].copy_from_slice(bytes);

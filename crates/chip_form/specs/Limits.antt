@@ -1,5 +1,6 @@
 -- The limits that several clauses need.
 use Rattle.std.specs.Prelude.{ℕ}
+use Rattle.num_fix.specs.declared.TheConstants.{BATCH_SIZE}
 
 -- the most samples that a chip makes in all
 abbrev pub most_samples_of_chip : ℕ
@@ -7,4 +8,4 @@ most_samples_of_chip = 4000000000
 
 -- the most samples that a chip makes as one batch
 abbrev pub most_samples_of_batch : ℕ
-most_samples_of_batch = 64
+most_samples_of_batch = BATCH_SIZE

@@ -1,4 +1,4 @@
-//! Arithmetic of 16-bit sound hardware: clamping, wrapping, floor shifts and signed readings, and a stereo frame.
+//! Sound in numbers: the arithmetic of 16-bit hardware, a stereo frame, and how many samples a sound and a batch have at most.
 #![tactic(auto)]
 
 ghost use Rattle.std.specs.Prelude.{◌≡◌, ◌<◌, ◌≤◌, ◌^◌, ◌-◌, ◌+ℤ◌, unsigned_abs};

@@ -10,4 +10,4 @@ pub use lists::{Frames, Records};
 pub use record::Record;
 pub use ring::{EventRing, Full};
 pub use std::alloc::AllocError as OutOfMemory;
-pub use text::{TraceLine, line};
+pub use text::{LINE_SIZE, TraceLine, line};

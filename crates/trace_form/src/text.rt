@@ -8,21 +8,25 @@ use itoa::{Buffer, Integer};
 use std::marker::Model;
 use text_form::{four_digits, two_digits};
 
-/// A line of a trace, with its line feed: at most 48 bytes.
+/// The most bytes of a line, with its line feed.
+pub const LINE_SIZE: usize = 48;
+
+/// A line of a trace, with its line feed.
 #[derive(Debug, Drop)]
 pub struct TraceLine {
-    text: [u8; 48],
+    text: [u8; LINE_SIZE],
     len: usize,
 }
 
 impl Model for TraceLine {
     ghost use Rattle.std.specs.Prelude.{◌≤◌, List, ℕ, take};
+    ghost use Rattle.trace_form.specs.declared.text.TheConstants.{LINE_SIZE};
 
     ghost Value = { List ℕ };
 
     ghost view = { λ line. take line.len line.text };
 
-    ghost invariant = { λ line. line.len ≤ 48 };
+    ghost invariant = { λ line. line.len ≤ LINE_SIZE };
 }
 
 impl TraceLine {
@@ -31,7 +35,7 @@ impl TraceLine {
         ensures { result ≡ [] }
     {
         TraceLine {
-            text: [0; 48],
+            text: [0; LINE_SIZE],
             len: 0,
         }
     }
@@ -39,14 +43,14 @@ impl TraceLine {
     /// The line's bytes.
     pub fn bytes(&self) -> &[u8]
         ensures bytes { result.now ≡ self.now }
-        ensures at_most { length result.now ≤ 48 }
+        ensures at_most { length result.now ≤ LINE_SIZE }
     {
         &self.text[..self.len]
     }
 
     /// Adds text at the end.
     fn append(&mut self, piece: &[u8])
-        requires { length self.old + length piece.now ≤ 48 }
+        requires { length self.old + length piece.now ≤ LINE_SIZE }
         ensures text { self.new ≡ self.old ++ piece.now }
         ensures len { length self.new ≡ length self.old + length piece.now }
     {
@@ -57,7 +61,7 @@ impl TraceLine {
 
     /// Adds a number in decimals.
     fn append_decimal<I: Integer>(&mut self, number: I)
-        requires { length self.old + I.MAX_STR_LEN ≤ 48 }
+        requires { length self.old + I.MAX_STR_LEN ≤ LINE_SIZE }
         ensures text { self.new ≡ self.old ++ I.text number }
         ensures len { length self.new ≤ length self.old + I.MAX_STR_LEN }
     {
@@ -66,7 +70,7 @@ impl TraceLine {
 
     /// Adds a byte as two hexadecimal digits.
     fn append_byte(&mut self, byte: u8)
-        requires { length self.old + 2 ≤ 48 }
+        requires { length self.old + 2 ≤ LINE_SIZE }
         ensures text { self.new ≡ self.old ++ two_digits byte }
         ensures len { length self.new ≡ length self.old + 2 }
     {
@@ -75,7 +79,7 @@ impl TraceLine {
 
     /// Adds a word as four hexadecimal digits.
     fn append_word(&mut self, word: u16)
-        requires { length self.old + 4 ≤ 48 }
+        requires { length self.old + 4 ≤ LINE_SIZE }
         ensures text { self.new ≡ self.old ++ four_digits word }
         ensures len { length self.new ≡ length self.old + 4 }
     {
@@ -84,7 +88,7 @@ impl TraceLine {
 
     /// Adds a letter where something is so, and else a dash.
     fn append_mark(&mut self, is_so: bool, letter: &[u8])
-        requires room { length self.old + 1 ≤ 48 }
+        requires room { length self.old + 1 ≤ LINE_SIZE }
         requires letter { length letter.now ≡ 1 }
         ensures text { self.new ≡ self.old ++ letter_or_dash is_so letter.now }
         ensures len { length self.new ≡ length self.old + 1 }
