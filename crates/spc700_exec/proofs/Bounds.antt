@@ -11,6 +11,7 @@ use Rattle.spc700_exec.specs.Instruction.{instruction, step_unless, script, step
 use Rattle.spc700_exec.specs.Length.{IsShort}
 use Rattle.spc700_exec.proofs.ByClock.{clock-after_read, clock-after_write}
 use Rattle.spc700_exec.proofs.Short.{IsShort-script}
+use Rattle.spc700_exec.specs.declared.bus.TheConstants.{CYCLES_PER_SAMPLE}
 
 module _ {S : Type 0} (bus : BusMeaning S) (law : IsLawful bus) where
   calls-either : (s : S) (b : Bool) (cycles : ℕ) → bus.calls (if b then bus.pass s cycles else s) ≤ bus.calls s + 1
@@ -70,12 +71,12 @@ module _ {S : Type 0} (bus : BusMeaning S) (law : IsLawful bus) where
       omega arith
   clock-outcome (End cpu time) start made s = clock-either s (nat_lt made (cycles_at start time)) (cycles_at start time - made)
 
-  few_cycles : (n start : ℕ) (cpu : Cpu) (time : Time) → IsShort n (End cpu time) → cycles_at start time ≤ 32
+  few_cycles : (n start : ℕ) (cpu : Cpu) (time : Time) → IsShort n (End cpu time) → cycles_at start time ≤ CYCLES_PER_SAMPLE
   few_cycles zero start cpu (Cycles c) h = h
   few_cycles (suc n) start cpu (Cycles c) h = h
   few_cycles n start cpu ToSample h = omega arith
 
-  clock-outcome-most : (n : ℕ) (t : Script) (start made : ℕ) (s : S) → bus.clock s ≡ start + made → made + n ≤ 32 → IsShort n t → bus.clock (outcome bus start made t s).1 ≤ start + 32
+  clock-outcome-most : (n : ℕ) (t : Script) (start made : ℕ) (s : S) → bus.clock s ≡ start + made → made + n ≤ CYCLES_PER_SAMPLE → IsShort n t → bus.clock (outcome bus start made t s).1 ≤ start + CYCLES_PER_SAMPLE
   clock-outcome-most zero (Read at next) start made s e few h = absurd h
   clock-outcome-most (suc n) (Read at next) start made s e few h =
       let moved = clock-after_read bus law at s in
@@ -89,7 +90,7 @@ module _ {S : Type 0} (bus : BusMeaning S) (law : IsLawful bus) where
       let cycles = few_cycles n start cpu time h in
       omega arith
 
-  pub clock-step_outcome-most : (cpu : Cpu) (s : S) → bus.clock (step_outcome bus cpu s).1 ≤ bus.clock s + 32
+  pub clock-step_outcome-most : (cpu : Cpu) (s : S) → bus.clock (step_outcome bus cpu s).1 ≤ bus.clock s + CYCLES_PER_SAMPLE
   clock-step_outcome-most cpu s = clock-outcome-most 6 (script cpu) (bus.clock s) 0 s (omega arith) (omega arith) (IsShort-script cpu)
 
   rest_passes : (s : S) (c : ℕ) → 1 ≤ c → bus.clock s + 1 ≤ bus.clock (after_rest bus c 0 s)
@@ -101,7 +102,7 @@ module _ {S : Type 0} (bus : BusMeaning S) (law : IsLawful bus) where
       subst (λ (b : Bool). bus.clock s + 1 ≤ bus.clock (if b then bus.pass s (suc c - 0) else s)) (sym test) goes
 
   clock-step_unless : (halted : Bool) (cpu : Cpu) (s : S) → bus.clock s + 1 ≤ bus.clock (outcome bus (bus.clock s) 0 (step_unless halted cpu) s).1
-  clock-step_unless true cpu s = rest_passes s (32 - bus.clock s % 32) (omega arith)
+  clock-step_unless true cpu s = rest_passes s (CYCLES_PER_SAMPLE - bus.clock s % CYCLES_PER_SAMPLE) (omega arith)
   clock-step_unless false cpu s =
       let moved = clock-after_read bus law cpu.pc s in
       let opcode = byte_read bus cpu.pc s in

@@ -9,6 +9,7 @@ use Rattle.spc700_exec.specs.Script.{Script, Read, Write, End, Time, Cycles, ToS
 use Rattle.spc700_exec.specs.Accesses.{Access, Progress, after_access, Makes}
 use Rattle.spc700_exec.specs.Pieces.{IsRow, Does}
 use Rattle.spc700_exec.proofs.ByClock.{clock-after_read, clock-after_write}
+use Rattle.spc700_exec.specs.declared.bus.TheConstants.{CYCLES_PER_SAMPLE}
 
 module _ {S : Type 0} (bus : BusMeaning S) (law : IsLawful bus) where
   clock-either : (s : S) (cycles made : ℕ) (b : Bool) → nat_lt made cycles ≡ b → bus.clock (if b then bus.pass s (cycles - made) else s) ≡ bus.clock s + (cycles - made)
@@ -32,7 +33,7 @@ module _ {S : Type 0} (bus : BusMeaning S) (law : IsLawful bus) where
   some_cycles row c fits (inl e) = omega (arith, fits.some)
   some_cycles row c fits (inr e) = omega (arith, fits.some, fits.more)
 
-  far_off : (n m cycles : ℕ) → cycles ≤ 12 → m ≤ n + 11 → n + (32 - 32 * (n + m) % 32 - (n - 32 * (n + m))) ≡ m + (cycles - (m - 32 * (n + m))) → ⊥
+  far_off : (n m cycles : ℕ) → cycles ≤ 12 → m ≤ n + 11 → n + (CYCLES_PER_SAMPLE - CYCLES_PER_SAMPLE * (n + m) % CYCLES_PER_SAMPLE - (n - CYCLES_PER_SAMPLE * (n + m))) ≡ m + (cycles - (m - CYCLES_PER_SAMPLE * (n + m))) → ⊥
   far_off n m cycles few near same = omega arith
 
   pub clock-instruction : (row : OpRow) (first cpu' : Cpu) (cycles : ℕ) (mid : S) (p : Progress) (accesses : List Access) (t : Script) (s : S) → IsRow row → 1 ≤ cycles → cycles ≤ 12 → bus.clock mid ≤ bus.clock s + 11 → Makes row first p accesses t → Does bus t s cpu' cycles mid → bus.clock mid ≡ bus.clock s + length accesses
@@ -41,7 +42,7 @@ module _ {S : Type 0} (bus : BusMeaning S) (law : IsLawful bus) where
       let same = same_clock c cycles (bus.clock mid) (bus.clock s) (some_cycles row c fits m) some (at 0) (at 1) (at (bus.clock s + bus.clock mid)) in
       omega arith
   clock-instruction row first cpu' cycles mid p [] (End cpu ToSample) s fits some few near m does =
-      let start = 32 * (bus.clock s + bus.clock mid) in
+      let start = CYCLES_PER_SAMPLE * (bus.clock s + bus.clock mid) in
       absurd (far_off (bus.clock s) (bus.clock mid) cycles few near (at_end cpu cpu' ToSample s mid cycles start (does start)))
   clock-instruction row first cpu' cycles mid p [] (Read at next) s fits some few near m does = absurd m
   clock-instruction row first cpu' cycles mid p [] (Write at value next) s fits some few near m does = absurd m

@@ -12,14 +12,15 @@ use Rattle.spc700_exec.proofs.Steady.{IsListed}
 use Rattle.spc700_exec.proofs.Beyond.{beyond, row_of-beyond, row_operation, IsListed-row_of}
 use Rattle.spc700_exec.proofs.Makes.{Makes-line_of}
 use Rattle.spc700_exec.proofs.EveryRow.{row_accesses-few, row_cycles-few}
+use Rattle.spc700_exec.specs.declared.bus.TheConstants.{CYCLES_PER_SAMPLE}
 
 -- what a row that isn't long keeps
 record IsBrief (row : OpRow) : Type 0 where
   accesses : length (row_accesses row) + 1 ≤ 6
-  cycles : row.cycles ≤ 32
-  taken : row.taken ≤ 32
+  cycles : row.cycles ≤ CYCLES_PER_SAMPLE
+  taken : row.taken ≤ CYCLES_PER_SAMPLE
 
-either_few : (n a b : ℕ) → (n ≡ a) ⊎ (n ≡ b) → a ≤ 32 → b ≤ 32 → n ≤ 32
+either_few : (n a b : ℕ) → (n ≡ a) ⊎ (n ≡ b) → a ≤ CYCLES_PER_SAMPLE → b ≤ CYCLES_PER_SAMPLE → n ≤ CYCLES_PER_SAMPLE
 either_few n a b (inl e) ha hb = omega arith
 either_few n a b (inr e) ha hb = omega arith
 
@@ -45,8 +46,8 @@ IsBrief-row_of : (op : ℕ) → IsBrief (row_of op)
 IsBrief-row_of op = elim (cases_lt op 256) [
   | inl below ↦
       let counts = row_cycles-few op below in
-      let cycles : (row_of op).cycles ≤ 32 = omega (arith, counts.0, counts.1) in
-      let taken : (row_of op).taken ≤ 32 = omega (arith, counts.1) in
+      let cycles : (row_of op).cycles ≤ CYCLES_PER_SAMPLE = omega (arith, counts.0, counts.1) in
+      let taken : (row_of op).taken ≤ CYCLES_PER_SAMPLE = omega (arith, counts.1) in
       record { accesses = row_accesses-few op below; cycles = cycles; taken = taken }
   | inr far ↦ subst (λ (row : OpRow). IsBrief row) (sym (row_of-beyond op far)) IsBrief-beyond
 ]

@@ -14,6 +14,7 @@ use Rattle.spc700_exec.proofs.ByClock.{outcome_by_clock-is}
 use Rattle.spc700_exec.proofs.Makes.{Makes-line_of}
 use Rattle.spc700_exec.proofs.Passed.{clock-instruction}
 use Rattle.spc700_exec.proofs.EveryRow.{IsRow-row_of}
+use Rattle.spc700_exec.specs.declared.bus.TheConstants.{CYCLES_PER_SAMPLE}
 
 module _ {S : Type 0} (bus : BusMeaning S) (law : IsLawful bus) where
   -- the rest of its cycles makes an instruction whole: its accesses passed one cycle each, and that of the opcode one before
@@ -42,13 +43,13 @@ module _ {S : Type 0} (bus : BusMeaning S) (law : IsLawful bus) where
     within = record { calls = omega arith; least = omega arith; most = omega arith };
   }
 
-  cycles_to_sample : (start clock : ℕ) → clock ≡ start + 1 → (32 - clock % 32) % 32 + 1 ≡ 32 - start % 32
+  cycles_to_sample : (start clock : ℕ) → clock ≡ start + 1 → (CYCLES_PER_SAMPLE - clock % CYCLES_PER_SAMPLE) % CYCLES_PER_SAMPLE + 1 ≡ CYCLES_PER_SAMPLE - start % CYCLES_PER_SAMPLE
   cycles_to_sample start clock at = omega arith
 
   -- a halt, by its line
-  pub halts_by_rest : (row : OpRow) (cpu cpu' : Cpu) (s new : S) (cycles : ℕ) → cpu' ≡ record cpu { halted = true } → cycles ≡ (32 - bus.clock s % 32) % 32 + 1 → new ≡ after_rest bus cycles 1 s → (start : ℕ) → bus.clock s ≡ start + 1 → outcome bus start 1 (halt_line row cpu) s ≡ (cpu', new)
+  pub halts_by_rest : (row : OpRow) (cpu cpu' : Cpu) (s new : S) (cycles : ℕ) → cpu' ≡ record cpu { halted = true } → cycles ≡ (CYCLES_PER_SAMPLE - bus.clock s % CYCLES_PER_SAMPLE) % CYCLES_PER_SAMPLE + 1 → new ≡ after_rest bus cycles 1 s → (start : ℕ) → bus.clock s ≡ start + 1 → outcome bus start 1 (halt_line row cpu) s ≡ (cpu', new)
   halts_by_rest row cpu cpu' s new cycles halted is rest start at =
-      let same : 32 - start % 32 ≡ cycles = sym (is ∙ cycles_to_sample start (bus.clock s) at) in
+      let same : CYCLES_PER_SAMPLE - start % CYCLES_PER_SAMPLE ≡ cycles = sym (is ∙ cycles_to_sample start (bus.clock s) at) in
       ap (λ (k : ℕ). (record cpu { halted = true }, after_rest bus k 1 s)) same
       ∙ ap (λ (c : Cpu). (c, after_rest bus cycles 1 s)) (sym halted)
       ∙ ap (λ (x : S). (cpu', x)) (sym rest)

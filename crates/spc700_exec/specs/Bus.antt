@@ -1,5 +1,6 @@
 -- What contracts see of a bus: three functions on the bus as plain data, and three numbers of it.
 use Rattle.std.specs.Prelude.{◌≡◌, ℕ, ◌+◌, ◌/◌}
+use Rattle.spc700_exec.specs.declared.bus.TheConstants.{CYCLES_PER_SAMPLE, MOST_CALLS, MOST_CALLS_BEFORE_STEP}
 
 -- a bus has made fewer samples than so many before a pass
 abbrev pub most_samples_of_bus : ℕ
@@ -7,10 +8,10 @@ most_samples_of_bus = 4000000000
 
 -- the calls between two drains at most, and those before a step
 abbrev pub most_calls : ℕ
-most_calls = 64
+most_calls = MOST_CALLS
 
 abbrev pub most_calls_before_step : ℕ
-most_calls_before_step = 32
+most_calls_before_step = MOST_CALLS_BEFORE_STEP
 
 pub record BusMeaning (S : Type 0) : Type 0 where
   -- a read of an address: the byte, and the bus after it
@@ -34,8 +35,8 @@ pub record IsLawful {S : Type 0} (bus : BusMeaning S) : Type 0 where
   -- a pass of cycles adds 1 to the calls and the cycles to the clock
   pub pass_calls : (s : S) (cycles : ℕ) → bus.calls (bus.pass s cycles) ≡ bus.calls s + 1
   pub pass_clock : (s : S) (cycles : ℕ) → bus.clock (bus.pass s cycles) ≡ bus.clock s + cycles
-  -- a sample is made every 32 cycles
-  pub samples : (s : S) → bus.made s ≡ bus.clock s / 32
+  -- a sample is made each time that so many cycles have passed
+  pub samples : (s : S) → bus.made s ≡ bus.clock s / CYCLES_PER_SAMPLE
 
 -- an access of an instruction passes one cycle before it acts: the byte that a read gives, and the bus after a read and
 -- after a write

@@ -2,6 +2,7 @@
 use Rattle.std.specs.Prelude.{ℕ, ◌+◌, ◌/◌, List}
 use Rattle.aram_core.specs.Memory.{byte_at, with_byte}
 use Rattle.spc700_exec.specs.Bus.{BusMeaning}
+use Rattle.spc700_exec.specs.declared.bus.TheConstants.{CYCLES_PER_SAMPLE}
 
 pub record MemMachine : Type 0 where
   pub memory : List ℕ
@@ -17,5 +18,5 @@ plain_memory = record {
   pass = λ m cycles. record m { clock = m.clock + cycles; calls = m.calls + 1 };
   calls = λ m. m.calls;
   clock = λ m. m.clock;
-  made = λ m. m.clock / 32;
+  made = λ m. m.clock / CYCLES_PER_SAMPLE;
 }

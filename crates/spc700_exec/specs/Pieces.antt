@@ -1,5 +1,5 @@
 -- Words of the contracts of the parts of a step. The promise on a step doesn't speak of them.
-use Rattle.std.specs.Prelude.{◌≡◌, ℕ, ◌+◌, ◌-◌, ◌*◌, ◌/◌, ◌%◌, ◌<◌, ◌≤◌, length, Bool, true, false}
+use Rattle.std.specs.Prelude.{◌≡◌, ℕ, ◌+◌, ◌-◌, ◌*◌, ◌/◌, ◌%◌, ◌<◌, ◌≤◌, length, Option, Some, None, Bool, true, false}
 use Rattle.spc700_table.specs.declared.Form.{Form}
 use Rattle.spc700_table.specs.declared.Form.TheVariants as F
 use Rattle.spc700_table.specs.declared.Kind.{Kind}
@@ -10,9 +10,11 @@ use Rattle.spc700_exec.specs.declared.operand.Operand.{Operand}
 use Rattle.spc700_exec.specs.declared.operand.Operand.TheVariants.{BitAt}
 use Rattle.spc700_exec.specs.Bus.{BusMeaning, most_calls, most_samples_of_bus, byte_read, after_read, after_write}
 use Rattle.spc700_exec.specs.Accesses.{row_accesses}
-use Rattle.spc700_exec.specs.Operands.{sp_after_push}
+use Rattle.spc700_exec.specs.declared.operand.Pointer.{Pointer}
+use Rattle.spc700_exec.specs.Operands.{direct, next_in_page, sp_after_push}
 use Rattle.spc700_exec.specs.Instruction.{instruction}
 use Rattle.spc700_exec.specs.Script.{Script, Read, Write, End, cycles_at, after_rest, outcome}
+use Rattle.spc700_exec.specs.declared.bus.TheConstants.{CYCLES_PER_SAMPLE}
 
 -- the outcome of a script, where the accesses made so far are told by the clock: for a lawful bus the same as `outcome`
 abbrev pub outcome_by_clock : {S : Type 0} → BusMeaning S → (start : ℕ) → Script → S → Cpu × S
@@ -46,6 +48,26 @@ word_read bus low high s = byte_read bus low s + 0x100 * byte_read bus high (aft
 abbrev pub after_word : {S : Type 0} → BusMeaning S → (low high : ℕ) → S → S
 after_word bus low high s = after_read bus high (after_read bus low s)
 
+-- the pointer at an address, whose high byte is at the next address of its page
+abbrev pub in_page : (at : ℕ) → Pointer
+in_page at = record { low = at; high = next_in_page at }
+
+-- the pointer of a form that has one, by the bytes after the opcode
+abbrev pub pointer_of : Form → (bytes : ℕ) → Cpu → Option Pointer
+pointer_of F.IndX d cpu = Some (in_page (direct cpu (d + cpu.x)))
+pointer_of F.IndY d cpu = Some (in_page (direct cpu d))
+pointer_of F.AbsPtrX a cpu = Some (record { low = (a + cpu.x) % 0x10000; high = (a + cpu.x + 1) % 0x10000 })
+pointer_of _ bytes cpu = None
+
+-- the word of a pointer, or the bytes after the opcode where there is none, and the bus after it was read
+abbrev pub word_followed : {S : Type 0} → BusMeaning S → Option Pointer → (bytes : ℕ) → S → ℕ
+word_followed bus (Some pointer) bytes s = word_read bus pointer.low pointer.high s
+word_followed bus None bytes s = bytes
+
+abbrev pub after_pointer : {S : Type 0} → BusMeaning S → Option Pointer → S → S
+after_pointer bus (Some pointer) s = after_word bus pointer.low pointer.high s
+after_pointer bus None s = s
+
 -- the bus after a word was written, low then high
 abbrev pub after_word_write : {S : Type 0} → BusMeaning S → (low high value : ℕ) → S → S
 after_word_write bus low high value s = after_write bus high (value / 0x100) (after_write bus low (value % 0x100) s)
@@ -58,7 +80,7 @@ after_word_push bus sp value s =
 -- n more accesses and a pass may be made
 pub record HasRoom {S : Type 0} (n : ℕ) (bus : BusMeaning S) (s : S) : Type 0 where
   pub calls : bus.calls s + 2 * n < most_calls
-  pub samples : bus.clock s + n < 32 * most_samples_of_bus
+  pub samples : bus.clock s + n < CYCLES_PER_SAMPLE * most_samples_of_bus
 
 -- at most n accesses, each with its cycle, lie between two states of a bus
 pub record IsWithin {S : Type 0} (n : ℕ) (bus : BusMeaning S) (old new : S) : Type 0 where

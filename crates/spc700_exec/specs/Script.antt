@@ -2,8 +2,9 @@
 use Rattle.std.specs.Prelude.{ℕ, ◌+◌, ◌-◌, ◌%◌, nat_lt, if◌then◌else◌}
 use Rattle.spc700_exec.specs.declared.cpu.Cpu.{Cpu}
 use Rattle.spc700_exec.specs.Bus.{BusMeaning, byte_read, after_read, after_write}
+use Rattle.spc700_exec.specs.declared.bus.TheConstants.{CYCLES_PER_SAMPLE}
 
--- the cycles of an instruction: a number, or those from its start to the next multiple of 32 of the clock
+-- the cycles of an instruction: a number, or those from its start to the next sample
 pub data Time : Type 0 where
   Cycles : ℕ → Time
   ToSample : Time
@@ -19,7 +20,7 @@ pub data Script : Type 0 where
 -- the number of cycles of an instruction that began at a moment of the clock
 abbrev pub cycles_at : (start : ℕ) → Time → ℕ
 cycles_at start (Cycles n) = n
-cycles_at start ToSample = 32 - start % 32
+cycles_at start ToSample = CYCLES_PER_SAMPLE - start % CYCLES_PER_SAMPLE
 
 -- the bus once the rest of an instruction's cycles has passed, if there is any
 abbrev pub after_rest : {S : Type 0} → BusMeaning S → (cycles made : ℕ) → S → S

@@ -7,7 +7,7 @@ ghost use Rattle.spc700_exec.specs.Script.{after_rest};
 ghost use Rattle.spc700_exec.specs.Instruction.{instruction};
 ghost use Rattle.spc700_exec.specs.Pieces.{HasRoom, IsInstruction, IsWholeInstruction, access_count, halts};
 
-use crate::bus::Bus;
+use crate::bus::{Bus, CYCLES_PER_SAMPLE};
 
 /// The accesses of the instruction of each opcode, the read of the opcode among them.
 pub static ACCESS_COUNTS: [u8; 256] = [
@@ -35,7 +35,7 @@ fn access_count(op: u8) -> u8
 #[inline(always)]
 fn pass_rest<B: Bus>(bus: &mut B, cycles: u8, passed: u8)
     requires room { HasRoom 1 B.means bus.old }
-    requires few { cycles ≤ 32 }
+    requires few { cycles ≤ CYCLES_PER_SAMPLE }
     ensures { bus.new ≡ after_rest B.means cycles passed bus.old }
 {
     if passed < cycles {
@@ -48,7 +48,7 @@ fn pass_rest<B: Bus>(bus: &mut B, cycles: u8, passed: u8)
 #[inline(always)]
 pub fn end_instruction<B: Bus>(bus: &mut B, op: u8, cycles: u8)
     requires room { HasRoom 1 B.means bus.old }
-    requires few { cycles ≤ 32 }
+    requires few { cycles ≤ CYCLES_PER_SAMPLE }
     ensures rest { bus.new ≡ after_rest B.means cycles (access_count (row_of op)) bus.old }
     ensures whole { (before after : Cpu) (old : B) → halts (row_of op).kind ≡ false
         → IsInstruction B.means (instruction (row_of op) before) old after cycles bus.old

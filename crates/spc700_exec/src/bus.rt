@@ -3,6 +3,15 @@
 ghost use Rattle.std.specs.Prelude.{◌≡◌, ◌-◌, ◌%◌, ◌<◌, ◌≤◌};
 ghost use Rattle.spc700_exec.specs.Bus.{BusMeaning, IsLawful, most_calls, most_samples_of_bus};
 
+/// The cycles for which a sample is made: it is due where the clock comes to a multiple of them.
+pub const CYCLES_PER_SAMPLE: u64 = 32;
+
+/// The most calls between two drains.
+pub const MOST_CALLS: u8 = 64;
+
+/// The most calls before a step.
+pub const MOST_CALLS_BEFORE_STEP: u8 = 32;
+
 /// A bus: what its calls answer and leave is told by three functions and three numbers.
 pub trait Bus {
     /// What contracts see of the bus.
@@ -19,17 +28,17 @@ pub trait Bus {
         requires { means.calls self.old < most_calls }
         ensures { self.new ≡ means.write self.old addr value };
 
-    /// Lets 1 to 32 cycles pass.
+    /// Lets cycles pass, as many as a sample has at most.
     fn pass(&mut self, cycles: u8)
         requires room { means.calls self.old < most_calls }
         requires some { 1 ≤ cycles }
-        requires few { cycles ≤ 32 }
+        requires few { cycles ≤ CYCLES_PER_SAMPLE }
         requires time { means.made self.old < most_samples_of_bus }
         ensures { self.new ≡ means.pass self.old cycles };
 
-    /// The cycles up to the next multiple of 32 of the clock, 1 to 32.
+    /// The cycles up to the next sample, 1 to 32.
     fn to_sample(&self) -> u8
-        ensures { result ≡ 32 - means.clock self.now % 32 };
+        ensures { result ≡ CYCLES_PER_SAMPLE - means.clock self.now % CYCLES_PER_SAMPLE };
 
     ghost lawful: { IsLawful means };
 }

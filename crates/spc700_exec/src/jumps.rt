@@ -7,7 +7,7 @@ ghost use Rattle.spc700_exec.specs.Operations.{operation_of};
 ghost use Rattle.spc700_exec.specs.Pieces.{HasRoom, IsWholeInstruction};
 
 use crate::access_counts::end_instruction;
-use crate::bus::Bus;
+use crate::bus::{Bus, CYCLES_PER_SAMPLE};
 use crate::cpu::Cpu;
 use crate::execute::Execute;
 use crate::operand::{Operand, address, address_in_memory, load, load_word, store};
@@ -142,12 +142,12 @@ impl Execute for InterruptReturn {
     }
 }
 
-/// The cycles of a halt: from its opcode, which was read, to the next multiple of 32 of the clock.
+/// The cycles of a halt: from its opcode, which was read, to the next sample.
 #[inline(always)]
 fn halt_cycles<B: Bus>(bus: &B) -> u8
-    ensures { result ≡ (32 - B.means.clock bus.now % 32) % 32 + 1 }
+    ensures { result ≡ (CYCLES_PER_SAMPLE - B.means.clock bus.now % CYCLES_PER_SAMPLE) % CYCLES_PER_SAMPLE + 1 }
 {
-    bus.to_sample() % 32 + 1
+    bus.to_sample() % CYCLES_PER_SAMPLE as u8 + 1
 }
 
 /// SLEEP and STOP, whole: the processor halts for good.

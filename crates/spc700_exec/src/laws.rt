@@ -30,7 +30,7 @@ pub fn forms_suit_their_operations()
     ensures { (op : ℕ) → op < 256 → row_suits (row_of op) ≡ true }
 {}
 
-/// A step makes at most 6 accesses, and its cycles are at most 32.
+/// A step makes at most 6 accesses, and its cycles are at most those of a sample.
 pub fn steps_are_short()
     ensures { (cpu : Cpu) → IsShort 6 (script cpu) }
 {}

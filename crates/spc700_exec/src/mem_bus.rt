@@ -4,7 +4,7 @@ ghost use Rattle.std.specs.Prelude.{◌≡◌};
 ghost use Rattle.std.proofs.Common.{refl};
 ghost use Rattle.spc700_exec.specs.MemBus.{plain_memory};
 
-use crate::bus::Bus;
+use crate::bus::{Bus, CYCLES_PER_SAMPLE};
 use aram_core::Aram;
 use std::marker::Model;
 
@@ -77,7 +77,7 @@ impl Bus for MemBus {
     }
 
     fn to_sample(&self) -> u8 {
-        (32 - self.clock % 32) as u8
+        (CYCLES_PER_SAMPLE - self.clock % CYCLES_PER_SAMPLE) as u8
     }
 
     ghost lawful = { record {

@@ -6,7 +6,7 @@ ghost use Rattle.std.specs.Prelude.{◌≡◌, ◌+◌, ◌/◌, ◌%◌, ◌^�
 ghost use Rattle.spc700_table.specs.Opcodes.{operand_bytes};
 ghost use Rattle.spc700_exec.specs.Bus.{byte_read, after_read};
 ghost use Rattle.spc700_exec.specs.Operands.{with_next_pc, direct, next_in_page, fetched_bytes, named, addressed, both_addressed, loaded, stored, address_of, bit_of};
-ghost use Rattle.spc700_exec.specs.Pieces.{HasRoom, IsWithin, Gives, GivesValue, GivesCpu, word_read, after_word, after_word_write, FormFits, OperandFits};
+ghost use Rattle.spc700_exec.specs.Pieces.{HasRoom, IsWithin, Gives, GivesValue, GivesCpu, word_read, after_word, after_word_write, in_page, pointer_of, word_followed, after_pointer, FormFits, OperandFits};
 
 use crate::access::{read, write};
 use crate::bus::Bus;
@@ -110,6 +110,59 @@ fn next_in_its_page(at: u16) -> u16
     at / 0x100 * 0x100 + at.wrapping_add(1) % 0x100
 }
 
+/// Where the word of a pointer stands: the addresses of its low and of its high byte.
+#[derive(Clone, Copy, Debug, PartialEq, Eq)]
+pub struct Pointer {
+    pub low: u16,
+    pub high: u16,
+}
+
+/// The pointer at an address, whose high byte is at the next one of its page.
+#[inline(always)]
+fn pointer_in_page(at: u16) -> Pointer
+    ensures { result ≡ in_page at }
+{
+    Pointer {
+        low: at,
+        high: next_in_its_page(at),
+    }
+}
+
+/// The pointer of a form that has one, by the bytes after the opcode.
+#[inline(always)]
+fn pointer_of(cpu: &Cpu, form: Form, bytes: u16) -> Option<Pointer>
+    ensures { result ≡ pointer_of form bytes cpu.now }
+{
+    let byte = (bytes % 0x100) as u8;
+    match form {
+        Form::IndX => Some(pointer_in_page(direct_address(cpu, byte.wrapping_add(cpu.x)))),
+        Form::IndY => Some(pointer_in_page(direct_address(cpu, byte))),
+        Form::AbsPtrX => {
+            let low = bytes.wrapping_add(u16::from(cpu.x));
+            Some(Pointer {
+                low,
+                high: low.wrapping_add(1),
+            })
+        }
+        _ => None,
+    }
+}
+
+/// The word of a form's pointer, or the bytes after the opcode of a form that has none.
+// Every pointer is read in one place, whatever the form: so what addresses an operand is small enough to be inlined.
+#[inline(always)]
+fn follow<B: Bus>(bus: &mut B, pointer: Option<Pointer>, bytes: u16) -> u16
+    requires { HasRoom 2 B.means bus.old }
+    ensures word { result ≡ word_followed B.means pointer bytes bus.old }
+    ensures bus { bus.new ≡ after_pointer B.means pointer bus.old }
+    ensures within { IsWithin 2 B.means bus.old bus.new }
+{
+    match pointer {
+        Some(at) => read_word(bus, at.low, at.high),
+        None => bytes,
+    }
+}
+
 /// The word whose low byte is at an address and whose high byte is at the next one of its page.
 #[inline(always)]
 fn read_word_in_page<B: Bus>(bus: &mut B, at: u16) -> u16
@@ -131,6 +184,7 @@ fn name<B: Bus>(cpu: &mut Cpu, bus: &mut B, form: Form, bytes: u16) -> Operand
     ensures fits { OperandFits result }
     ensures within { IsWithin 2 B.means bus.old bus.new }
 {
+    let word = follow(bus, pointer_of(cpu, form, bytes), bytes);
     let (x, y) = (cpu.x, cpu.y);
     let byte = (bytes % 0x100) as u8;
     match form {
@@ -146,27 +200,15 @@ fn name<B: Bus>(cpu: &mut Cpu, bus: &mut B, form: Form, bytes: u16) -> Operand
         Form::DirectY => Operand::At(direct_address(cpu, byte.wrapping_add(y))),
         Form::DirectBit(bit) => Operand::BitAt(direct_address(cpu, byte), bit),
         Form::Upper => Operand::At(0xff00 + u16::from(byte)),
-        Form::Abs => Operand::At(bytes),
-        Form::AbsX => Operand::At(bytes.wrapping_add(u16::from(x))),
-        Form::AbsY => Operand::At(bytes.wrapping_add(u16::from(y))),
+        Form::Abs | Form::IndX | Form::AbsPtrX => Operand::At(word),
+        Form::AbsX => Operand::At(word.wrapping_add(u16::from(x))),
+        Form::AbsY | Form::IndY => Operand::At(word.wrapping_add(u16::from(y))),
         Form::Bit | Form::NotBit => Operand::BitAt(bytes % 0x2000, (bytes / 0x2000) as u8),
         Form::PtrX => Operand::At(direct_address(cpu, x)),
         Form::PtrY => Operand::At(direct_address(cpu, y)),
         Form::PtrXInc => {
             cpu.x = x.wrapping_add(1);
             Operand::At(direct_address(cpu, x))
-        }
-        Form::IndX => {
-            let pointer = direct_address(cpu, byte.wrapping_add(x));
-            Operand::At(read_word_in_page(bus, pointer))
-        }
-        Form::IndY => {
-            let pointer = direct_address(cpu, byte);
-            Operand::At(read_word_in_page(bus, pointer).wrapping_add(u16::from(y)))
-        }
-        Form::AbsPtrX => {
-            let pointer = bytes.wrapping_add(u16::from(x));
-            Operand::At(read_word(bus, pointer, pointer.wrapping_add(1)))
         }
         Form::Table(n) => Operand::At(0xffde - 2 * u16::from(n)),
     }

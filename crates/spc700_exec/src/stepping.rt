@@ -7,7 +7,7 @@ ghost use Rattle.spc700_exec.specs.Bus.{most_calls_before_step, most_samples_of_
 ghost use Rattle.spc700_exec.specs.Instruction.{step_outcome};
 ghost use Rattle.spc700_exec.specs.Pieces.{HasRoom};
 
-use crate::bus::Bus;
+use crate::bus::{Bus, CYCLES_PER_SAMPLE};
 use crate::cpu::Cpu;
 use crate::opcodes::instruct;
 use crate::operand::fetch;
@@ -40,7 +40,7 @@ fn advance<B: Bus>(cpu: &mut Cpu, bus: &mut B)
 }
 
 /// One step of the processor: each access of the instruction at PC passes a cycle and then acts, and the rest of its
-/// cycles passes at its end. SLEEP and STOP pass the cycles to the next multiple of 32 of the clock, and so does each step
+/// cycles passes at its end. SLEEP and STOP pass the cycles to the next sample, and so does each step
 /// of a halted processor.
 // In line in the loop that takes steps, before the opcodes are put in line in it: else it is too large to be, and that loop can't keep the
 // registers and the bus's clock at hand from step to step.
@@ -51,7 +51,7 @@ pub fn step<B: Bus>(cpu: &mut Cpu, bus: &mut B)
     ensures does { (cpu.new, bus.new) ≡ step_outcome B.means cpu.old bus.old }
     ensures calls { B.means.calls bus.new ≤ B.means.calls bus.old + 13 }
     ensures some { B.means.clock bus.old + 1 ≤ B.means.clock bus.new }
-    ensures short { B.means.clock bus.new ≤ B.means.clock bus.old + 32 }
+    ensures short { B.means.clock bus.new ≤ B.means.clock bus.old + CYCLES_PER_SAMPLE }
     ensures sample { B.means.made bus.new ≤ B.means.made bus.old + 1 }
 {
     advance(cpu, bus);
@@ -66,7 +66,7 @@ pub fn step_awake<B: Bus>(cpu: &mut Cpu, bus: &mut B)
     ensures does { (cpu.new, bus.new) ≡ step_outcome B.means cpu.old bus.old }
     ensures calls { B.means.calls bus.new ≤ B.means.calls bus.old + 13 }
     ensures some { B.means.clock bus.old + 1 ≤ B.means.clock bus.new }
-    ensures short { B.means.clock bus.new ≤ B.means.clock bus.old + 32 }
+    ensures short { B.means.clock bus.new ≤ B.means.clock bus.old + CYCLES_PER_SAMPLE }
     ensures sample { B.means.made bus.new ≤ B.means.made bus.old + 1 }
 {
     advance_awake(cpu, bus);

@@ -1,6 +1,7 @@
 use Rattle.std.proofs.Common.{◌+◌, ◌≤◌, sym, ap, subst, arith}
 use Rattle.spc700_exec.proofs.Bounds.{calls-step_outcome, clock-step_outcome-least, clock-step_outcome-most}
 use Rattle.spc700_exec.proofs.stepping.step_awake.Goals as goal
+use Rattle.spc700_exec.specs.declared.bus.TheConstants.{CYCLES_PER_SAMPLE}
 
 pub returns-clause-calls : goal.returns-clause-calls
 returns-clause-calls g c =
@@ -18,7 +19,7 @@ pub returns-clause-short : goal.returns-clause-short
 returns-clause-short g c =
     let bus = g.B.Bus.means in
     let most = clock-step_outcome-most bus g.met.B.Bus.lawful c.args.cpu.now c.args.bus.now in
-    subst (λ s. bus.clock s ≤ bus.clock c.args.bus.now + 32) (sym (ap (λ p. p.1) c.advance_awake.ensures)) most
+    subst (λ s. bus.clock s ≤ bus.clock c.args.bus.now + CYCLES_PER_SAMPLE) (sym (ap (λ p. p.1) c.advance_awake.ensures)) most
 
 pub returns-clause-sample : goal.returns-clause-sample
 returns-clause-sample g c =
