@@ -10,6 +10,7 @@ use Rattle.spc700_exec.specs.Instruction.{script, step_outcome}
 use Rattle.spc700_exec.specs.Length.{IsShort}
 use Rattle.spc700_exec.proofs.Short.{IsShort-script}
 use Rattle.idle_rounds.specs.Looking.{then_if, look_of_script, look_of_steps, after_n_steps, IsWaiting}
+use Rattle.spc700_exec.specs.declared.bus.TheConstants.{CYCLES_PER_SAMPLE}
 
 -- what was there where something follows it
 then_some : {A X : Type 0} (o : Option A) (next : A → Option X) (x : X) → then_if o next ≡ Some x → (a : A) × (o ≡ Some a) × (next a ≡ Some x)
@@ -35,7 +36,7 @@ module _ {S : Type 0} (bus : BusMeaning S) (bare : S → S) (sees : ℕ → Opti
   abbrev Waited : Cpu → (n : ℕ) → Cpu × S → Type 0
   Waited cpu n w = (w.0 ≡ cpu) × (bare w.1 ≡ bare (waited n))
 
-  waited-rest : (s : S) (n rest : ℕ) (b : Bool) → nat_lt 0 rest ≡ b → rest ≤ 32 → n + rest ≤ most → bare s ≡ bare (waited n) → bare (if b then bus.pass s rest else s) ≡ bare (waited (n + rest))
+  waited-rest : (s : S) (n rest : ℕ) (b : Bool) → nat_lt 0 rest ≡ b → rest ≤ CYCLES_PER_SAMPLE → n + rest ≤ most → bare s ≡ bare (waited n) → bare (if b then bus.pass s rest else s) ≡ bare (waited (n + rest))
   waited-rest s n rest true is few fits same =
       let some : 1 ≤ rest = grind (arith, nat_tests) in
       law.pass s n rest same some few fits
@@ -43,7 +44,7 @@ module _ {S : Type 0} (bus : BusMeaning S) (bare : S → S) (sees : ℕ → Opti
       let none : n ≡ n + rest = grind (arith, nat_tests) in
       same ∙ ap (λ (k : ℕ). bare (waited k)) none
 
-  waited-end : (s : S) (base made cycles : ℕ) → cycles ≤ 32 → base + (made + (cycles - made)) ≤ most → bare s ≡ bare (waited (base + made))
+  waited-end : (s : S) (base made cycles : ℕ) → cycles ≤ CYCLES_PER_SAMPLE → base + (made + (cycles - made)) ≤ most → bare s ≡ bare (waited (base + made))
       → bare (if nat_lt made cycles then bus.pass s (cycles - made) else s) ≡ bare (waited (base + (made + (cycles - made))))
   waited-end s base made cycles few fits same =
       let test : nat_lt 0 (cycles - made) ≡ nat_lt made cycles = grind (arith, nat_tests) in

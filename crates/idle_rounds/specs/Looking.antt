@@ -4,6 +4,7 @@ use Rattle.spc700_exec.specs.declared.cpu.Cpu.{Cpu}
 use Rattle.spc700_exec.specs.Bus.{BusMeaning}
 use Rattle.spc700_exec.specs.Script.{Script, Read, Write, End, Cycles, ToSample}
 use Rattle.spc700_exec.specs.Instruction.{script, step_outcome}
+use Rattle.spc700_exec.specs.declared.bus.TheConstants.{CYCLES_PER_SAMPLE}
 
 -- what follows something, if it is there
 abbrev pub then_if : {A X : Type 0} → Option A → (A → Option X) → Option X
@@ -31,7 +32,7 @@ after_n_steps bus (suc n) w = let before = after_n_steps bus n w in step_outcome
 
 -- A bus for some cycles in which it is only looked at: `waited n` is the bus after n cycles, `bare` what counts of a bus.
 pub record IsWaiting {S : Type 0} (bus : BusMeaning S) (bare : S → S) (sees : ℕ → Option ℕ) (most : ℕ) (waited : ℕ → S) : Type 0 where
-  pub pass : (s : S) (n cycles : ℕ) → bare s ≡ bare (waited n) → 1 ≤ cycles → cycles ≤ 32 → n + cycles ≤ most →
+  pub pass : (s : S) (n cycles : ℕ) → bare s ≡ bare (waited n) → 1 ≤ cycles → cycles ≤ CYCLES_PER_SAMPLE → n + cycles ≤ most →
       bare (bus.pass s cycles) ≡ bare (waited (n + cycles))
   pub byte : (s : S) (n at byte : ℕ) → bare s ≡ bare (waited n) → n ≤ most → sees at ≡ Some byte → (bus.read s at).0 ≡ byte
   pub read : (s : S) (n at byte : ℕ) → bare s ≡ bare (waited n) → n ≤ most → sees at ≡ Some byte → bare (bus.read s at).1 ≡ bare (waited n)
@@ -57,7 +58,7 @@ look_meaning sees = record {
   pass = λ s cycles. record s { clock = s.clock + cycles; calls = s.calls + 1 };
   calls = λ s. s.calls;
   clock = λ s. s.clock;
-  made = λ s. s.clock / 32;
+  made = λ s. s.clock / CYCLES_PER_SAMPLE;
 }
 
 -- where the cycles of a script are those to the next sample, the processor halted

@@ -4,7 +4,7 @@ ghost use Rattle.std.proofs.Common.{refl};
 ghost use Rattle.spc700_exec.specs.Instruction.{script};
 ghost use Rattle.idle_rounds.specs.Looking.{look_of_script, look_of_steps, look_meaning};
 
-use spc700_exec::{Bus, Cpu, step};
+use spc700_exec::{Bus, CYCLES_PER_SAMPLE, Cpu, step};
 use std::marker::Model;
 
 /// Something that can be looked at: of some addresses a byte is seen, which a read there would answer.
@@ -29,7 +29,8 @@ struct Trial<'a, L: Looks> {
 impl<'a, L: Looks> Model for Trial<'a, L> {
     ghost use Rattle.std.specs.Prelude.{◌+◌, ◌*◌, ◌≤◌, ◌<◌, ◌^◌};
     ghost use Rattle.std.specs.Coded.{codes};
-    ghost use Rattle.spc700_exec.specs.Bus.{most_samples_of_bus};
+    ghost use Rattle.spc700_exec.specs.declared.bus.TheConstants.{CYCLES_PER_SAMPLE};
+    ghost use Rattle.spc700_exec.specs.Bus.{most_calls, most_samples_of_bus};
     ghost use Rattle.idle_rounds.specs.Looking.{Look};
 
     ghost Value = { Look L };
@@ -38,7 +39,7 @@ impl<'a, L: Looks> Model for Trial<'a, L> {
 
     ghost view = { λ t. record { from = t.looks.now; idle = t.idle; clock = t.clock; calls = t.calls } };
 
-    ghost invariant = { λ t. (t.calls ≤ 64) × (t.clock < 32 * (most_samples_of_bus + 1)) };
+    ghost invariant = { λ t. (t.calls ≤ most_calls) × (t.clock < CYCLES_PER_SAMPLE * (most_samples_of_bus + 1)) };
 }
 
 impl<'a, L: Looks> Bus for Trial<'a, L> {
@@ -62,7 +63,7 @@ impl<'a, L: Looks> Bus for Trial<'a, L> {
     }
 
     fn to_sample(&self) -> u8 {
-        (32 - self.clock % 32) as u8
+        (CYCLES_PER_SAMPLE - self.clock % CYCLES_PER_SAMPLE) as u8
     }
 
     ghost lawful = { record {
@@ -79,7 +80,7 @@ impl<'a, L: Looks> Bus for Trial<'a, L> {
 /// Tries a step, and gives its cycles if it only looks.
 fn try_step<L: Looks>(looks: &L, cpu: &mut Cpu) -> Option<u8>
     ensures step { IfSome result (λ cycles. look_of_script (L.sees looks.now) 0 (script cpu.old) ≡ Some (cpu.new, cycles)) }
-    ensures few { IfSome result (λ cycles. (1 ≤ cycles) × (cycles ≤ 32)) }
+    ensures few { IfSome result (λ cycles. (1 ≤ cycles) × (cycles ≤ CYCLES_PER_SAMPLE)) }
 {
     let mut trial = Trial {
         looks,

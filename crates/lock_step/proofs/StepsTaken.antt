@@ -8,6 +8,7 @@ use Rattle.spc700_exec.proofs.Alike.{clock-cleared, IsAhead-step_outcome}
 use Rattle.lock_step.specs.Emits.{Emits}
 use Rattle.lock_step.specs.StepsOfRun.{AreStepsOf}
 use Rattle.idle_rounds.specs.Looking.{after_n_steps}
+use Rattle.spc700_exec.specs.declared.bus.TheConstants.{CYCLES_PER_SAMPLE}
 
 pub after_no_steps : {S : Type 0} (bus : BusMeaning S) (w : Cpu × S) → after_n_steps bus 0 w ≡ w
 unfolding after_n_steps
@@ -50,7 +51,7 @@ module _ {S : Type 0} (bus : BusMeaning S) (emits : Emits S) (samples : ℕ) (cp
     one_step_more here there next new taken more does =
         let reached : S = (after_n_steps bus taken.steps (cpu, old)).1 in
         let clock : bus.clock reached ≡ bus.clock there = clock-cleared bus emits.cleared emits.frames emits_frames reached there taken.cleared in
-        let made : bus.made reached ≡ bus.made there = lawful.samples reached ∙ ap (λ (n : ℕ). n / 32) clock ∙ sym (lawful.samples there) in
+        let made : bus.made reached ≡ bus.made there = lawful.samples reached ∙ ap (λ (n : ℕ). n / CYCLES_PER_SAMPLE) clock ∙ sym (lawful.samples there) in
         let last : bus.made reached < samples = subst (λ (n : ℕ). n < samples) (sym made) more in
         let ahead_frames : IsAhead emits.cleared emits.frames [] reached there = record { same = taken.cleared; front = taken.frames } in
         let ahead_records : IsAhead emits.cleared emits.records [] reached there = record { same = taken.cleared; front = taken.records } in

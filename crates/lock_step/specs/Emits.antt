@@ -4,6 +4,7 @@ use Rattle.num_fix.specs.declared.Frame.{Frame}
 use Rattle.trace_form.specs.declared.record.Record.{Record}
 use Rattle.spc700_exec.specs.Bus.{BusMeaning}
 use Rattle.chip_form.specs.Samples.{count_after}
+use Rattle.spc700_exec.specs.declared.bus.TheConstants.{CYCLES_PER_SAMPLE}
 
 pub record Emits (B : Type 0) : Type 0 where
   -- the frames and the records emitted since the last drain, and the bus without them and without the number of its calls
@@ -30,13 +31,13 @@ IsCountedOn bus emits old new = CountsOn (bus.made old) (emits.pending old) (emi
 pub record IsCounting {B : Type 0} (bus : BusMeaning B) (emits : Emits B) : Type 0 where
   pub read_counts : (b : B) (at : ℕ) → IsCountedOn bus emits b (bus.read b at).1
   pub write_counts : (b : B) (at value : ℕ) → IsCountedOn bus emits b (bus.write b at value)
-  pub pass_counts : (b : B) (cycles : ℕ) → cycles ≤ 32 → IsCountedOn bus emits b (bus.pass b cycles)
+  pub pass_counts : (b : B) (cycles : ℕ) → cycles ≤ CYCLES_PER_SAMPLE → IsCountedOn bus emits b (bus.pass b cycles)
 
 -- reads and writes emit no frame, and a pass of at most 32 cycles emits one for each sample that it makes
 pub record IsFrameEach {B : Type 0} (bus : BusMeaning B) (frames : B → List Frame) : Type 0 where
   pub read_frames : (b : B) (at : ℕ) → length (frames (bus.read b at).1) ≡ length (frames b)
   pub write_frames : (b : B) (at value : ℕ) → length (frames (bus.write b at value)) ≡ length (frames b)
-  pub pass_frames : (b : B) (cycles : ℕ) → cycles ≤ 32 → length (frames (bus.pass b cycles)) + bus.made b ≡ length (frames b) + bus.made (bus.pass b cycles)
+  pub pass_frames : (b : B) (cycles : ℕ) → cycles ≤ CYCLES_PER_SAMPLE → length (frames (bus.pass b cycles)) + bus.made b ≡ length (frames b) + bus.made (bus.pass b cycles)
 
 -- what a bus is at rest doesn't depend on what was emitted, nor does what its chip made and has pending
 pub record IsBeside {B : Type 0} (emits : Emits B) : Type 0 where

@@ -11,10 +11,11 @@ use Rattle.trace_form.specs.declared.record.Record.TheVariants.{Reg, Port}
 use Rattle.chip_form.specs.Samples.{in_mask}
 use Rattle.chip_form.specs.ChipMeaning.{ChipMeaning}
 use Rattle.lock_step.specs.Machine.{Machine}
+use Rattle.spc700_exec.specs.declared.bus.TheConstants.{CYCLES_PER_SAMPLE}
 
 -- the samples made so far: one every 32 cycles
 abbrev pub samples_made : {S : Type 0} → Machine S → ℕ
-samples_made m = m.clock / 32
+samples_made m = m.clock / CYCLES_PER_SAMPLE
 
 -- What answers a read: at F3h a chip in this state, at the ports and timers and in the ROM these, and elsewhere memory.
 abbrev pub byte_answered : {S : Type 0} → ChipMeaning S → S → Io → (memory : List ℕ) → (at : ℕ) → ℕ
@@ -55,7 +56,7 @@ after_bus_write chip m at value = record m {
 
 -- whether a multiple of 32 lies above the clock and at most some cycles on
 abbrev pub crosses_sample : (clock cycles : ℕ) → Bool
-crosses_sample clock cycles = nat_lt (clock / 32) ((clock + cycles) / 32)
+crosses_sample clock cycles = nat_lt (clock / CYCLES_PER_SAMPLE) ((clock + cycles) / CYCLES_PER_SAMPLE)
 
 -- one sample more: its frame, and the records of the voices in the mask, stand after what was emitted
 abbrev pub after_sample : {S : Type 0} → ChipMeaning S → Machine S → Machine S

@@ -12,6 +12,7 @@ use Rattle.lock_step.specs.LockStep.{lock_step, after_sample, crosses_sample}
 use Rattle.chip_form.specs.Samples.{count_after}
 use Rattle.lock_step.specs.Emits.{IsFrameEach, CountsOn, IsCounting, IsBeside}
 use Rattle.lock_step.specs.LockStepEmits.{drained_machine, lock_step_emits}
+use Rattle.spc700_exec.specs.declared.bus.TheConstants.{CYCLES_PER_SAMPLE}
 
 module _ {S : Type 0} (chip : ChipMeaning S) where
   pub lock_step-lawful : IsLawful (lock_step chip)
@@ -74,14 +75,14 @@ module _ {S : Type 0} (chip : ChipMeaning S) where
     pass_items = λ m cycles. pass_records m cycles (crosses_sample m.clock cycles);
   }
 
-  frames_of_pass : (m : Machine S) (cycles : ℕ) (b : Bool) → crosses_sample m.clock cycles ≡ b → cycles ≤ 32
-      → length (machine_after_pass m cycles (if b then after_sample chip m else m)).frames + m.clock / 32 ≡ length m.frames + (m.clock + cycles) / 32
+  frames_of_pass : (m : Machine S) (cycles : ℕ) (b : Bool) → crosses_sample m.clock cycles ≡ b → cycles ≤ CYCLES_PER_SAMPLE
+      → length (machine_after_pass m cycles (if b then after_sample chip m else m)).frames + m.clock / CYCLES_PER_SAMPLE ≡ length m.frames + (m.clock + cycles) / CYCLES_PER_SAMPLE
   frames_of_pass m cycles true crosses few =
       let one = length-append m.frames (after_sample chip (drained_machine m)).frames in
-      let more : m.clock / 32 < (m.clock + cycles) / 32 = grind (arith, nat_tests) in
+      let more : m.clock / CYCLES_PER_SAMPLE < (m.clock + cycles) / CYCLES_PER_SAMPLE = grind (arith, nat_tests) in
       omega arith
   frames_of_pass m cycles false crosses few =
-      let none : (m.clock + cycles) / 32 ≤ m.clock / 32 = grind (arith, nat_tests) in
+      let none : (m.clock + cycles) / CYCLES_PER_SAMPLE ≤ m.clock / CYCLES_PER_SAMPLE = grind (arith, nat_tests) in
       omega arith
 
   pub frame_each : IsFrameEach (lock_step chip) (λ m. m.frames)
@@ -96,9 +97,9 @@ module _ {S : Type 0} (chip : ChipMeaning S) where
 
   pub counting : IsCounting (lock_step chip) lock_step_emits
   counting = record {
-    read_counts = λ m at. all_counted (m.clock / 32) (m.clock / 32) (omega arith);
-    write_counts = λ m at value. all_counted (m.clock / 32) (m.clock / 32) (omega arith);
-    pass_counts = λ m cycles few. all_counted (m.clock / 32) ((m.clock + cycles) / 32) (omega arith);
+    read_counts = λ m at. all_counted (m.clock / CYCLES_PER_SAMPLE) (m.clock / CYCLES_PER_SAMPLE) (omega arith);
+    write_counts = λ m at value. all_counted (m.clock / CYCLES_PER_SAMPLE) (m.clock / CYCLES_PER_SAMPLE) (omega arith);
+    pass_counts = λ m cycles few. all_counted (m.clock / CYCLES_PER_SAMPLE) ((m.clock + cycles) / CYCLES_PER_SAMPLE) (omega arith);
   }
 
   pub beside : IsBeside (lock_step_emits {S = S})
