@@ -1,34 +1,24 @@
--- Groups that are remembered by what they are decoded from: the header, the two bytes, and the two samples before, side by side in one number.
-use Rattle.std.specs.Prelude.{◌≡◌, ℕ, ◌/◌, ◌%◌, ℤ, List, ◌++◌}
-use Rattle.std.specs.Int.{w16, cast_signed}
+-- Blocks that are remembered, by their header, their digits and the two samples before one of their four groups.
+use Rattle.std.specs.Prelude.{◌≡◌, ℕ, zero, suc, ◌+◌, ◌*◌, ◌/◌, ◌%◌, ◌^◌, ◌<◌, ◌≤◌, ℤ, List, ◌++◌, take, drop}
+use Rattle.num_fix.specs.SignedWords.{number_at}
 use Rattle.brr_decode.specs.Kept.{EndsWith, with_group}
 
--- the header of a key is its lowest byte, and the two bytes of digits follow
-abbrev pub key_header : (key : ℕ) → ℕ
-key_header key = key % 0x100
+-- byte k of the eight bytes of digits of a block, which stand side by side in one number, the first in the low bits
+abbrev pub byte_of : (digits : ℕ) → (k : ℕ) → ℕ
+byte_of digits k = digits / 2 ^ (8 * k) % 0x100
 
-abbrev pub key_high : (key : ℕ) → ℕ
-key_high key = key / 0x100 % 0x100
+-- samples, and after them the kept samples of so many groups of a block, from one of its four on
+unfoldable pub with_groups : List ℤ → (header digits group : ℕ) → (groups : ℕ) → List ℤ
+with_groups samples header digits group zero = samples
+with_groups samples header digits group (suc d) =
+    with_group (with_groups samples header digits group d) header (byte_of digits (2 * (group + d))) (byte_of digits (2 * (group + d) + 1))
 
-abbrev pub key_low : (key : ℕ) → ℕ
-key_low key = key / 0x10000 % 0x100
+-- the numbers of a row after two samples and the groups before are the kept samples of a group, after any samples that end as those before it
+abbrev pub IsGroupAt : (header digits : ℕ) → (row : List ℤ) → (group : ℕ) → Type 0
+IsGroupAt header digits row group =
+    (samples : List ℤ) → EndsWith samples (number_at row (4 * group)) (number_at row (4 * group + 1))
+    → with_group samples header (byte_of digits (2 * group)) (byte_of digits (2 * group + 1)) ≡ samples ++ take 4 (drop (4 * group + 2) row)
 
--- the last sample before the group, and above it the sample before that
-abbrev pub key_last : (key : ℕ) → ℤ
-key_last key = cast_signed w16 (key / 0x1000000 % 0x10000)
-
-abbrev pub key_before : (key : ℕ) → ℤ
-key_before key = cast_signed w16 (key / 0x10000000000 % 0x10000)
-
--- four samples are the group of a key
-abbrev pub IsGroupOf : (key : ℕ) → (group : List ℤ) → Type 0
-IsGroupOf key group =
-    (samples : List ℤ) → EndsWith samples (key_before key) (key_last key) → with_group samples (key_header key) (key_high key) (key_low key) ≡ samples ++ group
-
--- a key stands for a header, two bytes and two samples
-pub record IsKeyOf (key header b0 b1 : ℕ) (p1 p2 : ℤ) : Type 0 where
-  pub header_is : key_header key ≡ header
-  pub high_is : key_high key ≡ b0
-  pub low_is : key_low key ≡ b1
-  pub last_is : key_last key ≡ p1
-  pub before_is : key_before key ≡ p2
+-- a row has the groups of a block from one of them on
+abbrev pub IsBlockOf : (header digits from : ℕ) → (row : List ℤ) → Type 0
+IsBlockOf header digits from row = (group : ℕ) → from ≤ group → group < 4 → IsGroupAt header digits row group

@@ -2,14 +2,15 @@
 #![tactic(auto)]
 
 mod block;
+mod block_memory;
 mod digit;
-mod group_memory;
 mod laws;
+mod remembered;
 mod stream;
 
 pub use block::{decode_block, decode_group};
+pub use block_memory::BlockMemory;
 pub use digit::{has_end, has_loop, kept_sample};
-pub use group_memory::GroupMemory;
 pub use laws::each_sample_is_kept;
 pub use std::alloc::AllocError as OutOfMemory;
 pub use stream::{BrrRefusal, decode_stream};

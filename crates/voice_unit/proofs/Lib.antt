@@ -20,5 +20,5 @@ pub mod LoopBits
 pub mod OverRow
 -- PartsOfRow: parts of a row of numbers, one entry more at a time.
 pub mod PartsOfRow
--- OneMoreGroup: one group more of a stretch of samples.
-pub mod OneMoreGroup
+-- InBlock: the groups of one block, as a voice comes to them.
+pub mod InBlock

@@ -1,11 +1,11 @@
 -- The row of kept samples that a voice reads in a batch.
 use Rattle.std.proofs.Common.{◌≡◌, ℕ, zero, suc, ◌+◌, ◌-◌, ◌*◌, ◌/◌, ◌%◌, ◌<◌, ◌≤◌, ◌==◌, List, [], ◌∷◌, ◌++◌, Bool, true, false, ℤ, pos, length, take, drop, get_or, if◌then◌else◌, refl, ap, sym, ◌∙◌, add-one, append_assoc, length-append, length-drop, arith}
-use Rattle.std.proofs.lemmas.List.{get_or-reverse, drop-drop, drop_at, get_or-drop, get_or_append_left, take-append-drop, get_or-append-add, length-take-le, get_or-take}
+use Rattle.std.proofs.lemmas.List.{get_or-reverse, drop-drop, drop_at, get_or-drop, get_or_append_left, take-append-drop, get_or-append-add, length-take-le}
 use Rattle.std.proofs.lemmas.Bool.Decides.{nat_tests}
 use Rattle.num_fix.specs.SignedWords.{number_at}
 use Rattle.aram_core.specs.Memory.{byte_at}
 use Rattle.brr_decode.specs.Header.{next_block}
-use Rattle.brr_decode.specs.Kept.{EndsWith, Digit, sample_from_end, with_kept, with_all_kept, digits_under, with_group}
+use Rattle.brr_decode.specs.Kept.{Digit, sample_from_end, with_kept, with_all_kept, digits_under, with_group}
 use Rattle.voice_unit.specs.Directory.{loop_word}
 use Rattle.voice_unit.specs.Voice.{VoiceState, interpolation, needs_group, after_decoding, at_next_group, after_reading, after_pitch, after_delay, after_envelope, step_header, step_pitch, pitch_of, is_keyed, voice_step}
 use Rattle.voice_unit.specs.declared.interface.VoiceRegs.{VoiceRegs}
@@ -23,20 +23,6 @@ from_end-append xs s k within =
     ∙ ap (λ (n : ℕ). get_or (xs ++ s) n (pos 0)) at
     ∙ get_or-append-add xs s (length s - 1 - k) (pos 0)
     ∙ sym (get_or-reverse s k (pos 0) within)
-
--- the end of the first samples of a list
-pub ends_with_take : (row : List ℤ) (len : ℕ) → 2 ≤ len → len ≤ length row → EndsWith (take len row) (number_at row (len - 2)) (number_at row (len - 1))
-ends_with_take row len two within = record { last = at 0 (omega arith); before = at 1 (omega arith) }
-  where
-    long : length (take len row) ≡ len
-    long = length-take-le len row within
-
-    at : (k : ℕ) → k < 2 → sample_from_end (take len row) k ≡ number_at row (len - (1 + k))
-    at k few =
-        let place : length (take len row) - 1 - k ≡ len - (1 + k) = omega (arith, long) in
-        get_or-reverse (take len row) k (pos 0) (omega (arith, long, two, few))
-        ∙ ap (λ (i : ℕ). get_or (take len row) i (pos 0)) place
-        ∙ get_or-take len row (len - (1 + k)) (pos 0) (omega (arith, two, few))
 
 with_kept-append : (xs s : List ℤ) (digit : Digit) → 2 ≤ length s → with_kept (xs ++ s) digit ≡ xs ++ with_kept s digit
 unfolding with_kept

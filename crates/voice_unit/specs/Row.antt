@@ -1,5 +1,5 @@
 -- The row of kept samples that a voice reads in a stretch of samples.
-use Rattle.std.specs.Prelude.{◌≡◌, ℕ, zero, suc, ◌+◌, ◌*◌, ◌/◌, ◌%◌, ◌<◌, ◌==◌, Bool, ◌&&◌, List, ℤ, false, length, drop, if◌then◌else◌}
+use Rattle.std.specs.Prelude.{◌≡◌, ℕ, zero, suc, ◌+◌, ◌-◌, ◌*◌, ◌/◌, ◌%◌, ◌<◌, ◌==◌, Bool, ◌&&◌, List, ℤ, false, length, drop, if◌then◌else◌}
 use Rattle.aram_core.specs.Memory.{byte_at}
 use Rattle.brr_decode.specs.Header.{has_end, next_block}
 use Rattle.brr_decode.specs.Kept.{with_group}
@@ -32,6 +32,18 @@ kept_row memory loop_to first samples (suc d) =
     let at = place_after memory loop_to first d in
     with_group (kept_row memory loop_to first samples d) (byte_at memory at.block)
     (byte_at memory (at.block + at.offset)) (byte_at memory (at.block + at.offset + 1))
+
+-- how many groups of a block are left from one of them on
+abbrev pub groups_left : Place → ℕ
+groups_left at = (9 - at.offset) / 2
+
+-- the group that stands so many after one in the same block
+abbrev pub further : Place → (groups : ℕ) → Place
+further at groups = record { block = at.block; offset = at.offset + 2 * groups }
+
+-- the last group of a block
+abbrev pub last_of : (block : ℕ) → Place
+last_of block = record { block = block; offset = 7 }
 
 -- how many groups a voice has read before sample j, from a position on, at a pitch that stays
 unfoldable pub groups_before : (position pitch j : ℕ) → ℕ

@@ -1,12 +1,12 @@
 //! The course of a voice at rest over the groups of a stretch of samples.
 
 ghost use Rattle.std.specs.Prelude.{◌≡◌, ◌<◌, ◌≤◌, ◌+◌, ◌*◌, ◌^◌, ◌-◌, ℕ, true, false, slice_index, take};
-ghost use Rattle.voice_unit.specs.Row.{next_place, kept_row, groups_before};
+ghost use Rattle.voice_unit.specs.Row.{next_place, last_of, kept_row, groups_before};
 ghost use Rattle.voice_unit.specs.Course.{IsCourse, IsHeaded, IsStretch, AreLoopsMarked, LeavesSounding, place_at, ends_at, loops_at};
 
 use crate::play::mark_loop;
 use crate::rest::is_silencing;
-use crate::row::{Place, is_end, next_place, read_group};
+use crate::row::{Place, groups_left, is_end, next_place, read_rest};
 use crate::workspace::Workspace;
 use aram_core::Aram;
 use num_fix::BATCH_SIZE;
@@ -113,15 +113,13 @@ impl Course {
         !self.silent && is_silencing(self.reset, memory.get(place.block))
     }
 
-    /// Goes from a group to the next one. Where that one begins a block, the end of the block before is marked, and the new header is
-    /// looked at. Inlined, since three of four groups only go on in their block.
-    #[inline(always)]
-    fn next_group(
+    /// Goes on after the last group of a block. The end of the block is marked, and the header of the next one is looked at.
+    fn next_block(
         &self,
         at: u8,
         n: u8,
         group: u8,
-        now: &Headed,
+        block: u16,
         memory: &Aram,
         loops: &mut [u8; BATCH_SIZE],
     ) -> Headed
@@ -129,24 +127,12 @@ impl Course {
         requires few { at + n ≤ BATCH_SIZE }
         requires read { group < groups_before self.now.position self.now.pitch n }
         requires lower { (j : ℕ) → j < n → groups_before self.now.position self.now.pitch j ≡ group → slice_index loops.old (at + j) < 2 ^ self.now.voice }
-        requires headed { IsHeaded memory.now now.now }
-        ensures place { result.place ≡ next_place memory.now self.now.loop_to now.now.place }
+        ensures place { result.place ≡ next_place memory.now self.now.loop_to (last_of block) }
         ensures headed { IsHeaded memory.now result }
-        ensures quiet { result.woken ≡ false → LeavesSounding self.now memory.now now.now.place.block → LeavesSounding self.now memory.now result.place.block }
-        ensures loops { AreLoopsMarked at n self.now.voice (ends_at self.now memory.now now.now.place group) loops.old loops.new }
+        ensures quiet { result.woken ≡ false → LeavesSounding self.now memory.now result.place.block }
+        ensures loops { AreLoopsMarked at n self.now.voice (ends_at self.now memory.now (last_of block) group) loops.old loops.new }
     {
-        let place = now.place;
-        if place.offset != 7 {
-            let next = Place {
-                block: place.block,
-                offset: place.offset + 2,
-            };
-            return Headed {
-                place: next,
-                header: now.header,
-                woken: false,
-            };
-        }
+        let place = Place { block, offset: 7 };
         self.mark_end(at, n, group, &place, memory, loops);
         let next = next_place(place, self.loop_to, memory);
         Headed {
@@ -185,21 +171,34 @@ impl Course {
             header: memory.get(self.first.block),
             woken: false,
         };
-        for d in 0..count {
-            read_group(
+        let mut d = 0;
+        'blocks: while d < count {
+            let len = 12 + 4 * usize::from(d);
+            let place = now.place;
+            read_rest(
                 &mut work.row,
-                12 + 4 * usize::from(d),
-                &now.place,
+                len,
+                &place,
                 now.header,
                 memory,
-                &mut work.groups,
+                &mut work.blocks,
             );
-            now = self.next_group(at, n, d, &now, memory, loops);
+            let left = groups_left(&place);
+            if count - d < left {
+                return Stretch {
+                    samples: n,
+                    groups: count,
+                    next: place.further(count - d),
+                    woken: false,
+                };
+            }
+            d += left;
+            now = self.next_block(at, n, d - 1, place.block, memory, loops);
             if now.woken {
-                let last = reading_sample(self.position, self.pitch, d, n);
+                let last = reading_sample(self.position, self.pitch, d - 1, n);
                 return Stretch {
                     samples: last + 1,
-                    groups: d + 1,
+                    groups: d,
                     next: now.place,
                     woken: true,
                 };

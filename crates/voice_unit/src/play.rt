@@ -14,7 +14,7 @@ use crate::level::high_byte;
 use crate::rest::Played;
 use crate::voice::Voice;
 use crate::workspace::Workspace;
-use brr_decode::GroupMemory;
+use brr_decode::BlockMemory;
 use num_fix::{BATCH_SIZE, has_bit};
 
 /// Adds the bit of a voice that looped in sample `j`.
@@ -49,7 +49,7 @@ impl Voice {
         rest: u16,
         reads: &VoiceReads,
         input: &VoiceIn,
-        groups: &mut GroupMemory,
+        blocks: &mut BlockMemory,
     ) -> Played
         requires pitch { reads.now.regs.pitch < 0x4000 }
         requires noise { input.now.noise < 0x8000 }
@@ -63,7 +63,7 @@ impl Voice {
             let clock = reads.clock.after_samples(j);
             return self.play_whole(&reads.regs, &own_input, reads.memory, reads.table, &clock);
         }
-        self.play_at_rest(rest, &reads.regs, input, reads.memory, reads.table, groups)
+        self.play_at_rest(rest, &reads.regs, input, reads.memory, reads.table, blocks)
     }
 
     /// Sample `j` of a batch, its last, of a voice whose envelope rests for so many, and what it gives.
@@ -73,7 +73,7 @@ impl Voice {
         rest: u16,
         reads: &VoiceReads,
         input: &VoiceIn,
-        groups: &mut GroupMemory,
+        blocks: &mut BlockMemory,
     ) -> VoiceOut
         requires pitch { reads.now.regs.pitch < 0x4000 }
         requires noise { input.now.noise < 0x8000 }
@@ -85,7 +85,7 @@ impl Voice {
             let clock = reads.clock.after_samples(j);
             return self.step(&reads.regs, input, reads.memory, reads.table, &clock);
         }
-        self.answer_at_rest(rest, &reads.regs, input, reads.memory, reads.table, groups)
+        self.answer_at_rest(rest, &reads.regs, input, reads.memory, reads.table, blocks)
     }
 
     /// Makes n samples, or all of them but the last, where the voice doesn't glide over that.
@@ -131,7 +131,7 @@ impl Voice {
             }
             let place = usize::from(to);
             let input = seen.input(reads.rows, previous[place], to);
-            let played = self.play_sample(to, glided.rest, reads, &input, &mut work.groups);
+            let played = self.play_sample(to, glided.rest, reads, &input, &mut work.blocks);
             made.outs[place] = played.out;
             mark_loop(&mut made.loops, to, played.looped, seen.voice);
             rest = played.rest;
@@ -199,7 +199,7 @@ impl Voice {
         }
         let place = usize::from(last);
         let input = reads.seen.input(reads.rows, previous[place], last);
-        let answer = self.play_last(last, glided.rest, reads, &input, &mut work.groups);
+        let answer = self.play_last(last, glided.rest, reads, &input, &mut work.blocks);
         made.outs[place] = answer.out;
         mark_loop(&mut made.loops, last, answer.looped, reads.seen.voice);
         answer

@@ -13,7 +13,7 @@ use crate::interface::{VoiceIn, VoiceOut, VoiceRegs, is_keyed};
 use crate::level::{high_byte, pitch_of};
 use crate::voice::Voice;
 use aram_core::Aram;
-use brr_decode::{GroupMemory, has_end, has_loop};
+use brr_decode::{BlockMemory, has_end, has_loop};
 use envelope::{Envelope, Mode};
 use gauss_table::GaussTable;
 use rate_clock::RateClock;
@@ -132,7 +132,7 @@ impl Voice {
         regs: &VoiceRegs,
         input: &VoiceIn,
         memory: &Aram,
-        groups: &mut GroupMemory,
+        blocks: &mut BlockMemory,
     ) -> Passed
         requires pitch { pitch < 0x8000 }
         requires resting { 0 < rest }
@@ -144,7 +144,7 @@ impl Voice {
             → IsAtRest input.now.reset input.now.koff regs.now memory.now (k + 1) result.rest self.new }
     {
         let block = self.block();
-        let looped = self.read_group(memory.get(block), input.dir, regs.srcn, memory, groups);
+        let looped = self.read_group(memory.get(block), input.dir, regs.srcn, memory, blocks);
         self.move_on(pitch);
         let is_woken = self.block() != block && self.is_to_be_silenced(input.reset, memory);
         Passed {
@@ -163,7 +163,7 @@ impl Voice {
         regs: &VoiceRegs,
         input: &VoiceIn,
         memory: &Aram,
-        groups: &mut GroupMemory,
+        blocks: &mut BlockMemory,
     ) -> Passed
         requires pitch { pitch < 0x8000 }
         requires resting { 0 < rest }
@@ -174,7 +174,7 @@ impl Voice {
             → IsAtRest input.now.reset input.now.koff regs.now memory.now (k + 1) result.rest self.new }
     {
         if self.needs_group() {
-            return self.pass_group(rest, pitch, regs, input, memory, groups);
+            return self.pass_group(rest, pitch, regs, input, memory, blocks);
         }
         self.move_on(pitch);
         Passed {
@@ -192,7 +192,7 @@ impl Voice {
         input: &VoiceIn,
         memory: &Aram,
         table: &GaussTable,
-        groups: &mut GroupMemory,
+        blocks: &mut BlockMemory,
     ) -> Played
         requires pitch { regs.now.pitch < 0x4000 }
         requires noise { input.now.noise < 0x8000 }
@@ -203,7 +203,7 @@ impl Voice {
     {
         let out = self.output(input, table);
         let pitch = pitch_of(regs, input);
-        let passed = self.pass_sample(rest, pitch, regs, input, memory, groups);
+        let passed = self.pass_sample(rest, pitch, regs, input, memory, blocks);
         Played {
             out,
             looped: passed.looped,
@@ -219,7 +219,7 @@ impl Voice {
         input: &VoiceIn,
         memory: &Aram,
         table: &GaussTable,
-        groups: &mut GroupMemory,
+        blocks: &mut BlockMemory,
     ) -> VoiceOut
         requires pitch { regs.now.pitch < 0x4000 }
         requires noise { input.now.noise < 0x8000 }
@@ -229,7 +229,7 @@ impl Voice {
             → IsStep regs.now input.now memory.now table.now (counter_at k) self.old result self.new }
     {
         let level = self.envelope().level();
-        let played = self.play_at_rest(rest, regs, input, memory, table, groups);
+        let played = self.play_at_rest(rest, regs, input, memory, table, blocks);
         VoiceOut {
             out: played.out,
             level,

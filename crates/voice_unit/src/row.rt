@@ -1,16 +1,17 @@
 //! The row of kept samples that a voice reads in a stretch of samples.
 
-ghost use Rattle.std.specs.Prelude.{◌≡◌, ◌≤◌, ◌+◌, ◌++◌, take};
+ghost use Rattle.std.specs.Prelude.{◌≡◌, ◌<◌, ◌≤◌, ◌+◌, ◌*◌, ℕ, length, slice_index, take};
 ghost use Rattle.aram_core.specs.Memory.{byte_at};
-ghost use Rattle.brr_decode.specs.Kept.{with_group};
-ghost use Rattle.voice_unit.specs.Row.{IsGroup, next_place, is_end};
+ghost use Rattle.brr_decode.specs.Remembered.{byte_of};
+ghost use Rattle.voice_unit.specs.Row.{IsGroup, next_place, groups_left, further, kept_row, is_end};
 
 use aram_core::Aram;
-use brr_decode::{GroupMemory, has_end};
+use brr_decode::{BlockMemory, has_end};
 use num_fix::BATCH_SIZE;
 
-/// The samples of a row of kept samples: the twelve of a voice, and four of each group that a batch reads at most.
-pub(crate) const ROW_SIZE: usize = 12 + 4 * BATCH_SIZE;
+/// The samples of a row of kept samples: the twelve of a voice, four of each group that a batch reads at most, and those of the three groups that can
+/// follow in the last one's block.
+pub(crate) const ROW_SIZE: usize = 12 + 4 * BATCH_SIZE + 12;
 
 /// Where a group stands.
 #[derive(Clone, Copy, Debug)]
@@ -21,35 +22,95 @@ pub(crate) struct Place {
     pub offset: u8,
 }
 
-/// Puts four samples after so many.
-fn put_four(row: &mut [i16; ROW_SIZE], len: usize, four: &[i16; 4])
-    requires { len + 4 ≤ ROW_SIZE }
-    ensures { take (len + 4) row.new ≡ take len row.old ++ four.now }
+/// How many groups of a block are left from one of them on.
+pub(crate) fn groups_left(at: &Place) -> u8
+    requires { IsGroup at.now }
+    ensures value { result ≡ groups_left at.now }
+    ensures some { 0 < result }
+    ensures few { result ≤ 4 }
 {
-    row[len..len + 4].copy_from_slice(four);
+    (9 - at.offset) / 2
 }
 
-/// Puts the kept samples of a group, whose block has such a header, after so many.
-pub(crate) fn read_group(
+impl Place {
+    /// The group that stands so many after this one, in the same block.
+    pub(crate) fn further(&self, groups: u8) -> Place
+        requires group { IsGroup self.now }
+        requires within { groups < groups_left self.now }
+        ensures place { result ≡ further self.now groups }
+        ensures group { IsGroup result }
+    {
+        Place {
+            block: self.block,
+            offset: self.offset + 2 * groups,
+        }
+    }
+}
+
+/// Eight bytes from a place on as one number, the first in the low bits.
+fn eight_bytes(bytes: &[u8], at: usize) -> u64
+    requires { at + 8 ≤ length bytes.now }
+    ensures { (k : ℕ) → k < 8 → byte_of result k ≡ slice_index bytes.now (at + k) }
+{
+    let low = u64::from(bytes[at])
+        + 0x100 * u64::from(bytes[at + 1])
+        + 0x10000 * u64::from(bytes[at + 2])
+        + 0x1000000 * u64::from(bytes[at + 3]);
+    let high = u64::from(bytes[at + 4])
+        + 0x100 * u64::from(bytes[at + 5])
+        + 0x10000 * u64::from(bytes[at + 6])
+        + 0x1000000 * u64::from(bytes[at + 7]);
+    low + 0x100000000 * high
+}
+
+/// The digits of a block that goes from one page into the next. It stands apart, since few do.
+#[inline(never)]
+fn parted_digits(at: u16, memory: &Aram) -> u64
+    ensures { (k : ℕ) → k < 8 → byte_of result k ≡ byte_at memory.now (at + k) }
+{
+    let bytes = [
+        memory.get(at),
+        memory.get(at.wrapping_add(1)),
+        memory.get(at.wrapping_add(2)),
+        memory.get(at.wrapping_add(3)),
+        memory.get(at.wrapping_add(4)),
+        memory.get(at.wrapping_add(5)),
+        memory.get(at.wrapping_add(6)),
+        memory.get(at.wrapping_add(7)),
+    ];
+    eight_bytes(&bytes, 0)
+}
+
+/// The eight bytes of digits of a block, the first in the low bits.
+pub(crate) fn digit_bytes(block: u16, memory: &Aram) -> u64
+    ensures { (k : ℕ) → k < 8 → byte_of result k ≡ byte_at memory.now (block + k + 1) }
+{
+    let at = block.wrapping_add(1);
+    let place = usize::from(at % 0x100);
+    if place > 248 {
+        return parted_digits(at, memory);
+    }
+    eight_bytes(memory.page((at / 0x100) as u8), place)
+}
+
+/// Puts the kept samples of a group, and of those that follow it in its block, after so many. The block has such a header.
+pub(crate) fn read_rest(
     row: &mut [i16; ROW_SIZE],
     len: usize,
     at: &Place,
     header: u8,
     memory: &Aram,
-    groups: &mut GroupMemory,
+    blocks: &mut BlockMemory,
 )
+    requires group { IsGroup at.now }
     requires some { 2 ≤ len }
-    requires room { len + 4 ≤ ROW_SIZE }
+    requires room { len + 16 ≤ ROW_SIZE }
     requires header { header ≡ byte_at memory.now at.now.block }
-    ensures { take (len + 4) row.new
-        ≡ with_group (take len row.old) (byte_at memory.now at.now.block)
-        (byte_at memory.now (at.now.block + at.now.offset)) (byte_at memory.now (at.now.block + at.now.offset + 1)) }
+    ensures { (loop_to groups : ℕ) → groups ≤ groups_left at.now
+        → take (len + 4 * groups) row.new ≡ kept_row memory.now loop_to at.now (take len row.old) groups }
 {
-    let address = at.block.wrapping_add(u16::from(at.offset));
-    let high = memory.get(address);
-    let low = memory.get(address.wrapping_add(1));
-    let group = groups.decode(address, header, high, low, row[len - 1], row[len - 2]);
-    put_four(row, len, &group);
+    let digits = digit_bytes(at.block, memory);
+    blocks.read_rest(at.block, header, digits, at.offset / 2, row, len);
 }
 
 /// Whether a group is the last of a block that has its end bit.

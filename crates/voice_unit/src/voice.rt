@@ -12,9 +12,9 @@ use crate::directory::{loop_word, start_word};
 use crate::interface::{VoiceIn, VoiceOut, VoiceRegs, is_keyed};
 use crate::level::{at_level, high_byte, pitch_of};
 use crate::rest::is_silencing;
-use crate::row::{Place, ROW_SIZE};
+use crate::row::{Place, ROW_SIZE, digit_bytes};
 use aram_core::Aram;
-use brr_decode::{GroupMemory, decode_group, has_end};
+use brr_decode::{BlockMemory, decode_group, has_end};
 use envelope::Envelope;
 use gauss_table::GaussTable;
 use num_fix::{BATCH_SIZE, clear_bit0, wrap16};
@@ -276,15 +276,21 @@ impl Voice {
         self.samples = samples_with_group(&self.samples, group);
     }
 
-    /// Decodes the next group, unless it is remembered.
+    /// Decodes the next group, unless its block is remembered.
     #[tactic(auto, unfolding(crate::specs::Voice::after_decoding))]
-    fn recall(&mut self, memory: &Aram, header: u8, groups: &mut GroupMemory)
+    fn recall(&mut self, memory: &Aram, header: u8, blocks: &mut BlockMemory)
         ensures { self.new ≡ after_decoding self.old memory.now header }
     {
-        let at = self.block.wrapping_add(u16::from(self.offset));
-        let high = memory.get(at);
-        let low = memory.get(at.wrapping_add(1));
-        let group = groups.decode(at, header, high, low, self.samples[11], self.samples[10]);
+        let digits = digit_bytes(self.block, memory);
+        let place = self.offset / 2;
+        let group = blocks.decode(
+            self.block,
+            header,
+            digits,
+            place,
+            self.samples[11],
+            self.samples[10],
+        );
         self.samples = samples_with_group(&self.samples, group);
     }
 
@@ -322,7 +328,7 @@ impl Voice {
         looped
     }
 
-    /// Reads a group that the position has come to, by what is remembered of groups, and tells whether that ends a block that has its end bit.
+    /// Reads a group that the position has come to, by what is remembered of blocks, and tells whether that ends a block that has its end bit.
     /// Inlined, as what remembers them.
     #[inline(always)]
     #[tactic(auto, unfolding(crate::specs::Voice::after_reading))]
@@ -332,14 +338,14 @@ impl Voice {
         dir: u8,
         srcn: u8,
         memory: &Aram,
-        groups: &mut GroupMemory,
+        blocks: &mut BlockMemory,
     ) -> bool
         requires { needs_group self.old ≡ true }
         ensures voice { self.new ≡ after_reading self.old memory.now header (loop_word dir srcn memory.now) }
         ensures looped { result ≡ is_looped self.old header }
     {
         let looped = self.offset == LAST_GROUP && has_end(header);
-        self.recall(memory, header, groups);
+        self.recall(memory, header, blocks);
         self.go_to_next_group(header, dir, srcn, memory);
         looped
     }

@@ -1,29 +1,29 @@
 //! What a voice works with over a batch.
 
 use crate::row::ROW_SIZE;
-use brr_decode::{GroupMemory, OutOfMemory};
+use brr_decode::{BlockMemory, OutOfMemory};
 use gauss_table::{GaussTable, Taps};
 use num_fix::BATCH_SIZE;
 use std::alloc::Global;
 
-/// What a voice works with over a batch: places for its kept samples and for the taps of its samples, and the groups that were decoded before. Each
+/// What a voice works with over a batch: places for its kept samples and for the taps of its samples, and the blocks that were decoded before. Each
 /// voice writes what it reads in the places, so that one workspace serves all voices of all batches.
 #[derive(Drop)]
 pub struct Workspace {
-    /// Twelve samples, and those of 64 groups.
+    /// Twelve samples, those of 64 groups, and the rest of the last one's block.
     pub(crate) row: [i16; ROW_SIZE],
     pub(crate) taps: [Taps; BATCH_SIZE],
-    pub(crate) groups: GroupMemory,
+    pub(crate) blocks: BlockMemory,
 }
 
 impl Workspace {
     /// A workspace for voices that play by a table. No clause is wanted: by its type it has a place for what a voice needs, what stands there at first is
-    /// of no account, since each voice writes what it reads there, and contracts see nothing of a memory of groups.
+    /// of no account, since each voice writes what it reads there, and contracts see nothing of a memory of blocks.
     pub fn new(alloc: Global, table: &GaussTable) -> Result<Workspace, OutOfMemory> {
         Ok(Workspace {
             row: [0; ROW_SIZE],
             taps: [Taps::at(table.quads(), 0, 0, 0, 0, 0); BATCH_SIZE],
-            groups: GroupMemory::new(alloc)?,
+            blocks: BlockMemory::new(alloc)?,
         })
     }
 }

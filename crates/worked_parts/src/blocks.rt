@@ -1,4 +1,4 @@
-use brr_decode::{BrrRefusal, GroupMemory, decode_block, decode_group, decode_stream, kept_sample};
+use brr_decode::{BlockMemory, BrrRefusal, decode_block, decode_group, decode_stream, kept_sample};
 use std::test::Fail;
 
 // Shift and filter: the least digit under the shifts 12 and 13, and 4096 falling under filter 1.
@@ -18,12 +18,26 @@ fn shifts_and_filters(rt: HostRuntime) -> Result<(), Fail> {
 
 // The same bytes after other samples are another group, the first time and each further time.
 #[test]
-fn remembered_groups(rt: HostRuntime) -> Result<(), Fail> {
-    let mut groups = GroupMemory::new(rt.alloc())?;
+fn remembered_blocks(rt: HostRuntime) -> Result<(), Fail> {
+    let mut blocks = BlockMemory::new(rt.alloc())?;
     for _ in 0..2 {
-        assert!(rt; groups.decode(0x2001, 0xC4, 0, 0, 4096, 0) == [3840, 3600, 3374, 3162]);
-        assert!(rt; groups.decode(0x2001, 0xC4, 0, 0, 0, 4096) == [0, 0, 0, 0]);
-        assert!(rt; groups.decode(0x2001, 0xC0, 0x80, 0x00, 0, 0) == [-32768, 0, 0, 0]);
+        assert!(rt; blocks.decode(0x2000, 0xC4, 0, 0, 4096, 0) == [3840, 3600, 3374, 3162]);
+        assert!(rt; blocks.decode(0x2000, 0xC4, 0, 0, 0, 4096) == [0, 0, 0, 0]);
+        assert!(rt; blocks.decode(0x2000, 0xC0, 0x80, 0, 0, 0) == [-32768, 0, 0, 0]);
+        assert!(rt; blocks.decode(0x2000, 0xC0, 0x80_0000, 1, 0, 0) == [-32768, 0, 0, 0]);
+    }
+    Ok(())
+}
+
+// A block that was decoded from its last group on doesn't tell its first one; one that was decoded whole tells its last.
+#[test]
+fn a_block_is_read_from_each_group_on(rt: HostRuntime) -> Result<(), Fail> {
+    let mut blocks = BlockMemory::new(rt.alloc())?;
+    for group in [3, 0, 3] {
+        let mut row = [0; 18];
+        row[1] = 4096;
+        blocks.read_rest(0x2000, 0xC4, 0, group, &mut row, 2);
+        assert!(rt; &row[..6] == [0, 4096, 3840, 3600, 3374, 3162].as_slice());
     }
     Ok(())
 }

@@ -1,4 +1,4 @@
-use Rattle.std.proofs.Common.{◌≡◌, ◌<◌, ◌≤◌, ◌+◌, ◌*◌, ℕ, true, take, slice_index}
+use Rattle.std.proofs.Common.{◌≡◌, ◌<◌, ◌≤◌, ◌+◌, ◌-◌, ◌*◌, ℕ, true, take, slice_index}
 use Rattle.aram_core.specs.Memory.{byte_at}
 use Rattle.voice_unit.specs.Voice.{is_silencing}
 use Rattle.voice_unit.specs.Course.{IsHeaded}
@@ -6,8 +6,9 @@ use Rattle.voice_unit.specs.Row.{place_after, kept_row}
 use Rattle.voice_unit.proofs.LoopBits.{bit_if, marked}
 use Rattle.voice_unit.proofs.course.Course.read_stretch.Given as goal
 
-abbrev pub invariant-loop-d : goal.invariant-loop-d
-invariant-loop-d l = record {
+abbrev pub invariant-blocks-2 : goal.invariant-blocks-2
+invariant-blocks-2 l = record {
+  few : l.d ≤ l.count;
   row : take (12 + 4 * l.d) l.work.row ≡ kept_row l.memory l.self.loop_to l.self.first (take 12 l.initial.work.row) l.d;
   place : l.now.place ≡ place_after l.memory l.self.loop_to l.self.first l.d;
   headed : IsHeaded l.memory l.now;
@@ -18,3 +19,6 @@ invariant-loop-d l = record {
   quiet : (is_silencing l.self.reset (byte_at l.memory l.self.first.block) ≡ true → l.self.silent ≡ true)
       → (e : ℕ) → e ≤ l.d → is_silencing l.self.reset (byte_at l.memory (place_after l.memory l.self.loop_to l.self.first e).block) ≡ true → l.self.silent ≡ true;
 }
+
+abbrev pub decreases-blocks-2 : goal.decreases-blocks-2
+decreases-blocks-2 l = l.count - l.d

@@ -1,0 +1,160 @@
+//! Blocks that were decoded, kept by what they were decoded from: a voice that loops, and each voice that plays the same sample, comes to
+//! the same blocks again and again.
+ghost use Rattle.std.specs.Prelude.{◌≡◌, ◌<◌, ◌≤◌, ◌+◌, ◌*◌, ◌++◌, ℕ, List, ℤ, true, length, take};
+ghost use Rattle.brr_decode.specs.Kept.{EndsWith, with_group};
+ghost use Rattle.brr_decode.specs.Known.{IsKnown};
+ghost use Rattle.brr_decode.specs.Remembered.{byte_of, with_groups};
+
+use crate::remembered::{RememberedBlock, byte_of};
+use crate::{OutOfMemory, decode_group};
+use std::alloc::Global;
+use std::marker::Model;
+
+/// How many blocks are remembered.
+const BLOCKS: usize = 2048;
+
+/// The place of the block at an address among the remembered blocks.
+fn place_of(address: u16) -> usize
+    ensures { result < 2048 }
+{
+    usize::from(address / 8 % 2048)
+}
+
+impl RememberedBlock {
+    /// Decodes a block from one of its groups on. It stands apart, so that what finds a remembered block is short.
+    #[inline(never)]
+    fn decoded(header: u8, digits: u64, group: u8, p1: i16, p2: i16) -> RememberedBlock
+        requires { group < 4 }
+        ensures { IsKnown result header digits group p1 p2 }
+    {
+        let mut row = [0; 32];
+        let first = 4 * usize::from(group);
+        row[first] = p2;
+        row[first + 1] = p1;
+        for g in group..4 {
+            let at = 4 * usize::from(g);
+            let high = byte_of(digits, 2 * g);
+            let low = byte_of(digits, 2 * g + 1);
+            let kept = decode_group(header, high, low, row[at + 1], row[at]);
+            row[at + 2..at + 6].copy_from_slice(&kept);
+        }
+        RememberedBlock {
+            digits,
+            header,
+            from: group,
+            row,
+        }
+    }
+
+    /// Whether the block is one of such a header and such digits, and was decoded after these two samples before one of its groups.
+    #[inline(always)]
+    fn is_known(&self, header: u8, digits: u64, group: u8, p1: i16, p2: i16) -> bool
+        requires { group < 4 }
+        ensures { result ≡ true → IsKnown self.now header digits group p1 p2 }
+    {
+        let at = 4 * usize::from(group);
+        self.digits == digits
+            && self.header == header
+            && self.from <= group
+            && self.row[at + 1] == p1
+            && self.row[at] == p2
+    }
+}
+
+/// The last blocks that were decoded, 2,048 at most. Contracts see nothing of it.
+#[derive(Drop)]
+pub struct BlockMemory {
+    blocks: Box<[RememberedBlock; 2048]>,
+}
+
+impl Model for BlockMemory {
+    ghost use Rattle.std.specs.Prelude.{⊤, ◌≡◌, length};
+
+    ghost Value = { ⊤ };
+
+    ghost view = { λ _. tt };
+
+    ghost invariant = { λ m. length m.blocks.value ≡ 2048 };
+}
+
+impl BlockMemory {
+    /// A memory that remembers one block, of zeros. No clause is wanted: contracts see nothing of a memory, and by its type each block in it is
+    /// what it was decoded from.
+    pub fn new(alloc: Global) -> Result<BlockMemory, OutOfMemory> {
+        let zeros = RememberedBlock::decoded(0, 0, 0, 0, 0);
+        let blocks = [zeros; BLOCKS];
+        let blocks = Box::new(alloc, blocks)?;
+        Ok(BlockMemory { blocks })
+    }
+
+    /// The block at an address, decoded from one of its groups on, after the samples `p2` and `p1`, unless that is remembered. Where the block stands tells
+    /// where it is remembered and no more. Inlined, so that a block that is remembered costs no call.
+    #[inline(always)]
+    fn recall(
+        &mut self,
+        address: u16,
+        header: u8,
+        digits: u64,
+        group: u8,
+        p1: i16,
+        p2: i16,
+    ) -> &RememberedBlock
+        requires { group < 4 }
+        ensures { IsKnown result.now header digits group p1 p2 }
+    {
+        let place = place_of(address);
+        if !self.blocks[place].is_known(header, digits, group, p1, p2) {
+            self.blocks[place] = RememberedBlock::decoded(header, digits, group, p1, p2);
+        }
+        &self.blocks[place]
+    }
+
+    /// Decodes a group of a block, unless it is remembered. `p1` is the last kept sample and `p2` the kept sample before it.
+    #[inline(always)]
+    pub fn decode(
+        &mut self,
+        address: u16,
+        header: u8,
+        digits: u64,
+        group: u8,
+        p1: i16,
+        p2: i16,
+    ) -> [i16; 4]
+        requires { group < 4 }
+        ensures { (samples : List ℤ) → EndsWith samples p2 p1
+            → with_group samples header (byte_of digits (2 * group)) (byte_of digits (2 * group + 1)) ≡ samples ++ result }
+    {
+        let known = self.recall(address, header, digits, group, p1, p2);
+        let at = 4 * usize::from(group);
+        [
+            known.row[at + 2],
+            known.row[at + 3],
+            known.row[at + 4],
+            known.row[at + 5],
+        ]
+    }
+
+    /// Puts the rest of a block, from one of its groups on, after `len` kept samples of a row, unless it is remembered. Sixteen numbers are put, so that
+    /// they are copied at once; those after the block are of no account.
+    #[inline(always)]
+    pub fn read_rest(
+        &mut self,
+        address: u16,
+        header: u8,
+        digits: u64,
+        group: u8,
+        row: &mut [i16],
+        len: usize,
+    )
+        requires group { group < 4 }
+        requires some { 2 ≤ len }
+        requires room { len + 16 ≤ length row.old }
+        ensures row { (groups : ℕ) → group + groups ≤ 4
+            → take (len + 4 * groups) row.new ≡ with_groups (take len row.old) header digits group groups }
+        ensures length { length row.new ≡ length row.old }
+    {
+        let known = self.recall(address, header, digits, group, row[len - 1], row[len - 2]);
+        let from = 4 * usize::from(group) + 2;
+        row[len..len + 16].copy_from_slice(&known.row[from..from + 16]);
+    }
+}
