@@ -24,5 +24,5 @@ lane_glides reads previous voice k from end plain = λ j since below. record {
   koff = refl;
   unkeyed = rw (plain j since below).unkeyed (and_right (get_or reads.rows.now.poll j false) false refl);
   unbent = rw (plain j since below).unbent (and_right (nat_lt 0 reads.seen.voice) false refl);
-  sampled = (plain j since below).sampled;
+  noisy = refl;
 }

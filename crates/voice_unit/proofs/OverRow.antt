@@ -4,7 +4,7 @@ use Rattle.std.proofs.Math.Nat.{add-suc}
 use Rattle.std.proofs.lemmas.List.{get_or-take}
 use Rattle.std.proofs.lemmas.Bool.{eq-eqb}
 use Rattle.std.proofs.lemmas.Bool.Decides.{nat_tests}
-use Rattle.num_fix.specs.Arithmetic.{has_bit}
+use Rattle.num_fix.specs.Arithmetic.{scaled, wrap16, clear_bit0, has_bit}
 use Rattle.num_fix.specs.SignedWords.{number_at}
 use Rattle.aram_core.specs.Memory.{byte_at}
 use Rattle.brr_decode.specs.Header.{has_end}
@@ -16,7 +16,7 @@ use Rattle.voice_unit.specs.Plain.{PlaysPlainly}
 use Rattle.voice_unit.specs.Play.{Lane, IsOnItsWay, voice_at, answer_at}
 use Rattle.voice_unit.specs.Rest.{IsSilent, IsAtRest}
 use Rattle.voice_unit.specs.Row.{place_after, groups_before, is_end, is_read_in, loops_in, PlaysOn, row_of, place_of, StandsAt}
-use Rattle.voice_unit.specs.OutsOverRow.{out_over_row}
+use Rattle.voice_unit.specs.OutsOverRow.{sounding_at, out_in_stretch}
 use Rattle.voice_unit.specs.Voice.{is_silencing, VoiceState, interpolation, output, source_sample, needs_group, is_at_last_group, after_reading, after_pitch, voice_step}
 use Rattle.voice_unit.specs.declared.batch.VoiceView.{VoiceView}
 use Rattle.voice_unit.specs.declared.interface.VoiceIn.{VoiceIn}
@@ -34,11 +34,17 @@ interpolation-same table xs ys way same =
     let m : ℕ = way / 0x1000 in
     rw (same m (omega arith), same (m + 1) (omega arith), same (m + 2) (omega arith), same (m + 3) (omega arith)) refl
 
--- what a voice puts out that plays its samples
-sampled_output : (v : VoiceState) (i : VoiceIn) (table : List ℤ) (samples : ℤ) (level : ℕ) → i.noisy ≡ false → interpolation table v.samples v.position ≡ samples → v.envelope.level ≡ level
-    → output v i table ≡ Rattle.voice_unit.specs.OutsOverRow.sounding_at level samples
+-- what a voice puts out: noise, or what its samples give
+sourced_output : (v : VoiceState) (i : VoiceIn) (table : List ℤ) (noisy : Bool) (noise : ℕ) (samples : ℤ) (level : ℕ) → i.noisy ≡ noisy → i.noise ≡ noise
+    → interpolation table v.samples v.position ≡ samples → v.envelope.level ≡ level
+    → output v i table ≡ (if noisy then sounding_at level (wrap16 (pos (2 * noise))) else sounding_at level samples)
 unfolding output source_sample
-sampled_output v i table samples level sampled is at = rw (sampled, is, at) refl
+sourced_output v i table noisy noise samples level told heard is at = rw (told, heard, is, at) (by noisy)
+  where
+    by : (b : Bool) → clear_bit0 (scaled (if b then wrap16 (pos (2 * noise)) else samples) (pos level) 11)
+        ≡ (if b then sounding_at level (wrap16 (pos (2 * noise))) else sounding_at level samples)
+    by true = refl
+    by false = refl
 
 -- a voice is its parts
 same_voice : (a b : VoiceState) → a.samples ≡ b.samples → a.position ≡ b.position → place_of a ≡ place_of b → a.delay ≡ b.delay → a.envelope ≡ b.envelope → a ≡ b
@@ -79,6 +85,7 @@ regrouped false b c = refl
 
 module _ (own : VoiceView) (lane : Lane) (n m rest : ℕ) (before loops : List ℕ) (outs : List ℤ) (voice : VoiceState)
     (way : IsOnItsWay own lane n rest before loops outs voice) (twelve : length voice.samples ≡ 12) (low : voice.position < 0x8000) (slow : lane.regs.pitch < 0x4000)
+    (heard : ℕ → ℕ) (noise : (j : ℕ) → (lane.inputs j).noise ≡ heard j)
     (glides : (j : ℕ) → j < m → PlaysPlainly own (lane.inputs (n + j))) (some : 0 < m) (resting : m ≤ rest)
     (quiet : (j : ℕ) → j < m → 0 < groups_before voice.position lane.regs.pitch j
     → is_silencing own.reset (byte_at lane.memory (place_after lane.memory (loop_word own.dir lane.regs.srcn lane.memory) (place_of voice) (groups_before voice.position lane.regs.pitch j)).block) ≡ true
@@ -169,7 +176,8 @@ module _ (own : VoiceView) (lane : Lane) (n m rest : ℕ) (before loops : List �
 
   -- what sample j gives
   out_is : (j : ℕ) → j < m → (row : List ℤ) → take (12 + 4 * g m) row ≡ row_of lane.regs own.dir lane.memory voice (g m)
-      → (answer_at lane (n + j)).out ≡ out_over_row lane.table row voice.position lane.regs.pitch voice.envelope.level j
+      → (answer_at lane (n + j)).out
+      ≡ out_in_stretch (has_bit own.non own.voice) (heard (n + j)) lane.table row voice.position lane.regs.pitch voice.envelope.level j
   unfolding answer_of_step
   out_is j below row is =
       let plain = glides j below in
@@ -184,7 +192,8 @@ module _ (own : VoiceView) (lane : Lane) (n m rest : ℕ) (before loops : List �
       let inside : (s j).position < 0x8000 = (stands j (omega (arith, below))).within in
       let same : interpolation lane.table (row_of lane.regs own.dir lane.memory voice (g m)) total ≡ interpolation lane.table row total =
       interpolation-same lane.table _ row total (λ k few. ap (λ (xs : List ℤ). number_at xs k) (sym is) ∙ get_or-take (12 + 4 * g m) row k (pos 0) (omega (arith, few, here, inside, rise))) in
-      rw (on j) (gave ∙ sampled_output (s j) (lane.inputs (n + j)) lane.table (interpolation lane.table row total) voice.envelope.level plain.sampled (at_row ∙ same) (ap (λ (e : EnvelopeState). e.level) now.1))
+      rw (on j) (gave ∙ sourced_output (s j) (lane.inputs (n + j)) lane.table (has_bit own.non own.voice) (heard (n + j)) (interpolation lane.table row total) voice.envelope.level
+      plain.noisy (noise (n + j)) (at_row ∙ same) (ap (λ (e : EnvelopeState). e.level) now.1))
 
   -- the level that makes it
   level_is : (j : ℕ) → j < m → (answer_at lane (n + j)).level ≡ voice.envelope.level
@@ -218,7 +227,8 @@ module _ (own : VoiceView) (lane : Lane) (n m rest : ℕ) (before loops : List �
       → place_of now ≡ there (g m) → now.delay ≡ voice.delay → now.envelope ≡ voice.envelope
       → ((left ≡ 0) ⊎ ((left ≡ rest - m) × (0 < g m → is_silencing own.reset (byte_at lane.memory (there (g m)).block) ≡ true → IsSilent voice.envelope)))
       → ((j : ℕ) → j < n → number_at given j ≡ number_at outs j)
-      → ((j : ℕ) → j < m → number_at given (n + j) ≡ out_over_row lane.table row voice.position lane.regs.pitch voice.envelope.level j)
+      → ((j : ℕ) → j < m → number_at given (n + j)
+      ≡ out_in_stretch (has_bit own.non own.voice) (heard (n + j)) lane.table row voice.position lane.regs.pitch voice.envelope.level j)
       → ((j : ℕ) → j < n → slice_index after j ≡ slice_index loops j)
       → ((j : ℕ) → j < m → slice_index after (n + j) ≡ slice_index loops (n + j) + (if loops_in lane.memory loop_to (place_of voice) voice.position lane.regs.pitch j then 2 ^ own.voice else 0))
       → ((j : ℕ) → n + m ≤ j → slice_index after j ≡ slice_index loops j)

@@ -7,9 +7,8 @@ use Rattle.voice_unit.specs.declared.batch.BatchRows.{BatchRows}
 use Rattle.voice_unit.specs.declared.interface.VoiceIn.{VoiceIn}
 use Rattle.voice_unit.specs.declared.plain.PlainSamples.{PlainSamples}
 
--- in sample j of a batch a voice plays its samples at its own pitch, and no key on of it is taken
+-- in sample j of a batch a voice plays at its own pitch, and no key on of it is taken
 pub record IsPlain (own : VoiceView) (rows : BatchRows) (j : ℕ) : Type 0 where
-  pub sampled : has_bit own.non own.voice ≡ false
   pub unbent : has_bit own.pmon own.voice ≡ false
   pub unkeyed : has_bit (slice_index rows.kon j) own.voice ≡ false
 
@@ -17,11 +16,11 @@ pub record IsPlain (own : VoiceView) (rows : BatchRows) (j : ℕ) : Type 0 where
 abbrev pub IsToldPlain : PlainSamples → (j : ℕ) → Type 0
 IsToldPlain known j = (j < known.before) ⊎ (known.from ≤ j)
 
--- The voice of a row plays its samples at its own pitch and isn't keyed; what it reads of the registers that all voices share is the row's.
+-- The voice of a row plays at its own pitch and isn't keyed; what it reads of the registers that all voices share is the row's.
 pub record PlaysPlainly (own : VoiceView) (i : VoiceIn) : Type 0 where
   pub dir : i.dir ≡ own.dir
   pub reset : i.reset ≡ own.reset
   pub koff : i.koff ≡ has_bit own.koff own.voice
   pub unkeyed : is_keyed i ≡ false
   pub unbent : i.modulated ≡ false
-  pub sampled : i.noisy ≡ false
+  pub noisy : i.noisy ≡ has_bit own.non own.voice

@@ -33,11 +33,12 @@ lane_of reads previous voice k = record {
   voice = voice;
 }
 
--- a lane has the registers, the memory and the table that are read
+-- a lane has the registers, the memory, the table and the noise that are read
 pub record IsLaneOver (reads : VoiceReads) (lane : Lane) : Type 0 where
   pub regs : lane.regs ≡ reads.regs
   pub memory : lane.memory ≡ reads.memory.now
   pub table : lane.table ≡ reads.table.now
+  pub noise : (j : ℕ) → (lane.inputs j).noise ≡ slice_index reads.rows.now.noise j
 
 -- the voice after j samples, and what it gives in sample j
 abbrev pub voice_at : Lane → (j : ℕ) → VoiceState

@@ -28,6 +28,8 @@ pub(crate) struct Course {
     pub reset: bool,
     /// It is released at level 0, so that nothing silences it.
     pub silent: bool,
+    /// Noise takes the place of its samples.
+    pub noisy: bool,
 }
 
 /// A stretch of samples whose groups were read.

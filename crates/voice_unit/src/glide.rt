@@ -1,6 +1,7 @@
 //! Samples in which a voice at rest plays on over the row of its kept samples: nothing changes its envelope or its pitch.
 
 ghost use Rattle.std.specs.Prelude.{◌≡◌, ◌<◌, ◌≤◌, ◌+◌, ◌-◌, ◌*◌, ◌^◌, ℕ, List, true, false, slice_index};
+ghost use Rattle.num_fix.specs.Arithmetic.{has_bit};
 ghost use Rattle.voice_unit.specs.Directory.{loop_word};
 ghost use Rattle.voice_unit.specs.Rest.{IsSilent};
 ghost use Rattle.voice_unit.specs.Course.{IsCourse};
@@ -13,7 +14,7 @@ use crate::directory::loop_word;
 use crate::rest::is_silent;
 use crate::voice::Voice;
 use crate::workspace::Workspace;
-use num_fix::BATCH_SIZE;
+use num_fix::{BATCH_SIZE, has_bit};
 
 /// How many samples a voice glides at most, from sample `j` up to another one and while its envelope rests.
 fn glide_length(j: u8, end: u8, rest: u16) -> u8
@@ -73,6 +74,7 @@ impl Voice {
         ensures level { result.level ≡ self.now.envelope.level }
         ensures reset { result.reset ≡ reads.now.seen.reset }
         ensures silent { result.silent ≡ true → IsSilent self.now.envelope }
+        ensures noisy { result.noisy ≡ has_bit reads.now.seen.non reads.now.seen.voice }
         ensures all_silent { IsSilent self.now.envelope → result.silent ≡ true }
         ensures course { IsCourse result }
     {
@@ -85,6 +87,7 @@ impl Voice {
             level: self.level(),
             reset: reads.seen.reset,
             silent: is_silent(&self.envelope()),
+            noisy: has_bit(reads.seen.non, reads.seen.voice),
         }
     }
 
@@ -125,7 +128,7 @@ impl Voice {
             at,
             stretch.samples,
             &work.row,
-            reads.table,
+            reads,
         );
         let position = position_after(course.position, course.pitch, &stretch);
         self.go_to(&work.row, stretch.groups, position, stretch.next);

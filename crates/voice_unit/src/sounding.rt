@@ -1,18 +1,20 @@
-//! The outputs of a stretch of samples over a row of kept samples.
+//! The outputs of a stretch of samples, over a row of kept samples or over noise.
 
-ghost use Rattle.std.specs.Prelude.{◌≡◌, ◌<◌, ◌≤◌, ◌+◌, ◌*◌, ℕ, List, ℤ, pos};
+ghost use Rattle.std.specs.Prelude.{◌≡◌, ◌<◌, ◌≤◌, ◌+◌, ◌*◌, ℕ, List, ℤ, pos, slice_index};
+ghost use Rattle.num_fix.specs.Arithmetic.{wrap16};
 ghost use Rattle.num_fix.specs.SignedWords.{number_at};
 ghost use Rattle.gauss_table.specs.Interpolation.{mix_of};
 ghost use Rattle.gauss_table.specs.Quads.{AreQuads};
 ghost use Rattle.voice_unit.specs.Course.{IsCourse};
 ghost use Rattle.voice_unit.specs.Voice.{interpolation};
-ghost use Rattle.voice_unit.specs.OutsOverRow.{mixed_at, sounding_at, out_over_row};
+ghost use Rattle.voice_unit.specs.OutsOverRow.{mixed_at, sounding_at, out_in_stretch};
 
+use crate::batch::VoiceReads;
 use crate::course::Course;
 use crate::level::at_level;
 use crate::row::ROW_SIZE;
 use gauss_table::{GaussTable, Quad, Taps};
-use num_fix::{BATCH_SIZE, clear_bit0};
+use num_fix::{BATCH_SIZE, clear_bit0, wrap16};
 
 /// The way to the last four samples of a row, in 65,536ths of a sample.
 const WAY_END: u32 = 0x10000 * (ROW_SIZE as u32 - 4);
@@ -65,6 +67,20 @@ fn put_at_level(outs: &mut [i16; BATCH_SIZE], at: u8, n: u8, taps: &[Taps; BATCH
     }
 }
 
+/// The outputs of n samples of noise at a level.
+fn put_noise(outs: &mut [i16; BATCH_SIZE], at: u8, n: u8, noise: &[u16; BATCH_SIZE], level: u16)
+    requires few { at + n ≤ BATCH_SIZE }
+    requires level { level ≤ 0x7ff }
+    ensures outs { (j : ℕ) → j < n → number_at outs.new (at + j) ≡ sounding_at level (wrap16 (pos (2 * slice_index noise.now (at + j)))) }
+    ensures before { (i : ℕ) → i < at → number_at outs.new i ≡ number_at outs.old i }
+{
+    let from = usize::from(at);
+    for j in 0..usize::from(n) {
+        let sample = wrap16(2 * i32::from(noise[from + j]));
+        outs[from + j] = clear_bit0(at_level(sample, level));
+    }
+}
+
 /// The outputs of n samples at level 0.
 fn put_silence(outs: &mut [i16; BATCH_SIZE], at: u8, n: u8)
     requires { at + n ≤ BATCH_SIZE }
@@ -78,7 +94,7 @@ fn put_silence(outs: &mut [i16; BATCH_SIZE], at: u8, n: u8)
 }
 
 impl Course {
-    /// The outputs of n samples from sample `at` on, over a row of kept samples. At level 0 they are 0, whatever the samples are.
+    /// The outputs of n samples from sample `at` on, over a row of kept samples or over noise. At level 0 they are 0, whatever the samples are.
     pub(crate) fn sound(
         &self,
         outs: &mut [i16; BATCH_SIZE],
@@ -86,19 +102,24 @@ impl Course {
         at: u8,
         n: u8,
         row: &[i16; ROW_SIZE],
-        table: &GaussTable,
+        reads: &VoiceReads,
     )
         requires course { IsCourse self.now }
         requires few { at + n ≤ BATCH_SIZE }
         ensures outs { (j : ℕ) → j < n
-            → number_at outs.new (at + j) ≡ out_over_row table.now row.now self.now.position self.now.pitch self.now.level j }
+            → number_at outs.new (at + j) ≡ out_in_stretch self.now.noisy (slice_index reads.now.rows.now.noise (at + j))
+            reads.now.table.now row.now self.now.position self.now.pitch self.now.level j }
         ensures before { (i : ℕ) → i < at → number_at outs.new i ≡ number_at outs.old i }
     {
         if self.level == 0 {
             put_silence(outs, at, n);
             return;
         }
-        take_taps(taps, n, row, table, self.position, self.pitch);
+        if self.noisy {
+            put_noise(outs, at, n, &reads.rows.noise, self.level);
+            return;
+        }
+        take_taps(taps, n, row, reads.table, self.position, self.pitch);
         put_at_level(outs, at, n, taps, self.level);
     }
 }

@@ -1,8 +1,14 @@
-use Rattle.std.proofs.Common.{◌≡◌, ◌∙◌, arith}
+use Rattle.std.proofs.Common.{◌≡◌, ◌+◌, Bool, true, false, pos, slice_index, ◌∙◌, arith}
+use Rattle.voice_unit.specs.OutsOverRow.{out_in_stretch}
 use Rattle.voice_unit.proofs.Silence.{silence}
 use Rattle.voice_unit.proofs.course.Course.sound.Goals as goal
 
 pub returns-then-self-eq0-clause-outs : goal.returns-then-self-eq0-clause-outs
 returns-then-self-eq0-clause-outs c j below =
     let quiet : c.args.self.now.level ≡ 0 = omega arith in
-    rw quiet (c.put_silence.ensures.outs j below ∙ silence _)
+    rw quiet (c.put_silence.ensures.outs j below ∙ by c.args.self.now.noisy)
+  where
+    by : (b : Bool) → pos 0
+        ≡ out_in_stretch b (slice_index c.args.reads.now.rows.now.noise (c.args.at + j)) c.args.reads.now.table.now c.args.row.now c.args.self.now.position c.args.self.now.pitch 0 j
+    by true = silence _
+    by false = silence _

@@ -39,7 +39,7 @@ samples-preserved c =
     let way : (k : ℕ) → c.args.reads.now.clock ≡ counter_at k
     → IsOnItsWay c.args.reads.now.seen (lane_of c.args.reads.now c.args.previous.now c.args.self.now k)
     to c.glide-glided.result.rest c.args.made.now.loops c.glide-glided.new.made.loops c.glide-glided.new.made.outs c.glide-glided.new.self =
-    λ k at. c.glide-glided.ensures.way _ c.args.made.now.loops (record { regs = refl; memory = refl; table = refl })
+    λ k at. c.glide-glided.ensures.way _ c.args.made.now.loops (record { regs = refl; memory = refl; table = refl; noise = λ i. refl })
     (lane_glides c.args.reads.now c.args.previous.now c.args.self.now k c.samples.j c.end_from-end.result
     (λ i since below. c.plain_samples-plain.ensures i (omega (arith, below, c.end_from-end.ensures.to, c.requires.few)) (c.end_from-end.ensures.plain i since below)))
     (c.samples.invariant.way k at) in
@@ -93,15 +93,17 @@ returns-then-last-eq0-clause-way c k at = record {
 }
 
 pub returns-then-last-to-clause-way : goal.returns-then-last-to-clause-way
+unfolding lane_input
 returns-then-last-to-clause-way c k at =
-    c.glide-glided.ensures.way _ c.args.made.now.loops (record { regs = refl; memory = refl; table = refl })
+    c.glide-glided.ensures.way _ c.args.made.now.loops (record { regs = refl; memory = refl; table = refl; noise = λ i. refl })
     (lane_glides c.args.reads.now c.args.previous.now c.args.self.now k c.samples.j c.end_from-end.result
     (λ i since below. c.plain_samples-plain.ensures i (omega (arith, below, c.end_from-end.ensures.to, c.requires.few)) (c.end_from-end.ensures.plain i since below)))
     (c.samples.invariant.way k at)
 
 pub returns-then-last-to-clause-level : goal.returns-then-last-to-clause-level
+unfolding lane_input
 returns-then-last-to-clause-level c k at all =
-    let level = c.glide-glided.ensures.level _ c.args.made.now.loops (record { regs = refl; memory = refl; table = refl })
+    let level = c.glide-glided.ensures.level _ c.args.made.now.loops (record { regs = refl; memory = refl; table = refl; noise = λ i. refl })
     (lane_glides c.args.reads.now c.args.previous.now c.args.self.now k c.samples.j c.end_from-end.result
     (λ i since below. c.plain_samples-plain.ensures i (omega (arith, below, c.end_from-end.ensures.to, c.requires.few)) (c.end_from-end.ensures.plain i since below)))
     (c.samples.invariant.way k at) (omega (arith, all, c.samples-test.true)) in

@@ -28,7 +28,7 @@ returns-clause-way c plays before over glides way =
     (rw (c.course-course.ensures.reset, c.course-course.ensures.first, ← memory) at loud)) in
     let quiet = rw (c.course-course.ensures.position, c.course-course.ensures.pitch, c.course-course.ensures.reset, c.course-course.ensures.loop_to, c.course-course.ensures.first, ← memory, ← regs) at (c.read_stretch-stretch.ensures.quiet awake) in
     let marks = rw (c.course-course.ensures.voice, c.course-course.ensures.loop_to, c.course-course.ensures.first, c.course-course.ensures.position, c.course-course.ensures.pitch, ← memory, ← regs) at c.read_stretch-stretch.ensures.loops.marks in
-    let outs = rw (c.course-course.ensures.position, c.course-course.ensures.pitch, c.course-course.ensures.level, ← table, ← regs) at c.sound.ensures.outs in
+    let outs = rw (c.course-course.ensures.noisy, c.course-course.ensures.position, c.course-course.ensures.pitch, c.course-course.ensures.level, ← table, ← regs) at c.sound.ensures.outs in
     let is_position = ap (λ (w : VoiceState). w.position + 0x4000 * c.read_stretch-stretch.result.groups) c.go_to.ensures ∙ c.position_after-position.ensures.value in
     let position = rw (groups, c.course-course.ensures.position, c.course-course.ensures.pitch, ← regs) at is_position in
     let twelve = ap (λ (w : VoiceState). w.samples) c.go_to.ensures ∙ last_twelve row (4 * c.read_stretch-stretch.result.groups) ∙ ap (drop (4 * c.read_stretch-stretch.result.groups)) kept in
@@ -49,7 +49,7 @@ returns-clause-way c plays before over glides way =
     ] in
     glided_over c.args.reads.now.seen plays c.args.at m c.args.rest before c.args.made.now.loops c.args.made.now.outs v way c.begin_row.ensures.twelve
     (rw c.course-course.ensures.position at c.course-course.ensures.course.position) (rw (← regs) at c.requires.pitch)
-    (λ j below. glides (c.args.at + j) (omega arith) (omega (arith, below, few))) c.read_stretch-stretch.ensures.stretch.some (omega (arith, few, c.requires.resting))
+    (slice_index c.args.reads.now.rows.now.noise) over.noise (λ j below. glides (c.args.at + j) (omega arith) (omega (arith, below, few))) c.read_stretch-stretch.ensures.stretch.some (omega (arith, few, c.requires.resting))
     (λ j below some loud. c.course-course.ensures.silent (quiet j below loud))
     c.go_to.new.self c.rest_after.result c.read_stretch-stretch.new.loops c.sound.new.outs row
     (rw groups at kept) (rw groups at twelve) position
@@ -68,7 +68,7 @@ returns-clause-level c plays before over glides way =
     let quiet = rw (c.course-course.ensures.position, c.course-course.ensures.pitch, c.course-course.ensures.reset, c.course-course.ensures.loop_to, c.course-course.ensures.first, ← memory, ← regs) at (c.read_stretch-stretch.ensures.quiet awake) in
     let same = last_level c.args.reads.now.seen plays c.args.at c.read_stretch-stretch.result.samples c.args.rest before c.args.made.now.loops c.args.made.now.outs c.args.self.now way c.begin_row.ensures.twelve
     (rw c.course-course.ensures.position at c.course-course.ensures.course.position) (rw (← regs) at c.requires.pitch)
-    (λ j below. glides (c.args.at + j) (omega arith) (omega (arith, below, few))) c.read_stretch-stretch.ensures.stretch.some (omega (arith, few, c.requires.resting))
+    (slice_index c.args.reads.now.rows.now.noise) over.noise (λ j below. glides (c.args.at + j) (omega arith) (omega (arith, below, few))) c.read_stretch-stretch.ensures.stretch.some (omega (arith, few, c.requires.resting))
     (λ j below some loud. c.course-course.ensures.silent (quiet j below loud)) in
     ap (λ (w : VoiceState). w.envelope.level) c.go_to.ensures ∙ sym same
 
