@@ -109,7 +109,8 @@ impl<C: Chip> LagBus<C> {
         })
     }
 
-    /// The chip in hand. It made the batches and samples that are counted, and its next sample is the first one pending.
+    /// The chip in hand. It made the batches and samples that are counted, and its next sample is the first one pending. Where none is
+    /// pending it is that of the machine.
     pub fn chip(&self) -> &C
         ensures batches { C.batches result.now ≡ self.now.chip_batches }
         ensures sample { C.sample result.now ≡ self.now.chip_sample }
@@ -117,6 +118,7 @@ impl<C: Chip> LagBus<C> {
         ensures counted { C.batches result.now ≡ self.now.book.counts.batches }
         ensures made { C.sample result.now ≡ self.now.machine.clock / 32 - self.now.book.pending }
         ensures all { C.total result.now ≡ self.now.book.total }
+        ensures state { self.now.book.pending ≡ 0 → C.state result.now ≡ self.now.machine.chip }
     {
         self.late.chip()
     }

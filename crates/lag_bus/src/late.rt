@@ -122,6 +122,7 @@ impl<C: Chip> LateChip<C> {
         ensures batches { C.batches result.now ≡ self.now.batches }
         ensures sample { C.sample result.now ≡ self.now.made - self.now.pending }
         ensures total { C.total result.now ≡ self.now.total }
+        ensures state { self.now.pending ≡ 0 → C.state result.now ≡ self.now.chip }
     {
         &self.chip
     }

@@ -224,13 +224,15 @@ impl<C: Chip> Render<C> {
         self.bus.total()
     }
 
-    /// The chip in hand. It made the batches and samples that are counted, and its next sample is the first one pending.
+    /// The chip in hand. It made the batches and samples that are counted, and its next sample is the first one pending. At the length
+    /// it is that of the machine.
     pub fn chip(&self) -> &C
         ensures batches { C.batches result.now ≡ self.now.bus.chip_batches }
         ensures sample { C.sample result.now ≡ self.now.bus.chip_sample }
         ensures total { C.total result.now ≡ self.now.bus.chip_total }
         ensures counted { C.batches result.now ≡ self.now.bus.book.counts.batches }
         ensures made { C.sample result.now ≡ self.now.bus.machine.clock / 32 - self.now.bus.book.pending }
+        ensures state { is_at_length self.now ≡ true → C.state result.now ≡ self.now.bus.machine.chip }
     {
         self.bus.chip()
     }
