@@ -85,7 +85,7 @@ fn each_call_of_the_host_may_fail(rt: HostRuntime) -> Result<(), Fail> {
         let holds = if call < 3 {
             outcome.is_unread(call)
         } else {
-            outcome.is_cut_off(LOOP_CODE, &[], "bytes 4\n")
+            outcome.is_cut_off(call, LOOP_CODE, &[], "bytes 4\n")
         };
         assert!(rt; holds, "at {call}");
     }

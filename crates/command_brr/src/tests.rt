@@ -84,7 +84,7 @@ fn each_call_of_the_host_may_fail(rt: HostRuntime) -> Result<(), Fail> {
         let holds = if call < 3 {
             outcome.is_unread(call)
         } else {
-            outcome.is_cut_off(BLOCK_WAV, &[], BLOCK_REPORT)
+            outcome.is_cut_off(call, BLOCK_WAV, &[], BLOCK_REPORT)
                 && (outcome.first().len() == 76) == (call > 4)
         };
         assert!(rt; holds, "at {call}");

@@ -20,6 +20,6 @@ fn a_check_tells_sums_and_batches(rt: HostRuntime) -> Result<(), Fail> {
     let outcome = check_failing(rt.alloc(), &[])?;
     assert!(rt; outcome.is_done(&[], TOLD));
     let failed = check_failing(rt.alloc(), &[0])?;
-    assert!(rt; failed.is_cut_off(&[], &[], ""));
+    assert!(rt; failed.is_cut_off(0, &[], &[], ""));
     Ok(())
 }

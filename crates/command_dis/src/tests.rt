@@ -96,7 +96,7 @@ fn each_call_of_the_host_may_fail(rt: HostRuntime) -> Result<(), Fail> {
         let holds = if call < 3 {
             outcome.is_unread(call)
         } else {
-            outcome.is_cut_off(TWO_LINES, &[], "lines 2\n")
+            outcome.is_cut_off(call, TWO_LINES, &[], "lines 2\n")
         };
         assert!(rt; holds, "at {call}");
     }

@@ -204,7 +204,7 @@ fn may_end_so(outcome: &Outcome, call: u32) -> bool {
     if call < 3 {
         outcome.is_unread(call)
     } else {
-        outcome.is_cut_off(STEEP_BLOCK, &[], STEEP_REPORT)
+        outcome.is_cut_off(call, STEEP_BLOCK, &[], STEEP_REPORT)
     }
 }
 

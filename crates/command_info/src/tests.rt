@@ -139,7 +139,7 @@ fn may_end_so(outcome: &Outcome, call: u32) -> bool {
     if call < 19 {
         outcome.is_unread(call)
     } else {
-        outcome.is_cut_off(&[], &[], BASE_REPORT)
+        outcome.is_cut_off(call, &[], &[], BASE_REPORT)
     }
 }
 

@@ -329,7 +329,7 @@ impl Eight<'_> {
         if call < 22 {
             outcome.is_unread(call)
         } else if call < calls {
-            outcome.is_cut_off(self.wave, self.trace, EIGHT)
+            outcome.is_cut_off(call, self.wave, self.trace, EIGHT)
         } else {
             outcome.is_done(self.wave, EIGHT) && outcome.second() == self.trace
         }

@@ -131,7 +131,7 @@ fn rip_three(alloc: Global, failing: &[u32]) -> Result<Outcome, Fail> {
 fn first_lawless_call(alloc: Global, calls: u32) -> Result<Option<u32>, Fail> {
     for call in 0..calls {
         let outcome = rip_three(alloc, &[call])?;
-        let cut = outcome.is_cut_off(STEADY_WAV, STEADY_WAV, THREE_REPORT);
+        let cut = outcome.is_cut_off(call, STEADY_WAV, STEADY_WAV, THREE_REPORT);
         if !outcome.is_unread(call) && !cut {
             return Ok(Some(call));
         }

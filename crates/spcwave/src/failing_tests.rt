@@ -29,7 +29,7 @@ impl Command {
         if call < self.reads {
             outcome.is_unread(call)
         } else {
-            outcome.is_cut_off(whole.first(), whole.second(), self.report)
+            outcome.is_cut_off(call, whole.first(), whole.second(), self.report)
         }
     }
 

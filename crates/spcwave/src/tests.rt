@@ -226,7 +226,7 @@ fn run_without_report(alloc: Global, word: &str) -> Result<Outcome, Fail> {
 fn help_and_version_need_a_report(rt: HostRuntime) -> Result<(), Fail> {
     for word in ["help", "--help", "version", "--version"] {
         let failed = run_without_report(rt.alloc(), word)?;
-        assert!(rt; failed.is_cut_off(&[], &[], ""), "{word}");
+        assert!(rt; failed.is_cut_off(0, &[], &[], ""), "{word}");
     }
     Ok(())
 }

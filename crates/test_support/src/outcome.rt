@@ -102,9 +102,11 @@ impl Outcome {
             && self.calls() == call.wrapping_add(2)
     }
 
-    /// Whether an output could not be written, and prefixes of these outputs and of this report stand.
-    pub fn is_cut_off(&self, first: &[u8], second: &[u8], report: &str) -> bool {
+    /// Whether an output could not be written, and prefixes of these outputs and of this report stand; `call` is the number
+    /// of the call that failed, and after it nothing but the complaint was written.
+    pub fn is_cut_off(&self, call: u32, first: &[u8], second: &[u8], report: &str) -> bool {
         self.status == Status::WriteFault
+            && self.calls() == call.wrapping_add(2)
             && self.complaint() == b"spcwave: output could not be written\n".as_slice()
             && first.starts_with(self.first())
             && second.starts_with(self.second())
