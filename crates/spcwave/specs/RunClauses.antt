@@ -92,3 +92,20 @@ pub record Untold (command : Command) (old new : HostState) (status : Status) : 
   pub report_last : ReportsAfterEnded old new
   -- A status without numbers has its line.
   pub complaint : IfTold (plain_end status) (λ end. Complains (end_line end) old new)
+
+-- What a run does: all of this.
+pub record IsRun (command : Command) (old new : HostState) (status : Status) : Type 0 where
+  -- what stands where the status is the answer's, and the line of complaint
+  pub content : Content command old new status
+  -- the three ends that are not the answer's, and what each leaves
+  pub read_fault : ReadFault command old new status
+  pub write_fault : WriteFault command old new status
+  pub memory : Memory command old new status
+  pub truthful : IsTruthful command old status
+  -- Where they do not come: no call failed, or the host is steady and has room.
+  pub complete_calm : CompletesCalmly command old new status
+  pub complete_inputs : CompletesInputs command old new status
+  pub complete_outputs : CompletesOutputs command old new status
+  pub complete_complaint : CompletesComplaint command old new status
+  -- what holds on every host
+  pub untold : Untold command old new status

@@ -4,7 +4,7 @@ ghost use Rattle.snd_host.specs.Host.{HostState};
 ghost use Rattle.command_frame.specs.Conduct.{Attempts};
 ghost use Rattle.command_line.specs.Command.{command_of, usage, names_input};
 ghost use Rattle.spcwave.specs.Answers.{answer_of};
-ghost use Rattle.spcwave.specs.RunClauses.{HasFewOutputs, Content, ReadFault, WriteFault, Memory, IsTruthful, CompletesCalmly, CompletesInputs, CompletesOutputs, CompletesComplaint, Untold};
+ghost use Rattle.spcwave.specs.RunClauses.{HasFewOutputs, IsRun};
 
 use command_asm::asm;
 use command_brr::brr;
@@ -87,24 +87,7 @@ fn attempt<H: Host>(alloc: Global, words: &[String], host: &mut H) -> Option<Ref
 /// complaint; only where an output could not be written do parts of outputs stay behind.
 pub fn run<H: Host>(alloc: Global, words: &[String], host: &mut H) -> Status
     requires { HasFewOutputs (H.state host.old) }
-
-    // What stands where the status is the answer's, and the line of complaint.
-    ensures content { Content (command_of (map string_bytes words.now)) (H.state host.old) (H.state host.new) result }
-
-    // The three ends that are not the answer's, and what each leaves.
-    ensures read_fault { ReadFault (command_of (map string_bytes words.now)) (H.state host.old) (H.state host.new) result }
-    ensures write_fault { WriteFault (command_of (map string_bytes words.now)) (H.state host.old) (H.state host.new) result }
-    ensures memory { Memory (command_of (map string_bytes words.now)) (H.state host.old) (H.state host.new) result }
-    ensures status { IsTruthful (command_of (map string_bytes words.now)) (H.state host.old) result }
-
-    // Where they do not come: no call failed, or the host is steady and has room.
-    ensures complete_calm { CompletesCalmly (command_of (map string_bytes words.now)) (H.state host.old) (H.state host.new) result }
-    ensures complete_inputs { CompletesInputs (command_of (map string_bytes words.now)) (H.state host.old) (H.state host.new) result }
-    ensures complete_outputs { CompletesOutputs (command_of (map string_bytes words.now)) (H.state host.old) (H.state host.new) result }
-    ensures complete_complaint { CompletesComplaint (command_of (map string_bytes words.now)) (H.state host.old) (H.state host.new) result }
-
-    // What holds on every host.
-    ensures untold { Untold (command_of (map string_bytes words.now)) (H.state host.old) (H.state host.new) result }
+    ensures { IsRun (command_of (map string_bytes words.now)) (H.state host.old) (H.state host.new) result }
 {
     let refusal = attempt(alloc, words, host);
     complain(host, refusal);
