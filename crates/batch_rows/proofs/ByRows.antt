@@ -14,7 +14,7 @@ use Rattle.batch_rows.specs.Rows.{keys_after, inputs, answers, results_after, ec
 use Rattle.batch_rows.specs.Apart.{VoicesReadTheSame}
 use Rattle.batch_rows.proofs.Lanes.{voices_after-zero, voices_after-suc, results_from-lanes}
 use Rattle.batch_rows.proofs.SameInputs.{same_results}
-use Rattle.batch_rows.proofs.OneMore.{before_voices-with_parts, registers-keys_after, sample_of_parts}
+use Rattle.batch_rows.proofs.OneMore.{before_voices-with_parts, registers-keys_after, muted-keys_after, sample_of_parts}
 
 -- what all voices of a batch by rows read in sample n is what the chip's keys and noise make of it
 inputs_are : (k : ℕ) (s : ChipState) (memory : List ℕ) (n : ℕ) → inputs k s memory n ≡ shared_input (before_voices (keys_after k s n) (k + n)) memory (k + n)
@@ -71,7 +71,7 @@ one_more_row s memory n k same apart =
     let gives = apart ∙ results_of_parts s memory n k registers voices done.echo same
     ∙ results_from-lanes rows 0 (λ j. pos 0) s.hidden.voices n in
     rw (
-      sample_of_parts (keys_after k s n) (k + n) s.registers registers voices done.echo done.memory (lanes rows 0 (λ j. pos 0) s.hidden.voices n) same flg gives,
+      sample_of_parts (keys_after k s n) (k + n) s.registers registers voices done.echo done.memory (lanes rows 0 (λ j. pos 0) s.hidden.voices n) s.muted (muted-keys_after k s n) same flg gives,
       voices_after-suc rows 0 (λ j. pos 0) s.hidden.voices n,
     ) refl
 

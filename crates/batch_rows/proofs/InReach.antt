@@ -59,7 +59,7 @@ memory-samples (suc n) k s memory off =
     ap (λ (registers : List ℕ). slice_index registers FLG) (registers-before_voices now.state (k + n)) ∙ same_inputs-samples n k s memory FLG refl in
     let still : has_echo_writes (slice_index next.registers FLG) ≡ false = ap has_echo_writes same ∙ off in
     echo_memory_still next.hidden.echo (echo_regs next.registers) now.memory
-    (sent_frame (all_volumes next.registers) (map (λ (result : VoiceResult). result.answer) (results_from (shared_input next now.memory (k + n)) 0 (pos 0) next.hidden.voices))) still
+    (sent_frame (all_volumes next.registers next.muted) (map (λ (result : VoiceResult). result.answer) (results_from (shared_input next now.memory (k + n)) 0 (pos 0) next.hidden.voices))) still
     ∙ memory-samples n k s memory off
 
 -- and so the voices read the same

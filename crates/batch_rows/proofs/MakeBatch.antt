@@ -53,11 +53,11 @@ keyed_are k n s memory rows eight are small j few =
     below false kon h = omega arith
 
 module _ (k n : ℕ) (s : ChipState) (memory : List ℕ) (voices : List VoiceState) (last : List VoiceOut) (loops : List ℕ) (sums : SumRows)
-    (played : IsPlayedBatch (inputs k s memory) n (all_volumes s.registers) s.hidden.voices voices last loops sums) where
+    (played : IsPlayedBatch (inputs k s memory) n (all_volumes s.registers s.muted) s.hidden.voices voices last loops sums) where
   pub echo_is : echo_over (echo_regs s.registers) (main_of sums) (sent_of sums) s.hidden.echo memory n ≡ echo_after k s memory n
   unfolding echo_after answers main_frame sent_frame
   echo_is =
-      echo_over-rows (echo_regs s.registers) (main_of sums) (λ j. main_frame (all_volumes s.registers) (answers k s memory j)) (sent_of sums) (λ j. sent_frame (all_volumes s.registers) (answers k s memory j))
+      echo_over-rows (echo_regs s.registers) (main_of sums) (λ j. main_frame (all_volumes s.registers s.muted) (answers k s memory j)) (sent_of sums) (λ j. sent_frame (all_volumes s.registers s.muted) (answers k s memory j))
       s.hidden.echo memory n
       (λ j few. rw (played.main_left j few, played.main_right j few) refl)
       (λ j few. rw (played.sent_left j few, played.sent_right j few) refl)

@@ -11,7 +11,7 @@ use Rattle.dsp_state.specs.Sample.{VoiceResult, results_from, records_from, shar
 use Rattle.dsp_state.specs.declared.registers.TheConstants.{FLG}
 use Rattle.dsp_state.specs.declared.state.ChipState.{ChipState}
 use Rattle.dsp_state.proofs.EightVoices.{polled_part}
-use Rattle.dsp_state.proofs.Inputs.{SameInputs, registers-before_voices}
+use Rattle.dsp_state.proofs.Inputs.{SameInputs, registers-before_voices, muted-before_voices}
 use Rattle.batch_rows.specs.Rows.{keys_after, with_parts}
 use Rattle.batch_rows.proofs.SameInputs.{same_volumes, same_echo_regs}
 
@@ -57,25 +57,27 @@ registers-keys_after k s zero = refl
 registers-keys_after k s (suc n) = registers-before_voices (keys_after k s n) (k + n) ∙ registers-keys_after k s n
 
 -- one sample of a chip with these parts, where its voices give what is written there
-pub sample_of_parts : (now : ChipState) (k : ℕ) (first registers : List ℕ) (voices : List VoiceState) (echo : EchoState) (memory : List ℕ) (results : List VoiceResult)
-    → SameInputs registers first → slice_index registers FLG ≡ slice_index now.registers FLG
+pub sample_of_parts : (now : ChipState) (k : ℕ) (first registers : List ℕ) (voices : List VoiceState) (echo : EchoState) (memory : List ℕ) (results : List VoiceResult) (muted : ℕ)
+    → now.muted ≡ muted → SameInputs registers first → slice_index registers FLG ≡ slice_index now.registers FLG
     → results_from (shared_input (before_voices (with_parts now registers voices echo) k) memory k) 0 (pos 0) voices ≡ results
     → sample k (with_parts now registers voices echo) memory ≡ record {
       state = with_parts (before_voices now k) (registers_after (map (λ (result : VoiceResult). result.answer) results) registers) (map (λ (result : VoiceResult). result.voice) results)
           (next_echo echo (echo_regs first) memory);
-      memory = echo_memory echo (echo_regs first) memory (sent_frame (all_volumes first) (map (λ (result : VoiceResult). result.answer) results));
-      frame = output_frame (echo_regs first) (main_frame (all_volumes first) (map (λ (result : VoiceResult). result.answer) results)) (echo_heard echo (echo_regs first) memory);
+      memory = echo_memory echo (echo_regs first) memory (sent_frame (all_volumes first muted) (map (λ (result : VoiceResult). result.answer) results));
+      frame = output_frame (echo_regs first) (main_frame (all_volumes first muted) (map (λ (result : VoiceResult). result.answer) results)) (echo_heard echo (echo_regs first) memory);
       records = records_from k 0 (map (λ (result : VoiceResult). result.answer) results);
     }
 unfolding sample
-sample_of_parts now k first registers voices echo memory results same flg gives =
+sample_of_parts now k first registers voices echo memory results muted is same flg gives =
     let parts : before_voices (with_parts now registers voices echo) k ≡ with_parts (before_voices now k) registers voices echo = before_voices-with_parts now k registers voices echo flg in
     let there : results_from (shared_input (with_parts (before_voices now k) registers voices echo) memory k) 0 (pos 0) voices ≡ results = rw parts at gives in
+    let silent : (before_voices now k).muted ≡ muted = muted-before_voices now k ∙ is in
     rw (
       parts,
       there,
       same_echo_regs registers first same,
-      same_volumes registers first same,
+      silent,
+      same_volumes registers first same muted,
     ) refl
 
 -- nor do they change the table
@@ -87,3 +89,9 @@ pub table-keys_after : (k : ℕ) (s : ChipState) (n : ℕ) → (keys_after k s n
 unfolding keys_after
 table-keys_after k s zero = refl
 table-keys_after k s (suc n) = table-before_voices (keys_after k s n) (k + n) ∙ table-keys_after k s n
+
+-- nor the muted voices
+pub muted-keys_after : (k : ℕ) (s : ChipState) (n : ℕ) → (keys_after k s n).muted ≡ s.muted
+unfolding keys_after
+muted-keys_after k s zero = refl
+muted-keys_after k s (suc n) = muted-before_voices (keys_after k s n) (k + n) ∙ muted-keys_after k s n

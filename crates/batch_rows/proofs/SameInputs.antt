@@ -32,10 +32,10 @@ module _ (these those : List ℕ) (same : SameInputs these those) where
       (ap (λ (results : List VoiceResult). voice_result (record shared { registers = those }) v previous voice ∷ results) (same_results shared (v + 1) out voices))
 
   -- the volumes of the sums, and what the echo reads
-  pub same_volumes : all_volumes these ≡ all_volumes those
+  pub same_volumes : (muted : ℕ) → all_volumes these muted ≡ all_volumes those muted
   unfolding settings_of
-  same_volumes = ap (λ (settings : Settings). settings.volumes) (same_settings these those same)
+  same_volumes muted = ap (λ (settings : Settings). settings.volumes) (same_settings these those same muted)
 
   pub same_echo_regs : echo_regs these ≡ echo_regs those
   unfolding settings_of
-  same_echo_regs = ap (λ (settings : Settings). settings.echo) (same_settings these those same)
+  same_echo_regs = ap (λ (settings : Settings). settings.echo) (same_settings these those same 0)

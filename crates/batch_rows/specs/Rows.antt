@@ -40,7 +40,7 @@ records_after rows k (suc j) = records_after rows k j ++ records_from (k + j) 0 
 -- the echo of a batch
 unfoldable pub echo_after : (k : ℕ) → ChipState → (memory : List ℕ) → (samples : ℕ) → EchoOver
 echo_after k s memory n =
-    let volumes = all_volumes s.registers in
+    let volumes = all_volumes s.registers s.muted in
     echo_over (echo_regs s.registers) (λ j. main_frame volumes (answers k s memory j)) (λ j. sent_frame volumes (answers k s memory j))
     s.hidden.echo memory n
 

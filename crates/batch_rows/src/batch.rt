@@ -27,7 +27,7 @@ pub fn play_batch(
     frames: &mut Frames,
 )
     requires batch { IsBatch samples.now }
-    requires settings { settings.now ≡ settings_of state.old.registers }
+    requires settings { settings.now ≡ settings_of state.old.registers state.old.muted }
     requires frame_room { length frames.old + samples.now.n ≤ frame_room }
     ensures state { state.new ≡ (batch_by_rows samples.now state.old memory.old).state }
     ensures memory { memory.new ≡ (batch_by_rows samples.now state.old memory.old).memory }

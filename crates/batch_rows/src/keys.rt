@@ -26,6 +26,7 @@ pub fn is_polled(number: u32) -> bool
 pub fn poll(state: &mut ChipState, number: u32)
     ensures state { state.new ≡ after_poll state.old number }
     ensures registers { state.new.registers ≡ state.old.registers }
+    ensures muted { state.new.muted ≡ state.old.muted }
 {
     if is_polled(number) {
         state.hidden.waiting &= 0xff - state.hidden.taken;
@@ -39,6 +40,7 @@ pub fn step_noise(state: &mut ChipState, rate: u8, clock: &RateClock)
     requires { rate ≡ noise_rate (slice_index state.old.registers FLG) }
     ensures state { state.new ≡ after_noise state.old clock.now }
     ensures registers { state.new.registers ≡ state.old.registers }
+    ensures muted { state.new.muted ≡ state.old.muted }
 {
     let fired = clock.fires(rate);
     state.hidden.noise.step(fired);

@@ -86,7 +86,7 @@ pub fn play_recorded_batch(
     records: &mut Records,
 )
     requires batch { IsBatch samples.now }
-    requires settings { settings.now ≡ settings_of state.old.registers }
+    requires settings { settings.now ≡ settings_of state.old.registers state.old.muted }
     requires frame_room { length frames.old + samples.now.n ≤ frame_room }
     requires record_room { length records.old + 8 * samples.now.n ≤ record_room }
     ensures state { state.new ≡ (batch_by_rows samples.now state.old memory.old).state }

@@ -1,4 +1,4 @@
--- What is saved of a chip, and put back: all but its table.
+-- What is saved of a chip, and put back: all but its table and its muted voices.
 use Rattle.std.specs.Prelude.{ℕ, List}
 use Rattle.dsp_state.specs.declared.state.Hidden.{Hidden}
 use Rattle.dsp_state.specs.declared.state.ChipState.{ChipState}
@@ -13,6 +13,6 @@ pub record SavedDsp : Type 0 where
 abbrev pub saved_state : ChipState → (k : ℕ) → SavedDsp
 saved_state s k = record { registers = s.registers; hidden = s.hidden; sample = k }
 
--- a state with what was saved in it; its table stays
+-- a state with what was saved in it; its table and its muted voices stay
 abbrev pub loaded_state : ChipState → SavedDsp → ChipState
 loaded_state s saved = record s { registers = saved.registers; hidden = saved.hidden }

@@ -9,7 +9,7 @@ use Rattle.dsp_core.specs.declared.voices.SampleReads.{SampleReads}
 -- a fact of what the voices read, whichever registers the settings were read of
 abbrev pub ForInput : SampleReads → (SharedInput → Type 0) → Type 0
 ForInput reads P =
-    (registers : List ℕ) → reads.settings.now ≡ settings_of registers
+    (registers : List ℕ) (muted : ℕ) → reads.settings.now ≡ settings_of registers muted
     → P record { registers = registers; common = reads.common; memory = reads.memory.now; table = reads.table.now; counter = reads.clock }
 
 -- all voices after their step, and their answers

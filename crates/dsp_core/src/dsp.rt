@@ -53,11 +53,17 @@ impl Model for Dsp {
 }
 
 impl Dsp {
-    /// The chip with its registers as a file has them, 128 bytes, and a table of weights, before its first sample.
+    /// The chip with its registers as a file has them, 128 bytes, a table of weights and the muted voices, before its first sample;
+    /// bit v of the muted voices is voice v.
     #[tactic(auto, unfolding(dsp_state::specs::Outside::opened_state))]
-    pub fn open(alloc: Global, registers: &[u8], table: GaussTable) -> Result<Dsp, OutOfMemory>
+    pub fn open(
+        alloc: Global,
+        registers: &[u8],
+        table: GaussTable,
+        muted: u8,
+    ) -> Result<Dsp, OutOfMemory>
         requires { length registers.now ≡ 0x80 }
-        ensures { IfOk result (λ dsp. dsp ≡ record { state = opened_state registers.now table; sample = 0; batches = 0; total = 0 }) }
+        ensures { IfOk result (λ dsp. dsp ≡ record { state = opened_state registers.now table muted; sample = 0; batches = 0; total = 0 }) }
     {
         let work = Workspace::new(alloc, &table)?;
         let mut own = [0; 128];
@@ -74,6 +80,7 @@ impl Dsp {
                 registers: own,
                 hidden,
                 table,
+                muted,
             },
             clock: RateClock::new(),
             number: 0,
@@ -117,7 +124,7 @@ impl Dsp {
         records: &mut Records,
         answers: &mut [VoiceOut; 8],
     )
-        requires settings { settings.now ≡ settings_of self.old.state.registers }
+        requires settings { settings.now ≡ settings_of self.old.state.registers self.old.state.muted }
         requires frame_room { length frames.old < frame_room }
         requires record_room { length records.old + 8 ≤ record_room }
         requires number { self.old.sample < most_samples_of_chip }
@@ -151,7 +158,7 @@ impl Dsp {
         frames: &mut Frames,
         records: &mut Records,
     )
-        requires settings { settings.now ≡ settings_of self.old.state.registers }
+        requires settings { settings.now ≡ settings_of self.old.state.registers self.old.state.muted }
         requires frame_room { length frames.old + n ≤ frame_room }
         requires record_room { length records.old + 8 * n ≤ record_room }
         requires number { self.old.sample + n ≤ most_samples_of_chip }
@@ -168,7 +175,7 @@ impl Dsp {
 
     /// Makes the next n samples by rows, and adds their frames.
     fn make_rows(&mut self, n: u8, settings: &Settings, memory: &mut Aram, frames: &mut Frames)
-        requires settings { settings.now ≡ settings_of self.old.state.registers }
+        requires settings { settings.now ≡ settings_of self.old.state.registers self.old.state.muted }
         requires some { 0 < n }
         requires few { n ≤ most_samples_of_batch }
         requires frame_room { length frames.old + n ≤ frame_room }
@@ -201,7 +208,7 @@ impl Dsp {
         frames: &mut Frames,
         records: &mut Records,
     )
-        requires settings { settings.now ≡ settings_of self.old.state.registers }
+        requires settings { settings.now ≡ settings_of self.old.state.registers self.old.state.muted }
         requires some { 0 < n }
         requires few { n ≤ most_samples_of_batch }
         requires frame_room { length frames.old + n ≤ frame_room }
@@ -265,7 +272,7 @@ impl Dsp {
         if n == 0 {
             return;
         }
-        let settings = settings_of(&self.state.registers);
+        let settings = settings_of(&self.state.registers, self.state.muted);
         self.batches = self.batches.saturating_add(1);
         if !self.goes_by_rows(n, memory) {
             return self.make_each(n, &settings, memory, mask, frames, records);
@@ -277,7 +284,7 @@ impl Dsp {
         }
     }
 
-    /// Saves all but the table.
+    /// Saves all but the table and the muted voices.
     pub fn save(&self) -> DspState
         ensures { result ≡ saved_state self.now.state self.now.sample }
     {
@@ -289,8 +296,8 @@ impl Dsp {
         }
     }
 
-    /// Puts back what was saved, of this chip or of another one. The table stays, and so do the numbers of batches and samples
-    /// made in all.
+    /// Puts back what was saved, of this chip or of another one. The table and the muted voices stay, and so do the numbers of
+    /// batches and samples made in all.
     pub fn load(&mut self, saved: &DspState)
         ensures chip { self.new ≡ record self.old { state = loaded_state self.old.state saved.now; sample = saved.now.sample } }
         ensures is_valid { is_valid self.new.state ≡ true }

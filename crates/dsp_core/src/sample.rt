@@ -33,7 +33,7 @@ fn step_chip_voices(
     memory: &Aram,
     answers: &mut [VoiceOut; 8],
 )
-    requires { settings.now ≡ settings_of state.old.registers }
+    requires { settings.now ≡ settings_of state.old.registers state.old.muted }
     ensures voices { let results = results_from (shared_input state.old memory.now number) 0 (pos 0) state.old.hidden.voices in
         clock.now ≡ counter_at number → state.new ≡ record state.old { hidden = record state.old.hidden { voices = map (λ one. one.voice) results } } }
     ensures answers { let results = results_from (shared_input state.old memory.now number) 0 (pos 0) state.old.hidden.voices in
@@ -64,7 +64,7 @@ pub fn make_sample(
     memory: &mut Aram,
     answers: &mut [VoiceOut; 8],
 ) -> Frame
-    requires settings { settings.now ≡ settings_of state.old.registers }
+    requires settings { settings.now ≡ settings_of state.old.registers state.old.muted }
     requires clock { clock.now ≡ counter_at number }
     ensures state { state.new ≡ (sample number state.old memory.old).state }
     ensures memory { memory.new ≡ (sample number state.old memory.old).memory }

@@ -6,7 +6,7 @@ use rate_clock::RateClock;
 use std::marker::Model;
 
 /// What `Dsp::save` alone makes: the registers, what the chip keeps beside them, and the number of its next sample. The table
-/// is none of it.
+/// and the muted voices are none of it.
 #[derive(Clone, Copy, Debug)]
 pub struct DspState {
     pub(crate) registers: Registers,

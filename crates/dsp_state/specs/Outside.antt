@@ -6,9 +6,10 @@ use Rattle.rate_clock.specs.Noise.{noise_at}
 use Rattle.dsp_state.specs.declared.registers.TheConstants.{KON, ENDX}
 use Rattle.dsp_state.specs.declared.state.ChipState.{ChipState}
 
--- the state at the opening: the key-ons of the register wait, and no key, sample or echo is left from before
-unfoldable pub opened_state : (registers : List ℕ) → (table : List ℤ) → ChipState
-opened_state registers table = record {
+-- the state at the opening, over a table and with these voices muted: the key-ons of the register wait, and no key, sample or
+-- echo is left from before
+unfoldable pub opened_state : (registers : List ℕ) → (table : List ℤ) → (muted : ℕ) → ChipState
+opened_state registers table muted = record {
   registers = registers;
   hidden = record {
     waiting = slice_index registers KON;
@@ -18,6 +19,7 @@ opened_state registers table = record {
     echo = first_echo;
   };
   table = table;
+  muted = muted;
 }
 
 -- the register at an address, taken modulo 128

@@ -102,7 +102,7 @@ abbrev pub rest_of_sample : (k : ℕ) → ChipState → List ℕ → SampleResul
 rest_of_sample k now memory =
     let results = results_from (shared_input now memory k) 0 (pos 0) now.hidden.voices in
     let answers = map (λ result. result.answer) results in
-    let volumes = all_volumes now.registers in
+    let volumes = all_volumes now.registers now.muted in
     let regs = echo_regs now.registers in
     record {
       state = record now {

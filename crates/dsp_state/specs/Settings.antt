@@ -29,11 +29,11 @@ voice_settings registers v = record {
 unfoldable pub all_voice_settings : (registers : List ℕ) → List VoiceSettings
 all_voice_settings registers = map (λ v. voice_settings registers v) (range_with_len 0 8)
 
--- what a sample reads
-unfoldable pub settings_of : (registers : List ℕ) → Settings
-settings_of registers = record {
+-- what a sample reads, where some voices are muted
+unfoldable pub settings_of : (registers : List ℕ) → (muted : ℕ) → Settings
+settings_of registers muted = record {
   voices = all_voice_settings registers;
-  volumes = all_volumes registers;
+  volumes = all_volumes registers muted;
   dir = slice_index registers DIR;
   reset = is_soft_reset (slice_index registers FLG);
   noise_rate = noise_rate (slice_index registers FLG);

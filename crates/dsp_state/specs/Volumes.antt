@@ -1,4 +1,4 @@
--- The volumes of the voices.
+-- The volumes of the voices, and those at which the muted ones are heard.
 use Rattle.std.specs.Prelude.{ℕ, List, map, pos, slice_index, if◌then◌else◌}
 use Rattle.std.specs.List.{range_with_len}
 use Rattle.num_fix.specs.Arithmetic.{sign8, has_bit}
@@ -14,6 +14,14 @@ voice_volumes registers v =
     let is_sent = has_bit (slice_index registers EON) v in
     record { left = left; right = right; sent_left = if is_sent then left else pos 0; sent_right = if is_sent then right else pos 0 }
 
--- the volumes of all voices
-unfoldable pub all_volumes : (registers : List ℕ) → List Volumes
-all_volumes registers = map (λ v. voice_volumes registers v) (range_with_len 0 8)
+-- the volumes at which a voice is not heard
+abbrev pub no_volumes : Volumes
+no_volumes = record { left = pos 0; right = pos 0; sent_left = pos 0; sent_right = pos 0 }
+
+-- the volumes at which voice v is heard: its own, unless its bit of the muted voices is set
+unfoldable pub heard_volumes : (registers : List ℕ) → (muted v : ℕ) → Volumes
+heard_volumes registers muted v = if has_bit muted v then no_volumes else voice_volumes registers v
+
+-- the volumes at which all voices are heard
+unfoldable pub all_volumes : (registers : List ℕ) → (muted : ℕ) → List Volumes
+all_volumes registers muted = map (λ v. heard_volumes registers muted v) (range_with_len 0 8)

@@ -57,17 +57,17 @@ fn all_voice_settings(r: &Registers) -> [VoiceSettings; 8]
     ]
 }
 
-/// What samples read of the registers. It stands apart, so that samples read it in memory and not
-/// each part of it again.
+/// What samples read of the registers, where some voices are muted. It stands apart, so that samples
+/// read it in memory and not each part of it again.
 #[inline(never)]
 #[tactic(auto, unfolding(crate::specs::Settings::settings_of))]
-pub fn settings_of(registers: &Registers) -> Settings
-    ensures { result ≡ settings_of registers.now }
+pub fn settings_of(registers: &Registers, muted: u8) -> Settings
+    ensures { result ≡ settings_of registers.now muted }
 {
     let flg = registers[FLG];
     Settings {
         voices: all_voice_settings(registers),
-        volumes: all_volumes(registers),
+        volumes: all_volumes(registers, muted),
         dir: registers[DIR],
         reset: is_soft_reset(flg),
         noise_rate: flg % 32,

@@ -18,10 +18,13 @@ pub struct Hidden {
     pub echo: Echo,
 }
 
-/// The state of the chip: its registers, what it keeps beside them, and its table, which nothing changes.
+/// The state of the chip: its registers and what it keeps beside them, and what nothing changes: its table, and which voices
+/// are muted.
 #[derive(Drop)]
 pub struct ChipState {
     pub registers: Registers,
     pub hidden: Hidden,
     pub table: GaussTable,
+    /// The muted voices: bit v is voice v. They do all that they do elsewhere, and only the sums are without them.
+    pub muted: u8,
 }

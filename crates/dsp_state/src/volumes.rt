@@ -1,7 +1,7 @@
 //! The volumes of the voices.
 
 ghost use Rattle.std.specs.Prelude.{◌≡◌, ◌<◌};
-ghost use Rattle.dsp_state.specs.Volumes.{voice_volumes, all_volumes};
+ghost use Rattle.dsp_state.specs.Volumes.{voice_volumes, heard_volumes, all_volumes};
 
 use crate::registers::{EON, Registers, VOLL, VOLR, voice_register};
 use num_fix::{has_bit, sign8};
@@ -36,19 +36,40 @@ fn voice_volumes(registers: &Registers, v: u8) -> Volumes
     }
 }
 
-/// The volumes of all voices.
+/// The volumes at which a voice is not heard.
+const NO_VOLUMES: Volumes = Volumes {
+    left: 0,
+    right: 0,
+    sent_left: 0,
+    sent_right: 0,
+};
+
+/// The volumes at which voice `v` is heard: its own, unless it is muted.
+#[tactic(auto, unfolding(crate::specs::Volumes::heard_volumes))]
+fn heard_volumes(registers: &Registers, muted: u8, v: u8) -> Volumes
+    requires { v < 8 }
+    ensures { result ≡ heard_volumes registers.now muted v }
+{
+    if has_bit(muted, v) {
+        NO_VOLUMES
+    } else {
+        voice_volumes(registers, v)
+    }
+}
+
+/// The volumes at which all voices are heard.
 #[tactic(auto, unfolding(crate::specs::Volumes::all_volumes))]
-pub fn all_volumes(r: &Registers) -> [Volumes; 8]
-    ensures { result ≡ all_volumes r.now }
+pub fn all_volumes(r: &Registers, muted: u8) -> [Volumes; 8]
+    ensures { result ≡ all_volumes r.now muted }
 {
     [
-        voice_volumes(r, 0),
-        voice_volumes(r, 1),
-        voice_volumes(r, 2),
-        voice_volumes(r, 3),
-        voice_volumes(r, 4),
-        voice_volumes(r, 5),
-        voice_volumes(r, 6),
-        voice_volumes(r, 7),
+        heard_volumes(r, muted, 0),
+        heard_volumes(r, muted, 1),
+        heard_volumes(r, muted, 2),
+        heard_volumes(r, muted, 3),
+        heard_volumes(r, muted, 4),
+        heard_volumes(r, muted, 5),
+        heard_volumes(r, muted, 6),
+        heard_volumes(r, muted, 7),
     ]
 }

@@ -142,7 +142,7 @@ stays_in_reach start before j k s memory few stays = rw (sample_is k s memory) n
       waiting = held.waiting;
       cell = is_at_cell-next_echo now.hidden.echo regs memory held.cell;
       length = length-next_echo now.hidden.echo regs memory start.hidden.echo.length (slice_index start.registers EDL) edl held.length;
-      bytes = λ at none. writes_off start before j now memory (sent_frame (all_volumes now.registers) answers) at held none ∙ held.bytes at none;
+      bytes = λ at none. writes_off start before j now memory (sent_frame (all_volumes now.registers now.muted) answers) at held none ∙ held.bytes at none;
       voices = λ clear. voices_stay start before j 0 (pos 0) (shared_input now memory k) start.hidden.voices now.hidden.voices (finds start before j k s memory stays clear) few (held.voices clear);
     }
 
@@ -177,5 +177,5 @@ reads_in_reach start before j k s memory at value few stays clear none =
           results,
           next_echo_apart now.hidden.echo regs memory at value off,
           after_reading_apart now.hidden.echo regs memory at value off,
-          echo_memory_apart now.hidden.echo regs memory (sent_frame (all_volumes now.registers) answers) at value off,
+          echo_memory_apart now.hidden.echo regs memory (sent_frame (all_volumes now.registers now.muted) answers) at value off,
         ) refl

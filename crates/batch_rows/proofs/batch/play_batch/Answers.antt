@@ -22,7 +22,7 @@ returns-clause-state c =
     let s : ChipState = c.args.state.now in
     let k : ℕ = c.args.samples.now.number in
     let n : ℕ = c.args.samples.now.n in
-    let volumes : c.args.settings.now.volumes ≡ all_volumes s.registers = ap (λ (settings : Settings). settings.volumes) c.requires.settings in
+    let volumes : c.args.settings.now.volumes ≡ all_volumes s.registers s.muted = ap (λ (settings : Settings). settings.volumes) c.requires.settings in
     let voices : c.step_keys-rows.new.state.hidden.voices ≡ s.hidden.voices = ap (λ (t : ChipState). t.hidden.voices) c.step_keys-rows.ensures.state ∙ voices-keys_after k s n in
     let table : s.table ≡ c.step_keys-rows.new.state.table = sym (ap (λ (t : ChipState). t.table) c.step_keys-rows.ensures.state ∙ table-keys_after k s n) in
     let played = rw (volumes, voices) at (c.play_voices.ensures.played k s (record { registers = sym c.step_keys-rows.ensures.registers; table = table; rows = c.step_keys-rows.ensures.rows; clock = c.requires.batch.clock })) in
@@ -43,7 +43,7 @@ returns-clause-memory c =
     let s : ChipState = c.args.state.now in
     let k : ℕ = c.args.samples.now.number in
     let n : ℕ = c.args.samples.now.n in
-    let volumes : c.args.settings.now.volumes ≡ all_volumes s.registers = ap (λ (settings : Settings). settings.volumes) c.requires.settings in
+    let volumes : c.args.settings.now.volumes ≡ all_volumes s.registers s.muted = ap (λ (settings : Settings). settings.volumes) c.requires.settings in
     let voices : c.step_keys-rows.new.state.hidden.voices ≡ s.hidden.voices = ap (λ (t : ChipState). t.hidden.voices) c.step_keys-rows.ensures.state ∙ voices-keys_after k s n in
     let table : s.table ≡ c.step_keys-rows.new.state.table = sym (ap (λ (t : ChipState). t.table) c.step_keys-rows.ensures.state ∙ table-keys_after k s n) in
     let played = rw (volumes, voices) at (c.play_voices.ensures.played k s (record { registers = sym c.step_keys-rows.ensures.registers; table = table; rows = c.step_keys-rows.ensures.rows; clock = c.requires.batch.clock })) in
@@ -58,7 +58,7 @@ returns-clause-frames c =
     let s : ChipState = c.args.state.now in
     let k : ℕ = c.args.samples.now.number in
     let n : ℕ = c.args.samples.now.n in
-    let volumes : c.args.settings.now.volumes ≡ all_volumes s.registers = ap (λ (settings : Settings). settings.volumes) c.requires.settings in
+    let volumes : c.args.settings.now.volumes ≡ all_volumes s.registers s.muted = ap (λ (settings : Settings). settings.volumes) c.requires.settings in
     let voices : c.step_keys-rows.new.state.hidden.voices ≡ s.hidden.voices = ap (λ (t : ChipState). t.hidden.voices) c.step_keys-rows.ensures.state ∙ voices-keys_after k s n in
     let table : s.table ≡ c.step_keys-rows.new.state.table = sym (ap (λ (t : ChipState). t.table) c.step_keys-rows.ensures.state ∙ table-keys_after k s n) in
     let played = rw (volumes, voices) at (c.play_voices.ensures.played k s (record { registers = sym c.step_keys-rows.ensures.registers; table = table; rows = c.step_keys-rows.ensures.rows; clock = c.requires.batch.clock })) in

@@ -63,7 +63,7 @@ loop-j-preserved c =
     let table : s.table ≡ c.step_keys-rows.new.state.table = sym (ap (λ (t : ChipState). t.table) c.step_keys-rows.ensures.state ∙ table-keys_after k s n) in
     let run = rw voices at (c.run_voices.ensures.run k s (record { registers = sym c.step_keys-rows.ensures.registers; table = table; rows = c.step_keys-rows.ensures.rows; clock = c.requires.batch.clock })) in
     let given : c.answers_in-answers.result ≡ answers k s c.args.memory.now c.loop-j.j = c.answers_in-answers.ensures ∙ run.answers_are c.loop-j.j c.loop-j-test.true in
-    let volumes : c.args.settings.now.volumes ≡ all_volumes s.registers = ap (λ (settings : Settings). settings.volumes) c.requires.settings in
+    let volumes : c.args.settings.now.volumes ≡ all_volumes s.registers s.muted = ap (λ (settings : Settings). settings.volumes) c.requires.settings in
     let regs : c.args.settings.now.echo ≡ echo_regs s.registers = ap (λ (settings : Settings). settings.echo) c.requires.settings in
     let number : c.from.result ≡ c.loop-j.j = c.from.ensures in
     record {

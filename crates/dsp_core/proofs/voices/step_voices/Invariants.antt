@@ -5,10 +5,10 @@ use Rattle.dsp_core.proofs.voices.step_voices.Given as goal
 
 abbrev pub invariant-loop-v : goal.invariant-loop-v
 invariant-loop-v l = record {
-  voices : (registers : List ℕ) → l.reads.settings.now ≡ settings_of registers → let shared : SharedInput = record { registers = registers; common = l.reads.common; memory = l.reads.memory.now; table = l.reads.table.now; counter = l.reads.clock } in
+  voices : (registers : List ℕ) (muted : ℕ) → l.reads.settings.now ≡ settings_of registers muted → let shared : SharedInput = record { registers = registers; common = l.reads.common; memory = l.reads.memory.now; table = l.reads.table.now; counter = l.reads.clock } in
       map (λ (one : VoiceResult). one.voice) (results_from shared 0 (pos 0) l.initial.voices)
       ≡ take l.v l.voices ++ map (λ (one : VoiceResult). one.voice) (results_from shared l.v l.previous (drop l.v l.voices));
-  answers : (registers : List ℕ) → l.reads.settings.now ≡ settings_of registers → let shared : SharedInput = record { registers = registers; common = l.reads.common; memory = l.reads.memory.now; table = l.reads.table.now; counter = l.reads.clock } in
+  answers : (registers : List ℕ) (muted : ℕ) → l.reads.settings.now ≡ settings_of registers muted → let shared : SharedInput = record { registers = registers; common = l.reads.common; memory = l.reads.memory.now; table = l.reads.table.now; counter = l.reads.clock } in
       map (λ (one : VoiceResult). one.answer) (results_from shared 0 (pos 0) l.initial.voices)
       ≡ take l.v l.answers ++ map (λ (one : VoiceResult). one.answer) (results_from shared l.v l.previous (drop l.v l.voices));
   eight_voices : length l.voices ≡ 8;

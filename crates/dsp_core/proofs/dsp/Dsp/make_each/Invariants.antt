@@ -11,7 +11,7 @@ invariant-samples l =
     record {
       state : l.self.state ≡ done.state;
       sample : l.self.sample ≡ l.initial.self.sample + l.counter;
-      settings : l.settings ≡ settings_of l.self.state.registers;
+      settings : l.settings ≡ settings_of l.self.state.registers l.self.state.muted;
       batches : l.self.batches ≡ l.initial.self.batches;
       total : l.self.total ≡ l.initial.self.total;
       memory : l.memory ≡ done.memory;

@@ -1,0 +1,36 @@
+-- A sample with other voices muted.
+use Rattle.std.proofs.Common.{◌≡◌, ℕ, ◌%◌, ◌==◌, List, Bool, true, false, if◌then◌else◌, refl, ap}
+use Rattle.rate_clock.specs.Counter.{counter_at}
+use Rattle.dsp_state.specs.Results.{without_bits}
+use Rattle.dsp_state.specs.Sample.{after_poll, after_noise, before_voices, rest_of_sample, sample}
+use Rattle.dsp_state.specs.declared.state.ChipState.{ChipState}
+use Rattle.mute_laws.specs.Muting.{with_muted}
+
+-- the poll
+poll_with : (s : ChipState) (k muted : ℕ) → after_poll (with_muted s muted) k ≡ with_muted (after_poll s k) muted
+unfolding after_poll
+poll_with s k muted = by (k % 2 == 0)
+  where
+    waiting : ℕ
+    waiting = without_bits s.hidden.waiting s.hidden.taken
+
+    whole : ChipState
+    whole = with_muted s muted
+
+    by : (b : Bool) → (if b then record whole { hidden = record whole.hidden { waiting = waiting; taken = waiting } } else whole)
+        ≡ with_muted (if b then record s { hidden = record s.hidden { waiting = waiting; taken = waiting } } else s) muted
+    by true = refl
+    by false = refl
+
+-- and the noise
+before_voices_with : (s : ChipState) (k muted : ℕ) → before_voices (with_muted s muted) k ≡ with_muted (before_voices s k) muted
+unfolding after_noise
+before_voices_with s k muted = ap (λ (t : ChipState). after_noise t (counter_at k)) (poll_with s k muted)
+
+pub state_goes_on : (k : ℕ) (s : ChipState) (muted : ℕ) (memory : List ℕ) → (sample k (with_muted s muted) memory).state ≡ with_muted (sample k s memory).state muted
+unfolding sample
+state_goes_on k s muted memory = ap (λ (t : ChipState). (rest_of_sample k t memory).state) (before_voices_with s k muted)
+
+pub records_go_on : (k : ℕ) (s : ChipState) (muted : ℕ) (memory : List ℕ) → (sample k (with_muted s muted) memory).records ≡ (sample k s memory).records
+unfolding sample
+records_go_on k s muted memory = ap (λ (t : ChipState). (rest_of_sample k t memory).records) (before_voices_with s k muted)
