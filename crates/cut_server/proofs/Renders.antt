@@ -21,7 +21,7 @@ use Rattle.cut_form.specs.Checkpoints.{pages_of, slots_needed, with_checkpoint}
 use Rattle.cut_form.specs.CutBook.{needed_here, with_live, with_one_here}
 use Rattle.cut_server.specs.Machines.{AreLawful}
 use Rattle.cut_server.specs.Table.{TableState, Saved, live_checkpoints}
-use Rattle.cut_server.specs.Server.{lock_step_machines, standing_of, pages_at}
+use Rattle.cut_server.specs.Server.{lock_step_machines, standing_of, pages_at, chip_at}
 use Rattle.cut_server.specs.ServerState.{book_of}
 use Rattle.cut_server.specs.IsServed.{IsOnCourse}
 use Rattle.cut_server.specs.Renders.{IsAtRest, IsServing, IsOnWay, RunsOut}
@@ -124,6 +124,13 @@ pub pages_here : {S V : Type 0} (chip : ChipMeaning S) (saving : ChipSaving S V)
 unfolding lock_step_machines
 pages_here chip saving render table at serving memory is =
     ap pages_of is ∙ ap (λ w. pages_of w.1.memory) serving.served.course ∙ ap (pages_at chip saving (record { standing = standing_of render; table = table })) (sym serving.served.position)
+
+-- and the chip there
+pub chip_there : {S V : Type 0} (chip : ChipMeaning S) (saving : ChipSaving S V) (render : RenderState S) (table : TableState (PlayState V)) (at : ℕ) → IsServing chip saving render table at
+    → render.bus.machine.chip ≡ chip_at chip saving (record { standing = standing_of render; table = table }) render.samples
+unfolding lock_step_machines
+chip_there chip saving render table at serving =
+    ap (λ w. w.1.chip) serving.served.course ∙ ap (chip_at chip saving (record { standing = standing_of render; table = table })) (sym serving.served.position)
 
 -- so many slots a checkpoint there needs, and this is the book with it
 pub needed_is : {S V : Type 0} {chip : ChipMeaning S} {saving : ChipSaving S V} {render : RenderState S} {table : TableState (PlayState V)} {at : ℕ} → IsServing chip saving render table at → (memory : List ℕ) → memory ≡ render.bus.machine.memory

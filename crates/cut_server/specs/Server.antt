@@ -36,8 +36,12 @@ standing_of render = record {
 abbrev pub ChipServer : (S V : Type 0) → Type 0
 ChipServer S V = ServerState (Whole (Machine S)) (PlayState V)
 
+-- the state of the chip that the run from a machine has once so many samples are made
+abbrev pub chip_after : {S : Type 0} → ChipMeaning S → (start : Whole (Machine S)) → (samples : ℕ) → S
+chip_after chip start samples = (whole_after_run chip samples start).1.chip
+
 -- The machine at the opening is that of the first checkpoint, which is never dropped. These are it, the pages of the run from it,
--- and its frames.
+-- its frames, and its chip.
 abbrev pub opening : {S V : Type 0} → ChipMeaning S → ChipSaving S V → ChipServer S V → Whole (Machine S)
 opening chip saving server = machine_at_start (lock_step_machines chip saving) server
 
@@ -46,6 +50,9 @@ pages_at chip saving server = pages_after (lock_step_machines chip saving) (open
 
 abbrev pub frames_to : {S V : Type 0} → ChipMeaning S → ChipSaving S V → ChipServer S V → (samples : ℕ) → List Frame
 frames_to chip saving server = frames_after (lock_step_machines chip saving) (opening chip saving server)
+
+abbrev pub chip_at : {S V : Type 0} → ChipMeaning S → ChipSaving S V → ChipServer S V → (samples : ℕ) → S
+chip_at chip saving server = chip_after chip (opening chip saving server)
 
 abbrev pub KeepsTune : {S V : Type 0} → ChipMeaning S → ChipSaving S V → (old new : ChipServer S V) → Type 0
 KeepsTune chip saving old new = KeepsStart (lock_step_machines chip saving) old new

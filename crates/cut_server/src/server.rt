@@ -13,7 +13,7 @@ ghost use Rattle.cut_form.specs.Slices.{slice_of};
 ghost use Rattle.cut_server.specs.Server.{lock_step_machines};
 ghost use Rattle.cut_server.specs.Table.{samples_of, AreOwnersCounted};
 ghost use Rattle.cut_server.specs.ServerState.{book_of, slots_of};
-ghost use Rattle.cut_server.specs.Server.{opening, pages_at, frames_to, KeepsTune};
+ghost use Rattle.cut_server.specs.Server.{opening, pages_at, frames_to, chip_at, KeepsTune};
 ghost use Rattle.cut_server.specs.IsServed.{GoesOn, GoesBack};
 
 use crate::OutOfMemory;
@@ -119,10 +119,12 @@ impl<C: Chip> CutServer<C> {
         self.render.total()
     }
 
-    /// The chip in hand. It made the samples that `work` tells, and its next sample is that at the position.
+    /// The chip in hand. It made the samples that `work` tells, its next sample is that at the position, and its state is that of the run's
+    /// chip there.
     pub fn chip(&self) -> &C
         ensures made { C.total result.now ≡ (book_of self.now).made }
         ensures position { C.sample result.now ≡ (book_of self.now).position }
+        ensures state { C.state result.now ≡ chip_at C.meaning C.saving self.now (book_of self.now).position }
     {
         self.render.chip()
     }
