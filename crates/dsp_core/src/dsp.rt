@@ -330,6 +330,13 @@ impl Dsp {
         self.number
     }
 
+    /// The state of the chip.
+    pub fn state(&self) -> &ChipState
+        ensures { result.now ≡ self.now.state }
+    {
+        &self.state
+    }
+
     /// What the next 64 samples can read and write.
     pub fn reach(&self, memory: &Aram) -> ReachPages
         ensures { result ≡ chip_reach self.now.state memory.now }

@@ -224,7 +224,7 @@ impl Voice {
     }
 
     /// The level of the envelope.
-    pub(crate) fn level(&self) -> u16
+    pub fn level(&self) -> u16
         ensures value { result ≡ self.now.envelope.level }
         ensures bound { result ≤ 0x7ff }
     {
