@@ -10,6 +10,7 @@ use Rattle.lag_bus.specs.Waiting.{with_due}
 use Rattle.lag_bus.specs.Running.{due_at, caught_up, IsBehind}
 use Rattle.lag_bus.proofs.LateTicks.{no_ticks, ticks_to_come}
 use Rattle.lag_bus.proofs.SamplesDue.{with_due-none, pass-with_due}
+use Rattle.spc700_exec.specs.declared.bus.TheConstants.{CYCLES_PER_SAMPLE}
 
 -- of plain memory neither a port nor a timer nor the ROM is asked or told
 pub record IsApart (io : Io) (at : ℕ) : Type 0 where
@@ -59,7 +60,7 @@ module _ {S : Type 0} (chip : ChipMeaning S) (bus : Lagging S) where
 
   module _ (clock calls : ℕ) (behind : IsBehind clock calls bus) where
     -- cycles up to a moment at which fewer samples are pending than one batch has
-    pub pass-caught_up : (cycles : ℕ) → cycles ≤ 32 → bus.book.pending + due_at (clock + cycles) bus < 64
+    pub pass-caught_up : (cycles : ℕ) → cycles ≤ CYCLES_PER_SAMPLE → bus.book.pending + due_at (clock + cycles) bus < 64
         → (lagging chip).pass (caught_up chip clock calls bus) cycles ≡ caught_up chip (clock + cycles) (calls + 1) bus
     pass-caught_up cycles few free =
         let m = bus.machine in

@@ -7,6 +7,7 @@ use Rattle.lag_bus.specs.Lagging.{Lagging, lagging}
 use Rattle.lag_bus.specs.Waiting.{samples_in, with_due, after_wait, without_calls, IsKept}
 use Rattle.lag_bus.proofs.SamplesDue.{with_due-none, pass-with_due}
 use Rattle.ports_timers.proofs.Ticks.{after_ticks_of-then, after_ticks_of-none}
+use Rattle.spc700_exec.specs.declared.bus.TheConstants.{CYCLES_PER_SAMPLE}
 
 module _ {S : Type 0} (chip : ChipMeaning S) where
   -- a pass depends on the number of calls in nothing but that number
@@ -15,17 +16,17 @@ module _ {S : Type 0} (chip : ChipMeaning S) where
   pass-without_calls s cycles true is = rw is refl
   pass-without_calls s cycles false is = rw is refl
 
-  pass-after_wait : (bus : Lagging S) (n cycles : ℕ) → cycles ≤ 32 → bus.book.pending + samples_in bus.machine.clock (n + cycles) < 64
+  pass-after_wait : (bus : Lagging S) (n cycles : ℕ) → cycles ≤ CYCLES_PER_SAMPLE → bus.book.pending + samples_in bus.machine.clock (n + cycles) < 64
       → without_calls ((lagging chip).pass (after_wait chip bus n) cycles) ≡ without_calls (after_wait chip bus (n + cycles))
   pass-after_wait bus n cycles few free =
       let m = bus.machine in
       let clock : m.clock + n + cycles ≡ m.clock + (n + cycles) = omega arith in
-      let there : bus.book.pending + ((m.clock + n + cycles) / 32 - m.clock / 32) < 64 = omega arith in
+      let there : bus.book.pending + ((m.clock + n + cycles) / CYCLES_PER_SAMPLE - m.clock / CYCLES_PER_SAMPLE) < 64 = omega arith in
       ap (λ (x : Lagging S). without_calls x)
       (pass-with_due chip bus (samples_in m.clock n) (m.clock + n) (after_ticks_of m.io m.clock n) m.calls cycles few (omega arith) refl there)
-      ∙ (λ i. without_calls (with_due chip bus (clock i / 32 - m.clock / 32) (clock i) (sym (after_ticks_of-then m.io m.clock n cycles) i) m.calls))
+      ∙ (λ i. without_calls (with_due chip bus (clock i / CYCLES_PER_SAMPLE - m.clock / CYCLES_PER_SAMPLE) (clock i) (sym (after_ticks_of-then m.io m.clock n cycles) i) m.calls))
 
-  pub pass-wait : (bus s : Lagging S) (n cycles : ℕ) → without_calls s ≡ without_calls (after_wait chip bus n) → cycles ≤ 32
+  pub pass-wait : (bus s : Lagging S) (n cycles : ℕ) → without_calls s ≡ without_calls (after_wait chip bus n) → cycles ≤ CYCLES_PER_SAMPLE
       → bus.book.pending + samples_in bus.machine.clock (n + cycles) < 64
       → without_calls ((lagging chip).pass s cycles) ≡ without_calls (after_wait chip bus (n + cycles))
   pass-wait bus s n cycles same few free =

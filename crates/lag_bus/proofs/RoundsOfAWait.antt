@@ -27,6 +27,7 @@ use Rattle.ports_timers.proofs.Stays.{read_answer-stays, after_read-stays}
 use Rattle.ports_timers.proofs.Fewer.{zeros_stay-less}
 use Rattle.lag_bus.proofs.PassesOfAWait.{pass-wait, wait-none}
 use Rattle.idle_rounds.proofs.Rounds.{waited-rounds}
+use Rattle.spc700_exec.specs.declared.bus.TheConstants.{CYCLES_PER_SAMPLE}
 
 if_some : (b : Bool) (x byte : ℕ) → (if b then Some x else None) ≡ Some byte → (b ≡ true) × (x ≡ byte)
 if_some true x byte h = (refl, cc)
@@ -101,12 +102,12 @@ module _ {S : Type 0} (chip : ChipMeaning S) where
         waited-rounds (lagging chip) without_calls (byte_seen chip bus) most (after_wait chip bus) is_waiting k n d (cpu, bus) cpu (refl, wait-none chip bus kept) round fits
 
   counts-waited : (clock cycles pending total new_clock new_pending new_total : ℕ) → new_clock ≡ clock + cycles → new_pending ≡ pending + samples_in clock cycles → new_total ≡ total
-      → CountsOn (clock / 32) pending total (new_clock / 32) new_pending new_total
+      → CountsOn (clock / CYCLES_PER_SAMPLE) pending total (new_clock / CYCLES_PER_SAMPLE) new_pending new_total
   counts-waited clock cycles pending total new_clock new_pending new_total one two three = record { rises = omega arith; counted = λ fits. omega arith }
 
   -- a bus that waited for rounds
   pub is_wait : (samples : ℕ) (cpu : Cpu) (bus new : Lagging S) (most k n d : ℕ) → IsKept chip bus → AreTimers bus.machine.io → zeros_stay bus.machine.io bus.machine.clock most ≡ true
-      → bus.book.pending + samples_in bus.machine.clock most < 64 → (bus.machine.clock + most) / 32 < samples
+      → bus.book.pending + samples_in bus.machine.clock most < 64 → (bus.machine.clock + most) / CYCLES_PER_SAMPLE < samples
       → look_of_steps (byte_seen chip bus) n cpu ≡ Some (cpu, d) → k * d ≤ most → new ≡ after_wait chip bus (k * d)
       → IsWaitOf (lagging chip) (lag_emits chip) samples cpu bus new
   is_wait samples cpu bus new most k n d kept small stay free more round fits is =
@@ -125,7 +126,7 @@ module _ {S : Type 0} (chip : ChipMeaning S) where
       }
 
   -- what a bus shows with some samples more that are pending, at a later moment of the clock
-  pub lagging_of-due : (late : Late S) (io there : Io) (counts : Counts) (calls now clock later due : ℕ) → late.batches ≡ counts.batches → late.made ≡ clock / 32 → late.made + due ≡ later / 32
+  pub lagging_of-due : (late : Late S) (io there : Io) (counts : Counts) (calls now clock later due : ℕ) → late.batches ≡ counts.batches → late.made ≡ clock / CYCLES_PER_SAMPLE → late.made + due ≡ later / CYCLES_PER_SAMPLE
       → lagging_of (late_with_samples chip late due) there later counts now ≡ with_due chip (lagging_of late io clock counts calls) due later there now
   lagging_of-due late io there counts calls now clock later due batches made number =
       λ i. record {
@@ -146,7 +147,7 @@ module _ {S : Type 0} (chip : ChipMeaning S) where
       }
 
   -- what a bus shows after a wait
-  pub lagging_of-wait : (late : Late S) (io : Io) (clock : ℕ) (counts : Counts) (calls cycles due : ℕ) → late.batches ≡ counts.batches → late.made ≡ clock / 32 → due ≡ samples_in clock cycles
+  pub lagging_of-wait : (late : Late S) (io : Io) (clock : ℕ) (counts : Counts) (calls cycles due : ℕ) → late.batches ≡ counts.batches → late.made ≡ clock / CYCLES_PER_SAMPLE → due ≡ samples_in clock cycles
       → lagging_of (late_with_samples chip late due) (after_ticks_of io clock cycles) (clock + cycles) counts calls ≡ after_wait chip (lagging_of late io clock counts calls) cycles
   lagging_of-wait late io clock counts calls cycles due batches made is =
       let ticked = after_ticks_of io clock cycles in

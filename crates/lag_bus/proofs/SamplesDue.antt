@@ -12,6 +12,7 @@ use Rattle.chip_form.specs.ChipMeaning.{ChipMeaning}
 use Rattle.lock_step.specs.LockStep.{crosses_sample, samples_made}
 use Rattle.lag_bus.specs.Lagging.{Lagging, lagging, with_book}
 use Rattle.lag_bus.specs.Waiting.{with_due}
+use Rattle.spc700_exec.specs.declared.bus.TheConstants.{CYCLES_PER_SAMPLE}
 
 module _ {S : Type 0} (chip : ChipMeaning S) (bus : Lagging S) where
   pub with_due-none : with_due chip bus 0 bus.machine.clock bus.machine.io bus.machine.calls ≡ with_book bus.machine bus.book
@@ -41,16 +42,16 @@ module _ {S : Type 0} (chip : ChipMeaning S) (bus : Lagging S) where
       → with_due chip bus (due + 1) clock io calls ≡ with_due_and_sample due (samples_made bus.machine + due) clock io calls (bus.book.pending + (due + 1))
   with_due-more due clock io calls = simp (samples_more, filter-append, append_assoc) refl
 
-  pass-by : (b : Bool) (due clock : ℕ) (io : Io) (calls cycles : ℕ) → crosses_sample clock cycles ≡ b → cycles ≤ 32
-      → bus.machine.clock ≤ clock → due ≡ clock / 32 - bus.machine.clock / 32 → bus.book.pending + ((clock + cycles) / 32 - bus.machine.clock / 32) < 64
+  pass-by : (b : Bool) (due clock : ℕ) (io : Io) (calls cycles : ℕ) → crosses_sample clock cycles ≡ b → cycles ≤ CYCLES_PER_SAMPLE
+      → bus.machine.clock ≤ clock → due ≡ clock / CYCLES_PER_SAMPLE - bus.machine.clock / CYCLES_PER_SAMPLE → bus.book.pending + ((clock + cycles) / CYCLES_PER_SAMPLE - bus.machine.clock / CYCLES_PER_SAMPLE) < 64
       → (lagging chip).pass (with_due chip bus due clock io calls) cycles
-      ≡ with_due chip bus ((clock + cycles) / 32 - bus.machine.clock / 32) (clock + cycles) (after_ticks_of io clock cycles) (calls + 1)
+      ≡ with_due chip bus ((clock + cycles) / CYCLES_PER_SAMPLE - bus.machine.clock / CYCLES_PER_SAMPLE) (clock + cycles) (after_ticks_of io clock cycles) (calls + 1)
   pass-by false due clock io calls cycles is few later are_due free =
-      let same : due ≡ (clock + cycles) / 32 - bus.machine.clock / 32 = grind (arith, nat_tests) in
+      let same : due ≡ (clock + cycles) / CYCLES_PER_SAMPLE - bus.machine.clock / CYCLES_PER_SAMPLE = grind (arith, nat_tests) in
       rw is (λ i. with_due chip bus (same i) (clock + cycles) (after_ticks_of io clock cycles) (calls + 1))
   pass-by true due clock io calls cycles is few later are_due free =
-      let more : (clock + cycles) / 32 - bus.machine.clock / 32 ≡ due + 1 = grind (arith, nat_tests) in
-      let number : clock / 32 ≡ bus.machine.clock / 32 + due = omega arith in
+      let more : (clock + cycles) / CYCLES_PER_SAMPLE - bus.machine.clock / CYCLES_PER_SAMPLE ≡ due + 1 = grind (arith, nat_tests) in
+      let number : clock / CYCLES_PER_SAMPLE ≡ bus.machine.clock / CYCLES_PER_SAMPLE + due = omega arith in
       let pending : bus.book.pending + due + 1 ≡ bus.book.pending + (due + 1) = omega arith in
       let below : (bus.book.pending + due + 1 == 64) ≡ false = grind (arith, nat_tests) in
       let ticked = after_ticks_of io clock cycles in
@@ -60,8 +61,8 @@ module _ {S : Type 0} (chip : ChipMeaning S) (bus : Lagging S) where
       ∙ (λ i. with_due chip bus (sym more i) (clock + cycles) ticked (calls + 1))
 
   -- a pass to a moment at which fewer samples are pending than one batch has
-  pub pass-with_due : (due clock : ℕ) (io : Io) (calls cycles : ℕ) → cycles ≤ 32
-      → bus.machine.clock ≤ clock → due ≡ clock / 32 - bus.machine.clock / 32 → bus.book.pending + ((clock + cycles) / 32 - bus.machine.clock / 32) < 64
+  pub pass-with_due : (due clock : ℕ) (io : Io) (calls cycles : ℕ) → cycles ≤ CYCLES_PER_SAMPLE
+      → bus.machine.clock ≤ clock → due ≡ clock / CYCLES_PER_SAMPLE - bus.machine.clock / CYCLES_PER_SAMPLE → bus.book.pending + ((clock + cycles) / CYCLES_PER_SAMPLE - bus.machine.clock / CYCLES_PER_SAMPLE) < 64
       → (lagging chip).pass (with_due chip bus due clock io calls) cycles
-      ≡ with_due chip bus ((clock + cycles) / 32 - bus.machine.clock / 32) (clock + cycles) (after_ticks_of io clock cycles) (calls + 1)
+      ≡ with_due chip bus ((clock + cycles) / CYCLES_PER_SAMPLE - bus.machine.clock / CYCLES_PER_SAMPLE) (clock + cycles) (after_ticks_of io clock cycles) (calls + 1)
   pass-with_due due clock io calls cycles few later are_due free = pass-by (crosses_sample clock cycles) due clock io calls cycles refl few later are_due free

@@ -9,13 +9,14 @@ use Rattle.lag_bus.specs.Lagging.{Lagging, lagging}
 use Rattle.lag_bus.specs.LagEmits.{lag_emits}
 use Rattle.lag_bus.specs.LagLaws.{counting, counts-settle}
 use Rattle.lag_bus.specs.Calls.{Call, Read, Write, Pass, Settle, Drain, Load, after_calls, lagging_calls, LoadNothing, TotalsSamplesMade}
+use Rattle.spc700_exec.specs.declared.bus.TheConstants.{CYCLES_PER_SAMPLE}
 
 module _ {S V : Type 0} (chip : ChipMeaning S) (saving : ChipSaving S V) where
   abbrev later : List (Call V) → Lagging S → Lagging S
   later calls bus = after_calls (lagging_calls chip saving) calls bus
 
   counted-calls : (calls : List (Call V)) (bus : Lagging S) → LoadNothing calls → IsCountedOn (lagging chip) (lag_emits chip) bus (later calls bus)
-  counted-calls [] bus few = counts_on_none (bus.machine.clock / 32) bus.book.pending bus.book.total
+  counted-calls [] bus few = counts_on_none (bus.machine.clock / CYCLES_PER_SAMPLE) bus.book.pending bus.book.total
   counted-calls (Read at ∷ calls) bus few = counts_on_then ((counting chip).read_counts bus at) (counted-calls calls ((lagging chip).read bus at).1 few)
   counted-calls (Write at value ∷ calls) bus few = counts_on_then ((counting chip).write_counts bus at value) (counted-calls calls ((lagging chip).write bus at value) few)
   counted-calls (Pass cycles ∷ calls) bus few = counts_on_then ((counting chip).pass_counts bus cycles few.0) (counted-calls calls ((lagging chip).pass bus cycles) few.1)
@@ -24,8 +25,8 @@ module _ {S V : Type 0} (chip : ChipMeaning S) (saving : ChipSaving S V) where
   counted-calls (Load saved memory ∷ calls) bus few = absurd few
 
   -- what every call leaves has the numbers of its book
-  of_book : (bus : Lagging S) → bus.chip_sample ≡ bus.machine.clock / 32 - bus.book.pending → bus.chip_total ≡ bus.book.total
-      → (calls : List (Call V)) → ((later calls bus).chip_sample ≡ (later calls bus).machine.clock / 32 - (later calls bus).book.pending) × ((later calls bus).chip_total ≡ (later calls bus).book.total)
+  of_book : (bus : Lagging S) → bus.chip_sample ≡ bus.machine.clock / CYCLES_PER_SAMPLE - bus.book.pending → bus.chip_total ≡ bus.book.total
+      → (calls : List (Call V)) → ((later calls bus).chip_sample ≡ (later calls bus).machine.clock / CYCLES_PER_SAMPLE - (later calls bus).book.pending) × ((later calls bus).chip_total ≡ (later calls bus).book.total)
   of_book bus sample total [] = (sample, total)
   of_book bus sample total (Read at ∷ calls) = of_book ((lagging chip).read bus at).1 refl refl calls
   of_book bus sample total (Write at value ∷ calls) = of_book ((lagging chip).write bus at value) refl refl calls
@@ -53,6 +54,6 @@ total-calls chip saving calls bus few matches =
     let new = later chip saving calls bus in
     let book = of_book chip saving bus matches.sample matches.total calls in
     let fits : bus.book.total < 2 ^ 64 = rw (← matches.total) matches.fits in
-    let both = samples_of_count (bus.machine.clock / 32) bus.book.pending bus.book.total (new.machine.clock / 32) new.book.pending new.book.total
+    let both = samples_of_count (bus.machine.clock / CYCLES_PER_SAMPLE) bus.book.pending bus.book.total (new.machine.clock / CYCLES_PER_SAMPLE) new.book.pending new.book.total
     (counted-calls chip saving calls bus few) matches.pending fits in
     same_numbers matches.sample matches.total book.0 book.1 both

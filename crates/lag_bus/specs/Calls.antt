@@ -12,6 +12,7 @@ use Rattle.lag_bus.specs.LagEmits.{after_drain}
 use Rattle.lag_bus.specs.Ready.{ready_frames}
 use Rattle.lag_bus.specs.declared.saved.BusState.{BusState}
 use Rattle.lag_bus.specs.Saved.{loaded_machine, loaded_lagging}
+use Rattle.spc700_exec.specs.declared.bus.TheConstants.{CYCLES_PER_SAMPLE}
 
 -- a call, of which a drain hands over so many of the frames and records emitted, from the front; V is what is saved of a chip
 pub data Call (V : Type 0) : Type 0 where
@@ -91,7 +92,7 @@ abbrev pub LoadNothing : {V : Type 0} → List (Call V) → Type 0
 LoadNothing [] = Unit {0}
 LoadNothing (Read at ∷ calls) = LoadNothing calls
 LoadNothing (Write at value ∷ calls) = LoadNothing calls
-LoadNothing (Pass cycles ∷ calls) = (cycles ≤ 32) × LoadNothing calls
+LoadNothing (Pass cycles ∷ calls) = (cycles ≤ CYCLES_PER_SAMPLE) × LoadNothing calls
 LoadNothing (Settle ∷ calls) = LoadNothing calls
 LoadNothing (Drain frames records ∷ calls) = LoadNothing calls
 LoadNothing (Load saved memory ∷ calls) = ⊥

@@ -1,5 +1,6 @@
 -- What a bus that lags shows of what it has, and what always holds of this.
 use Rattle.std.specs.Prelude.{◌≡◌, ℕ, ◌+◌, ◌-◌, ◌*◌, ◌/◌, ◌<◌, ◌≤◌}
+use Rattle.spc700_exec.specs.Bus.{most_calls}
 use Rattle.ports_timers.specs.declared.io.Io.{Io}
 use Rattle.lock_step.specs.declared.counts.Counts.{Counts}
 use Rattle.trace_form.specs.Rooms.{event_room}
@@ -7,6 +8,7 @@ use Rattle.chip_form.specs.Limits.{most_samples_of_batch, most_samples_of_chip}
 use Rattle.lag_bus.specs.Book.{AddsUp}
 use Rattle.lag_bus.specs.Lagging.{Lagging}
 use Rattle.lag_bus.specs.Late.{Late}
+use Rattle.spc700_exec.specs.declared.bus.TheConstants.{CYCLES_PER_SAMPLE}
 
 -- It has the chip with its late samples, the ports and timers, the clock, the counts, and the calls since the last drain.
 abbrev pub lagging_of : {S : Type 0} → Late S → Io → (clock : ℕ) → Counts → (calls : ℕ) → Lagging S
@@ -29,12 +31,12 @@ lagging_of late io clock counts calls = record {
 
 pub record IsLagging {S : Type 0} (late : Late S) (counts : Counts) (clock calls : ℕ) : Type 0 where
   pub same_batches : late.batches ≡ counts.batches
-  pub same_made : late.made ≡ clock / 32
+  pub same_made : late.made ≡ clock / CYCLES_PER_SAMPLE
   pub pending : late.pending < most_samples_of_batch
   pub events : late.events ≤ event_room
   -- each call takes room for at most a frame and eight records, beside what the pending samples and the events took before
   pub frames : late.frames_used ≤ most_samples_of_batch - 1 + calls
   pub records : late.records_used ≤ event_room + 8 * (most_samples_of_batch - 1) + 8 * calls
   pub adds_up : AddsUp counts
-  pub time : clock < 32 * (most_samples_of_chip + 1)
-  pub few : calls ≤ 64
+  pub time : clock < CYCLES_PER_SAMPLE * (most_samples_of_chip + 1)
+  pub few : calls ≤ most_calls

@@ -17,6 +17,7 @@ use Rattle.lock_step.specs.LockStepEmits.{drained_machine}
 use Rattle.lock_step.specs.LockStepLaws as plain
 use Rattle.lag_bus.specs.Lagging.{Lagging, lagging, with_book, after_settle}
 use Rattle.lag_bus.specs.LagEmits.{without_items, lag_emits}
+use Rattle.spc700_exec.specs.declared.bus.TheConstants.{CYCLES_PER_SAMPLE}
 
 module _ {S : Type 0} (chip : ChipMeaning S) where
   pub lagging-lawful : IsLawful (lagging chip)
@@ -122,21 +123,21 @@ module _ {S : Type 0} (chip : ChipMeaning S) where
   one_more : {k p t j q u : ℕ} → j ≡ k + 1 → CountsOn k (p + 1) t k q u → CountsOn k p t j q u
   one_more is counts = let first = counts.rises in record { rises = omega arith; counted = λ fits. let second = counts.counted fits in omega arith }
 
-  counts-pass : (bus : Lagging S) (cycles : ℕ) (m : Machine S) (b : Bool) → crosses_sample bus.machine.clock cycles ≡ b → cycles ≤ 32
-      → (let new = if b then with_sample chip m bus.book else bus.book in CountsOn (bus.machine.clock / 32) bus.book.pending bus.book.total ((bus.machine.clock + cycles) / 32) new.pending new.total)
+  counts-pass : (bus : Lagging S) (cycles : ℕ) (m : Machine S) (b : Bool) → crosses_sample bus.machine.clock cycles ≡ b → cycles ≤ CYCLES_PER_SAMPLE
+      → (let new = if b then with_sample chip m bus.book else bus.book in CountsOn (bus.machine.clock / CYCLES_PER_SAMPLE) bus.book.pending bus.book.total ((bus.machine.clock + cycles) / CYCLES_PER_SAMPLE) new.pending new.total)
   counts-pass bus cycles m true is few =
-      let next : (bus.machine.clock + cycles) / 32 ≡ bus.machine.clock / 32 + 1 = grind (arith, nat_tests) in
-      one_more next (counts-full (bus.machine.clock / 32) m (record bus.book { pending = bus.book.pending + 1 }) _)
+      let next : (bus.machine.clock + cycles) / CYCLES_PER_SAMPLE ≡ bus.machine.clock / CYCLES_PER_SAMPLE + 1 = grind (arith, nat_tests) in
+      one_more next (counts-full (bus.machine.clock / CYCLES_PER_SAMPLE) m (record bus.book { pending = bus.book.pending + 1 }) _)
   counts-pass bus cycles m false is few =
-      let same : (bus.machine.clock + cycles) / 32 ≡ bus.machine.clock / 32 = grind (arith, nat_tests) in
+      let same : (bus.machine.clock + cycles) / CYCLES_PER_SAMPLE ≡ bus.machine.clock / CYCLES_PER_SAMPLE = grind (arith, nat_tests) in
       record { rises = omega arith; counted = λ fits. omega arith }
 
   pub counting : IsCounting (lagging chip) (lag_emits chip)
   counting = record {
-    read_counts = λ bus at. counts-cause (bus.machine.clock / 32) (cause_of_read chip bus.book.reach bus.machine.io.dsp_address at) (after_bus_read bus.machine at) bus.book;
+    read_counts = λ bus at. counts-cause (bus.machine.clock / CYCLES_PER_SAMPLE) (cause_of_read chip bus.book.reach bus.machine.io.dsp_address at) (after_bus_read bus.machine at) bus.book;
     write_counts = λ bus at value.
         let cause = cause_of_write bus.book.reach bus.machine.io.dsp_address at bus.book.pending bus.book.events in
-        counts-write (bus.machine.clock / 32) cause (after_bus_write chip bus.machine at value) at bus.book;
+        counts-write (bus.machine.clock / CYCLES_PER_SAMPLE) cause (after_bus_write chip bus.machine at value) at bus.book;
     pass_counts = λ bus cycles few. counts-pass bus cycles (after_bus_pass chip bus.machine cycles) (crosses_sample bus.machine.clock cycles) refl few;
   }
 
@@ -150,4 +151,4 @@ module _ {S : Type 0} (chip : ChipMeaning S) where
   counts-asked k m book false = settled k book.pending book.total (book.pending == 0) refl
 
   pub counts-settle : (bus : Lagging S) → IsCountedOn (lagging chip) (lag_emits chip) bus (after_settle chip bus)
-  counts-settle bus = counts-asked (bus.machine.clock / 32) bus.machine bus.book (bus.book.pending == 0)
+  counts-settle bus = counts-asked (bus.machine.clock / CYCLES_PER_SAMPLE) bus.machine bus.book (bus.book.pending == 0)

@@ -1,6 +1,6 @@
 -- A bus while the processor runs on it: its clock and the number of its calls are kept beside it.
 use Rattle.std.specs.Prelude.{◌≤◌, ◌<◌, ◌⊎◌, ℕ, ◌+◌, ◌-◌, ◌*◌, ◌/◌}
-use Rattle.spc700_exec.specs.Bus.{BusMeaning}
+use Rattle.spc700_exec.specs.Bus.{BusMeaning, most_calls}
 use Rattle.ports_timers.specs.Io.{after_ticks_of}
 use Rattle.chip_form.specs.Limits.{most_samples_of_batch, most_samples_of_chip}
 use Rattle.chip_form.specs.ChipMeaning.{ChipMeaning}
@@ -9,6 +9,7 @@ use Rattle.lag_bus.specs.Lagging.{Lagging}
 use Rattle.lag_bus.specs.Late.{AreWritesWithin, AreReadsWithin}
 use Rattle.lag_bus.specs.Ready.{NoneIsReady}
 use Rattle.lag_bus.specs.Waiting.{samples_due, with_due}
+use Rattle.spc700_exec.specs.declared.bus.TheConstants.{CYCLES_PER_SAMPLE}
 
 -- the samples that fall due up to a later moment of the clock
 abbrev pub due_at : {S : Type 0} → (clock : ℕ) → Lagging S → ℕ
@@ -36,13 +37,13 @@ pub record IsBehind {S : Type 0} (clock calls : ℕ) (bus : Lagging S) : Type 0 
   pub earlier : bus.machine.clock ≤ clock
   pub free : bus.book.pending + due_at clock bus < most_samples_of_batch
   pub counted : (bus.machine.calls + due_at clock bus ≤ calls) ⊎ IsDrained bus
-  pub few : calls ≤ 64
-  pub fits : clock / 32 ≤ most_samples_of_chip
+  pub few : calls ≤ most_calls
+  pub fits : clock / CYCLES_PER_SAMPLE ≤ most_samples_of_chip
 
 -- It may be left behind up to such a moment: before it, fewer samples are pending than one batch has at most, and the run isn't at its end.
 pub record MayFallBehind {S : Type 0} (until samples : ℕ) (bus : Lagging S) : Type 0 where
   pub free : bus.book.pending + due_at (until - 1) bus < most_samples_of_batch
-  pub before_end : until ≤ 32 * samples
+  pub before_end : until ≤ CYCLES_PER_SAMPLE * samples
 
 -- a bus in hand, which one it is, and the samples of the run that it is in hand for
 pub record Running (B : Type 0) : Type 0 where

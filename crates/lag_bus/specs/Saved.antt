@@ -8,6 +8,7 @@ use Rattle.lock_step.specs.LockStep.{samples_made}
 use Rattle.lag_bus.specs.declared.saved.BusState.{BusState}
 use Rattle.lag_bus.specs.Book.{book_after_load}
 use Rattle.lag_bus.specs.Lagging.{Lagging, with_book}
+use Rattle.spc700_exec.specs.declared.bus.TheConstants.{CYCLES_PER_SAMPLE}
 
 -- what is saved of a machine
 abbrev pub saved_bus : {S V : Type 0} → ChipSaving S V → Machine S → BusState V
@@ -15,8 +16,8 @@ saved_bus saving m = record { io = m.io; clock = m.clock; chip = saving.saved m.
 
 -- What can be loaded, as all that is saved: the clock stands before the chip's next sample, and the chip may still make it.
 pub record CanBeLoaded {S V : Type 0} (saving : ChipSaving S V) (saved : BusState V) : Type 0 where
-  pub number : saved.clock / 32 ≡ saving.number saved.chip
-  pub few : saved.clock / 32 ≤ most_samples_of_chip
+  pub number : saved.clock / CYCLES_PER_SAMPLE ≡ saving.number saved.chip
+  pub few : saved.clock / CYCLES_PER_SAMPLE ≤ most_samples_of_chip
 
 -- A machine once what was saved is loaded over a memory: its mask stays, and the fixed part of its chip. Nothing is emitted.
 abbrev pub loaded_machine : {S V : Type 0} → ChipSaving S V → Machine S → BusState V → (memory : List ℕ) → Machine S

@@ -14,6 +14,7 @@ use Rattle.chip_form.specs.Limits.{most_samples_of_batch}
 use Rattle.ports_timers.specs.Zeros.{counter_is_0, zeros_stay, AreTimers}
 use Rattle.idle_rounds.specs.Looking.{look_of_steps, after_n_steps}
 use Rattle.spc700_exec.specs.declared.cpu.Cpu.{Cpu}
+use Rattle.spc700_exec.specs.declared.bus.TheConstants.{CYCLES_PER_SAMPLE}
 
 -- Whether a read only looks, so that it has the same answer while cycles pass: it is of no register of the chip, no sample
 -- pending or to come writes there, and an output counter that is read is 0.
@@ -26,7 +27,7 @@ byte_seen chip bus at = if only_looks bus.book.reach bus.machine.io at then Some
 
 -- the samples that fall due from one moment of the clock to a later one
 abbrev pub samples_due : (from to : ℕ) → ℕ
-samples_due from to = to / 32 - from / 32
+samples_due from to = to / CYCLES_PER_SAMPLE - from / CYCLES_PER_SAMPLE
 
 -- the samples that fall due in some cycles
 abbrev pub samples_in : (clock cycles : ℕ) → ℕ

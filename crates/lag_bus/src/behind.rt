@@ -12,7 +12,7 @@ ghost use Rattle.lag_bus.specs.Waiting.{without_calls};
 ghost use Rattle.lag_bus.specs.Running.{caught_up, IsBehind, IsDrained, WritesWithin, ReadsWithin};
 
 use chip_form::Chip;
-use spc700_exec::Cpu;
+use spc700_exec::{CYCLES_PER_SAMPLE, Cpu};
 
 /// A bus that may be behind what runs on it, by cycles in which fewer samples fall due than a batch has room for. A call that needs its clock
 /// and its calls is handed both, and has it catch up first.
@@ -50,16 +50,16 @@ pub trait BehindBus {
     fn clock(&self) -> u64
         ensures clock { result ≡ (shows self.now).machine.clock }
         ensures book { MatchesBook (shows self.now) }
-        ensures fits { result / 32 ≤ most_samples_of_chip };
+        ensures fits { result / CYCLES_PER_SAMPLE ≤ most_samples_of_chip };
 
     /// The calls since the last drain.
     fn calls(&self) -> u8
         ensures calls { result ≡ (shows self.now).machine.calls }
-        ensures few { result ≤ 64 };
+        ensures few { result ≤ most_calls };
 
     /// The clock at which as many samples are pending as one batch has at most, unless some are made before.
     fn full_clock(&self) -> u64
-        ensures clock { result ≡ 32 * (samples_made (shows self.now).machine + (most_samples_of_batch - (shows self.now).book.pending)) }
+        ensures clock { result ≡ CYCLES_PER_SAMPLE * (samples_made (shows self.now).machine + (most_samples_of_batch - (shows self.now).book.pending)) }
         ensures free { (shows self.now).book.pending < most_samples_of_batch };
 
     /// Begins the calls anew, where nothing is to be drained but what waits for pending samples.
@@ -91,15 +91,15 @@ pub trait BehindBus {
         requires behind { IsBehind clock calls (shows self.old) }
         requires room { calls < most_calls }
         requires some { 1 ≤ cycles }
-        requires few { cycles ≤ 32 }
-        requires time { clock / 32 < most_samples_of_chip }
+        requires few { cycles ≤ CYCLES_PER_SAMPLE }
+        requires time { clock / CYCLES_PER_SAMPLE < most_samples_of_chip }
         ensures { shows self.new ≡ (lagging Self.C.meaning).pass (caught_up Self.C.meaning clock calls (shows self.old)) cycles };
 
     /// A step of the processor at a later moment. It gives the registers after it.
     fn step_later(&mut self, clock: u64, calls: u8, cpu: Cpu) -> Cpu
         requires behind { IsBehind clock calls (shows self.old) }
         requires room { calls ≤ most_calls_before_step }
-        requires time { clock / 32 < most_samples_of_chip - 1 }
+        requires time { clock / CYCLES_PER_SAMPLE < most_samples_of_chip - 1 }
         ensures does { (result, shows self.new) ≡ step_outcome (lagging Self.C.meaning) cpu (caught_up Self.C.meaning clock calls (shows self.old)) }
         ensures calls { (shows self.new).machine.calls ≤ calls + 13 }
         ensures some { clock < (shows self.new).machine.clock };

@@ -7,7 +7,7 @@ ghost use Rattle.trace_form.specs.Rooms.{record_room, event_room};
 ghost use Rattle.num_fix.specs.Limits.{most_frames};
 ghost use Rattle.chip_form.specs.Limits.{most_samples_of_batch};
 ghost use Rattle.lock_step.specs.Machine.{opened_machine};
-ghost use Rattle.lock_step.specs.LockStep.{writes_register, writes_port, write_records};
+ghost use Rattle.lock_step.specs.LockStep.{samples_made, writes_register, writes_port, write_records};
 ghost use Rattle.lag_bus.specs.Ready.{ready_frames, ready_records};
 ghost use Rattle.lag_bus.specs.Book.{counts_with_batch, AddsUp, may_be_read, may_be_written};
 ghost use Rattle.lag_bus.specs.Lagging.{lagging, opened_lagging, after_settle, MatchesBook};
@@ -23,7 +23,7 @@ use crate::behind::BehindBus;
 use crate::cause::Cause;
 use crate::clocked::ClockedIo;
 use crate::counting::{counts_with_batch, no_counts};
-use crate::late::LateChip;
+use crate::late::{LateChip, is_in_hand};
 use crate::running::take_steps;
 use crate::saved::BusState;
 use crate::waiting::{counter_is_0, pend_all};
@@ -31,15 +31,16 @@ use aram_core::Aram;
 use chip_form::Chip;
 use idle_rounds::{Looks, try_round};
 use lock_step::{Counts, DrainedBus, writes_port, writes_register};
+use num_fix::BATCH_SIZE;
 use ports_timers::{Io, cycles_of_zeros};
 use spc_form::OpenState;
-use spc700_exec::{Bus, Cpu, step};
+use spc700_exec::{Bus, CYCLES_PER_SAMPLE, Cpu, MOST_CALLS_BEFORE_STEP, step};
 use std::alloc::Global;
 use std::marker::Model;
 use trace_form::{EventRing, Frames, Record, Records};
 
 /// The most samples that wait, which are then made as one batch.
-const MOST_PENDING: u8 = 64;
+const MOST_PENDING: u8 = BATCH_SIZE as u8;
 
 /// A bus over a chip whose samples wait, at most 64 of them, until something needs them, and are then made as one batch.
 /// What is emitted waits in it for the next drain.
@@ -96,8 +97,7 @@ impl<C: Chip> LagBus<C> {
         ensures { let machine = opened_machine opening.memory opening.cells opening.rom (C.state chip) mask in
             IfOk result (λ bus. bus ≡ opened_lagging C.meaning machine (C.total chip)) }
     {
-        // A chip in hand is valid, which this call tells.
-        let _sample = chip.sample();
+        is_in_hand(&chip);
         let frames = Frames::new(alloc)?;
         let records = Records::new(alloc)?;
         let voices = Records::new(alloc)?;
@@ -116,7 +116,7 @@ impl<C: Chip> LagBus<C> {
         ensures sample { C.sample result.now ≡ self.now.chip_sample }
         ensures total { C.total result.now ≡ self.now.chip_total }
         ensures counted { C.batches result.now ≡ self.now.book.counts.batches }
-        ensures made { C.sample result.now ≡ self.now.machine.clock / 32 - self.now.book.pending }
+        ensures made { C.sample result.now ≡ samples_made self.now.machine - self.now.book.pending }
         ensures all { C.total result.now ≡ self.now.book.total }
         ensures state { self.now.book.pending ≡ 0 → C.state result.now ≡ self.now.machine.chip }
     {
@@ -136,17 +136,23 @@ impl<C: Chip> LagBus<C> {
         ensures counts { result ≡ self.now.book.counts }
         ensures adds_up { AddsUp result }
         ensures batches { self.now.chip_batches ≡ result.batches }
-        ensures sample { self.now.chip_sample ≡ self.now.machine.clock / 32 - self.now.book.pending }
+        ensures sample { self.now.chip_sample ≡ samples_made self.now.machine - self.now.book.pending }
     {
         self.counts
     }
 
     /// The samples that the chip in hand made in all, those before a load too. It stays at its type's end.
     pub fn total(&self) -> u64
-        ensures total { result ≡ self.now.chip_total }
-        ensures chip { MatchesBook self.now }
+        ensures { result ≡ self.now.chip_total }
     {
         self.late.total()
+    }
+
+    /// The numbers of the chip in hand are those of the book.
+    pub fn matches_its_book(&self)
+        ensures { MatchesBook self.now }
+    {
+        self.late.counts_fit();
     }
 
     /// Saves the bus but for its memory, while no sample is pending.
@@ -230,16 +236,16 @@ impl<C: Chip> LagBus<C> {
 
     /// Cycles for which it can be waited before the end of a run to so many samples.
     fn cycles_to_wait(&self, samples: u32) -> u64
-        requires more { self.now.machine.clock / 32 < samples }
+        requires more { samples_made self.now.machine < samples }
         requires few { samples ≤ most_frames }
         ensures zeros { zeros_stay self.now.machine.io self.now.machine.clock result ≡ true }
         ensures free { self.now.book.pending + samples_in self.now.machine.clock result < most_samples_of_batch }
-        ensures below { (self.now.machine.clock + result) / 32 < samples }
+        ensures below { (self.now.machine.clock + result) / CYCLES_PER_SAMPLE < samples }
         ensures timers { AreTimers self.now.machine.io }
     {
         let clock = self.time.clock();
-        let free = 32 * u64::from(MOST_PENDING - self.late.pending()) - 1 - clock % 32;
-        let rest = 32 * u64::from(samples) - 1 - clock;
+        let free = CYCLES_PER_SAMPLE * u64::from(MOST_PENDING - self.late.pending()) - 1 - clock % CYCLES_PER_SAMPLE;
+        let rest = CYCLES_PER_SAMPLE * u64::from(samples) - 1 - clock;
         cycles_of_zeros(&self.time.io(), clock).min(free.min(rest))
     }
 
@@ -380,7 +386,7 @@ impl<C: Chip> Bus for LagBus<C> {
     fn pass(&mut self, cycles: u8) {
         let from = self.time.clock();
         self.time.pass(cycles);
-        if from / 32 < self.time.clock() / 32 {
+        if from / CYCLES_PER_SAMPLE < self.time.clock() / CYCLES_PER_SAMPLE {
             self.late.pend();
             if self.late.pending() == MOST_PENDING {
                 settle_for(&mut self.late, &mut self.counts, Cause::Full);
@@ -389,7 +395,7 @@ impl<C: Chip> Bus for LagBus<C> {
     }
 
     fn to_sample(&self) -> u8 {
-        (32 - self.time.clock() % 32) as u8
+        (CYCLES_PER_SAMPLE - self.time.clock() % CYCLES_PER_SAMPLE) as u8
     }
 
     ghost lawful = { lagging-lawful C.meaning };
@@ -422,8 +428,7 @@ impl<C: Chip> BehindBus for LagBus<C> {
     }
 
     fn clock(&self) -> u64 {
-        // The bus matches its book, which this call tells.
-        let _total = self.total();
+        self.matches_its_book();
         self.time.clock()
     }
 
@@ -433,7 +438,7 @@ impl<C: Chip> BehindBus for LagBus<C> {
 
     fn full_clock(&self) -> u64 {
         let to_come = u64::from(MOST_PENDING - self.late.pending());
-        32 * (self.time.clock() / 32 + to_come)
+        CYCLES_PER_SAMPLE * (self.time.clock() / CYCLES_PER_SAMPLE + to_come)
     }
 
     // In line with the loop over steps, which asks it where the room for calls is filled.
@@ -447,9 +452,8 @@ impl<C: Chip> BehindBus for LagBus<C> {
     }
 
     fn catch_up(&mut self, clock: u64, calls: u8) {
-        // What a drain left, which this call tells.
-        let _drained = self.late.is_drained();
-        let due = (clock / 32 - self.time.clock() / 32) as u8;
+        self.late.holds_only_what_waits();
+        let due = (clock / CYCLES_PER_SAMPLE - self.time.clock() / CYCLES_PER_SAMPLE) as u8;
         self.time.catch_up(clock, calls);
         pend_all(&mut self.late, due);
     }
@@ -512,11 +516,11 @@ impl<C: Chip> DrainedBus for LagBus<C> {
     ghost emits = { lag_emits C.meaning };
 
     fn made(&self) -> u32 {
-        (self.time.clock() / 32) as u32
+        (self.time.clock() / CYCLES_PER_SAMPLE) as u32
     }
 
     fn has_room(&self) -> bool {
-        self.time.calls() <= 32
+        self.time.calls() <= MOST_CALLS_BEFORE_STEP
     }
 
     fn take_steps(&mut self, cpu: &mut Cpu, samples: u32, rooms: u8) -> u8 {
@@ -534,7 +538,7 @@ impl<C: Chip> DrainedBus for LagBus<C> {
         let rounds = self.cycles_to_wait(samples) / u64::from(round);
         let cycles = rounds * u64::from(round);
         let clock = self.time.clock();
-        let due = ((clock + cycles) / 32 - clock / 32) as u8;
+        let due = ((clock + cycles) / CYCLES_PER_SAMPLE - clock / CYCLES_PER_SAMPLE) as u8;
         self.time.wait(cycles);
         pend_all(&mut self.late, due);
     }

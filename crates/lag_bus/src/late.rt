@@ -92,9 +92,19 @@ fn move_records(from: &mut Records, to: &mut Records)
     }
 }
 
+/// A chip in hand is in a valid state, and the samples that it made in all are a number of 64 bits.
+// Nothing but the chip's own calls tells so.
+#[inline]
+pub fn is_in_hand<C: Chip>(chip: &C)
+    ensures valid { C.meaning.is_valid (C.state chip.now) ≡ true }
+    ensures fits { C.total chip.now < 2 ^ 64 }
+{
+    let _numbers = (chip.sample(), chip.total());
+}
+
 /// Makes some samples as one batch: their frames at the end of a list, and the records of the voices in the mask as a list
 /// of their own.
-fn make_batch<C: Chip>(
+fn make_samples<C: Chip>(
     chip: &mut C,
     n: u8,
     memory: &mut Aram,
@@ -352,6 +362,15 @@ impl<C: Chip> LateChip<C> {
         self.frames.as_slice().is_empty() && self.records.as_slice().is_empty()
     }
 
+    /// Where nothing is ready to be drained, the room is taken by what pending samples and events will be alone.
+    pub fn holds_only_what_waits(&self)
+        ensures frames { let late = self.now in NoneIsReady late.pending (late.made - late.pending) late.frames late.records → late.frames_used ≡ late.pending }
+        ensures records { let late = self.now in
+            NoneIsReady late.pending (late.made - late.pending) late.frames late.records → late.records_used ≡ late.events + 8 * late.pending }
+    {
+        let _drained = self.is_drained();
+    }
+
     /// Counts one sample more.
     pub fn pend(&mut self)
         requires few { self.old.pending < most_samples_of_batch }
@@ -375,7 +394,7 @@ impl<C: Chip> LateChip<C> {
         } }
         ensures room { length self.old.records ≤ self.old.records_used }
     {
-        make_batch(
+        make_samples(
             &mut self.chip,
             self.pending,
             &mut self.memory,
@@ -446,11 +465,17 @@ impl<C: Chip> LateChip<C> {
 
     /// The samples that the chip made in all, those before a load too.
     pub fn total(&self) -> u64
-        ensures total { result ≡ self.now.total }
+        ensures { result ≡ self.now.total }
+    {
+        self.chip.total()
+    }
+
+    /// The total is a number of 64 bits, and the pending samples are among those made or due.
+    pub fn counts_fit(&self)
         ensures fits { self.now.total < 2 ^ 64 }
         ensures pending { self.now.pending ≤ self.now.made }
     {
-        self.chip.total()
+        is_in_hand(&self.chip);
     }
 
     /// A chip that has made no sample, over a memory.

@@ -5,6 +5,7 @@ ghost use Rattle.num_fix.specs.Limits.{most_frames};
 ghost use Rattle.chip_form.specs.Limits.{most_samples_of_batch, most_samples_of_chip};
 ghost use Rattle.spc700_exec.specs.Bus.{most_calls, most_calls_before_step};
 ghost use Rattle.spc700_exec.specs.Instruction.{step_outcome};
+ghost use Rattle.lock_step.specs.LockStep.{samples_made};
 ghost use Rattle.lock_step.specs.StepsOfRun.{AreStepsOf};
 ghost use Rattle.lag_bus.specs.Lagging.{lagging};
 ghost use Rattle.lag_bus.specs.LagEmits.{lag_emits};
@@ -12,7 +13,7 @@ ghost use Rattle.lag_bus.specs.Waiting.{without_calls};
 ghost use Rattle.lag_bus.specs.Running.{MayFallBehind, running};
 
 use crate::behind::BehindBus;
-use spc700_exec::{Bus, Cpu, step_awake};
+use spc700_exec::{Bus, CYCLES_PER_SAMPLE, Cpu, MOST_CALLS_BEFORE_STEP, step_awake};
 use std::marker::Model;
 
 /// The most cycles of an instruction that doesn't halt the processor.
@@ -61,7 +62,7 @@ fn moment_of<B: BehindBus>(bus: &B, samples: u32) -> u64
     ensures free { (B.shows bus.now).machine.clock < result → MayFallBehind result samples (B.shows bus.now) }
 {
     bus.full_clock()
-        .min(32 * u64::from(samples))
+        .min(CYCLES_PER_SAMPLE * u64::from(samples))
         .max(bus.clock())
 }
 
@@ -88,7 +89,7 @@ impl<'a, B: BehindBus> RunningBus<'a, B> {
     /// Whether the bus may be left behind for an instruction, and then the run isn't at its end.
     #[inline(always)]
     fn may_fall_behind(&self) -> bool
-        ensures { result ≡ true → self.now.bus.machine.clock < 32 * self.now.samples }
+        ensures { result ≡ true → self.now.bus.machine.clock < CYCLES_PER_SAMPLE * self.now.samples }
     {
         MOST_CYCLES < self.left
     }
@@ -96,9 +97,9 @@ impl<'a, B: BehindBus> RunningBus<'a, B> {
     /// Whether the run is at its end.
     #[inline(always)]
     fn is_at_end(&self) -> bool
-        ensures { result ≡ nat_le self.now.samples (self.now.bus.machine.clock / 32) }
+        ensures { result ≡ nat_le self.now.samples (samples_made self.now.bus.machine) }
     {
-        !self.may_fall_behind() && (self.until - self.left) / 32 >= u64::from(self.samples)
+        !self.may_fall_behind() && (self.until - self.left) / CYCLES_PER_SAMPLE >= u64::from(self.samples)
     }
 
     /// Whether there is room for the calls of one more step.
@@ -106,7 +107,7 @@ impl<'a, B: BehindBus> RunningBus<'a, B> {
     fn has_room(&self) -> bool
         ensures { result ≡ nat_le self.now.bus.machine.calls most_calls_before_step }
     {
-        self.calls <= 32
+        self.calls <= MOST_CALLS_BEFORE_STEP
     }
 
     /// Begins the calls anew, where nothing is to be drained but what waits for pending samples.
@@ -127,8 +128,8 @@ impl<'a, B: BehindBus> RunningBus<'a, B> {
     fn pass_on_bus(&mut self, cycles: u8)
         requires room { self.old.bus.machine.calls < most_calls }
         requires some { 1 ≤ cycles }
-        requires few { cycles ≤ 32 }
-        requires time { self.old.bus.machine.clock / 32 < most_samples_of_chip }
+        requires few { cycles ≤ CYCLES_PER_SAMPLE }
+        requires time { samples_made self.old.bus.machine < most_samples_of_chip }
         ensures { self.new ≡ record self.old { bus = (lagging B.C.meaning).pass self.old.bus cycles } }
     {
         let clock = self.until - self.left;
@@ -143,7 +144,7 @@ impl<'a, B: BehindBus> RunningBus<'a, B> {
     fn step_on_bus(&mut self, cpu: &mut Cpu)
         requires few { self.old.samples ≤ most_frames }
         requires calls { self.old.bus.machine.calls ≤ most_calls_before_step }
-        requires more { self.old.bus.machine.clock / 32 < self.old.samples }
+        requires more { samples_made self.old.bus.machine < self.old.samples }
         ensures does { (cpu.new, self.new.bus) ≡ step_outcome (lagging B.C.meaning) cpu.old self.old.bus }
         ensures name { self.new.name ≡ self.old.name }
         ensures samples { self.new.samples ≡ self.old.samples }
@@ -163,7 +164,7 @@ impl<'a, B: BehindBus> RunningBus<'a, B> {
 fn step_once<'a, B: BehindBus>(cpu: &mut Cpu, running: &mut RunningBus<'a, B>)
     requires few { running.old.samples ≤ most_frames }
     requires calls { running.old.bus.machine.calls ≤ most_calls_before_step }
-    requires more { running.old.bus.machine.clock / 32 < running.old.samples }
+    requires more { samples_made running.old.bus.machine < running.old.samples }
     requires awake { cpu.old.halted ≡ false }
     ensures does { (cpu.new, running.new.bus) ≡ step_outcome (lagging B.C.meaning) cpu.old running.old.bus }
     ensures name { running.new.name ≡ running.old.name }
@@ -184,7 +185,7 @@ fn step_once<'a, B: BehindBus>(cpu: &mut Cpu, running: &mut RunningBus<'a, B>)
 #[inline(always)]
 fn step_on<'a, B: BehindBus>(cpu: &mut Cpu, running: &mut RunningBus<'a, B>, rooms: u8) -> u8
     requires calls { running.old.bus.machine.calls ≤ most_calls_before_step }
-    requires more { running.old.bus.machine.clock / 32 < running.old.samples }
+    requires more { samples_made running.old.bus.machine < running.old.samples }
     requires few { running.old.samples ≤ most_frames }
     ensures name { running.new.name ≡ running.old.name }
     ensures steps { AreStepsOf (lagging B.C.meaning) (lag_emits B.C.meaning) running.old.samples cpu.old running.old.bus cpu.new running.new.bus }
@@ -222,7 +223,7 @@ fn step_on<'a, B: BehindBus>(cpu: &mut Cpu, running: &mut RunningBus<'a, B>, roo
 /// one step. The answer is how many of these times are left.
 pub(crate) fn take_steps<B: BehindBus>(bus: &mut B, cpu: &mut Cpu, samples: u32, rooms: u8) -> u8
     requires calls { (B.shows bus.old).machine.calls ≤ most_calls_before_step }
-    requires more { (B.shows bus.old).machine.clock / 32 < samples }
+    requires more { samples_made (B.shows bus.old).machine < samples }
     requires few { samples ≤ most_frames }
     ensures steps { AreStepsOf (lagging B.C.meaning) (lag_emits B.C.meaning) samples cpu.old (B.shows bus.old) cpu.new (B.shows bus.new) }
     ensures some { (B.shows bus.old).machine.clock < (B.shows bus.new).machine.clock }
@@ -279,7 +280,7 @@ impl<'a, B: BehindBus> Bus for RunningBus<'a, B> {
 
     #[inline(always)]
     fn to_sample(&self) -> u8 {
-        (32 - (self.until - self.left) % 32) as u8
+        (CYCLES_PER_SAMPLE - (self.until - self.left) % CYCLES_PER_SAMPLE) as u8
     }
 
     ghost lawful = { record {

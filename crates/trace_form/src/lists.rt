@@ -66,7 +66,8 @@ impl Frames {
 
     /// The frames.
     pub fn as_slice(&self) -> &[Frame]
-        ensures { result.now ≡ self.now }
+        ensures frames { result.now ≡ self.now }
+        ensures few { length result.now ≤ frame_room }
     {
         self.items.as_slice()
     }
@@ -123,7 +124,8 @@ impl Records {
 
     /// The records.
     pub fn as_slice(&self) -> &[Record]
-        ensures { result.now ≡ self.now }
+        ensures records { result.now ≡ self.now }
+        ensures few { length result.now ≤ record_room }
     {
         self.items.as_slice()
     }

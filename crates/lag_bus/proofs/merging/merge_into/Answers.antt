@@ -14,4 +14,4 @@ voices-preserved c =
 pub returns-clause-records : goal.returns-clause-records
 returns-clause-records c =
     let end = drop_all c.voices.voice-index c.as_slice-all.result.now c.voices-test.false in
-    rw (c.move_all.ensures.records, ← c.as_slice-all.ensures, c.voices.invariant.0, end, merge_end) refl
+    rw (c.move_all.ensures.records, ← c.as_slice-all.ensures.records, c.voices.invariant.0, end, merge_end) refl

@@ -6,6 +6,7 @@ use Rattle.lag_bus.specs.LagEmits.{lag_emits}
 use Rattle.lag_bus.specs.Waiting.{without_calls}
 use Rattle.lag_bus.proofs.StepsInHand.{one_step_on}
 use Rattle.lag_bus.proofs.running.step_on.Goals as goal
+use Rattle.spc700_exec.specs.declared.bus.TheConstants.{CYCLES_PER_SAMPLE}
 
 pub steps-init : goal.steps-init
 steps-init g c = record {
@@ -23,7 +24,7 @@ steps-preserved-then-not-has_room g c =
     let chip = g.B.C.Chip.meaning in
     let run = c.steps.invariant.samples in
     let made = c.if-is_at_end.ensures in
-    let more : c.steps.running.bus.machine.clock / 32 < c.steps.running.samples = grind (arith, nat_tests) in
+    let more : c.steps.running.bus.machine.clock / CYCLES_PER_SAMPLE < c.steps.running.samples = grind (arith, nat_tests) in
     let taken = one_step_on chip c.args.running.now.samples c.args.cpu.now c.args.running.now.bus c.steps.cpu c.step_once.new.cpu c.steps.running.bus c.step_once.new.running.bus c.steps.invariant.taken (rw run at more) c.step_once.ensures.does in
     let later = c.step_once.ensures.some in
     let on = c.steps.invariant.on in
@@ -42,7 +43,7 @@ steps-preserved g c =
     let chip = g.B.C.Chip.meaning in
     let run = c.steps.invariant.samples in
     let made = c.if-is_at_end.ensures in
-    let more : c.steps.running.bus.machine.clock / 32 < c.steps.running.samples = grind (arith, nat_tests) in
+    let more : c.steps.running.bus.machine.clock / CYCLES_PER_SAMPLE < c.steps.running.samples = grind (arith, nat_tests) in
     let room = c.if-not-has_room.ensures in
     let later = c.step_once.ensures.some in
     let on = c.steps.invariant.on in
@@ -65,20 +66,20 @@ pub returns-then-cpu-2-clause-steps : goal.returns-then-cpu-2-clause-steps
 returns-then-cpu-2-clause-steps g c =
     let run = c.steps.invariant.samples in
     let made = c.if-is_at_end.ensures in
-    let more : c.steps.running.bus.machine.clock / 32 < c.steps.running.samples = grind (arith, nat_tests) in
+    let more : c.steps.running.bus.machine.clock / CYCLES_PER_SAMPLE < c.steps.running.samples = grind (arith, nat_tests) in
     one_step_on g.B.C.Chip.meaning c.args.running.now.samples c.args.cpu.now c.args.running.now.bus c.steps.cpu c.step_once.new.cpu c.steps.running.bus c.step_once.new.running.bus c.steps.invariant.taken (rw run at more) c.step_once.ensures.does
 
 pub returns-then-left-eq0-clause-steps : goal.returns-then-left-eq0-clause-steps
 returns-then-left-eq0-clause-steps g c =
     let run = c.steps.invariant.samples in
     let made = c.if-is_at_end.ensures in
-    let more : c.steps.running.bus.machine.clock / 32 < c.steps.running.samples = grind (arith, nat_tests) in
+    let more : c.steps.running.bus.machine.clock / CYCLES_PER_SAMPLE < c.steps.running.samples = grind (arith, nat_tests) in
     one_step_on g.B.C.Chip.meaning c.args.running.now.samples c.args.cpu.now c.args.running.now.bus c.steps.cpu c.step_once.new.cpu c.steps.running.bus c.step_once.new.running.bus c.steps.invariant.taken (rw run at more) c.step_once.ensures.does
 
 pub returns-then-not-begin_calls_anew-clause-steps : goal.returns-then-not-begin_calls_anew-clause-steps
 returns-then-not-begin_calls_anew-clause-steps g c =
     let run = c.steps.invariant.samples in
     let made = c.if-is_at_end.ensures in
-    let more : c.steps.running.bus.machine.clock / 32 < c.steps.running.samples = grind (arith, nat_tests) in
+    let more : c.steps.running.bus.machine.clock / CYCLES_PER_SAMPLE < c.steps.running.samples = grind (arith, nat_tests) in
     rw c.if-not-begin_calls_anew.ensures.same
     (one_step_on g.B.C.Chip.meaning c.args.running.now.samples c.args.cpu.now c.args.running.now.bus c.steps.cpu c.step_once.new.cpu c.steps.running.bus c.step_once.new.running.bus c.steps.invariant.taken (rw run at more) c.step_once.ensures.does)

@@ -2,18 +2,19 @@ use Rattle.std.proofs.Common.{◌≡◌, ◌⊎◌, inl, inr, ◌+◌, ◌-◌, 
 use Rattle.lag_bus.specs.Late.{Late}
 use Rattle.lag_bus.proofs.RoomOfDue.{frames_of_due, records_of_due}
 use Rattle.lag_bus.proofs.lag.LagBusBehindBus.catch_up.Goals as goal
+use Rattle.spc700_exec.specs.declared.bus.TheConstants.{CYCLES_PER_SAMPLE}
 
 pub pend_all-requires-clause-frames : goal.pend_all-requires-clause-frames
 pend_all-requires-clause-frames g c =
     let late : Late g.row.C-State.Denot = c.self.inside.late in
     let clock = c.clock.ensures.clock in
     let behind = rw (← c.self.view_is) at c.requires in
-    let counted : (c.self.inside.time.calls + (c.args.clock / 32 - c.self.inside.time.clock / 32) ≤ c.args.calls) ⊎ (late.frames_used ≡ late.pending) =
+    let counted : (c.self.inside.time.calls + (c.args.clock / CYCLES_PER_SAMPLE - c.self.inside.time.clock / CYCLES_PER_SAMPLE) ≤ c.args.calls) ⊎ (late.frames_used ≡ late.pending) =
     elim behind.counted [
       | inl each ↦ inl each
-      | inr none ↦ inr (c.is_drained-drained.ensures.frames (c.is_drained-drained.ensures.none none))
+      | inr none ↦ inr (c.holds_only_what_waits.ensures.frames none)
     ] in
-    let fits = frames_of_due late.frames_used late.pending (c.args.clock / 32 - c.self.inside.time.clock / 32) c.self.inside.time.calls c.args.calls c.self.invariant.frames behind.free counted in
+    let fits = frames_of_due late.frames_used late.pending (c.args.clock / CYCLES_PER_SAMPLE - c.self.inside.time.clock / CYCLES_PER_SAMPLE) c.self.inside.time.calls c.args.calls c.self.invariant.frames behind.free counted in
     let few = behind.few in
     rw clock (omega arith)
 
@@ -22,12 +23,12 @@ pend_all-requires-clause-records g c =
     let late : Late g.row.C-State.Denot = c.self.inside.late in
     let clock = c.clock.ensures.clock in
     let behind = rw (← c.self.view_is) at c.requires in
-    let counted : (c.self.inside.time.calls + (c.args.clock / 32 - c.self.inside.time.clock / 32) ≤ c.args.calls) ⊎ (late.records_used ≡ late.events + 8 * late.pending) =
+    let counted : (c.self.inside.time.calls + (c.args.clock / CYCLES_PER_SAMPLE - c.self.inside.time.clock / CYCLES_PER_SAMPLE) ≤ c.args.calls) ⊎ (late.records_used ≡ late.events + 8 * late.pending) =
     elim behind.counted [
       | inl each ↦ inl each
-      | inr none ↦ inr (c.is_drained-drained.ensures.records (c.is_drained-drained.ensures.none none))
+      | inr none ↦ inr (c.holds_only_what_waits.ensures.records none)
     ] in
-    let fits = records_of_due late.records_used late.events late.pending (c.args.clock / 32 - c.self.inside.time.clock / 32) c.self.inside.time.calls c.args.calls c.self.invariant.records c.self.invariant.events behind.free counted in
+    let fits = records_of_due late.records_used late.events late.pending (c.args.clock / CYCLES_PER_SAMPLE - c.self.inside.time.clock / CYCLES_PER_SAMPLE) c.self.inside.time.calls c.args.calls c.self.invariant.records c.self.invariant.events behind.free counted in
     let few = behind.few in
     rw clock (omega arith)
 
@@ -35,18 +36,18 @@ pub invariant_of-self : goal.invariant_of-self
 invariant_of-self g c =
     let late : Late g.row.C-State.Denot = c.self.inside.late in
     let clock = c.clock.ensures.clock in
-    let due = c.args.clock / 32 - c.self.inside.time.clock / 32 in
+    let due = c.args.clock / CYCLES_PER_SAMPLE - c.self.inside.time.clock / CYCLES_PER_SAMPLE in
     let behind = rw (← c.self.view_is) at c.requires in
-    let drained = c.is_drained-drained.ensures in
+    let waits = c.holds_only_what_waits.ensures in
     let counted_frames : (c.self.inside.time.calls + due ≤ c.args.calls) ⊎ (late.frames_used ≡ late.pending) =
     elim behind.counted [
       | inl each ↦ inl each
-      | inr none ↦ inr (drained.frames (drained.none none))
+      | inr none ↦ inr (waits.frames none)
     ] in
     let counted_records : (c.self.inside.time.calls + due ≤ c.args.calls) ⊎ (late.records_used ≡ late.events + 8 * late.pending) =
     elim behind.counted [
       | inl each ↦ inl each
-      | inr none ↦ inr (drained.records (drained.none none))
+      | inr none ↦ inr (waits.records none)
     ] in
     let made = c.self.invariant.same_made in
     let earlier = behind.earlier in

@@ -15,6 +15,7 @@ use Rattle.lag_bus.specs.IsLagging.{lagging_of}
 use Rattle.lock_step.proofs.NoWait.{no_wait}
 use Rattle.lag_bus.proofs.RoundsOfAWait.{is_wait, lagging_of-wait}
 use Rattle.lag_bus.proofs.lag.LagBusDrainedBus.wait.Goals as goal
+use Rattle.spc700_exec.specs.declared.bus.TheConstants.{CYCLES_PER_SAMPLE}
 
 pub returns-then-not-is_drained : goal.returns-then-not-is_drained
 returns-then-not-is_drained g c =
@@ -37,7 +38,7 @@ returns g c =
     let most : ℕ = c.cycles_to_wait.result in
     let d : ℕ = c.from-2.result in
     let k : ℕ = most / c.from.result in
-    let made : late.made ≡ clock / 32 = c.self.invariant.same_made in
+    let made : late.made ≡ clock / CYCLES_PER_SAMPLE = c.self.invariant.same_made in
     let reached : c.ensure_reach.new.self ≡ late = c.ensure_reach.ensures.rest in
     let kept : IsKept chip (lagging_of late io clock counts calls) = record {
       batches = c.self.invariant.same_batches;
