@@ -244,7 +244,9 @@ impl<C: Chip> LagBus<C> {
         ensures timers { AreTimers self.now.machine.io }
     {
         let clock = self.time.clock();
-        let free = CYCLES_PER_SAMPLE * u64::from(MOST_PENDING - self.late.pending()) - 1 - clock % CYCLES_PER_SAMPLE;
+        let free = CYCLES_PER_SAMPLE * u64::from(MOST_PENDING - self.late.pending())
+            - 1
+            - clock % CYCLES_PER_SAMPLE;
         let rest = CYCLES_PER_SAMPLE * u64::from(samples) - 1 - clock;
         cycles_of_zeros(&self.time.io(), clock).min(free.min(rest))
     }

@@ -99,7 +99,8 @@ impl<'a, B: BehindBus> RunningBus<'a, B> {
     fn is_at_end(&self) -> bool
         ensures { result ≡ nat_le self.now.samples (samples_made self.now.bus.machine) }
     {
-        !self.may_fall_behind() && (self.until - self.left) / CYCLES_PER_SAMPLE >= u64::from(self.samples)
+        !self.may_fall_behind()
+            && (self.until - self.left) / CYCLES_PER_SAMPLE >= u64::from(self.samples)
     }
 
     /// Whether there is room for the calls of one more step.

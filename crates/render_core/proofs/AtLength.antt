@@ -13,10 +13,11 @@ use Rattle.render_core.specs.BetweenSteps.{IsBetweenSteps}
 use Rattle.render_core.specs.MachineRun.{Whole}
 use Rattle.render_core.specs.Items.{run_frames, whole_at_rest, end_of_run}
 use Rattle.render_core.proofs.RunBySteps.{after_run-reached}
+use Rattle.spc700_exec.specs.declared.bus.TheConstants.{CYCLES_PER_SAMPLE}
 
 module _ {S : Type 0} (chip : ChipMeaning S) (samples : ℕ) (cpu : Cpu) (bus : Lagging S) (between : IsBetweenSteps (lagging chip) (lag_emits chip) samples bus) (made : ℕ)
-    (is : made ≡ bus.machine.clock / 32) (there : nat_le samples made ≡ true) where
-  pub all_made : samples ≤ bus.machine.clock / 32
+    (is : made ≡ bus.machine.clock / CYCLES_PER_SAMPLE) (there : nat_le samples made ≡ true) where
+  pub all_made : samples ≤ bus.machine.clock / CYCLES_PER_SAMPLE
   all_made = let all : samples ≤ made = grind (arith, nat_tests) in omega arith
 
   pub none_to_come : run_frames (lock_step chip) lock_step_emits samples (cpu, bus.machine) ≡ []
@@ -30,5 +31,5 @@ module _ {S : Type 0} (chip : ChipMeaning S) (samples : ℕ) (cpu : Cpu) (bus : 
       ∙ sym (ap (λ (w : Whole (Machine S)). whole_at_rest lock_step_emits w) (after_run-reached (lock_step chip) (lock_step-lawful chip) samples (cpu, bus.machine) all_made))
 
 -- nor is anything to come of a machine that has made all samples and emitted nothing
-pub none_after : {S : Type 0} (chip : ChipMeaning S) (samples : ℕ) (w : Whole (Machine S)) → samples ≤ w.1.clock / 32 → w.1.frames ≡ [] → run_frames (lock_step chip) lock_step_emits samples w ≡ []
+pub none_after : {S : Type 0} (chip : ChipMeaning S) (samples : ℕ) (w : Whole (Machine S)) → samples ≤ w.1.clock / CYCLES_PER_SAMPLE → w.1.frames ≡ [] → run_frames (lock_step chip) lock_step_emits samples w ≡ []
 none_after {S} chip samples w all none = ap (λ (x : Whole (Machine S)). x.1.frames) (after_run-reached (lock_step chip) (lock_step-lawful chip) samples w all) ∙ none

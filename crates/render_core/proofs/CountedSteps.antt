@@ -14,9 +14,10 @@ use Rattle.lock_step.specs.StepsOfRun.{AreStepsOf}
 use Rattle.idle_rounds.specs.Looking.{after_n_steps}
 use Rattle.render_core.specs.MachineRun.{Whole}
 use Rattle.render_core.proofs.ItemsBeforeRun.{made-cleared}
+use Rattle.spc700_exec.specs.declared.bus.TheConstants.{CYCLES_PER_SAMPLE}
 
 module _ {S : Type 0} (bus : BusMeaning S) (emits : Emits S) (law : IsCounting bus emits) where
-  counted-either : (s : S) (b : Bool) (cycles : ℕ) → cycles ≤ 32 → IsCountedOn bus emits s (if b then bus.pass s cycles else s)
+  counted-either : (s : S) (b : Bool) (cycles : ℕ) → cycles ≤ CYCLES_PER_SAMPLE → IsCountedOn bus emits s (if b then bus.pass s cycles else s)
   counted-either s true cycles few = law.pass_counts s cycles few
   counted-either s false cycles few = counts_on_none (bus.made s) (emits.pending s) (emits.total s)
 
@@ -33,7 +34,7 @@ module _ {S : Type 0} (bus : BusMeaning S) (emits : Emits S) (law : IsCounting b
       (counted-outcome next k start (made + 1) (after_write bus at value s) short))
   counted-outcome (End cpu (Cycles cycles)) zero start made s short = counted-either s (nat_lt made cycles) (cycles - made) (omega arith)
   counted-outcome (End cpu (Cycles cycles)) (suc k) start made s short = counted-either s (nat_lt made cycles) (cycles - made) (omega arith)
-  counted-outcome (End cpu ToSample) k start made s short = counted-either s (nat_lt made (32 - start % 32)) (32 - start % 32 - made) (omega arith)
+  counted-outcome (End cpu ToSample) k start made s short = counted-either s (nat_lt made (CYCLES_PER_SAMPLE - start % CYCLES_PER_SAMPLE)) (CYCLES_PER_SAMPLE - start % CYCLES_PER_SAMPLE - made) (omega arith)
 
   pub counted-stepped : (cpu next_cpu : Cpu) (s next : S) → (next_cpu, next) ≡ step_outcome bus cpu s → IsCountedOn bus emits s next
   counted-stepped cpu next_cpu s next does =

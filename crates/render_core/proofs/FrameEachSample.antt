@@ -12,9 +12,10 @@ use Rattle.num_fix.specs.declared.Frame.{Frame}
 use Rattle.lock_step.specs.Emits.{IsFrameEach}
 use Rattle.render_core.specs.MachineRun.{Whole, after_step, after_steps, after_run}
 use Rattle.render_core.proofs.RunBySteps.{after_steps-reached, clock-after_step-least, clock-after_step-most}
+use Rattle.spc700_exec.specs.declared.bus.TheConstants.{CYCLES_PER_SAMPLE}
 
 module _ {S : Type 0} (bus : BusMeaning S) (lawful : IsLawful bus) (frames : S → List Frame) (law : IsFrameEach bus frames) where
-  counted-either : (s : S) (b : Bool) (cycles : ℕ) → cycles ≤ 32 → length (frames (if b then bus.pass s cycles else s)) + bus.made s ≡ length (frames s) + bus.made (if b then bus.pass s cycles else s)
+  counted-either : (s : S) (b : Bool) (cycles : ℕ) → cycles ≤ CYCLES_PER_SAMPLE → length (frames (if b then bus.pass s cycles else s)) + bus.made s ≡ length (frames s) + bus.made (if b then bus.pass s cycles else s)
   counted-either s true cycles few = law.pass_frames s cycles few
   counted-either s false cycles few = refl
 
@@ -24,25 +25,25 @@ module _ {S : Type 0} (bus : BusMeaning S) (lawful : IsLawful bus) (frames : S �
   counted-outcome (Read at next) (suc k) start made s short =
       let passed = law.pass_frames s 1 (omega arith) in
       let read = law.read_frames (bus.pass s 1) at in
-      let kept : bus.made (after_read bus at s) ≡ bus.made (bus.pass s 1) = lawful.samples _ ∙ ap (λ (c : ℕ). c / 32) (lawful.read_clock (bus.pass s 1) at) ∙ sym (lawful.samples _) in
+      let kept : bus.made (after_read bus at s) ≡ bus.made (bus.pass s 1) = lawful.samples _ ∙ ap (λ (c : ℕ). c / CYCLES_PER_SAMPLE) (lawful.read_clock (bus.pass s 1) at) ∙ sym (lawful.samples _) in
       let rest = counted-outcome (next (byte_read bus at s)) k start (made + 1) (after_read bus at s) (short (byte_read bus at s)) in
       omega arith
   counted-outcome (Write at value next) zero start made s short = absurd short
   counted-outcome (Write at value next) (suc k) start made s short =
       let passed = law.pass_frames s 1 (omega arith) in
       let written = law.write_frames (bus.pass s 1) at value in
-      let kept : bus.made (after_write bus at value s) ≡ bus.made (bus.pass s 1) = lawful.samples _ ∙ ap (λ (c : ℕ). c / 32) (lawful.write_clock (bus.pass s 1) at value) ∙ sym (lawful.samples _) in
+      let kept : bus.made (after_write bus at value s) ≡ bus.made (bus.pass s 1) = lawful.samples _ ∙ ap (λ (c : ℕ). c / CYCLES_PER_SAMPLE) (lawful.write_clock (bus.pass s 1) at value) ∙ sym (lawful.samples _) in
       let rest = counted-outcome next k start (made + 1) (after_write bus at value s) short in
       omega arith
   counted-outcome (End cpu (Cycles cycles)) zero start made s short = counted-either s (nat_lt made cycles) (cycles - made) (omega arith)
   counted-outcome (End cpu (Cycles cycles)) (suc k) start made s short = counted-either s (nat_lt made cycles) (cycles - made) (omega arith)
-  counted-outcome (End cpu ToSample) k start made s short = counted-either s (nat_lt made (32 - start % 32)) (32 - start % 32 - made) (omega arith)
+  counted-outcome (End cpu ToSample) k start made s short = counted-either s (nat_lt made (CYCLES_PER_SAMPLE - start % CYCLES_PER_SAMPLE)) (CYCLES_PER_SAMPLE - start % CYCLES_PER_SAMPLE - made) (omega arith)
 
   counted-step : (w : Whole S) → length (frames (after_step bus w).1) + bus.made w.1 ≡ length (frames w.1) + bus.made (after_step bus w).1
   unfolding after_step
   counted-step w = counted-outcome (script w.0) 6 (bus.clock w.1) 0 w.1 (IsShort-script w.0)
 
-  counted-steps : (samples steps : ℕ) (w : Whole S) → 32 * samples ≤ bus.clock w.1 + steps → bus.made w.1 ≤ samples → length (frames (after_steps bus samples steps w).1) + bus.made w.1 ≡ length (frames w.1) + samples
+  counted-steps : (samples steps : ℕ) (w : Whole S) → CYCLES_PER_SAMPLE * samples ≤ bus.clock w.1 + steps → bus.made w.1 ≤ samples → length (frames (after_steps bus samples steps w).1) + bus.made w.1 ≡ length (frames w.1) + samples
   counted-steps samples zero w enough few = let made = lawful.samples w.1 in omega arith
   counted-steps samples (suc steps) w enough few =
       let next = after_step bus w in
@@ -66,7 +67,7 @@ module _ {S : Type 0} (bus : BusMeaning S) (lawful : IsLawful bus) (frames : S �
   -- after the frames that were emitted before a run emits one for each sample that it makes
   pub length-frames-after_run : (samples : ℕ) (w : Whole S) → bus.made w.1 ≤ samples → length (frames (after_run bus samples w).1) + bus.made w.1 ≡ length (frames w.1) + samples
   unfolding after_run
-  length-frames-after_run samples w few = counted-steps samples (32 * samples - bus.clock w.1) w (omega arith) few
+  length-frames-after_run samples w few = counted-steps samples (CYCLES_PER_SAMPLE * samples - bus.clock w.1) w (omega arith) few
 
   -- so there is a frame to come until all samples are made
   pub some_to_come : (samples : ℕ) (w : Whole S) (made : ℕ) → made ≡ bus.made w.1 → nat_le samples made ≡ false → 0 < length (frames (after_run bus samples w).1)

@@ -13,6 +13,7 @@ use Rattle.render_core.specs.MachineRun.{Whole, after_step, after_steps, after_r
 use Rattle.lock_step.specs.SampleNumbers.{sample_number}
 use Rattle.render_core.specs.Items.{records_before}
 use Rattle.render_core.proofs.RunBySteps.{after_run-reached}
+use Rattle.spc700_exec.specs.declared.bus.TheConstants.{CYCLES_PER_SAMPLE}
 
 module _ {S I : Type 0} (bus : BusMeaning S) (lawful : IsLawful bus) (cleared : S → S) (items : S → List I) (law : IsEmitting bus cleared items) where
   -- the same registers, and a bus that is ahead by some items
@@ -24,7 +25,7 @@ module _ {S I : Type 0} (bus : BusMeaning S) (lawful : IsLawful bus) (cleared : 
   resting at_rest w = (w.0, at_rest w.1)
 
   pub made-cleared : (s t : S) → cleared s ≡ cleared t → bus.made s ≡ bus.made t
-  made-cleared s t same = lawful.samples s ∙ ap (λ (k : ℕ). k / 32) (clock-cleared bus cleared items law s t same) ∙ sym (lawful.samples t)
+  made-cleared s t same = lawful.samples s ∙ ap (λ (k : ℕ). k / CYCLES_PER_SAMPLE) (clock-cleared bus cleared items law s t same) ∙ sym (lawful.samples t)
 
   AreAhead-step : (before : List I) (w v : Whole S) → AreAhead before w v → AreAhead before (after_step bus w) (after_step bus v)
   unfolding after_step
@@ -48,8 +49,8 @@ module _ {S I : Type 0} (bus : BusMeaning S) (lawful : IsLawful bus) (cleared : 
     AreAhead-run : (before : List I) (w v : Whole S) → AreAhead before w v → AreAhead before (after_run bus samples w) (after_run bus samples v)
     unfolding after_run
     AreAhead-run before w v a =
-        subst (λ (clock : ℕ). AreAhead before (after_steps bus samples (32 * samples - bus.clock w.1) w) (after_steps bus samples (32 * samples - clock) v)) (clock-cleared bus cleared items law w.1 v.1 a.1.same)
-        (AreAhead-steps (32 * samples - bus.clock w.1) before w v a)
+        subst (λ (clock : ℕ). AreAhead before (after_steps bus samples (CYCLES_PER_SAMPLE * samples - bus.clock w.1) w) (after_steps bus samples (CYCLES_PER_SAMPLE * samples - clock) v)) (clock-cleared bus cleared items law w.1 v.1 a.1.same)
+        (AreAhead-steps (CYCLES_PER_SAMPLE * samples - bus.clock w.1) before w v a)
 
     -- a drain takes what it hands over from what a run emits
     pub items-after_run-drained : (cpu : Cpu) (s t : S) (got : List I) → items s ≡ got ++ items t → cleared t ≡ cleared s → items (after_run bus samples (cpu, s)).1 ≡ got ++ items (after_run bus samples (cpu, t)).1
@@ -70,7 +71,7 @@ module _ {S I : Type 0} (bus : BusMeaning S) (lawful : IsLawful bus) (cleared : 
     module _ (cpu : Cpu) (next settled drained : S) (got : List I) (kept : items settled ≡ items next) (clock : bus.clock settled ≡ bus.clock next) (still : bus.made next < samples → settled ≡ next)
         (split : items settled ≡ got ++ items drained) (same : cleared drained ≡ cleared settled) where
       made-settled : bus.made settled ≡ bus.made next
-      made-settled = lawful.samples settled ∙ ap (λ (k : ℕ). k / 32) clock ∙ sym (lawful.samples next)
+      made-settled = lawful.samples settled ∙ ap (λ (k : ℕ). k / CYCLES_PER_SAMPLE) clock ∙ sym (lawful.samples next)
 
       made-drained : bus.made drained ≡ bus.made next
       made-drained = made-cleared drained settled same ∙ made-settled

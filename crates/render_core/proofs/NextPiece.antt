@@ -14,6 +14,7 @@ use Rattle.lag_bus.proofs.TotalOfCalls.{samples_of_count}
 use Rattle.spc700_exec.specs.Bus.{IsLawful}
 use Rattle.render_core.proofs.RunBySteps.{made-after_run}
 use Rattle.render_core.proofs.LaggingRun.{run_frames-lagging, run_records-lagging, end_of_run-lagging, counts-settled}
+use Rattle.spc700_exec.specs.declared.bus.TheConstants.{CYCLES_PER_SAMPLE}
 
 -- where a run to so many samples ends
 abbrev end_from : {S : Type 0} → ChipMeaning S → (samples : ℕ) → Cpu → Lagging S → Whole (Lagging S)
@@ -39,14 +40,14 @@ module _ {S : Type 0} (chip : ChipMeaning S) (samples : ℕ) (cpu next_cpu : Cpu
       → (is_last ≡ true → after_run (lagging chip) samples (next_cpu, next) ≡ (next_cpu, next)) → (is_last ≡ true → next.book.pending ≡ 0)
       → (is_last ≡ true → frames_from next_cpu next ≡ []) → (is_last ≡ true → records_from next_cpu next ≡ [])
       → (is_last ≡ false → 0 < length given + length written) → (is_last ≡ false → 0 < length (frames_from next_cpu next))
-      → (is_last ≡ false → bus.machine.clock < next.machine.clock) → (is_last ≡ false → next.machine.clock < 32 * samples) → is_last ≡ nat_le samples (next.machine.clock / 32)
+      → (is_last ≡ false → bus.machine.clock < next.machine.clock) → (is_last ≡ false → next.machine.clock < CYCLES_PER_SAMPLE * samples) → is_last ≡ nat_le samples (next.machine.clock / CYCLES_PER_SAMPLE)
       → IsNextPiece chip (record { cpu = cpu; bus = bus; samples = samples; frames = old_frames; records = old_records })
       (record { cpu = next_cpu; bus = next; samples = samples; frames = given; records = written }) given written is_last
   is_next_piece frames records ends counted matches next_matches over settled frames_done records_done some more later below at_length =
       let seen = run_frames-lagging chip samples next_cpu next in
       let seen_records = run_records-lagging chip samples next_cpu next in
       let fits : bus.book.total < 2 ^ 64 = rw (← matches.total) matches.fits in
-      let made = samples_of_count (bus.machine.clock / 32) bus.book.pending bus.book.total (next.machine.clock / 32) next.book.pending next.book.total counted matches.pending fits in
+      let made = samples_of_count (bus.machine.clock / CYCLES_PER_SAMPLE) bus.book.pending bus.book.total (next.machine.clock / CYCLES_PER_SAMPLE) next.book.pending next.book.total counted matches.pending fits in
       record {
         frames = run_frames-lagging chip samples cpu bus ∙ frames ∙ ap (λ (rest : List Frame). given ++ rest) (sym seen);
         records = run_records-lagging chip samples cpu bus ∙ records ∙ ap (λ (rest : List Record). written ++ rest) (sym seen_records);
@@ -68,13 +69,13 @@ module _ {S : Type 0} (chip : ChipMeaning S) (samples : ℕ) (cpu next_cpu : Cpu
 
 -- no more samples are made than wanted
 module _ {S : Type 0} (chip : ChipMeaning S) (lawful : IsLawful (lagging chip)) (samples : ℕ) (cpu next_cpu : Cpu) (bus next : Lagging S) where
-  pub made_at_most : (is_last : Bool) → bus.machine.clock / 32 ≤ samples → end_from chip samples cpu bus ≡ end_from chip samples next_cpu next
-      → (is_last ≡ true → after_run (lagging chip) samples (next_cpu, next) ≡ (next_cpu, next)) → (is_last ≡ false → next.machine.clock < 32 * samples)
-      → next.machine.clock / 32 ≤ samples
+  pub made_at_most : (is_last : Bool) → bus.machine.clock / CYCLES_PER_SAMPLE ≤ samples → end_from chip samples cpu bus ≡ end_from chip samples next_cpu next
+      → (is_last ≡ true → after_run (lagging chip) samples (next_cpu, next) ≡ (next_cpu, next)) → (is_last ≡ false → next.machine.clock < CYCLES_PER_SAMPLE * samples)
+      → next.machine.clock / CYCLES_PER_SAMPLE ≤ samples
   made_at_most false few ends over below = let less = below refl in omega arith
   made_at_most true few ends over below =
       let there : (end_from chip samples next_cpu next).1.machine.clock ≡ next.machine.clock = ap (λ (w : Whole (Lagging S)). w.1.machine.clock) (over refl) in
       let same : (end_from chip samples cpu bus).1.machine.clock ≡ (end_from chip samples next_cpu next).1.machine.clock = ap (λ (w : Whole (Lagging S)). w.1.machine.clock) ends in
-      let made : (after_run (lagging chip) samples (cpu, bus)).1.machine.clock / 32 ≡ samples = made-after_run (lagging chip) lawful samples (cpu, bus) few in
+      let made : (after_run (lagging chip) samples (cpu, bus)).1.machine.clock / CYCLES_PER_SAMPLE ≡ samples = made-after_run (lagging chip) lawful samples (cpu, bus) few in
       let clock : (after_run (lagging chip) samples (cpu, bus)).1.machine.clock ≡ next.machine.clock = same ∙ there in
       omega arith

@@ -13,6 +13,7 @@ use Rattle.render_core.proofs.ItemsBeforeRun.{items-after_run-drained, end-after
 use Rattle.idle_rounds.specs.Looking.{after_n_steps}
 use Rattle.lock_step.specs.WaitOfRounds.{IsWaitOf}
 use Rattle.lock_step.specs.StepsOfRun.{AreStepsOf}
+use Rattle.spc700_exec.specs.declared.bus.TheConstants.{CYCLES_PER_SAMPLE}
 
 module _ {S : Type 0} (bus : BusMeaning S) (lawful : IsLawful bus) (samples : ℕ) where
   -- steps that end before the last sample are the first ones of the run
@@ -51,7 +52,7 @@ module _ {S : Type 0} (bus : BusMeaning S) (lawful : IsLawful bus) (samples : �
     made-reached : {I : Type 0} (items : S → List I) → IsEmitting bus emits.cleared items → bus.made reached ≡ bus.made new
     made-reached items law =
         let clock : bus.clock reached ≡ bus.clock new = sym (law.clock reached) ∙ ap bus.clock wait.cleared ∙ law.clock new in
-        lawful.samples reached ∙ ap (λ (c : ℕ). c / 32) clock ∙ sym (lawful.samples new)
+        lawful.samples reached ∙ ap (λ (c : ℕ). c / CYCLES_PER_SAMPLE) clock ∙ sym (lawful.samples new)
 
     pub after_run-reached-wait : {I : Type 0} (items : S → List I) → IsEmitting bus emits.cleared items
         → after_run bus samples (cpu, old) ≡ after_run bus samples (cpu, reached)

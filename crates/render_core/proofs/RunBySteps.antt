@@ -5,13 +5,14 @@ use Rattle.std.specs.Prelude.{if◌then◌else◌}
 use Rattle.spc700_exec.specs.Bus.{BusMeaning, IsLawful}
 use Rattle.spc700_exec.proofs.Bounds.{clock-step_outcome-least, clock-step_outcome-most}
 use Rattle.render_core.specs.MachineRun.{Whole, after_step, after_steps, after_run}
+use Rattle.spc700_exec.specs.declared.bus.TheConstants.{CYCLES_PER_SAMPLE}
 
 module _ {S : Type 0} (bus : BusMeaning S) (lawful : IsLawful bus) where
   pub clock-after_step-least : (w : Whole S) → bus.clock w.1 + 1 ≤ bus.clock (after_step bus w).1
   unfolding after_step
   clock-after_step-least w = clock-step_outcome-least bus lawful w.0 w.1
 
-  pub clock-after_step-most : (w : Whole S) → bus.clock (after_step bus w).1 ≤ bus.clock w.1 + 32
+  pub clock-after_step-most : (w : Whole S) → bus.clock (after_step bus w).1 ≤ bus.clock w.1 + CYCLES_PER_SAMPLE
   unfolding after_step
   clock-after_step-most w = clock-step_outcome-most bus lawful w.0 w.1
 
@@ -21,7 +22,7 @@ module _ {S : Type 0} (bus : BusMeaning S) (lawful : IsLawful bus) where
     after_steps-reached (suc steps) w all = ap (λ (b : Bool). if b then w else after_steps bus samples steps (after_step bus w)) (le-leb samples (bus.made w.1) all)
 
     -- all numbers of steps that are enough do the same
-    after_steps-enough : (i j : ℕ) (w : Whole S) → 32 * samples ≤ bus.clock w.1 + i → 32 * samples ≤ bus.clock w.1 + j → after_steps bus samples i w ≡ after_steps bus samples j w
+    after_steps-enough : (i j : ℕ) (w : Whole S) → CYCLES_PER_SAMPLE * samples ≤ bus.clock w.1 + i → CYCLES_PER_SAMPLE * samples ≤ bus.clock w.1 + j → after_steps bus samples i w ≡ after_steps bus samples j w
     after_steps-enough zero j w first second = let made = lawful.samples w.1 in sym (after_steps-reached j w (omega arith))
     after_steps-enough (suc i) zero w first second = let made = lawful.samples w.1 in after_steps-reached (suc i) w (omega arith)
     after_steps-enough (suc i) (suc j) w first second =
@@ -30,7 +31,7 @@ module _ {S : Type 0} (bus : BusMeaning S) (lawful : IsLawful bus) where
 
     pub after_run-reached : (w : Whole S) → samples ≤ bus.made w.1 → after_run bus samples w ≡ w
     unfolding after_run
-    after_run-reached w all = after_steps-reached (32 * samples - bus.clock w.1) w all
+    after_run-reached w all = after_steps-reached (CYCLES_PER_SAMPLE * samples - bus.clock w.1) w all
 
     pub after_run-next : (w : Whole S) → bus.made w.1 < samples → after_run bus samples w ≡ after_run bus samples (after_step bus w)
     unfolding after_run
@@ -38,11 +39,11 @@ module _ {S : Type 0} (bus : BusMeaning S) (lawful : IsLawful bus) where
         let made = lawful.samples w.1 in
         let later = clock-after_step-least w in
         let next = after_step bus w in
-        let k = 32 * samples - bus.clock w.1 - 1 in
-        let left : 32 * samples - bus.clock w.1 ≡ suc k = omega arith in
+        let k = CYCLES_PER_SAMPLE * samples - bus.clock w.1 - 1 in
+        let left : CYCLES_PER_SAMPLE * samples - bus.clock w.1 ≡ suc k = omega arith in
         ap (λ (steps : ℕ). after_steps bus samples steps w) left
         ∙ ap (λ (b : Bool). if b then w else after_steps bus samples k next) (lt-leb samples (bus.made w.1) more)
-        ∙ after_steps-enough k (32 * samples - bus.clock next.1) next (omega arith) (omega arith)
+        ∙ after_steps-enough k (CYCLES_PER_SAMPLE * samples - bus.clock next.1) next (omega arith) (omega arith)
 
     -- nothing is to come once the samples are made and all was handed over
     pub items-after_run-none : {I : Type 0} (items : S → List I) (w : Whole S) (made : ℕ) → made ≡ bus.made w.1 → nat_le samples made ≡ true → (samples ≤ bus.made w.1 → items w.1 ≡ []) → items (after_run bus samples w).1 ≡ []
@@ -50,7 +51,7 @@ module _ {S : Type 0} (bus : BusMeaning S) (lawful : IsLawful bus) where
         let all : samples ≤ bus.made w.1 = subst (λ (n : ℕ). samples ≤ n) is (leb-true samples made test) in
         ap (λ (v : Whole S). items v.1) (after_run-reached w all) ∙ none all
 
-    made-after_steps : (steps : ℕ) (w : Whole S) → 32 * samples ≤ bus.clock w.1 + steps → bus.made w.1 ≤ samples → bus.made (after_steps bus samples steps w).1 ≡ samples
+    made-after_steps : (steps : ℕ) (w : Whole S) → CYCLES_PER_SAMPLE * samples ≤ bus.clock w.1 + steps → bus.made w.1 ≤ samples → bus.made (after_steps bus samples steps w).1 ≡ samples
     made-after_steps zero w enough few = let made = lawful.samples w.1 in omega arith
     made-after_steps (suc steps) w enough few =
         let next = after_step bus w in
@@ -70,7 +71,7 @@ module _ {S : Type 0} (bus : BusMeaning S) (lawful : IsLawful bus) where
     -- at the end of a run its samples are made, and no more
     pub made-after_run : (w : Whole S) → bus.made w.1 ≤ samples → bus.made (after_run bus samples w).1 ≡ samples
     unfolding after_run
-    made-after_run w few = made-after_steps (32 * samples - bus.clock w.1) w (omega arith) few
+    made-after_run w few = made-after_steps (CYCLES_PER_SAMPLE * samples - bus.clock w.1) w (omega arith) few
 
   -- a run whose samples are made takes no step
   pub after_run-over : (samples : ℕ) (w : Whole S) (made : ℕ) → made ≡ bus.made w.1 → nat_le samples made ≡ true → after_run bus samples w ≡ w

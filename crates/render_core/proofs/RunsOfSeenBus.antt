@@ -5,6 +5,7 @@ use Rattle.spc700_exec.specs.Bus.{BusMeaning, byte_read, after_read, after_write
 use Rattle.spc700_exec.specs.Script.{Script, Read, Write, End, cycles_at, outcome}
 use Rattle.spc700_exec.specs.Instruction.{script}
 use Rattle.render_core.specs.MachineRun.{Whole, after_step, after_steps, after_run}
+use Rattle.spc700_exec.specs.declared.bus.TheConstants.{CYCLES_PER_SAMPLE}
 
 -- `seen` is the other bus
 pub record IsSeen {S T : Type 0} (bus : BusMeaning S) (other : BusMeaning T) (seen : S → T) : Type 0 where
@@ -55,4 +56,4 @@ module _ {S T : Type 0} (bus : BusMeaning S) (other : BusMeaning T) (seen : S �
   pub seen-after_run : (samples : ℕ) (w : Whole S) → after_run other samples (seen_whole w) ≡ seen_whole (after_run bus samples w)
   unfolding after_run
   seen-after_run samples w =
-      ap (λ (clock : ℕ). after_steps other samples (32 * samples - clock) (seen_whole w)) (law.clock w.1) ∙ seen-after_steps samples (32 * samples - bus.clock w.1) w
+      ap (λ (clock : ℕ). after_steps other samples (CYCLES_PER_SAMPLE * samples - clock) (seen_whole w)) (law.clock w.1) ∙ seen-after_steps samples (CYCLES_PER_SAMPLE * samples - bus.clock w.1) w

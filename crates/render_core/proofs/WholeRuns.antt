@@ -18,6 +18,7 @@ use Rattle.render_core.specs.Whole.{with_lists_of, whole_after_run, frames_of_ru
 use Rattle.render_core.proofs.RunBySteps.{after_steps-reached, after_run-next, after_run-reached, made-after_run}
 use Rattle.render_core.proofs.ItemsBeforeRun.{items-after_run-drained, end-after_run-drained}
 use Rattle.render_core.proofs.FrameEachSample.{length-frames-after_run}
+use Rattle.spc700_exec.specs.declared.bus.TheConstants.{CYCLES_PER_SAMPLE}
 
 -- a run goes on where another one ended
 module _ {S : Type 0} (bus : BusMeaning S) (lawful : IsLawful bus) (k n : ℕ) (less : k ≤ n) where
@@ -33,7 +34,7 @@ module _ {S : Type 0} (bus : BusMeaning S) (lawful : IsLawful bus) (k n : ℕ) (
 
   pub after_run-after_run : (w : Whole S) → after_run bus n (after_run bus k w) ≡ after_run bus n w
   unfolding after_run
-  after_run-after_run w = after_run-after_steps (32 * k - bus.clock w.1) w
+  after_run-after_run w = after_run-after_steps (CYCLES_PER_SAMPLE * k - bus.clock w.1) w
 
 -- what no run changes
 module _ {S V : Type 0} {chip : ChipMeaning S} {saving : ChipSaving S V} (laws : IsLawfulSaving chip saving) (v : V) where
@@ -60,7 +61,7 @@ module _ {S V : Type 0} {chip : ChipMeaning S} {saving : ChipSaving S V} (laws :
   sampled_mask m false = refl
 
   sampled_chip : (m : Machine S) (b : Bool) → saving.loaded (if b then after_sample chip m else m).chip v ≡ saving.loaded m.chip v
-  sampled_chip m true = laws.sample_keeps_fixed (m.clock / 32) m.chip m.memory v
+  sampled_chip m true = laws.sample_keeps_fixed (m.clock / CYCLES_PER_SAMPLE) m.chip m.memory v
   sampled_chip m false = refl
 
   kept-pass : (m : Machine S) (cycles : ℕ) → IsKept m ((lock_step chip).pass m cycles)
@@ -88,12 +89,12 @@ module _ {S V : Type 0} {chip : ChipMeaning S} {saving : ChipSaving S V} (laws :
   kept-after_steps : (n steps : ℕ) (w : Whole (Machine S)) → IsKept w.1 (after_steps (lock_step chip) n steps w).1
   kept-after_steps n zero w = kept_none w.1
   kept-after_steps n (suc steps) w =
-      kept-if (nat_le n (w.1.clock / 32)) w.1 w (after_steps (lock_step chip) n steps (after_step (lock_step chip) w)) (kept_none w.1)
+      kept-if (nat_le n (w.1.clock / CYCLES_PER_SAMPLE)) w.1 w (after_steps (lock_step chip) n steps (after_step (lock_step chip) w)) (kept_none w.1)
       (kept_then (kept-after_step w) (kept-after_steps n steps (after_step (lock_step chip) w)))
 
   pub kept-after_run : (n : ℕ) (w : Whole (Machine S)) → IsKept w.1 (after_run (lock_step chip) n w).1
   unfolding after_run
-  kept-after_run n w = kept-after_steps n (32 * n - w.1.clock) w
+  kept-after_run n w = kept-after_steps n (CYCLES_PER_SAMPLE * n - w.1.clock) w
 
 module _ {S V : Type 0} (chip : ChipMeaning S) (saving : ChipSaving S V) (laws : IsLawfulSaving chip saving) where
   -- a machine and the same without what it emitted run to the same end
@@ -124,12 +125,12 @@ module _ {S V : Type 0} (chip : ChipMeaning S) (saving : ChipSaving S V) (laws :
 
   pub is_played_lawfully : IsPlayedLawfully chip saving
   is_played_lawfully = record {
-    loads_back = λ w. ap (λ (s : S). (w.0, record w.1 { chip = s })) (laws.loads_back w.1.chip (w.1.clock / 32));
+    loads_back = λ w. ap (λ (s : S). (w.0, record w.1 { chip = s })) (laws.loads_back w.1.chip (w.1.clock / CYCLES_PER_SAMPLE));
     loads_over = λ w s t memory other. ap (λ (c : S). (t.cpu, record w.1 { memory = other; io = t.bus.io; chip = c; clock = t.bus.clock })) (laws.loads_over w.1.chip s.bus.chip t.bus.chip);
     loads_after = λ n w s memory.
         let kept = kept-after_run laws s.bus.chip n w in
         λ i. (s.cpu, record w.1 { memory = memory; io = s.bus.io; chip = kept.fixed i; clock = s.bus.clock; mask = kept.mask i });
-    stays = λ w. ap (λ (x : Whole (Machine S)). with_lists_of w.1 x) (after_run-reached (lock_step chip) (lock_step-lawful chip) (w.1.clock / 32) w (omega arith));
+    stays = λ w. ap (λ (x : Whole (Machine S)). with_lists_of w.1 x) (after_run-reached (lock_step chip) (lock_step-lawful chip) (w.1.clock / CYCLES_PER_SAMPLE) w (omega arith));
     makes = λ n w few. made-after_run (lock_step chip) (lock_step-lawful chip) n w few;
     goes_on = goes_on;
     counts = λ n w few.

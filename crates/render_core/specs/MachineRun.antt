@@ -3,6 +3,7 @@ use Rattle.std.specs.Prelude.{ℕ, zero, suc, ◌-◌, ◌*◌, nat_le, if◌the
 use Rattle.spc700_exec.specs.declared.cpu.Cpu.{Cpu}
 use Rattle.spc700_exec.specs.Bus.{BusMeaning}
 use Rattle.spc700_exec.specs.Instruction.{step_outcome}
+use Rattle.spc700_exec.specs.declared.bus.TheConstants.{CYCLES_PER_SAMPLE}
 
 -- the whole machine: the processor, and the bus with all that is beneath it
 abbrev pub Whole : Type 0 → Type 0
@@ -20,4 +21,4 @@ after_steps bus samples (suc steps) w =
 
 -- the machine after the run. A step passes a cycle at least, so as many steps as there are cycles left are enough
 unfoldable pub after_run : {S : Type 0} → BusMeaning S → (samples : ℕ) → Whole S → Whole S
-after_run bus samples w = after_steps bus samples (32 * samples - bus.clock w.1) w
+after_run bus samples w = after_steps bus samples (CYCLES_PER_SAMPLE * samples - bus.clock w.1) w

@@ -13,6 +13,7 @@ use Rattle.chip_form.specs.Samples.{count_after}
 use Rattle.render_core.specs.MachineRun.{Whole}
 use Rattle.render_core.specs.Items.{run_frames, run_records, end_of_run}
 use Rattle.render_core.specs.RunCounts.{run_counts}
+use Rattle.spc700_exec.specs.declared.bus.TheConstants.{CYCLES_PER_SAMPLE}
 
 pub record RenderState (S : Type 0) : Type 0 where
   -- the whole machine: the processor, and the bus with its book and what it emitted since it was drained
@@ -55,7 +56,7 @@ pub record IsNextPiece {S : Type 0} (chip : ChipMeaning S) (old new : RenderStat
   pub some : is_last ≡ false → 0 < length given + length written
   -- and the clock went on, so that a loop over the pieces ends
   pub later : is_last ≡ false → old.bus.machine.clock < new.bus.machine.clock
-  pub below : is_last ≡ false → new.bus.machine.clock < 32 * new.samples
+  pub below : is_last ≡ false → new.bus.machine.clock < CYCLES_PER_SAMPLE * new.samples
   -- the counts will be the same, and with the last piece they are there
   pub counts : counts_to_come chip new ≡ counts_to_come chip old
   pub counted : is_last ≡ true → new.bus.book.counts ≡ counts_to_come chip new

@@ -8,7 +8,7 @@ ghost use Rattle.lock_step.specs.Emits.{IsCountedOn};
 
 use crate::OutOfMemory;
 use lock_step::{DrainedBus, sample_number};
-use spc700_exec::Cpu;
+use spc700_exec::{CYCLES_PER_SAMPLE, Cpu};
 use std::alloc::Global;
 use trace_form::{Frames, Records};
 
@@ -17,8 +17,6 @@ fn keep_records_before(drained: &Records, samples: u32, records: &mut Records)
     ensures { records.new ≡ records_before samples drained.now }
 {
     records.clear();
-    // Both lists have the same room.
-    let _room = drained.room();
     for item in drained.as_slice() {
         if sample_number(*item) < samples {
             records.push(*item);
@@ -134,7 +132,12 @@ fn make_rounds_if_due<B: DrainedBus>(cpu: &Cpu, bus: &mut B, samples: u32, pause
 
 /// Steps of the run, one at least: rounds that only wait, where it is time for a trial, and steps one by one until the run ends, the
 /// processor halts, or the room for calls is filled and something is to be drained or it is time for a trial again.
-fn go_on<B: DrainedBus>(cpu: &mut Cpu, bus: &mut B, samples: u32, pause: &mut TrialPause)
+fn take_rounds_and_steps<B: DrainedBus>(
+    cpu: &mut Cpu,
+    bus: &mut B,
+    samples: u32,
+    pause: &mut TrialPause,
+)
     requires calls { B.means.calls bus.old ≡ 0 }
     requires more { B.means.made bus.old < samples }
     requires few { samples ≤ most_frames }
@@ -160,7 +163,7 @@ fn step_and_drain<B: DrainedBus>(cpu: &mut Cpu, bus: &mut B, samples: u32, lists
     ensures idle { IsBetweenSteps B.means B.emits samples bus.new }
     ensures later { B.means.clock bus.old < B.means.clock bus.new }
 {
-    go_on(cpu, bus, samples, &mut lists.pause);
+    take_rounds_and_steps(cpu, bus, samples, &mut lists.pause);
     settle_at_end(bus, samples);
     bus.drain(&mut lists.frames, &mut lists.drained);
     keep_records_before(&lists.drained, samples, &mut lists.records);
@@ -188,7 +191,7 @@ pub(crate) fn make_piece<B: DrainedBus>(
     ensures some { result ≡ false → 0 < length lists.new.frames + length lists.new.records }
     ensures more { result ≡ false → 0 < length (run_frames B.means B.emits samples (cpu.new, bus.new)) }
     ensures later { result ≡ false → B.means.clock bus.old < B.means.clock bus.new }
-    ensures below { result ≡ false → B.means.clock bus.new < 32 * samples }
+    ensures below { result ≡ false → B.means.clock bus.new < CYCLES_PER_SAMPLE * samples }
     ensures at_length { result ≡ nat_le samples (B.means.made bus.new) }
 {
     lists.frames.clear();

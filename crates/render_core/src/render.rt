@@ -4,8 +4,9 @@ ghost use Rattle.std.specs.Borrow.{sem};
 ghost use Rattle.std.specs.Io.BufRead.{Rests};
 ghost use Rattle.trace_form.specs.Rooms.{frame_room, record_room};
 ghost use Rattle.num_fix.specs.Limits.{most_frames};
-ghost use Rattle.lock_step.specs.LockStep.{lock_step};
+ghost use Rattle.lock_step.specs.LockStep.{lock_step, samples_made};
 ghost use Rattle.lock_step.specs.LockStepEmits.{lock_step_emits};
+ghost use Rattle.lag_bus.specs.Lagging.{MatchesBook};
 ghost use Rattle.render_core.specs.Items.{run_frames, run_records, end_of_run};
 ghost use Rattle.render_core.specs.RunCounts.{with_opened_book, run_counts};
 ghost use Rattle.render_core.specs.Opening.{opened_whole, opened_cpu};
@@ -86,8 +87,6 @@ fn piece_of<C: Chip>(render: &Render<C>, done: bool) -> Piece<'_>
     ensures few_frames { length result.frames.now ≤ frame_room }
     ensures few_records { length result.records.now ≤ record_room }
 {
-    let _frame_room = render.lists.frames.room();
-    let _record_room = render.lists.records.room();
     Piece {
         frames: render.lists.frames.as_slice(),
         records: render.lists.records.as_slice(),
@@ -136,10 +135,9 @@ impl<C: Chip> Render<C> {
     fn make_next(&mut self) -> bool
         ensures { IsNextPiece C.meaning self.old self.new self.new.frames self.new.records result }
     {
-        // The bus tells of its chip, before the piece and after it.
-        let _before = self.bus.total();
+        self.bus.matches_its_book();
         let is_last = make_piece(&mut self.cpu, &mut self.bus, self.samples, &mut self.lists);
-        let _after = self.bus.total();
+        self.bus.matches_its_book();
         is_last
     }
 
@@ -166,8 +164,7 @@ impl<C: Chip> Render<C> {
         ensures sample { result ≡ true → self.now.bus.chip_sample ≡ self.now.samples }
         ensures whole { result ≡ true → (self.now.cpu, self.now.bus.machine) ≡ whole_at_length C.meaning self.now }
     {
-        // The bus tells of its chip.
-        let _total = self.bus.total();
+        self.bus.matches_its_book();
         self.bus.made() >= self.samples
     }
 
@@ -217,6 +214,13 @@ impl<C: Chip> Render<C> {
         self.samples = samples;
     }
 
+    /// The numbers of the chip in hand are those of the book.
+    pub fn matches_its_book(&self)
+        ensures { MatchesBook self.now.bus }
+    {
+        self.bus.matches_its_book();
+    }
+
     /// The samples that the chip in hand made in all, those before a load too. It stays at its type's end.
     pub fn total(&self) -> u64
         ensures { result ≡ self.now.bus.chip_total }
@@ -231,7 +235,7 @@ impl<C: Chip> Render<C> {
         ensures sample { C.sample result.now ≡ self.now.bus.chip_sample }
         ensures total { C.total result.now ≡ self.now.bus.chip_total }
         ensures counted { C.batches result.now ≡ self.now.bus.book.counts.batches }
-        ensures made { C.sample result.now ≡ self.now.bus.machine.clock / 32 - self.now.bus.book.pending }
+        ensures made { C.sample result.now ≡ samples_made self.now.bus.machine - self.now.bus.book.pending }
         ensures state { is_at_length self.now ≡ true → C.state result.now ≡ self.now.bus.machine.chip }
     {
         self.bus.chip()
@@ -242,7 +246,7 @@ impl<C: Chip> Render<C> {
     pub fn counts(&self) -> Counts
         ensures counts { result ≡ self.now.bus.book.counts }
         ensures batches { self.now.bus.chip_batches ≡ result.batches }
-        ensures sample { self.now.bus.chip_sample ≡ self.now.bus.machine.clock / 32 - self.now.bus.book.pending }
+        ensures sample { self.now.bus.chip_sample ≡ samples_made self.now.bus.machine - self.now.bus.book.pending }
     {
         self.bus.counts()
     }

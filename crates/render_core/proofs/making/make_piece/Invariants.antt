@@ -3,6 +3,7 @@ use Rattle.render_core.specs.BetweenSteps.{IsBetweenSteps}
 use Rattle.render_core.specs.Items.{run_frames, run_records, end_of_run}
 use Rattle.lock_step.specs.Emits.{IsCountedOn}
 use Rattle.render_core.proofs.making.make_piece.Given as goal
+use Rattle.spc700_exec.specs.declared.bus.TheConstants.{CYCLES_PER_SAMPLE}
 
 -- what was to come is the piece so far and what is to come
 abbrev pub invariant-steps : goal.invariant-steps
@@ -17,4 +18,4 @@ invariant-steps g l = record {
 }
 
 abbrev pub decreases-steps : goal.decreases-steps
-decreases-steps g l = 32 * l.samples - g.B.Bus.means.clock l.bus
+decreases-steps g l = CYCLES_PER_SAMPLE * l.samples - g.B.Bus.means.clock l.bus

@@ -21,7 +21,7 @@ returns-clause-wave_to_come g c =
     let rest = drop inside.begun inside.cuts in
     let same : h ≡ f = frames_kept g.C.Chip.meaning g.C.Chip.saving c.play.ensures.tune in
     rw (← c.self.view_is)
-    (moved inside.wave c.put_frames.new.wave c.play.new.frames (slice_of f at inside.left) (slice_of h next (inside.left - most)) (cut_frames f rest) (cut_frames h rest) (rw c.as_slice.ensures at c.put_frames.ensures)
+    (moved inside.wave c.put_frames.new.wave c.play.new.frames (slice_of f at inside.left) (slice_of h next (inside.left - most)) (cut_frames f rest) (cut_frames h rest) (rw c.as_slice.ensures.frames at c.put_frames.ensures)
     (played_part f h at next most inside.left c.play.new.frames c.self.invariant.run same (ap (λ (b : CutBook). b.position) c.play.ensures.book) (omega arith) c.play.ensures.frames)
     (ap (λ (k : ℕ → List Frame). cut_frames k rest) same))
 

@@ -2,7 +2,7 @@ use Rattle.std.proofs.Common.{◌∙◌}
 use Rattle.lock_step.proofs.ChipCounts.{counts_on_then}
 use Rattle.render_core.proofs.RunAfterWait.{items-after_run-steps, end-after_run-steps}
 use Rattle.render_core.proofs.CountedSteps.{counted-steps}
-use Rattle.render_core.proofs.making.go_on.Goals as goal
+use Rattle.render_core.proofs.making.take_rounds_and_steps.Goals as goal
 
 pub returns-clause-frames : goal.returns-clause-frames
 returns-clause-frames g c =
