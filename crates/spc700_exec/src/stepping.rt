@@ -24,7 +24,7 @@ fn advance_awake<B: Bus>(cpu: &mut Cpu, bus: &mut B)
     instruct(cpu, bus, op);
 }
 
-/// A step, by its outcome alone.
+/// A step of a processor, halted or not, by its outcome alone: of a halted one the cycles to the next sample pass.
 // In line in the step.
 #[inline(always)]
 fn advance<B: Bus>(cpu: &mut Cpu, bus: &mut B)
@@ -57,7 +57,7 @@ pub fn step<B: Bus>(cpu: &mut Cpu, bus: &mut B)
     advance(cpu, bus);
 }
 
-/// One step of a processor that isn't halted, which no test tells.
+/// One step of a processor of which the caller knows that it isn't halted: the step doesn't ask.
 #[inline(always)]
 pub fn step_awake<B: Bus>(cpu: &mut Cpu, bus: &mut B)
     requires room { B.means.calls bus.old ≤ most_calls_before_step }
