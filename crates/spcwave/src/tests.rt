@@ -109,8 +109,8 @@ fn other_words_are_not_understood(rt: HostRuntime) -> Result<(), Fail> {
 
 /// Words of commands on one block, and how each ends with its report.
 const COMMANDS: &[(&[&str], Status, &str)] = &[
-    (&["version"], Status::Ok, "spcwave 1.0.0\n"),
-    (&["--version"], Status::Ok, "spcwave 1.0.0\n"),
+    (&["version"], Status::Ok, "spcwave 1.1.0\n"),
+    (&["--version"], Status::Ok, "spcwave 1.1.0\n"),
     (&["brr", "IN", "OUT"], Status::Ok, "blocks 1 samples 16\n"),
     (&["info", "IN"], Status::SpcLength, ""),
     (&["encode", "IN", "OUT", "--loop"], Status::WavForm, ""),
