@@ -5,7 +5,6 @@ use Rattle.aram_core.specs.Memory.{byte_at}
 use Rattle.voice_unit.specs.Voice.{is_silencing}
 use Rattle.voice_unit.specs.Row.{IsGroup, place_after, groups_before, ends_in, loops_in}
 use Rattle.voice_unit.specs.declared.course.Course.{Course}
-use Rattle.voice_unit.specs.declared.course.Headed.{Headed}
 use Rattle.voice_unit.specs.declared.course.Stretch.{Stretch}
 use Rattle.voice_unit.specs.declared.row.Place.{Place}
 
@@ -28,11 +27,6 @@ ends_at course memory place group j = ends_in memory place course.position cours
 -- the voice loops in sample j
 abbrev pub loops_at : Course → (memory : List ℕ) → (j : ℕ) → Bool
 loops_at course memory j = loops_in memory course.loop_to course.first course.position course.pitch j
-
--- a group with the header of its block
-pub record IsHeaded (memory : List ℕ) (now : Headed) : Type 0 where
-  pub group : IsGroup now.place
-  pub header : now.header ≡ byte_at memory now.place.block
 
 -- a stretch of n samples at most: the groups that it reads, and the one that follows
 pub record IsStretch (course : Course) (memory : List ℕ) (n : ℕ) (stretch : Stretch) : Type 0 where

@@ -1,8 +1,8 @@
 //! The course of a voice at rest over the groups of a stretch of samples.
 
 ghost use Rattle.std.specs.Prelude.{◌≡◌, ◌<◌, ◌≤◌, ◌+◌, ◌*◌, ◌^◌, ◌-◌, ℕ, true, false, slice_index, take};
-ghost use Rattle.voice_unit.specs.Row.{next_place, last_of, kept_row, groups_before};
-ghost use Rattle.voice_unit.specs.Course.{IsCourse, IsHeaded, IsStretch, AreLoopsMarked, LeavesSounding, place_at, ends_at, loops_at};
+ghost use Rattle.voice_unit.specs.Row.{IsGroup, next_place, last_of, kept_row, groups_before};
+ghost use Rattle.voice_unit.specs.Course.{IsCourse, IsStretch, AreLoopsMarked, LeavesSounding, place_at, ends_at, loops_at};
 
 use crate::play::mark_loop;
 use crate::rest::is_silencing;
@@ -45,12 +45,12 @@ pub(crate) struct Stretch {
     pub woken: bool,
 }
 
-/// A group, with the header of its block.
+/// The block that a voice comes to after another one.
 #[derive(Clone, Copy, Debug)]
-pub(crate) struct Headed {
-    pub place: Place,
-    pub header: u8,
-    /// It begins a block whose header silences the voice while it sounds.
+pub(crate) struct NextBlock {
+    /// Its first group.
+    pub first: Place,
+    /// Its header silences the voice while it sounds.
     pub woken: bool,
 }
 
@@ -124,23 +124,22 @@ impl Course {
         block: u16,
         memory: &Aram,
         loops: &mut [u8; BATCH_SIZE],
-    ) -> Headed
+    ) -> NextBlock
         requires course { IsCourse self.now }
         requires few { at + n ≤ BATCH_SIZE }
         requires read { group < groups_before self.now.position self.now.pitch n }
         requires lower { (j : ℕ) → j < n → groups_before self.now.position self.now.pitch j ≡ group → slice_index loops.old (at + j) < 2 ^ self.now.voice }
-        ensures place { result.place ≡ next_place memory.now self.now.loop_to (last_of block) }
-        ensures headed { IsHeaded memory.now result }
-        ensures quiet { result.woken ≡ false → LeavesSounding self.now memory.now result.place.block }
+        ensures first { result.first ≡ next_place memory.now self.now.loop_to (last_of block) }
+        ensures group { IsGroup result.first }
+        ensures quiet { result.woken ≡ false → LeavesSounding self.now memory.now result.first.block }
         ensures loops { AreLoopsMarked at n self.now.voice (ends_at self.now memory.now (last_of block) group) loops.old loops.new }
     {
         let place = Place { block, offset: 7 };
         self.mark_end(at, n, group, &place, memory, loops);
-        let next = next_place(place, self.loop_to, memory);
-        Headed {
-            place: next,
-            header: memory.get(next.block),
-            woken: self.is_woken_at(&next, memory),
+        let first = next_place(place, self.loop_to, memory);
+        NextBlock {
+            first,
+            woken: self.is_woken_at(&first, memory),
         }
     }
 
@@ -168,23 +167,11 @@ impl Course {
             → LeavesSounding self.now memory.now result.next.block }
     {
         let count = groups_in(self.position, self.pitch, n);
-        let mut now = Headed {
-            place: self.first,
-            header: memory.get(self.first.block),
-            woken: false,
-        };
+        let mut place = self.first;
         let mut d = 0;
         'blocks: while d < count {
             let len = 12 + 4 * usize::from(d);
-            let place = now.place;
-            read_rest(
-                &mut work.row,
-                len,
-                &place,
-                now.header,
-                memory,
-                &mut work.blocks,
-            );
+            read_rest(&mut work.row, len, &place, memory, &mut work.blocks);
             let left = groups_left(&place);
             if count - d < left {
                 return Stretch {
@@ -195,13 +182,14 @@ impl Course {
                 };
             }
             d += left;
-            now = self.next_block(at, n, d - 1, place.block, memory, loops);
-            if now.woken {
+            let next = self.next_block(at, n, d - 1, place.block, memory, loops);
+            place = next.first;
+            if next.woken {
                 let last = reading_sample(self.position, self.pitch, d - 1, n);
                 return Stretch {
                     samples: last + 1,
                     groups: d,
-                    next: now.place,
+                    next: place,
                     woken: true,
                 };
             }
@@ -209,7 +197,7 @@ impl Course {
         Stretch {
             samples: n,
             groups: count,
-            next: now.place,
+            next: place,
             woken: false,
         }
     }

@@ -93,22 +93,21 @@ pub(crate) fn digit_bytes(block: u16, memory: &Aram) -> u64
     eight_bytes(memory.page((at / 0x100) as u8), place)
 }
 
-/// Puts the kept samples of a group, and of those that follow it in its block, after so many. The block has such a header.
+/// Puts the kept samples of a group, and of those that follow it in its block, after so many.
 pub(crate) fn read_rest(
     row: &mut [i16; ROW_SIZE],
     len: usize,
     at: &Place,
-    header: u8,
     memory: &Aram,
     blocks: &mut BlockMemory,
 )
     requires group { IsGroup at.now }
     requires some { 2 ≤ len }
     requires room { len + 16 ≤ ROW_SIZE }
-    requires header { header ≡ byte_at memory.now at.now.block }
     ensures { (loop_to groups : ℕ) → groups ≤ groups_left at.now
         → take (len + 4 * groups) row.new ≡ kept_row memory.now loop_to at.now (take len row.old) groups }
 {
+    let header = memory.get(at.block);
     let digits = digit_bytes(at.block, memory);
     blocks.read_rest(at.block, header, digits, at.offset / 2, row, len);
 }

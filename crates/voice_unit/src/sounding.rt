@@ -67,7 +67,8 @@ fn put_at_level(outs: &mut [i16; BATCH_SIZE], at: u8, n: u8, taps: &[Taps; BATCH
     }
 }
 
-/// The outputs of n samples of noise at a level.
+/// The outputs of n samples of noise at a level. It stands apart, since few voices play noise.
+#[inline(never)]
 fn put_noise(outs: &mut [i16; BATCH_SIZE], at: u8, n: u8, noise: &[u16; BATCH_SIZE], level: u16)
     requires few { at + n ≤ BATCH_SIZE }
     requires level { level ≤ 0x7ff }

@@ -12,8 +12,8 @@ pub blocks-2-init : goal.blocks-2-init
 blocks-2-init c = record {
   few = omega arith;
   row = sym (kept_row-zero _ _ _ _);
-  place = sym (place_after-zero _ _ _);
-  headed = record { group = c.requires.course.group; header = c.get.ensures };
+  there = sym (place_after-zero _ _ _);
+  group = c.requires.course.group;
   marks = λ j below.
       let none = marked-none c.args.memory.now c.args.self.now.loop_to c.args.self.now.first c.args.self.now.position c.args.self.now.pitch c.args.self.now.voice j in
       rw none (omega arith);
@@ -30,30 +30,30 @@ blocks-2-preserved c =
     let loop_to : ℕ = c.args.self.now.loop_to in
     let first : Place = c.args.self.now.first in
     let d : ℕ = c.blocks-2.d in
-    let at : Place = c.blocks-2.now.place in
+    let at : Place = c.blocks-2.place in
     let left : ℕ = c.groups_left-left.result in
     let all : left ≡ groups_left at = c.groups_left-left.ensures.value in
-    let there = c.blocks-2.invariant.place in
-    let group = c.blocks-2.invariant.headed.group in
+    let there = c.blocks-2.invariant.there in
+    let group = c.blocks-2.invariant.group in
     record {
       few = omega (arith, c.if-count-d.false);
       row = row_with_block memory loop_to first d at there group left all (take 12 c.args.work.now.row) c.blocks-2.work.row c.read_rest.new.row c.blocks-2.invariant.row
           (λ e few. rw c.from.ensures at (c.read_rest.ensures loop_to e few)) left (omega arith);
-      place = c.next_block-now.ensures.place ∙ sym (after_block memory loop_to first d at there group left all);
-      headed = c.next_block-now.ensures.headed;
+      there = c.next_block-next.ensures.first ∙ sym (after_block memory loop_to first d at there group left all);
+      group = c.next_block-next.ensures.group;
       marks = λ j below. marks_with_block memory loop_to first d at there group left all c.args.self.now.position c.args.self.now.pitch c.args.self.now.voice j _ _ _
-          (c.next_block-now.ensures.loops.marks j below) (c.blocks-2.invariant.marks j below);
-      before = λ i below. c.next_block-now.ensures.loops.before_it i below ∙ c.blocks-2.invariant.before i below;
-      later = λ i above. c.next_block-now.ensures.loops.later i above ∙ c.blocks-2.invariant.later i above;
-      quiet = λ awake e few loud. quiet_after_block memory loop_to first d at there group left all c.args.self.now.reset c.args.self.now.silent c.next_block-now.result.place c.next_block-now.ensures.place
-          (c.blocks-2.invariant.quiet awake) (c.next_block-now.ensures.quiet c.if-now.false) e few loud;
+          (c.next_block-next.ensures.loops.marks j below) (c.blocks-2.invariant.marks j below);
+      before = λ i below. c.next_block-next.ensures.loops.before_it i below ∙ c.blocks-2.invariant.before i below;
+      later = λ i above. c.next_block-next.ensures.loops.later i above ∙ c.blocks-2.invariant.later i above;
+      quiet = λ awake e few loud. quiet_after_block memory loop_to first d at there group left all c.args.self.now.reset c.args.self.now.silent c.next_block-next.result.first c.next_block-next.ensures.first
+          (c.blocks-2.invariant.quiet awake) (c.next_block-next.ensures.quiet c.if-next.false) e few loud;
     }
 
 -- the stretch ends within a block
 pub returns-then-count-d-clause-stretch : goal.returns-then-count-d-clause-stretch
 returns-then-count-d-clause-stretch c =
     let d : ℕ = c.blocks-2.d in
-    let at : Place = c.blocks-2.now.place in
+    let at : Place = c.blocks-2.place in
     let e : ℕ = c.groups_in-count.result - d in
     let done : d + e ≡ c.groups_in-count.result = omega (arith, c.blocks-2.invariant.few) in
     record {
@@ -61,7 +61,7 @@ returns-then-count-d-clause-stretch c =
       few = omega arith;
       groups = c.groups_in-count.ensures.value;
       few_groups = c.groups_in-count.ensures.few;
-      next = c.further.ensures.place ∙ sym (rw done at (within_block c.args.memory.now c.args.self.now.loop_to c.args.self.now.first d at c.blocks-2.invariant.place c.blocks-2.invariant.headed.group
+      next = c.further.ensures.place ∙ sym (rw done at (within_block c.args.memory.now c.args.self.now.loop_to c.args.self.now.first d at c.blocks-2.invariant.there c.blocks-2.invariant.group
           c.groups_left-left.result c.groups_left-left.ensures.value e c.if-count-d.true));
       group = c.further.ensures.group;
     }
@@ -69,11 +69,11 @@ returns-then-count-d-clause-stretch c =
 pub returns-then-count-d-clause-row : goal.returns-then-count-d-clause-row
 returns-then-count-d-clause-row c =
     let d : ℕ = c.blocks-2.d in
-    let at : Place = c.blocks-2.now.place in
+    let at : Place = c.blocks-2.place in
     let e : ℕ = c.groups_in-count.result - d in
     let few : e < c.groups_left-left.result = c.if-count-d.true in
     let done : d + e ≡ c.groups_in-count.result = omega (arith, c.blocks-2.invariant.few) in
-    rw done at (row_with_block c.args.memory.now c.args.self.now.loop_to c.args.self.now.first d at c.blocks-2.invariant.place c.blocks-2.invariant.headed.group
+    rw done at (row_with_block c.args.memory.now c.args.self.now.loop_to c.args.self.now.first d at c.blocks-2.invariant.there c.blocks-2.invariant.group
     c.groups_left-left.result c.groups_left-left.ensures.value (take 12 c.args.work.now.row) c.blocks-2.work.row c.read_rest.new.row c.blocks-2.invariant.row
     (λ e few. rw c.from.ensures at (c.read_rest.ensures c.args.self.now.loop_to e few)) e (omega (arith, few)))
 
@@ -90,10 +90,10 @@ returns-then-count-d-clause-loops c = record {
         let d : ℕ = c.blocks-2.d in
         let v : ℕ = c.args.self.now.voice in
         let e : ℕ = c.groups_in-count.result - d in
-        let few : e < groups_left c.blocks-2.now.place = rw c.groups_left-left.ensures.value at c.if-count-d.true in
+        let few : e < groups_left c.blocks-2.place = rw c.groups_left-left.ensures.value at c.if-count-d.true in
         let done : groups_before c.args.self.now.position c.args.self.now.pitch c.args.n ≡ d + e = omega (arith, c.groups_in-count.ensures.value, c.blocks-2.invariant.few) in
-        let through = marked-through c.args.memory.now c.args.self.now.loop_to c.args.self.now.first c.blocks-2.now.place c.args.self.now.position c.args.self.now.pitch v d j e
-        c.blocks-2.invariant.headed.group c.blocks-2.invariant.place few in
+        let through = marked-through c.args.memory.now c.args.self.now.loop_to c.args.self.now.first c.blocks-2.place c.args.self.now.position c.args.self.now.pitch v d j e
+        c.blocks-2.invariant.group c.blocks-2.invariant.there few in
         let all = rw done at (marked-all c.args.memory.now c.args.self.now.loop_to c.args.self.now.first c.args.self.now.position c.args.self.now.pitch v c.args.n j below) in
         c.blocks-2.invariant.marks j below ∙ ap (λ (x : ℕ). slice_index c.args.loops.now (c.args.at + j) + x) (sym through)
         ∙ ap (λ (b : Bool). slice_index c.args.loops.now (c.args.at + j) + bit_if b v) all
@@ -101,32 +101,32 @@ returns-then-count-d-clause-loops c = record {
 pub returns-then-count-d-clause-quiet : goal.returns-then-count-d-clause-quiet
 returns-then-count-d-clause-quiet c awake j below loud =
     let rise = groups_before-rise c.args.self.now.position c.args.self.now.pitch j c.args.n (omega (arith, below)) in
-    quiet_in_block c.args.memory.now c.args.self.now.loop_to c.args.self.now.first c.blocks-2.d c.blocks-2.now.place c.blocks-2.invariant.place c.blocks-2.invariant.headed.group
+    quiet_in_block c.args.memory.now c.args.self.now.loop_to c.args.self.now.first c.blocks-2.d c.blocks-2.place c.blocks-2.invariant.there c.blocks-2.invariant.group
     c.groups_left-left.result c.groups_left-left.ensures.value c.args.self.now.reset c.args.self.now.silent (c.blocks-2.invariant.quiet awake) _
     (omega (arith, rise, c.groups_in-count.ensures.value, c.blocks-2.invariant.few, c.if-count-d.true)) loud
 
 -- the header of the next block silences the voice
-pub returns-then-now-clause-stretch : goal.returns-then-now-clause-stretch
-returns-then-now-clause-stretch c = record {
+pub returns-then-next-clause-stretch : goal.returns-then-next-clause-stretch
+returns-then-next-clause-stretch c = record {
   some = omega arith;
   few = omega (arith, c.reading_sample-last.ensures.within);
   groups = omega (arith, c.reading_sample-last.ensures.after, c.groups_left-left.ensures.some);
   few_groups = omega (arith, c.groups_in-count.ensures.few, c.blocks-2.invariant.few, c.if-count-d.false);
-  next = c.next_block-now.ensures.place ∙ sym (after_block c.args.memory.now c.args.self.now.loop_to c.args.self.now.first c.blocks-2.d c.blocks-2.now.place c.blocks-2.invariant.place
-      c.blocks-2.invariant.headed.group c.groups_left-left.result c.groups_left-left.ensures.value);
-  group = c.next_block-now.ensures.headed.group;
+  next = c.next_block-next.ensures.first ∙ sym (after_block c.args.memory.now c.args.self.now.loop_to c.args.self.now.first c.blocks-2.d c.blocks-2.place c.blocks-2.invariant.there
+      c.blocks-2.invariant.group c.groups_left-left.result c.groups_left-left.ensures.value);
+  group = c.next_block-next.ensures.group;
 }
 
-pub returns-then-now-clause-row : goal.returns-then-now-clause-row
-returns-then-now-clause-row c =
-    row_with_block c.args.memory.now c.args.self.now.loop_to c.args.self.now.first c.blocks-2.d c.blocks-2.now.place c.blocks-2.invariant.place c.blocks-2.invariant.headed.group
+pub returns-then-next-clause-row : goal.returns-then-next-clause-row
+returns-then-next-clause-row c =
+    row_with_block c.args.memory.now c.args.self.now.loop_to c.args.self.now.first c.blocks-2.d c.blocks-2.place c.blocks-2.invariant.there c.blocks-2.invariant.group
     c.groups_left-left.result c.groups_left-left.ensures.value (take 12 c.args.work.now.row) c.blocks-2.work.row c.read_rest.new.row c.blocks-2.invariant.row
     (λ e few. rw c.from.ensures at (c.read_rest.ensures c.args.self.now.loop_to e few)) c.groups_left-left.result (omega arith)
 
-pub returns-then-now-clause-loops : goal.returns-then-now-clause-loops
-returns-then-now-clause-loops c = record {
+pub returns-then-next-clause-loops : goal.returns-then-next-clause-loops
+returns-then-next-clause-loops c = record {
   marks = λ j below. marks j below;
-  before_it = λ i below. c.next_block-now.ensures.loops.before_it i below ∙ c.blocks-2.invariant.before i below;
+  before_it = λ i below. c.next_block-next.ensures.loops.before_it i below ∙ c.blocks-2.invariant.before i below;
   later = λ i above. later i above;
 }
   where
@@ -148,22 +148,22 @@ returns-then-now-clause-loops c = record {
     after : groups_before position pitch (q + 1) ≡ d
     after = omega (arith, c.reading_sample-last.ensures.after, c.groups_left-left.ensures.some)
 
-    grown : (j : ℕ) → j < c.args.n → slice_index c.next_block-now.new.loops (c.args.at + j) ≡ slice_index c.args.loops.now (c.args.at + j)
+    grown : (j : ℕ) → j < c.args.n → slice_index c.next_block-next.new.loops (c.args.at + j) ≡ slice_index c.args.loops.now (c.args.at + j)
         + bit_if (marked c.args.memory.now c.args.self.now.loop_to c.args.self.now.first position pitch v d j) v
-    grown j within = marks_with_block c.args.memory.now c.args.self.now.loop_to c.args.self.now.first c.blocks-2.d c.blocks-2.now.place c.blocks-2.invariant.place c.blocks-2.invariant.headed.group
-        c.groups_left-left.result c.groups_left-left.ensures.value position pitch v j _ _ _ (c.next_block-now.ensures.loops.marks j within) (c.blocks-2.invariant.marks j within)
+    grown j within = marks_with_block c.args.memory.now c.args.self.now.loop_to c.args.self.now.first c.blocks-2.d c.blocks-2.place c.blocks-2.invariant.there c.blocks-2.invariant.group
+        c.groups_left-left.result c.groups_left-left.ensures.value position pitch v j _ _ _ (c.next_block-next.ensures.loops.marks j within) (c.blocks-2.invariant.marks j within)
 
-    marks : (j : ℕ) → j < q + 1 → slice_index c.next_block-now.new.loops (c.args.at + j) ≡ slice_index c.args.loops.now (c.args.at + j)
+    marks : (j : ℕ) → j < q + 1 → slice_index c.next_block-next.new.loops (c.args.at + j) ≡ slice_index c.args.loops.now (c.args.at + j)
         + bit_if (loops_in c.args.memory.now c.args.self.now.loop_to c.args.self.now.first position pitch j) v
     marks j below =
         let within : j < c.args.n = omega (arith, below, c.reading_sample-last.ensures.within) in
         let all = rw after at (marked-all c.args.memory.now c.args.self.now.loop_to c.args.self.now.first position pitch v (q + 1) j below) in
         grown j within ∙ ap (λ (b : Bool). slice_index c.args.loops.now (c.args.at + j) + bit_if b v) all
 
-    later : (i : ℕ) → c.args.at + (q + 1) ≤ i → slice_index c.next_block-now.new.loops i ≡ slice_index c.args.loops.now i
+    later : (i : ℕ) → c.args.at + (q + 1) ≤ i → slice_index c.next_block-next.new.loops i ≡ slice_index c.args.loops.now i
     later i above = by (nat_lt i (c.args.at + c.args.n)) refl
       where
-        by : (b : Bool) → nat_lt i (c.args.at + c.args.n) ≡ b → slice_index c.next_block-now.new.loops i ≡ slice_index c.args.loops.now i
+        by : (b : Bool) → nat_lt i (c.args.at + c.args.n) ≡ b → slice_index c.next_block-next.new.loops i ≡ slice_index c.args.loops.now i
         by true e =
             let below : i < c.args.at + c.args.n = grind (arith, nat_tests, e) in
             let part : c.args.at + (i - c.args.at) ≡ i = omega (arith, above) in
@@ -176,12 +176,12 @@ returns-then-now-clause-loops c = record {
             rw part at kept
         by false e =
             let late : c.args.at + c.args.n ≤ i = grind (arith, nat_tests, e) in
-            c.next_block-now.ensures.loops.later i late ∙ c.blocks-2.invariant.later i late
+            c.next_block-next.ensures.loops.later i late ∙ c.blocks-2.invariant.later i late
 
-pub returns-then-now-clause-quiet : goal.returns-then-now-clause-quiet
-returns-then-now-clause-quiet c awake j below loud =
+pub returns-then-next-clause-quiet : goal.returns-then-next-clause-quiet
+returns-then-next-clause-quiet c awake j below loud =
     let rise = groups_before-rise c.args.self.now.position c.args.self.now.pitch j c.reading_sample-last.result (omega (arith, below)) in
-    quiet_in_block c.args.memory.now c.args.self.now.loop_to c.args.self.now.first c.blocks-2.d c.blocks-2.now.place c.blocks-2.invariant.place c.blocks-2.invariant.headed.group
+    quiet_in_block c.args.memory.now c.args.self.now.loop_to c.args.self.now.first c.blocks-2.d c.blocks-2.place c.blocks-2.invariant.there c.blocks-2.invariant.group
     c.groups_left-left.result c.groups_left-left.ensures.value c.args.self.now.reset c.args.self.now.silent (c.blocks-2.invariant.quiet awake) _
     (omega (arith, rise, c.reading_sample-last.ensures.before, c.groups_left-left.ensures.some)) loud
 
