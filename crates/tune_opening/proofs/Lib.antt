@@ -1,2 +1,2 @@
--- Served: the frames, as those of a run, and the pages of a server that opened at a tune.
+-- Served: the frames, as those of a run, the pages and the chip of a server that opened at a tune.
 pub mod Served

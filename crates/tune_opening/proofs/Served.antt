@@ -1,4 +1,4 @@
--- The frames and the pages of a server that opened at a tune.
+-- The frames, the pages and the chip of a server that opened at a tune.
 use Rattle.std.proofs.Common.{◌≡◌, ◌∙◌, ℕ, ℤ, List, ◌++◌, length, take, refl, sym, ap, arith}
 use Rattle.std.proofs.Math.Seq.{take-append_seam}
 use Rattle.dsp_state.specs.declared.state.ChipState.{ChipState}
@@ -8,10 +8,10 @@ use Rattle.lock_step.specs.Machine.{Machine}
 use Rattle.render_core.specs.MachineRun.{Whole}
 use Rattle.cut_form.specs.GrowingFrames.{AreOfRun}
 use Rattle.cut_server.specs.Machines.{Machines, AreLawful}
-use Rattle.cut_server.specs.Server.{lock_step_machines}
+use Rattle.cut_server.specs.Server.{lock_step_machines, chip_after}
 use Rattle.cut_server.specs.ServerState.{pages_after, frames_after}
 use Rattle.cut_server.proofs.Renders.{machines_lawful}
-use Rattle.tune_opening.specs.Tune.{opened_tune, tune_frames, tune_pages}
+use Rattle.tune_opening.specs.Tune.{opened_tune, tune_frames, tune_pages, tune_chip}
 
 pub frames_served : (file : List ℕ) (table : List ℤ) (start : Whole (Machine ChipState)) → start ≡ opened_tune file table 0 →
     frames_after (lock_step_machines dsp_chip dsp_saving) start ≡ tune_frames file table 0
@@ -22,6 +22,9 @@ pub pages_served : (file : List ℕ) (table : List ℤ) (start : Whole (Machine 
     pages_after (lock_step_machines dsp_chip dsp_saving) start ≡ tune_pages file table
 unfolding lock_step_machines
 pages_served file table start is = ap (pages_after (lock_step_machines dsp_chip dsp_saving)) is
+
+pub chip_served : (file : List ℕ) (table : List ℤ) (start : Whole (Machine ChipState)) → start ≡ opened_tune file table 0 → chip_after dsp_chip start ≡ tune_chip file table
+chip_served file table start is = ap (chip_after dsp_chip) is
 
 -- the frames of a run from a machine that has made none
 run_from : {W V : Type 0} (machines : Machines W V) (start : W) → AreLawful machines → machines.sample (machines.state start) ≡ 0 → AreOfRun (frames_after machines start)

@@ -35,3 +35,7 @@ tune_counts file table mask samples = run_counts dsp_chip samples (with_opened_b
 -- the 256 pages of the memory that its run has once so many samples are made
 abbrev pub tune_pages : (file : List ℕ) → (table : List ℤ) → (samples : ℕ) → List (List ℕ)
 tune_pages file table samples = pages_of (after_run (lock_step dsp_chip) samples (opened_tune file table 0)).1.memory
+
+-- and the S-DSP that it has then
+abbrev pub tune_chip : (file : List ℕ) → (table : List ℤ) → (samples : ℕ) → ChipState
+tune_chip file table samples = (after_run (lock_step dsp_chip) samples (opened_tune file table 0)).1.chip

@@ -6,10 +6,10 @@ ghost use Rattle.page_pool.specs.Pool.{most_pages};
 ghost use Rattle.cut_form.specs.Checkpoints.{fewest_pages};
 ghost use Rattle.cut_form.specs.GrowingFrames.{AreOfRun};
 ghost use Rattle.cut_form.specs.CutBook.{opened_book};
-ghost use Rattle.cut_server.specs.Server.{opening, pages_at, frames_to};
+ghost use Rattle.cut_server.specs.Server.{opening, pages_at, frames_to, chip_at};
 ghost use Rattle.cut_server.specs.ServerState.{book_of, slots_of};
 ghost use Rattle.render_core.specs.RenderState.{frames_to_come, records_to_come, counts_to_come};
-ghost use Rattle.tune_opening.specs.Tune.{opened_tune, tune_frames, tune_pages, tune_records, tune_counts};
+ghost use Rattle.tune_opening.specs.Tune.{opened_tune, tune_frames, tune_pages, tune_chip, tune_records, tune_counts};
 
 use crate::OutOfMemory;
 use cut_server::CutServer;
@@ -39,8 +39,8 @@ pub fn open_tune(
     Render::open(alloc, file, chip, samples, mask)
 }
 
-/// Opens a server of the cuts of a file's tune over a table, with so many pages for its checkpoints. Its frames, and the
-/// pages of its memory, are those of the tune's run.
+/// Opens a server of the cuts of a file's tune over a table, with so many pages for its checkpoints. Its frames, the pages of its
+/// memory, and its chip are those of the tune's run.
 pub fn open_server(
     alloc: Global,
     file: &SpcFile,
@@ -53,6 +53,7 @@ pub fn open_server(
     ensures frames { IfOk result (λ server. frames_to dsp_chip dsp_saving server ≡ tune_frames file.now table 0) }
     ensures run { IfOk result (λ server. AreOfRun (frames_to dsp_chip dsp_saving server)) }
     ensures pages { IfOk result (λ server. pages_at dsp_chip dsp_saving server ≡ tune_pages file.now table) }
+    ensures chip { IfOk result (λ server. chip_at dsp_chip dsp_saving server ≡ tune_chip file.now table) }
     ensures book { IfOk result (λ server. book_of server ≡ opened_book (tune_pages file.now table)) }
     ensures slots { IfOk result (λ server. slots_of server ≡ pages) }
 {
