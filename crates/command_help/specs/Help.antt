@@ -8,7 +8,7 @@ abbrev pub help_text : List ℕ
 help_text =
     codes "spcwave renders SPC music, as the Super Nintendo plays it, to WAV files. Its commands:\n" ++
     codes "\n" ++
-    codes "  spcwave render SPC TABLE WAV [--samples N] [--trace FILE] [--voices HH]: render a tune, and trace it on request\n" ++
+    codes "  spcwave render SPC TABLE WAV [--samples N] [--trace FILE] [--voices HH] [--mute HH]: render a tune, and trace it on request\n" ++
     codes "  spcwave info SPC: show the tags and the registers of a tune\n" ++
     codes "  spcwave brr IN OUT: decode BRR blocks to a WAV file\n" ++
     codes "  spcwave encode WAV BRR [--loop] [--loop-at SAMPLE] [--search WAYS]: encode a WAV file to BRR blocks\n" ++
@@ -17,8 +17,8 @@ help_text =
     codes "  spcwave asm IN ORIGIN OUT: assemble a program of the SPC700\n" ++
     codes "  spcwave dis IN ORIGIN OUT: list a program of the SPC700\n" ++
     codes "  spcwave rip SPC PREFIX [--range AABB]: write the samples of a tune to WAV files\n" ++
-    codes "  spcwave cuts SPC TABLE LIST WAV: join the cuts of a tune that a list says\n" ++
-    codes "  spcwave serve SPC TABLE SCRIPT WAV [--pages N]: seek, play, mark and drop in a tune as a script says\n" ++
+    codes "  spcwave cuts SPC TABLE LIST WAV [--mute HH]: join the cuts of a tune that a list says\n" ++
+    codes "  spcwave serve SPC TABLE SCRIPT WAV [--pages N] [--mute HH]: seek, play, mark and drop in a tune as a script says\n" ++
     codes "  spcwave help: tell this; --help does so too\n" ++
     codes "  spcwave version: tell the number of the version; --version does so too\n" ++
     codes "\n" ++

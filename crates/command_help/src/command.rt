@@ -16,7 +16,7 @@ use std::alloc::Global;
 const HELP: &[u8] = b"\
 spcwave renders SPC music, as the Super Nintendo plays it, to WAV files. Its commands:\n\
 \n\
-\x20 spcwave render SPC TABLE WAV [--samples N] [--trace FILE] [--voices HH]: render a tune, and trace it on request\n\
+\x20 spcwave render SPC TABLE WAV [--samples N] [--trace FILE] [--voices HH] [--mute HH]: render a tune, and trace it on request\n\
 \x20 spcwave info SPC: show the tags and the registers of a tune\n\
 \x20 spcwave brr IN OUT: decode BRR blocks to a WAV file\n\
 \x20 spcwave encode WAV BRR [--loop] [--loop-at SAMPLE] [--search WAYS]: encode a WAV file to BRR blocks\n\
@@ -25,8 +25,8 @@ spcwave renders SPC music, as the Super Nintendo plays it, to WAV files. Its com
 \x20 spcwave asm IN ORIGIN OUT: assemble a program of the SPC700\n\
 \x20 spcwave dis IN ORIGIN OUT: list a program of the SPC700\n\
 \x20 spcwave rip SPC PREFIX [--range AABB]: write the samples of a tune to WAV files\n\
-\x20 spcwave cuts SPC TABLE LIST WAV: join the cuts of a tune that a list says\n\
-\x20 spcwave serve SPC TABLE SCRIPT WAV [--pages N]: seek, play, mark and drop in a tune as a script says\n\
+\x20 spcwave cuts SPC TABLE LIST WAV [--mute HH]: join the cuts of a tune that a list says\n\
+\x20 spcwave serve SPC TABLE SCRIPT WAV [--pages N] [--mute HH]: seek, play, mark and drop in a tune as a script says\n\
 \x20 spcwave help: tell this; --help does so too\n\
 \x20 spcwave version: tell the number of the version; --version does so too\n\
 \n\

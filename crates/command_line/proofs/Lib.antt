@@ -1,4 +1,4 @@
--- OptionWords: the options of `render`, word by word.
+-- OptionWords: options with values, word by word.
 pub mod OptionWords
 -- EncodeWords: the options of `encode`, word by word.
 pub mod EncodeWords

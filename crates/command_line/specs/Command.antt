@@ -3,8 +3,10 @@ use Rattle.std.specs.Prelude.{ℕ, ◌&&◌, ◌||◌, Bool, true, false, List, 
 use Rattle.std.specs.Str.{bytes_eq}
 use Rattle.brr_search.specs.declared.options.EncodeOptions.{EncodeOptions}
 use Rattle.render_options.specs.Options.{Options}
+use Rattle.render_options.specs.declared.SessionOptions.{SessionOptions}
 use Rattle.command_line.specs.EncodeWords.{encode_options_in}
-use Rattle.command_line.specs.Options.{is_name, options_in, demo_number_in, origin_in, range_in, usual_pages, pages_in}
+use Rattle.command_line.specs.Options.{is_name, options_in, demo_number_in, origin_in, range_in}
+use Rattle.command_line.specs.SessionWords.{session_options_in, muted_in}
 
 -- a command with its names
 pub data Command : Type 0 where
@@ -31,12 +33,12 @@ pub data Command : Type 0 where
   dis : (input : List ℕ) → (origin : ℕ) → (output : List ℕ) → Command
   -- writes wanted samples of an SPC file under names that begin with the prefix: those of the voices, and those of a range
   rip : (file prefix : List ℕ) → (range : Option (ℕ × ℕ)) → Command
-  -- joins the cuts of the list of the third name, of the tune of the SPC file of the first and the table of the second, to a sound
-  -- file of the fourth name
-  cuts : (file table list wave : List ℕ) → Command
-  -- runs the script of the third name over the SPC file of the first and the table of the second, with so many pages for checkpoints,
-  -- and writes what is played to a sound file of the fourth name
-  serve : (file table script wave : List ℕ) → (pages : ℕ) → Command
+  -- joins the cuts of the list of the third name, of the tune of the SPC file of the first and the table of the second with these
+  -- voices muted, to a sound file of the fourth name
+  cuts : (file table list wave : List ℕ) → (muted : ℕ) → Command
+  -- runs the script of the third name over the SPC file of the first and the table of the second, by these options, and writes what
+  -- is played to a sound file of the fourth name
+  serve : (file table script wave : List ℕ) → (options : SessionOptions) → Command
 
 -- a command that stands alone: no word comes after it
 abbrev pub alone : Command → List (List ℕ) → Command
@@ -132,28 +134,26 @@ abbrev pub rip_command : List (List ℕ) → Command
 rip_command (file ∷ prefix ∷ words) = if is_name file && is_name prefix then rip_over file prefix words else usage
 rip_command words = usage
 
+-- `cuts` with these names and muted voices
+abbrev pub cuts_with : (file table list wave : List ℕ) → (muted : Option ℕ) → Command
+cuts_with file table list wave None = usage
+cuts_with file table list wave (Some muted) = cuts file table list wave muted
+
 -- the words after `cuts`
 abbrev pub cuts_command : List (List ℕ) → Command
-cuts_command (file ∷ table ∷ list ∷ wave ∷ []) =
-    if is_name file && (is_name table && (is_name list && is_name wave)) then cuts file table list wave else usage
+cuts_command (file ∷ table ∷ list ∷ wave ∷ words) =
+    if is_name file && (is_name table && (is_name list && is_name wave)) then cuts_with file table list wave (muted_in words) else usage
 cuts_command words = usage
 
--- `serve` with a number of pages, which its word has to say
-abbrev pub serve_with : (file table script wave : List ℕ) → (pages : Option ℕ) → Command
+-- `serve` with these names and options
+abbrev pub serve_with : (file table script wave : List ℕ) → Option SessionOptions → Command
 serve_with file table script wave None = usage
-serve_with file table script wave (Some pages) = serve file table script wave pages
-
--- `serve` with these names and the words after them: none, or a number of pages
-abbrev pub serve_over : (file table script wave : List ℕ) → (words : List (List ℕ)) → Command
-serve_over file table script wave [] = serve file table script wave usual_pages
-serve_over file table script wave (option ∷ pages ∷ []) =
-    if bytes_eq option (codes "--pages") then serve_with file table script wave (pages_in pages) else usage
-serve_over file table script wave words = usage
+serve_with file table script wave (Some options) = serve file table script wave options
 
 -- the words after `serve`
 abbrev pub serve_command : List (List ℕ) → Command
 serve_command (file ∷ table ∷ script ∷ wave ∷ words) =
-    if is_name file && (is_name table && (is_name script && is_name wave)) then serve_over file table script wave words else usage
+    if is_name file && (is_name table && (is_name script && is_name wave)) then serve_with file table script wave (session_options_in words) else usage
 serve_command words = usage
 
 -- the command that the words say
@@ -189,5 +189,5 @@ names_input (check number) = false
 names_input (asm input origin output) = true
 names_input (dis input origin output) = true
 names_input (rip file prefix range) = true
-names_input (cuts file table list wave) = true
-names_input (serve file table script wave pages) = true
+names_input (cuts file table list wave muted) = true
+names_input (serve file table script wave options) = true

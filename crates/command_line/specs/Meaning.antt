@@ -22,8 +22,8 @@ AreInRange (Check number) = Unit {0}
 AreInRange (Asm input origin output) = Unit {0}
 AreInRange (Dis input origin output) = Unit {0}
 AreInRange (Rip file prefix range) = Unit {0}
-AreInRange (Cuts file table list wave) = Unit {0}
-AreInRange (Serve file table script wave pages) = (fewest_pages ≤ pages) × (pages ≤ most_pages)
+AreInRange (Cuts file table list wave muted) = Unit {0}
+AreInRange (Serve file table script wave options) = (fewest_pages ≤ options.pages) × (options.pages ≤ most_pages)
 
 abbrev pub meaning_of : Command → command.Command
 meaning_of Usage = command.usage
@@ -38,5 +38,5 @@ meaning_of (Check number) = command.check number
 meaning_of (Asm input origin output) = command.asm input.now origin output.now
 meaning_of (Dis input origin output) = command.dis input.now origin output.now
 meaning_of (Rip file prefix range) = command.rip file.now prefix.now range
-meaning_of (Cuts file table list wave) = command.cuts file.now table.now list.now wave.now
-meaning_of (Serve file table script wave pages) = command.serve file.now table.now script.now wave.now pages
+meaning_of (Cuts file table list wave muted) = command.cuts file.now table.now list.now wave.now muted
+meaning_of (Serve file table script wave options) = command.serve file.now table.now script.now wave.now options

@@ -12,7 +12,7 @@ use Rattle.cut_form.specs.CutBook.{slots_for_cuts}
 use Rattle.render_options.specs.Options.{Options}
 
 abbrev pub no_options : Options
-no_options = record { samples = None; trace = None; voices = None }
+no_options = record { samples = None; trace = None; voices = None; muted = None }
 
 -- A word that may name a file isn't empty and doesn't begin with a dash.
 abbrev pub is_name : List ℕ → Bool
@@ -82,14 +82,16 @@ options_with options name value =
     if bytes_eq name (codes "--samples") then option_map (λ samples. record options { samples = Some samples }) (once options.samples (count_in value))
     else if bytes_eq name (codes "--trace") then option_map (λ trace. record options { trace = Some trace }) (once options.trace (name_in value))
     else if bytes_eq name (codes "--voices") then option_map (λ voices. record options { voices = Some voices }) (once options.voices (voices_in value))
+    else if bytes_eq name (codes "--mute") then option_map (λ muted. record options { muted = Some muted }) (once options.muted (voices_in value))
     else None
 
--- the options that words say after others: names and values in turn
-abbrev pub options_from : Option Options → List (List ℕ) → Option Options
-options_from None words = None
-options_from (Some options) [] = Some options
-options_from (Some options) (name ∷ []) = None
-options_from (Some options) (name ∷ value ∷ words) = options_from (options_with options name value) words
+-- What words say after others: names and values in turn, each of which is one option more.
+abbrev pub options_from : {T : Type 0} → (add : T → (name value : List ℕ) → Option T) → Option T → List (List ℕ) → Option T
+options_from add None words = None
+options_from add (Some options) [] = Some options
+options_from add (Some options) (name ∷ []) = None
+options_from add (Some options) (name ∷ value ∷ words) = options_from add (add options name value) words
 
+-- the options of `render`
 abbrev pub options_in : List (List ℕ) → Option Options
-options_in words = options_from (Some no_options) words
+options_in words = options_from options_with (Some no_options) words

@@ -1,13 +1,37 @@
 // The words after `cuts` and `serve`.
 ghost use Rattle.std.specs.Prelude.{◌≡◌, ◌≤◌, map, string_bytes, IfSome};
 ghost use Rattle.page_pool.specs.Pool.{most_pages};
-ghost use Rattle.command_line.specs.Command.{cuts_command, serve_with, serve_over, serve_command};
+ghost use Rattle.command_line.specs.Command.{cuts_with, cuts_command, serve_with, serve_command};
 ghost use Rattle.cut_form.specs.Checkpoints.{fewest_pages};
 ghost use Rattle.command_line.specs.Meaning.{meaning_of, AreInRange};
 
-use crate::options::{is_name, pages_in};
+use crate::options::is_name;
+use crate::session_words::{read_muted, read_session_options};
 use crate::words::Command;
-use cut_form::SLOTS_FOR_CUTS;
+use render_options::SessionOptions;
+
+/// The command `cuts` with these names and muted voices.
+fn cuts_with<'a>(
+    file: &'a str,
+    table: &'a str,
+    list: &'a str,
+    wave: &'a str,
+    muted: Option<u8>,
+) -> Command<'a>
+    ensures meaning { meaning_of result ≡ cuts_with file.now table.now list.now wave.now muted }
+    ensures in_range { AreInRange result }
+{
+    match muted {
+        Some(muted) => Command::Cuts {
+            file,
+            table,
+            list,
+            wave,
+            muted,
+        },
+        None => Command::Usage,
+    }
+}
 
 /// Reads the words after `cuts`.
 pub fn read_cuts_command(words: &[String]) -> Command<'_>
@@ -15,69 +39,44 @@ pub fn read_cuts_command(words: &[String]) -> Command<'_>
     ensures in_range { AreInRange result }
 {
     match words {
-        [file, table, list, wave]
+        [file, table, list, wave, options @ ..]
             if is_name(file.as_str())
                 && is_name(table.as_str())
                 && is_name(list.as_str())
                 && is_name(wave.as_str()) => {
-            Command::Cuts {
-                file: file.as_str(),
-                table: table.as_str(),
-                list: list.as_str(),
-                wave: wave.as_str(),
-            }
+            cuts_with(
+                file.as_str(),
+                table.as_str(),
+                list.as_str(),
+                wave.as_str(),
+                read_muted(options),
+            )
         }
         _ => Command::Usage,
     }
 }
 
-/// The command `serve` with these names and a number of pages, which its word has to say.
+/// The command `serve` with these names and options.
 fn serve_with<'a>(
     file: &'a str,
     table: &'a str,
     script: &'a str,
     wave: &'a str,
-    pages: Option<u32>,
+    options: Option<SessionOptions>,
 ) -> Command<'a>
-    requires { IfSome pages (λ pages. (fewest_pages ≤ pages) × (pages ≤ most_pages)) }
-    ensures meaning { meaning_of result ≡ serve_with file.now table.now script.now wave.now pages }
+    requires { IfSome options (λ options. (fewest_pages ≤ options.pages) × (options.pages ≤ most_pages)) }
+    ensures meaning { meaning_of result ≡ serve_with file.now table.now script.now wave.now options }
     ensures in_range { AreInRange result }
 {
-    match pages {
-        Some(pages) => Command::Serve {
+    match options {
+        Some(options) => Command::Serve {
             file,
             table,
             script,
             wave,
-            pages,
+            options,
         },
         None => Command::Usage,
-    }
-}
-
-/// Reads the words after the names of `serve`.
-fn serve_over<'a>(
-    file: &'a str,
-    table: &'a str,
-    script: &'a str,
-    wave: &'a str,
-    words: &[String],
-) -> Command<'a>
-    ensures meaning { meaning_of result ≡ serve_over file.now table.now script.now wave.now (map string_bytes words.now) }
-    ensures in_range { AreInRange result }
-{
-    match words {
-        [] => Command::Serve {
-            file,
-            table,
-            script,
-            wave,
-            pages: SLOTS_FOR_CUTS,
-        },
-        [option, pages] if option.as_str() == "--pages" => {
-            serve_with(file, table, script, wave, pages_in(pages.as_bytes()))
-        }
-        _ => Command::Usage,
     }
 }
 
@@ -92,12 +91,12 @@ pub fn read_serve_command(words: &[String]) -> Command<'_>
                 && is_name(table.as_str())
                 && is_name(script.as_str())
                 && is_name(wave.as_str()) => {
-            serve_over(
+            serve_with(
                 file.as_str(),
                 table.as_str(),
                 script.as_str(),
                 wave.as_str(),
-                options,
+                read_session_options(options),
             )
         }
         _ => Command::Usage,

@@ -4,6 +4,7 @@
 mod cut_words;
 mod encode_words;
 mod options;
+mod session_words;
 mod words;
 
 pub use words::{Command, read_words};

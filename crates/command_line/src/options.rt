@@ -82,7 +82,7 @@ fn name_in(word: &str) -> Option<&str>
 }
 
 /// The voices that a word says.
-fn voices_in(word: &[u8]) -> Option<u8>
+pub fn voices_in(word: &[u8]) -> Option<u8>
     ensures { result ≡ voices_in word.now }
 {
     let mut voices = [0u8; 1];
@@ -149,6 +149,13 @@ fn options_with<'a>(
             }),
             _ => None,
         },
+        "--mute" => match (options.muted, voices_in(value.as_bytes())) {
+            (None, Some(muted)) => Some(RenderOptions {
+                muted: Some(muted),
+                ..options
+            }),
+            _ => None,
+        },
         _ => None,
     }
 }
@@ -162,6 +169,7 @@ pub fn read_options(words: &[String]) -> Option<RenderOptions<'_>>
         samples: None,
         trace: None,
         voices: None,
+        muted: None,
     };
     let mut rest = words;
     'options: while let [name, value, tail @ ..] = rest {

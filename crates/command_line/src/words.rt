@@ -9,7 +9,7 @@ use crate::cut_words::{read_cuts_command, read_serve_command};
 use crate::encode_words::read_encode_options;
 use crate::options::{demo_number_in, is_name, origin_in, range_in, read_options};
 use brr_search::EncodeOptions;
-use render_options::RenderOptions;
+use render_options::{RenderOptions, SessionOptions};
 
 /// A command with its names.
 #[derive(Clone, Copy)]
@@ -62,13 +62,14 @@ pub enum Command<'a> {
         table: &'a str,
         list: &'a str,
         wave: &'a str,
+        muted: u8,
     },
     Serve {
         file: &'a str,
         table: &'a str,
         script: &'a str,
         wave: &'a str,
-        pages: u32,
+        options: SessionOptions,
     },
 }
 

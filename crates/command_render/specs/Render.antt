@@ -29,14 +29,19 @@ traced_voices options = option_map (λ name. unwrap_or options.voices 0) options
 abbrev pub files_answer : (wave : List ℕ) → (trace : Option (List ℕ)) → (frames : ℕ) → Counts → (wave_bytes lines : List ℕ) → Answer Cause
 files_answer wave trace frames counts wave_bytes lines = done (pair wave trace wave_bytes lines) (sound_report frames counts)
 
+-- the muted voices: none, unless they are given
+abbrev pub muted_voices : Options → ℕ
+muted_voices options = unwrap_or options.muted 0
+
 -- What a file and a table answer: the frames of the run, faded, the lines of its records, and the counts of its batches.
 abbrev pub rendering_answer : (wave : List ℕ) → Options → (file : List ℕ) → (table : List ℤ) → Answer Cause
 rendering_answer wave options file table =
     let length = length_with options.samples file in
+    let muted = muted_voices options in
     let voices = traced_voices options in
-    files_answer wave options.trace length.frames (tune_counts file table (unwrap_or voices 0) length.frames)
-    (stereo_wave (faded_frames (tune_frames file table (unwrap_or voices 0) length.frames) length.fade))
-    (trace_of (is_some voices) (tune_records file table (unwrap_or voices 0) length.frames))
+    files_answer wave options.trace length.frames (tune_counts file table muted (unwrap_or voices 0) length.frames)
+    (stereo_wave (faded_frames (tune_frames file table muted (unwrap_or voices 0) length.frames) length.fade))
+    (trace_of (is_some voices) (tune_records file table muted (unwrap_or voices 0) length.frames))
 
 -- the same by what the table holds
 abbrev pub file_answer : (wave : List ℕ) → Options → (held_table : Option (List ℕ)) → (file : List ℕ) → Answer Cause

@@ -12,7 +12,7 @@ ghost use Rattle.num_fix.specs.Limits.{most_frames};
 ghost use Rattle.render_files.specs.RenderFiles.{trace_of, to_come_of, report_of};
 ghost use Rattle.tune_opening.specs.Tune.{tune_frames, tune_records, tune_counts};
 ghost use Rattle.render_options.specs.Options.{options_of, SamplesWithinHour};
-ghost use Rattle.command_render.specs.Render.{length_with, traced_voices, rendering_answer, file_answer, render_answer};
+ghost use Rattle.command_render.specs.Render.{length_with, traced_voices, muted_voices, rendering_answer, file_answer, render_answer};
 
 use command_frame::{OutOfMemory, Refusal, StreamedPlan, carry_stream};
 use dsp_core::Dsp;
@@ -50,25 +50,34 @@ fn traced_voices(options: RenderOptions<'_>) -> Option<u8>
     }
 }
 
-/// Opens the files of a render of this length. With voices there is a trace, which has the records of these voices; bit v
-/// is voice v.
+/// The muted voices.
+fn muted_voices(options: RenderOptions<'_>) -> u8
+    ensures { result ≡ muted_voices (options_of options.entry) }
+{
+    options.muted.unwrap_or(0)
+}
+
+/// Opens the files of a render of this length, with these voices muted. With voices there is a trace, which has the records
+/// of these voices; bit v is voice v.
 fn open_files(
     alloc: Global,
     file: &SpcFile,
     table: GaussTable,
+    muted: u8,
     length: Length,
     voices: Option<u8>,
 ) -> Result<RenderFiles<Dsp>, OutOfMemory>
     requires limit { length.frames ≤ most_frames }
     requires within { length.fade ≤ length.frames }
     ensures wave { IfOk result (λ files. header_of 2 length.frames ++ (to_come_of dsp_chip files).wave
-        ≡ stereo_wave (faded_frames (tune_frames file.now table (unwrap_or voices 0) length.frames) length.fade)) }
+        ≡ stereo_wave (faded_frames (tune_frames file.now table muted (unwrap_or voices 0) length.frames) length.fade)) }
     ensures trace { IfOk result (λ files. (to_come_of dsp_chip files).trace
-        ≡ trace_of (is_some voices) (tune_records file.now table (unwrap_or voices 0) length.frames)) }
+        ≡ trace_of (is_some voices) (tune_records file.now table muted (unwrap_or voices 0) length.frames)) }
     ensures report { IfOk result (λ files. report_of dsp_chip files
-        ≡ sound_report length.frames (tune_counts file.now table (unwrap_or voices 0) length.frames)) }
+        ≡ sound_report length.frames (tune_counts file.now table muted (unwrap_or voices 0) length.frames)) }
 {
-    let render = open_tune(alloc, file, table, length.frames, voices.unwrap_or(0))?;
+    let mask = voices.unwrap_or(0);
+    let render = open_tune(alloc, file, table, muted, length.frames, mask)?;
     RenderFiles::open(alloc, render, length.frames, length.fade, voices.is_some())
 }
 
@@ -85,11 +94,12 @@ fn plan<'a>(
         Plans (stream_makes (to_come_of dsp_chip) (report_of dsp_chip)) answer result }
 {
     let length = length_with(options.samples, file);
+    let muted = muted_voices(options);
     let voices = traced_voices(options);
     let Ok(head) = Vec::from_slice(alloc, &header(2, length.frames)) else {
         return Err(Refusal::OutOfMemory);
     };
-    let Ok(source) = open_files(alloc, file, table, length, voices) else {
+    let Ok(source) = open_files(alloc, file, table, muted, length, voices) else {
         return Err(Refusal::OutOfMemory);
     };
     Ok(StreamedPlan {

@@ -230,6 +230,23 @@ fn tags_give_the_length_and_the_fade(rt: HostRuntime) -> Result<(), Fail> {
     Ok(())
 }
 
+/// The sound of voice 0 with these voices muted.
+fn is_heard_so(alloc: Global, muted: u8, frames: Frames) -> Result<bool, Fail> {
+    let options = RenderOptions {
+        muted: Some(muted),
+        ..samples(8)
+    };
+    let outcome = render_tune(alloc, FIVE, &[], options)?;
+    Ok(is_rendered(alloc, &outcome, 8, frames, ONE_BATCH)?)
+}
+
+#[test]
+fn a_muted_voice_is_not_heard(rt: HostRuntime) -> Result<(), Fail> {
+    assert!(rt; is_heard_so(rt.alloc(), 0x01, &[(8, 0)])?);
+    assert!(rt; is_heard_so(rt.alloc(), 0xfe, &[(6, 0), (2, 4000)])?);
+    Ok(())
+}
+
 /// A render that is refused.
 struct Refused {
     /// The length of the file, and what it has over a quiet one.

@@ -16,6 +16,7 @@ pub fn no_options() -> RenderOptions<'static>
         samples: None,
         trace: None,
         voices: None,
+        muted: None,
     }
 }
 
@@ -27,6 +28,7 @@ pub fn samples(count: u32) -> RenderOptions<'static>
         samples: Some(count),
         trace: None,
         voices: None,
+        muted: None,
     }
 }
 
@@ -38,6 +40,7 @@ pub fn with_trace(samples: Option<u32>, voices: Option<u8>) -> RenderOptions<'st
         samples,
         trace: Some("T"),
         voices,
+        muted: None,
     }
 }
 

@@ -24,15 +24,15 @@ inputs_from (Ok file) (Ok weights) = Ok (record { file = file; weights = weights
 abbrev pub inputs_of : (bytes table : List ℕ) → Result Inputs PlayerRefusal
 inputs_of bytes table = inputs_from (spc_file bytes) (weights_in table)
 
--- A player stands at the opening of a tune, where its one mark is, with so many pages.
-pub record IsAtOpening (inputs : Inputs) (pages : ℕ) (player : PlayerState) : Type 0 where
+-- A player stands at the opening of a tune with these voices muted, where its one mark is, with so many pages.
+pub record IsAtOpening (inputs : Inputs) (muted pages : ℕ) (player : PlayerState) : Type 0 where
   pub file : player.file ≡ inputs.file
-  pub frames : frames_of player ≡ tune_frames inputs.file inputs.weights 0
-  pub memory : memory_of player ≡ tune_pages inputs.file inputs.weights
+  pub frames : frames_of player ≡ tune_frames inputs.file inputs.weights muted 0
+  pub memory : memory_of player ≡ tune_pages inputs.file inputs.weights muted
   pub position : position_of player ≡ 0
-  pub marks : marks_of player ≡ with_checkpoint [] 0 (tune_pages inputs.file inputs.weights 0)
+  pub marks : marks_of player ≡ with_checkpoint [] 0 (tune_pages inputs.file inputs.weights muted 0)
   pub room : room_of player ≡ pages
 
 -- it was opened with these bytes
-abbrev pub IsOpened : (bytes table : List ℕ) → (pages : ℕ) → PlayerState → Type 0
-IsOpened bytes table pages player = (inputs : Inputs) × (inputs_of bytes table ≡ Ok inputs) × IsAtOpening inputs pages player
+abbrev pub IsOpened : (bytes table : List ℕ) → (muted pages : ℕ) → PlayerState → Type 0
+IsOpened bytes table muted pages player = (inputs : Inputs) × (inputs_of bytes table ≡ Ok inputs) × IsAtOpening inputs muted pages player

@@ -44,19 +44,21 @@ impl Model for Player {
 }
 
 impl Player {
-    /// A player of a file's tune over a table of weights, at its opening. It has so many pages of 256 bytes for its marks, 256 to
-    /// 65,536: the mark of frame 0, which always stays, takes 256, and each other as many as hold other bytes than in the mark before.
+    /// A player of a file's tune over a table of weights, at its opening. Bit v of the muted voices is voice v. It has so many pages
+    /// of 256 bytes for its marks, 256 to 65,536: the mark of frame 0, which always stays, takes 256, and each other as many as
+    /// hold other bytes than in the mark before.
     pub fn open(
         alloc: Global,
         file: SpcFile,
         table: GaussTable,
+        muted: u8,
         pages: u32,
     ) -> Result<Player, OutOfMemory>
         requires enough { fewest_pages ≤ pages }
         requires few { pages ≤ most_pages }
-        ensures opening { IfOk result (λ player. IsAtOpening (record { file = file; weights = table }) pages player) }
+        ensures opening { IfOk result (λ player. IsAtOpening (record { file = file; weights = table }) muted pages player) }
     {
-        let server = open_server(alloc, &file, table, pages)?;
+        let server = open_server(alloc, &file, table, muted, pages)?;
         let frames = Frames::new(alloc)?;
         Ok(Player {
             server,
@@ -70,16 +72,17 @@ impl Player {
         alloc: Global,
         bytes: &[u8],
         table: &[u8],
+        muted: u8,
         pages: u32,
     ) -> Result<Player, PlayerRefusal>
         requires enough { fewest_pages ≤ pages }
         requires few { pages ≤ most_pages }
-        ensures opened { IfOk result (λ player. IsOpened bytes.now table.now pages player) }
+        ensures opened { IfOk result (λ player. IsOpened bytes.now table.now muted pages player) }
         ensures causes { IfErr result (λ refusal. (inputs_of bytes.now table.now ≡ Err refusal) ⊎ (refusal ≡ refusals.OutOfMemory)) }
     {
         let file = read_spc(alloc, bytes)?;
         let weights = GaussTable::read(alloc, table)?;
-        let player = Player::open(alloc, file, weights, pages)?;
+        let player = Player::open(alloc, file, weights, muted, pages)?;
         Ok(player)
     }
 

@@ -12,6 +12,8 @@ pub record Options : Type 0 where
   pub trace : Option (List ℕ)
   -- the voices of the trace: bit v is voice v
   pub voices : Option ℕ
+  -- the muted voices, likewise
+  pub muted : Option ℕ
 
 -- what the options of a call say
 abbrev pub options_of : RenderOptions → Options
@@ -19,6 +21,7 @@ options_of options = record {
   samples = options.samples;
   trace = option_map (λ name. name.now) options.trace;
   voices = options.voices;
+  muted = options.muted;
 }
 
 -- a number of samples that was given is an hour of frames at most

@@ -1,4 +1,5 @@
-//! The options of a render, as the words of a command line say them and as the command `render` takes them.
+//! The options of a render and of a session, as the words of a command line say them and as the commands `render` and
+//! `serve` take them.
 #![tactic(auto)]
 
 /// The options of a render, each with its value where it is given.
@@ -10,4 +11,15 @@ pub struct RenderOptions<'a> {
     pub trace: Option<&'a str>,
     /// The voices of the trace: bit v is voice v. Without it there are none.
     pub voices: Option<u8>,
+    /// The muted voices, likewise.
+    pub muted: Option<u8>,
+}
+
+/// The options of a session.
+#[derive(Clone, Copy)]
+pub struct SessionOptions {
+    /// How many pages its checkpoints have.
+    pub pages: u32,
+    /// The muted voices: bit v is voice v.
+    pub muted: u8,
 }

@@ -13,18 +13,19 @@ use Rattle.cut_server.specs.ServerState.{pages_after, frames_after}
 use Rattle.cut_server.proofs.Renders.{machines_lawful}
 use Rattle.tune_opening.specs.Tune.{opened_tune, tune_frames, tune_pages, tune_chip}
 
-pub frames_served : (file : List ℕ) (table : List ℤ) (start : Whole (Machine ChipState)) → start ≡ opened_tune file table 0 →
-    frames_after (lock_step_machines dsp_chip dsp_saving) start ≡ tune_frames file table 0
+pub frames_served : (file : List ℕ) (table : List ℤ) (muted : ℕ) (start : Whole (Machine ChipState)) → start ≡ opened_tune file table muted 0 →
+    frames_after (lock_step_machines dsp_chip dsp_saving) start ≡ tune_frames file table muted 0
 unfolding lock_step_machines
-frames_served file table start is = ap (frames_after (lock_step_machines dsp_chip dsp_saving)) is
+frames_served file table muted start is = ap (frames_after (lock_step_machines dsp_chip dsp_saving)) is
 
-pub pages_served : (file : List ℕ) (table : List ℤ) (start : Whole (Machine ChipState)) → start ≡ opened_tune file table 0 →
-    pages_after (lock_step_machines dsp_chip dsp_saving) start ≡ tune_pages file table
+pub pages_served : (file : List ℕ) (table : List ℤ) (muted : ℕ) (start : Whole (Machine ChipState)) → start ≡ opened_tune file table muted 0 →
+    pages_after (lock_step_machines dsp_chip dsp_saving) start ≡ tune_pages file table muted
 unfolding lock_step_machines
-pages_served file table start is = ap (pages_after (lock_step_machines dsp_chip dsp_saving)) is
+pages_served file table muted start is = ap (pages_after (lock_step_machines dsp_chip dsp_saving)) is
 
-pub chip_served : (file : List ℕ) (table : List ℤ) (start : Whole (Machine ChipState)) → start ≡ opened_tune file table 0 → chip_after dsp_chip start ≡ tune_chip file table
-chip_served file table start is = ap (chip_after dsp_chip) is
+pub chip_served : (file : List ℕ) (table : List ℤ) (muted : ℕ) (start : Whole (Machine ChipState)) → start ≡ opened_tune file table muted 0 →
+    chip_after dsp_chip start ≡ tune_chip file table muted
+chip_served file table muted start is = ap (chip_after dsp_chip) is
 
 -- the frames of a run from a machine that has made none
 run_from : {W V : Type 0} (machines : Machines W V) (start : W) → AreLawful machines → machines.sample (machines.state start) ≡ 0 → AreOfRun (frames_after machines start)
@@ -38,10 +39,10 @@ run_from machines start laws none =
           ∙ take-append_seam (machines.run_frames k start) (machines.run_frames n (machines.after_run k start));
     }
 
-none_made : (file : List ℕ) (table : List ℤ) → (lock_step_machines dsp_chip dsp_saving).sample ((lock_step_machines dsp_chip dsp_saving).state (opened_tune file table 0)) ≡ 0
+none_made : (file : List ℕ) (table : List ℤ) (muted : ℕ) → (lock_step_machines dsp_chip dsp_saving).sample ((lock_step_machines dsp_chip dsp_saving).state (opened_tune file table muted 0)) ≡ 0
 unfolding lock_step_machines
-none_made file table = refl
+none_made file table muted = refl
 
-pub run_served : (file : List ℕ) (table : List ℤ) (start : Whole (Machine ChipState)) → start ≡ opened_tune file table 0 → AreOfRun (frames_after (lock_step_machines dsp_chip dsp_saving) start)
-run_served file table start is =
-    rw is (run_from (lock_step_machines dsp_chip dsp_saving) (opened_tune file table 0) (machines_lawful dsp_chip dsp_saving dsp_saves_lawfully) (none_made file table))
+pub run_served : (file : List ℕ) (table : List ℤ) (muted : ℕ) (start : Whole (Machine ChipState)) → start ≡ opened_tune file table muted 0 → AreOfRun (frames_after (lock_step_machines dsp_chip dsp_saving) start)
+run_served file table muted start is =
+    rw is (run_from (lock_step_machines dsp_chip dsp_saving) (opened_tune file table muted 0) (machines_lawful dsp_chip dsp_saving dsp_saves_lawfully) (none_made file table muted))

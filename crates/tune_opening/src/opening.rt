@@ -19,45 +19,47 @@ use render_core::Render;
 use spc_form::SpcFile;
 use std::alloc::Global;
 
-/// Opens the render of so many samples of a file over a table, an hour at most. It emits the records of the voices in
-/// the mask; bit v of the mask is voice v.
+/// Opens the render of so many samples of a file over a table, an hour at most, with these voices muted. It emits the
+/// records of the voices in the mask; bit v of either is voice v.
 pub fn open_tune(
     alloc: Global,
     file: &SpcFile,
     table: GaussTable,
+    muted: u8,
     samples: u32,
     mask: u8,
 ) -> Result<Render<Dsp>, OutOfMemory>
     requires { samples ≤ most_frames }
     ensures samples { IfOk result (λ render. render.samples ≡ samples) }
     ensures count { IfOk result (λ render. length (frames_to_come dsp_chip render) ≡ samples) }
-    ensures frames { IfOk result (λ render. frames_to_come dsp_chip render ≡ tune_frames file.now table mask samples) }
-    ensures records { IfOk result (λ render. records_to_come dsp_chip render ≡ tune_records file.now table mask samples) }
-    ensures counts { IfOk result (λ render. counts_to_come dsp_chip render ≡ tune_counts file.now table mask samples) }
+    ensures frames { IfOk result (λ render. frames_to_come dsp_chip render ≡ tune_frames file.now table muted mask samples) }
+    ensures records { IfOk result (λ render. records_to_come dsp_chip render ≡ tune_records file.now table muted mask samples) }
+    ensures counts { IfOk result (λ render. counts_to_come dsp_chip render ≡ tune_counts file.now table muted mask samples) }
 {
-    let chip = Dsp::open(alloc, file.dsp(), table)?;
+    let chip = Dsp::open(alloc, file.dsp(), table, muted)?;
     Render::open(alloc, file, chip, samples, mask)
 }
 
-/// Opens a server of the cuts of a file's tune over a table, with so many pages for its checkpoints. Its frames, the pages of its
-/// memory, and its chip are those of the tune's run.
+/// Opens a server of the cuts of a file's tune over a table, with these voices muted and so many pages for its checkpoints.
+/// Its frames, the pages of its memory, and its chip are those of the tune's run.
 pub fn open_server(
     alloc: Global,
     file: &SpcFile,
     table: GaussTable,
+    muted: u8,
     pages: u32,
 ) -> Result<CutServer<Dsp>, OutOfMemory>
     requires enough { fewest_pages ≤ pages }
     requires few { pages ≤ most_pages }
-    ensures opening { IfOk result (λ server. opening dsp_chip dsp_saving server ≡ opened_tune file.now table 0) }
-    ensures frames { IfOk result (λ server. frames_to dsp_chip dsp_saving server ≡ tune_frames file.now table 0) }
+    ensures opening { IfOk result (λ server. opening dsp_chip dsp_saving server ≡ opened_tune file.now table muted 0) }
+    ensures frames { IfOk result (λ server. frames_to dsp_chip dsp_saving server ≡ tune_frames file.now table muted 0) }
     ensures run { IfOk result (λ server. AreOfRun (frames_to dsp_chip dsp_saving server)) }
-    ensures pages { IfOk result (λ server. pages_at dsp_chip dsp_saving server ≡ tune_pages file.now table) }
-    ensures chip { IfOk result (λ server. chip_at dsp_chip dsp_saving server ≡ tune_chip file.now table) }
-    ensures book { IfOk result (λ server. book_of server ≡ opened_book (tune_pages file.now table)) }
+    ensures pages { IfOk result (λ server. pages_at dsp_chip dsp_saving server ≡ tune_pages file.now table muted) }
+    ensures chip { IfOk result (λ server. chip_at dsp_chip dsp_saving server ≡ tune_chip file.now table muted) }
+    ensures book { IfOk result (λ server. book_of server ≡ opened_book (tune_pages file.now table muted)) }
     ensures slots { IfOk result (λ server. slots_of server ≡ pages) }
 {
-    let chip = Dsp::open(alloc, file.dsp(), table)?;
+    let chip = Dsp::open(alloc, file.dsp(), table, muted)?;
     let server = CutServer::open(alloc, file, chip, pages)?;
     Ok(server)
 }
