@@ -7,6 +7,8 @@ mod chips;
 #[cfg(test)]
 mod echoes;
 #[cfg(test)]
+mod muted;
+#[cfg(test)]
 mod one_by_one;
 #[cfg(test)]
 mod sources;

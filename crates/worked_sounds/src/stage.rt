@@ -24,8 +24,18 @@ pub struct Stage {
 impl Stage {
     /// A chip with these registers, before its first sample.
     pub fn open(alloc: Global, registers: &[u8; 128], memory: Aram) -> Result<Stage, Fail> {
+        Stage::with_muted(alloc, registers, memory, 0)
+    }
+
+    /// The same with these voices muted.
+    pub fn with_muted(
+        alloc: Global,
+        registers: &[u8; 128],
+        memory: Aram,
+        muted: u8,
+    ) -> Result<Stage, Fail> {
         Ok(Stage {
-            dsp: Dsp::open(alloc, registers, GaussTable::straight(alloc)?)?,
+            dsp: Dsp::open(alloc, registers, GaussTable::straight(alloc)?, muted)?,
             memory,
             frames: Frames::new(alloc)?,
             records: Records::new(alloc)?,
