@@ -36,4 +36,4 @@ Moved at marks (Some old) (Some new) = KeepsPlayer old new × (position_of new �
 -- a player stands at the opening of a tune
 abbrev pub IsOpening : (bytes table : List ℕ) → (pages : ℕ) → Option PlayerState → Type 0
 IsOpening bytes table pages None = ⊥
-IsOpening bytes table pages (Some player) = IsOpened bytes table pages player
+IsOpening bytes table pages (Some player) = IsOpened bytes table 0 pages player

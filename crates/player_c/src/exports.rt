@@ -28,10 +28,10 @@ fn open_boxed(
 ) -> Result<Box<Player>, PlayerRefusal>
     requires enough { fewest_pages ≤ pages }
     requires few { pages ≤ most_pages }
-    ensures opened { IfOk result (λ player. IsOpened spc.now table.now pages player.value) }
+    ensures opened { IfOk result (λ player. IsOpened spc.now table.now 0 pages player.value) }
     ensures causes { IfErr result (λ refusal. (inputs_of spc.now table.now ≡ Err refusal) ⊎ (refusal ≡ refusals.OutOfMemory)) }
 {
-    let player = Player::open_bytes(alloc, spc, table, pages)?;
+    let player = Player::open_bytes(alloc, spc, table, 0, pages)?;
     match Box::new(alloc, player) {
         Ok(opened) => Ok(opened),
         Err(_) => Err(PlayerRefusal::OutOfMemory),
