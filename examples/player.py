@@ -1,5 +1,7 @@
 #!/usr/bin/env python3
-"""Plays an SPC file by libspcwave: player.py LIBRARY TUNE.spc TABLE OUT.wav [FROM_SECOND [SECONDS]]. Standard library alone."""
+"""Plays an SPC file by libspcwave: player.py LIBRARY TUNE.spc TABLE OUT.wav [FROM_SECOND [SECONDS]]. Standard library alone.
+
+It prints the tags, and for each second the level of each voice's envelope as a digit, 0 to 9."""
 import ctypes
 import sys
 import wave
@@ -9,21 +11,33 @@ class Handle(ctypes.Structure):
     _fields_ = [('engine', ctypes.c_void_p), ('is_open', ctypes.c_bool)]
 
 
+class Options(ctypes.Structure):
+    _fields_ = [('pages', ctypes.c_uint32), ('mark_seconds', ctypes.c_uint32), ('muted', ctypes.c_uint8)]
+
+
+class Voice(ctypes.Structure):
+    _fields_ = [('level', ctypes.c_uint16), ('pitch', ctypes.c_uint16), ('output', ctypes.c_int16), ('source', ctypes.c_uint16)]
+
+
 class Player:
     """A player of the tune of some bytes; `play` gives frames of 4 bytes, as they stand in a WAV file."""
 
     NAMES = {4: 'no SPC length', 5: 'no SPC signature', 6: 'no table', 7: 'out of memory', 16: 'not open', 17: 'out of range'}
 
-    def __init__(self, library, spc, table, pages=4096):
+    def __init__(self, library, spc, table, pages=4096, mark_seconds=0, muted=0):
         self.lib, self.handle = ctypes.CDLL(library), Handle()
         handle, number, size = ctypes.POINTER(Handle), ctypes.c_uint32, ctypes.c_size_t
-        self.lib.spcwave_open.argtypes = [handle, ctypes.c_char_p, size, ctypes.c_char_p, size, number]
-        self.lib.spcwave_play.argtypes, self.lib.spcwave_play.restype = [handle, ctypes.c_void_p, size], size
+        self.lib.spcwave_open.argtypes = [handle, ctypes.c_char_p, size, ctypes.c_char_p, size, ctypes.POINTER(Options)]
+        for play in self.lib.spcwave_play, self.lib.spcwave_play_faded:
+            play.argtypes, play.restype = [handle, ctypes.c_void_p, size], size
         self.lib.spcwave_seek.argtypes = [handle, number]
-        self.lib.spcwave_mark.argtypes = self.lib.spcwave_close.argtypes = [handle]
+        for call in self.lib.spcwave_mark, self.lib.spcwave_close, self.lib.spcwave_position, self.lib.spcwave_free_pages:
+            call.argtypes = [handle]
         self.lib.spcwave_length.argtypes = [handle, ctypes.POINTER(number), ctypes.POINTER(number)]
         self.lib.spcwave_tag.argtypes, self.lib.spcwave_tag.restype = [handle, number, ctypes.c_char_p, size], size
-        self.told(self.lib.spcwave_open(self.handle, spc, len(spc), table, len(table), pages))
+        self.lib.spcwave_registers.argtypes = [handle, ctypes.c_char_p]
+        self.lib.spcwave_voice.argtypes = [handle, number, ctypes.POINTER(Voice)]
+        self.told(self.lib.spcwave_open(self.handle, spc, len(spc), table, len(table), Options(pages, mark_seconds, muted)))
 
     def told(self, status):
         if status:
@@ -40,16 +54,34 @@ class Player:
         self.lib.spcwave_tag(self.handle, number, text, len(text))
         return text.value.decode('latin-1')
 
+    def position(self):
+        return self.lib.spcwave_position(self.handle)
+
+    def free_pages(self):
+        return self.lib.spcwave_free_pages(self.handle)
+
     def seek(self, frame):
         self.told(self.lib.spcwave_seek(self.handle, frame))
 
     def mark(self):
         self.told(self.lib.spcwave_mark(self.handle))
 
-    def play(self, count):
+    def play(self, count, faded=False):
         room = ctypes.create_string_buffer(4 * count)
-        given = self.lib.spcwave_play(self.handle, room, count)
+        given = (self.lib.spcwave_play_faded if faded else self.lib.spcwave_play)(self.handle, room, count)
         return room.raw[:4 * given]
+
+    def registers(self):
+        """The 128 registers of the S-DSP at the position."""
+        room = ctypes.create_string_buffer(128)
+        self.told(self.lib.spcwave_registers(self.handle, room))
+        return room.raw
+
+    def voice(self, number):
+        """The level, pitch, output and source of a voice at the position."""
+        voice = Voice()
+        self.told(self.lib.spcwave_voice(self.handle, number, voice))
+        return voice
 
     def close(self):
         self.lib.spcwave_close(self.handle)
@@ -61,12 +93,14 @@ def main():
     player = Player(library, open(tune, 'rb').read(), open(table, 'rb').read())
     print(' / '.join(player.tag(number) for number in range(3)))
     player.seek(int(begin * 32000))
-    count = int(seconds * 32000) if seconds >= 0 else player.length()[0] - int(begin * 32000)
+    count = int(seconds * 32000) if seconds >= 0 else player.length()[0]
     with wave.open(out, 'wb') as sound:
         sound.setparams((2, 2, 32000, 0, 'NONE', 'not compressed'))
-        while count > 0 and (piece := player.play(min(count, 32000))):
+        while count > 0 and (piece := player.play(min(count, 32000), faded=True)):
             sound.writeframes(piece)
             count -= len(piece) // 4
+            levels = (player.voice(number).level * 9 // 2047 for number in range(8))
+            print(player.position() // 32000, ' '.join(map(str, levels)))
     player.close()
 
 

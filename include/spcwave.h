@@ -2,7 +2,7 @@
  *
  * The sound: the frames that spcwave_play gives are, whatever was sought, marked or played before, frames [position, position + given)
  * of the run of the machine that the file opens, its processor and S-DSP in lock step. The library is proved to do what each comment
- * below says, where its caller keeps the following, which nothing checks.
+ * below says, where its caller keeps the following, which nothing checks. Of a caller's errors only NOT_OPEN and OUT_OF_RANGE tell.
  *
  * You owe, for every call:
  *  - a handle that was zeroed once (SPCWAVE_CLOSED, or memset) and since then was written by these functions alone. It may be moved
@@ -51,6 +51,16 @@ enum spcwave_tags {
     SPCWAVE_FADE        /* the length of the fade in milliseconds, in digits */
 };
 
+/* What a player is opened with beside its tune. */
+typedef struct spcwave_options {
+    uint32_t pages;         /* of 256 bytes for marks, 256 to 65,536. The mark of frame 0 takes 256, each other those that changed */
+    uint32_t mark_seconds;  /* while it plays a mark is taken each so many seconds, 1 to 3,600; 0 for none */
+    uint8_t muted;          /* voices that are left out of the sound and of its echo: bit v is voice v, 0 for none */
+} spcwave_options;
+
+/* 4,096 pages, no marks but those that are asked for, and all voices. */
+#define SPCWAVE_OPTIONS { SPCWAVE_PAGES, 0, 0 }
+
 /* A player, or none. Look at no field. */
 typedef struct spcwave_player {
     void *engine;
@@ -64,21 +74,39 @@ typedef struct spcwave_frame {
     int16_t left, right;
 } spcwave_frame;
 
+/* What shows of a voice once a sample is made. */
+typedef struct spcwave_voice_shown {
+    uint16_t level;   /* of its envelope, 0 to 2,047 */
+    uint16_t pitch;   /* of its registers, 0 to 16,383: at 4,096 its sample is played 32,000 numbers a second */
+    int16_t output;   /* the high byte of its output, -128 to 127, as the register OUTX has it */
+    uint16_t source;  /* the number of its sample in the directory, 0 to 255 */
+} spcwave_voice_shown;
+
+/* The version of this header, and of the library: a byte for each of the last two of its three numbers. */
+#define SPCWAVE_VERSION 0x010100u
+uint32_t spcwave_version(void);
+
 /* Opens a player at the opening of a tune. `table` is the table of weights by which voices interpolate, 512 numbers of 16 bits,
- * low byte first: spcwave_table.h makes the console's. `pages` of 256 bytes are kept for marks, 256 to 65,536. A player that was open is
- * closed first. Answers OK; or OUT_OF_RANGE exactly where the pages are; or SPC_LENGTH or SPC_SIGNATURE, or else
- * TABLE_LENGTH; or OUT_OF_MEMORY. Where it isn't OK none is open. Neither the file nor the table is needed afterwards. */
-uint32_t spcwave_open(spcwave_player *player, const uint8_t *spc, size_t spc_length, const uint8_t *table, size_t table_length, uint32_t pages);
+ * low byte first: spcwave_table.h makes the console's. A player that was open is closed first. Answers OK; or OUT_OF_RANGE exactly where one
+ * of the options is; or SPC_LENGTH or SPC_SIGNATURE, or else TABLE_LENGTH; or OUT_OF_MEMORY. Where it isn't OK none is open. Neither the
+ * file, the table nor the options are needed afterwards. */
+uint32_t spcwave_open(spcwave_player *player, const uint8_t *spc, size_t spc_length, const uint8_t *table, size_t table_length,
+                      const spcwave_options *options);
 
 /* Gives the player's memory back, if one is open. */
 void spcwave_close(spcwave_player *player);
 
 /* Plays: writes min(count, MOST - position) frames, moves the position behind them, and tells how many; 0 where none is open. Frames of the
- * array behind those stay as they were. */
+ * array behind those stay as they were. Where the position comes to a multiple of the options' mark_seconds, a mark is taken. */
 size_t spcwave_play(spcwave_player *player, spcwave_frame *frames, size_t count);
 
+/* The same, of the frames that the program renders: they end at the length that the tags tell, and the last of them fade out. So it writes
+ * min(count, length - position) frames, and 0 from the length on. */
+size_t spcwave_play_faded(spcwave_player *player, spcwave_frame *frames, size_t count);
+
 /* Goes to a frame, 0 to MOST: the machine makes the frames between it and the position, or the last mark up to it where that is nearer,
- * as fast as if they were played. Answers OK; or NOT_OPEN or OUT_OF_RANGE, and then nothing has changed. */
+ * as fast as if they were played: never more than lie between it and any mark up to it. Answers OK; or NOT_OPEN or OUT_OF_RANGE, and then
+ * nothing has changed. */
 uint32_t spcwave_seek(spcwave_player *player, uint32_t frame);
 
 /* Keeps the state at the position, so that a later seek to it or soon behind it is quick. There are 64 marks at most, that of frame 0
@@ -99,6 +127,13 @@ uint32_t spcwave_length(spcwave_player *player, uint32_t *frames, uint32_t *fade
  * to its first zero byte; nothing where `size` is 0. Tells the whole text's length. The text is empty where none is open or no tag has
  * the number. */
 size_t spcwave_tag(spcwave_player *player, uint32_t tag, char *text, size_t size);
+
+/* Copies the S-DSP's 128 registers at the position: those that the step of the processor left by which the frame before it was made. Answers
+ * OK; or NOT_OPEN, and then they stay as they were. */
+uint32_t spcwave_registers(spcwave_player *player, uint8_t registers[128]);
+
+/* Tells what shows of voice 0 to 7 at the position. Answers OK; or NOT_OPEN, or OUT_OF_RANGE for another number, and then it stays as it was. */
+uint32_t spcwave_voice(spcwave_player *player, uint32_t number, spcwave_voice_shown *voice);
 
 #ifdef __cplusplus
 }

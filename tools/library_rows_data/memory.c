@@ -35,24 +35,29 @@ int main(int argc, char **argv) {
     in = fopen(argv[argc - 1], "rb");
     if (fread(table, 1, 1024, in) != 1024) return 2;
     fclose(in);
+    const spcwave_options options = { 4096, 1 };
+    uint8_t registers[128];
+    spcwave_voice_shown voice;
     spcwave_player player = SPCWAVE_CLOSED;
     static spcwave_frame frames[1000];
     long before, i, all;
     calls = bytes = most = live = 0;
-    if (spcwave_open(&player, spc, n, table, 1024, 4096)) return 3;
+    if (spcwave_open(&player, spc, n, table, 1024, &options)) return 3;
     all = calls;
     printf("open: %ld calls of malloc and realloc, %ld blocks live, %ld bytes, %ld at most\n", all, live, bytes, most);
     before = calls; frees = 0;
     for (i = 0; i < 100; i++) {
         if (spcwave_play(&player, frames, 1000) != 1000) return 4;
+        if (spcwave_play_faded(&player, frames, 1000) != 1000) return 4;
+        if (spcwave_registers(&player, registers) || spcwave_voice(&player, (uint32_t)(i % 8), &voice)) return 6;
         if (spcwave_mark(&player) || spcwave_seek(&player, (uint32_t)(i * 7919))) return 5;
     }
-    printf("play, mark and seek: %ld calls, %ld frees\n", calls - before, frees);
+    printf("play, mark, seek and show: %ld calls, %ld frees\n", calls - before, frees);
     spcwave_close(&player);
     printf("close: %ld blocks live, %ld bytes\n", live, bytes);
     for (i = 0; i < all; i++) {
         calls = 0; refused = i;
-        uint32_t status = spcwave_open(&player, spc, n, table, 1024, 4096);
+        uint32_t status = spcwave_open(&player, spc, n, table, 1024, &options);
         if (status != SPCWAVE_OUT_OF_MEMORY || player.is_open || live) {
             printf("FAILS at %ld: status %u, %ld live\n", i, (unsigned)status, live);
             return 1;

@@ -5,10 +5,12 @@ use Rattle.gauss_table.specs.Weights.{weights_in}
 use Rattle.spc_form.specs.declared.reading.SpcRefusal.{SpcRefusal}
 use Rattle.spc_form.specs.Accepted.{spc_file}
 use Rattle.cut_form.specs.Checkpoints.{with_checkpoint}
-use Rattle.tune_opening.specs.Tune.{tune_frames, tune_pages}
+use Rattle.tune_opening.specs.Tune.{tune_frames, tune_pages, tune_chip}
 use Rattle.player.specs.declared.refusal.PlayerRefusal.{PlayerRefusal}
+use Rattle.player.specs.declared.options.PlayerOptions.{PlayerOptions}
+use Rattle.player.specs.Options.{spacing_of}
 use Rattle.player.specs.Refusals.{of_spc, of_table}
-use Rattle.player.specs.Player.{PlayerState, frames_of, memory_of, position_of, marks_of, room_of}
+use Rattle.player.specs.Player.{PlayerState, frames_of, memory_of, chip_of, position_of, marks_of, room_of}
 
 pub record Inputs : Type 0 where
   -- the padded bytes of the file, and the 512 weights
@@ -24,15 +26,17 @@ inputs_from (Ok file) (Ok weights) = Ok (record { file = file; weights = weights
 abbrev pub inputs_of : (bytes table : List ℕ) → Result Inputs PlayerRefusal
 inputs_of bytes table = inputs_from (spc_file bytes) (weights_in table)
 
--- A player stands at the opening of a tune with these voices muted, where its one mark is, with so many pages.
-pub record IsAtOpening (inputs : Inputs) (muted pages : ℕ) (player : PlayerState) : Type 0 where
+-- A player stands at the opening of a tune, with the voices of its options muted, where its one mark is.
+pub record IsAtOpening (inputs : Inputs) (options : PlayerOptions) (player : PlayerState) : Type 0 where
   pub file : player.file ≡ inputs.file
-  pub frames : frames_of player ≡ tune_frames inputs.file inputs.weights muted 0
-  pub memory : memory_of player ≡ tune_pages inputs.file inputs.weights muted
+  pub frames : frames_of player ≡ tune_frames inputs.file inputs.weights options.muted 0
+  pub memory : memory_of player ≡ tune_pages inputs.file inputs.weights options.muted
+  pub chip : chip_of player ≡ tune_chip inputs.file inputs.weights options.muted
   pub position : position_of player ≡ 0
-  pub marks : marks_of player ≡ with_checkpoint [] 0 (tune_pages inputs.file inputs.weights muted 0)
-  pub room : room_of player ≡ pages
+  pub marks : marks_of player ≡ with_checkpoint [] 0 (tune_pages inputs.file inputs.weights options.muted 0)
+  pub room : room_of player ≡ options.pages
+  pub spacing : player.spacing ≡ spacing_of options
 
 -- it was opened with these bytes
-abbrev pub IsOpened : (bytes table : List ℕ) → (muted pages : ℕ) → PlayerState → Type 0
-IsOpened bytes table muted pages player = (inputs : Inputs) × (inputs_of bytes table ≡ Ok inputs) × IsAtOpening inputs muted pages player
+abbrev pub IsOpened : (bytes table : List ℕ) → PlayerOptions → PlayerState → Type 0
+IsOpened bytes table options player = (inputs : Inputs) × (inputs_of bytes table ≡ Ok inputs) × IsAtOpening inputs options player

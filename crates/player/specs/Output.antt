@@ -7,6 +7,10 @@ use Rattle.player.specs.declared.output.StereoFrame.{StereoFrame}
 abbrev pub stereo : Frame → StereoFrame
 stereo frame = record { left = frame.left; right = frame.right }
 
+-- and back
+abbrev pub as_frame : StereoFrame → Frame
+as_frame frame = record { left = frame.left; right = frame.right }
+
 -- as much of a text as an array has room for, a zero byte, and the rest of the array; an array of no bytes gets none
 abbrev pub with_text : (text out : List ℕ) → List ℕ
 with_text text [] = []

@@ -1,11 +1,19 @@
-//! A player of a tune, for programs that link it: it opens a file over a table of weights, plays, seeks and marks. Only what opens it takes memory.
+//! A player of a tune, for programs that link it: it opens a file over a table of weights, plays, seeks and marks, and shows the registers of
+//! the S-DSP. Only what opens it takes memory.
 #![tactic(auto)]
 
+mod laws;
+mod options;
 mod output;
+mod own_marks;
 mod player;
 mod refusal;
+mod voices;
 
+pub use laws::what_was_heard_is_near;
+pub use options::PlayerOptions;
 pub use output::{StereoFrame, put_text};
 pub use player::Player;
 pub use refusal::PlayerRefusal;
 pub use std::alloc::AllocError as OutOfMemory;
+pub use voices::ShownVoice;

@@ -1,8 +1,11 @@
 // What callers get in arrays of their own: frames, and text.
-ghost use Rattle.std.specs.Prelude.{◌≡◌, ◌+◌, ◌≤◌, ◌++◌, length, take, drop, map};
-ghost use Rattle.player.specs.Output.{stereo, with_text};
+ghost use Rattle.std.specs.Prelude.{◌≡◌, ◌+◌, ◌-◌, ◌≤◌, ◌++◌, length, take, drop, map};
+ghost use Rattle.render_core.specs.Fade.{faded_from};
+ghost use Rattle.player.specs.Output.{stereo, as_frame, with_text};
 
 use num_fix::Frame;
+use render_core::faded;
+use spc_form::Length;
 
 /// One stereo frame, as C lays it out: a signed 16-bit number for each side, left first; 32,000 frames are a second.
 #[repr(C)]
@@ -29,6 +32,26 @@ pub(crate) fn put_frames(frames: &[Frame], out: &mut [StereoFrame], from: usize)
 {
     for place in 0..frames.len() {
         out[from + place] = stereo(frames[place]);
+    }
+}
+
+/// The frame that a caller has.
+fn as_frame(frame: StereoFrame) -> Frame
+    ensures { result ≡ as_frame frame }
+{
+    let StereoFrame { left, right } = frame;
+    Frame { left, right }
+}
+
+/// Fades frames, the first of which is frame `at` of a whole length.
+pub(crate) fn fade_frames(out: &mut [StereoFrame], at: u32, whole: Length)
+    requires inside { length out.old ≤ whole.frames - at }
+    requires fade_within { whole.fade ≤ whole.frames }
+    ensures { out.new ≡ map stereo (faded_from at whole.frames whole.fade (map as_frame out.old)) }
+{
+    for place in 0..out.len() {
+        let frame = as_frame(out[place]);
+        out[place] = stereo(faded(frame, at + place as u32, whole.frames, whole.fade));
     }
 }
 

@@ -1,23 +1,29 @@
 // A player.
-ghost use Rattle.std.specs.Prelude.{◌≡◌, ℕ, ◌+◌, ◌-◌, ◌≤◌, ◌<◌, ◌++◌, ◌==◌, min, length, take, drop, map, IfOk, IfErr, ◌⊎◌};
+ghost use Rattle.std.specs.Prelude.{◌≡◌, ℕ, ◌+◌, ◌-◌, ◌≤◌, ◌<◌, ◌++◌, true, min, length, take, drop, map, IfOk, IfErr, ◌⊎◌};
 ghost use Rattle.num_fix.specs.Limits.{most_frames};
-ghost use Rattle.page_pool.specs.Pool.{most_pages};
-ghost use Rattle.cut_form.specs.Checkpoints.{fewest_pages, slots_free, with_checkpoint};
+ghost use Rattle.chip_form.specs.Samples.{count_after};
+ghost use Rattle.cut_form.specs.Checkpoints.{slots_free, stands_at};
 ghost use Rattle.cut_form.specs.CutBook.{most_played};
 ghost use Rattle.cut_form.specs.Slices.{slice_of};
 ghost use Rattle.cut_form.specs.GrowingFrames.{AreOfRun};
-ghost use Rattle.tune_opening.specs.Tune.{tune_frames, tune_pages};
 ghost use Rattle.spc_form.specs.Tags.{length_of, text_of, has_tags, most_told_frames};
 ghost use Rattle.player.specs.Inputs.{inputs_of, IsOpened, IsAtOpening};
+ghost use Rattle.player.specs.Options.{are_in_range, spacing_of};
 ghost use Rattle.player.specs.Output.{stereo, with_text};
+ghost use Rattle.player.specs.OwnMarks.{with_own_mark};
+ghost use Rattle.player.specs.Voices.{shown_voice};
 ghost use Rattle.player.specs.declared.refusal.PlayerRefusal.TheVariants as refusals;
-ghost use Rattle.player.specs.Player.{frames_of, position_of, marks_of, room_of, marking, KeepsPlayer};
+ghost use Rattle.player.specs.Player.{frames_of, memory_of, position_of, chip_here, marks_of, room_of, marking, marks_played, made_of, frames_sought};
+ghost use Rattle.player.specs.Player.{faded_frames_played, KeepsPlayer};
 
-use crate::output::{StereoFrame, put_frames, put_text};
-use crate::{OutOfMemory, PlayerRefusal};
-use cut_form::{MOST_FRAMES, MOST_PLAYED, Marked};
+use crate::output::{StereoFrame, fade_frames, put_frames, put_text};
+use crate::own_marks::{frames_at_once, is_own_mark};
+use crate::voices::{ShownVoice, shown_voice};
+use crate::{OutOfMemory, PlayerOptions, PlayerRefusal};
+use cut_form::{MOST_FRAMES, Marked};
 use cut_server::CutServer;
 use dsp_core::Dsp;
+use dsp_state::registers::Registers;
 use gauss_table::GaussTable;
 use spc_form::{Length, SpcFile, Tag, read_spc};
 use std::alloc::Global;
@@ -30,6 +36,7 @@ use tune_opening::open_server;
 pub struct Player {
     server: CutServer<Dsp>,
     file: SpcFile,
+    spacing: u32,
     frames: Frames,
 }
 
@@ -38,31 +45,28 @@ impl Model for Player {
 
     ghost Value = { PlayerState };
 
-    ghost view = { λ p. record { server = p.server; file = p.file } };
+    ghost view = { λ p. record { server = p.server; file = p.file; spacing = p.spacing } };
 
     ghost invariant = { λ p. IsPlaying p.server };
 }
 
 impl Player {
-    /// A player of a file's tune over a table of weights, at its opening. Bit v of the muted voices is voice v. It has so many pages
-    /// of 256 bytes for its marks, 256 to 65,536: the mark of frame 0, which always stays, takes 256, and each other as many as
-    /// hold other bytes than in the mark before.
+    /// A player of a file's tune over a table of weights, at its opening.
     pub fn open(
         alloc: Global,
         file: SpcFile,
         table: GaussTable,
-        muted: u8,
-        pages: u32,
+        options: PlayerOptions,
     ) -> Result<Player, OutOfMemory>
-        requires enough { fewest_pages ≤ pages }
-        requires few { pages ≤ most_pages }
-        ensures opening { IfOk result (λ player. IsAtOpening (record { file = file; weights = table }) muted pages player) }
+        requires { are_in_range options ≡ true }
+        ensures opening { IfOk result (λ player. IsAtOpening (record { file = file; weights = table }) options player) }
     {
-        let server = open_server(alloc, &file, table, muted, pages)?;
+        let server = open_server(alloc, &file, table, options.muted, options.pages)?;
         let frames = Frames::new(alloc)?;
         Ok(Player {
             server,
             file,
+            spacing: 32_000 * options.mark_seconds,
             frames,
         })
     }
@@ -72,17 +76,15 @@ impl Player {
         alloc: Global,
         bytes: &[u8],
         table: &[u8],
-        muted: u8,
-        pages: u32,
+        options: PlayerOptions,
     ) -> Result<Player, PlayerRefusal>
-        requires enough { fewest_pages ≤ pages }
-        requires few { pages ≤ most_pages }
-        ensures opened { IfOk result (λ player. IsOpened bytes.now table.now muted pages player) }
+        requires { are_in_range options ≡ true }
+        ensures opened { IfOk result (λ player. IsOpened bytes.now table.now options player) }
         ensures causes { IfErr result (λ refusal. (inputs_of bytes.now table.now ≡ Err refusal) ⊎ (refusal ≡ refusals.OutOfMemory)) }
     {
         let file = read_spc(alloc, bytes)?;
         let weights = GaussTable::read(alloc, table)?;
-        let player = Player::open(alloc, file, weights, muted, pages)?;
+        let player = Player::open(alloc, file, weights, options)?;
         Ok(player)
     }
 
@@ -129,11 +131,36 @@ impl Player {
         self.server.free()
     }
 
-    /// Goes to a frame, at most an hour: from the position, or from the last mark up to it.
+    /// The frames that seeks and plays made in all. It stays at its type's end.
+    pub fn made(&self) -> u64
+        ensures { result ≡ made_of self.now }
+    {
+        self.server.work()
+    }
+
+    /// The 128 registers of the S-DSP at the position: those that the run's last step before it left.
+    pub fn registers(&self) -> &Registers
+        ensures { result.now ≡ (chip_here self.now).registers }
+    {
+        &self.server.chip().state().registers
+    }
+
+    /// What shows of a voice, 0 to 7, at the position.
+    pub fn voice(&self, number: u8) -> ShownVoice
+        requires { number < 8 }
+        ensures { result ≡ shown_voice (chip_here self.now) number }
+    {
+        shown_voice(self.server.chip().state(), number)
+    }
+
+    /// Goes to a frame, at most an hour: from the position, or from the last mark up to it. It makes at most the frames from any mark up
+    /// to it.
     pub fn seek(&mut self, at: u32)
         requires { at ≤ most_frames }
         ensures position { position_of self.new ≡ at }
         ensures marks { marks_of self.new ≡ marks_of self.old }
+        ensures made { made_of self.new ≡ count_after (made_of self.old) (frames_sought self.old at) }
+        ensures near { (mark : ℕ) → stands_at (marks_of self.old) mark ≡ true → mark ≤ at → frames_sought self.old at ≤ at - mark }
         ensures tune { KeepsPlayer self.old self.new }
     {
         self.server.seek(at);
@@ -145,41 +172,74 @@ impl Player {
         ensures marks { marks_of self.new ≡ (marking self.old).live }
         ensures answer { result ≡ (marking self.old).marked }
         ensures position { position_of self.new ≡ position_of self.old }
+        ensures made { made_of self.new ≡ made_of self.old }
         ensures tune { KeepsPlayer self.old self.new }
     {
         self.server.mark()
     }
 
-    /// Plays the next frames, up to 64, into others from a place on, but not past an end.
-    fn play_some(&mut self, out: &mut [StereoFrame], from: usize, end: usize)
+    /// Takes a mark by itself, where one is due at the position.
+    fn take_own_mark(&mut self)
+        ensures marks { marks_of self.new ≡ with_own_mark (room_of self.old) (memory_of self.old) self.old.spacing (position_of self.old) (marks_of self.old) }
+        ensures position { position_of self.new ≡ position_of self.old }
+        ensures tune { KeepsPlayer self.old self.new }
+    {
+        if is_own_mark(self.spacing, self.server.at()) {
+            self.mark();
+        }
+    }
+
+    /// Plays the next frames, at most 64 and not past the next mark of its own, into others from a place on, but not past an end; tells how
+    /// many.
+    fn play_some(&mut self, out: &mut [StereoFrame], from: usize, end: usize) -> usize
         requires some { from < end }
         requires within { end ≤ length out.old }
         requires hour { position_of self.old + (end - from) ≤ most_frames }
-        ensures frames { let count = min (end - from) most_played in
-            out.new ≡ take from out.old ++ map stereo (slice_of (frames_of self.old) (position_of self.old) count) ++ drop (from + count) out.old }
-        ensures position { position_of self.new ≡ position_of self.old + min (end - from) most_played }
-        ensures marks { marks_of self.new ≡ marks_of self.old }
+        ensures some { 0 < result }
+        ensures within { result ≤ end - from }
+        ensures frames { let played = slice_of (frames_of self.old) (position_of self.old) result in
+            out.new ≡ take from out.old ++ map stereo played ++ drop (from + result) out.old }
+        ensures position { position_of self.new ≡ position_of self.old + result }
+        ensures marks { marks_of self.new ≡ marks_played self.old result }
         ensures tune { KeepsPlayer self.old self.new }
     {
-        let most = ((end - from) as u32).min(MOST_PLAYED);
+        let most = ((end - from) as u32).min(frames_at_once(self.spacing, self.server.at()));
         self.server.play(most, &mut self.frames);
         put_frames(self.frames.as_slice(), out, from);
+        self.take_own_mark();
+        most as usize
     }
 
-    /// Plays the next frames, as many as there is room for, but not past an hour; tells how many.
+    /// Plays the next frames, as many as there is room for, but not past an hour; tells how many. Wherever the position comes to a multiple
+    /// of the seconds that it was opened with, it takes a mark.
     pub fn play(&mut self, out: &mut [StereoFrame]) -> usize
         ensures count { result ≡ min (length out.old) (most_frames - position_of self.old) }
         ensures frames { out.new ≡ map stereo (slice_of (frames_of self.old) (position_of self.old) result) ++ drop result out.old }
         ensures position { position_of self.new ≡ position_of self.old + result }
-        ensures marks { marks_of self.new ≡ marks_of self.old }
+        ensures marks { marks_of self.new ≡ marks_played self.old result }
         ensures tune { KeepsPlayer self.old self.new }
     {
         let count = out.len().min((MOST_FRAMES - self.position()) as usize);
         let mut done = 0;
         'pieces: while done < count {
-            self.play_some(out, done, count);
-            done = count.min(done + 64);
+            done += self.play_some(out, done, count);
         }
+        count
+    }
+
+    /// Plays the next frames of a render, which is as long as the tags of the file tell and fades at its end as they tell; tells how many.
+    pub fn play_faded(&mut self, out: &mut [StereoFrame]) -> usize
+        ensures count { result ≡ min (length out.old) ((length_of self.old.file).frames - position_of self.old) }
+        ensures frames { out.new ≡ map stereo (faded_frames_played self.old result) ++ drop result out.old }
+        ensures position { position_of self.new ≡ position_of self.old + result }
+        ensures marks { marks_of self.new ≡ marks_played self.old result }
+        ensures tune { KeepsPlayer self.old self.new }
+    {
+        let length = self.length();
+        let at = self.position();
+        let count = out.len().min(length.frames.saturating_sub(at) as usize);
+        self.play(&mut out[..count]);
+        fade_frames(&mut out[..count], at, length);
         count
     }
 }

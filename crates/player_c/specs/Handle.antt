@@ -5,7 +5,9 @@ use Rattle.cut_form.specs.Checkpoints.{Checkpoint}
 use Rattle.cut_form.specs.Slices.{slice_of}
 use Rattle.player.specs.declared.output.StereoFrame.{StereoFrame}
 use Rattle.player.specs.Output.{stereo}
-use Rattle.player.specs.Player.{PlayerState, frames_of, position_of, marks_of, KeepsPlayer}
+use Rattle.spc_form.specs.Tags.{length_of}
+use Rattle.player.specs.declared.options.PlayerOptions.{PlayerOptions}
+use Rattle.player.specs.Player.{PlayerState, frames_of, position_of, marks_of, faded_frames_played, KeepsPlayer}
 use Rattle.player.specs.Inputs.{IsOpened}
 use Rattle.player_c.specs.declared.handle.SpcwavePlayer.{SpcwavePlayer}
 
@@ -27,13 +29,22 @@ abbrev pub frames_played : Option PlayerState → (count : ℕ) → List StereoF
 frames_played None count = []
 frames_played (Some player) count = map stereo (slice_of (frames_of player) (position_of player) count)
 
--- A player has come to a position and has these marks, and its tune, its file and its room are the same; or there was none, and is none.
+-- the same of a render, with its fade
+abbrev pub faded_frames_given : Option PlayerState → (room : ℕ) → ℕ
+faded_frames_given None room = 0
+faded_frames_given (Some player) room = min room ((length_of player.file).frames - position_of player)
+
+abbrev pub faded_frames_of : Option PlayerState → (count : ℕ) → List StereoFrame
+faded_frames_of None count = []
+faded_frames_of (Some player) count = map stereo (faded_frames_played player count)
+
+-- A player has come to a position and has these marks, and its tune, its file, its room and its spacing are the same; or there was none, and is none.
 abbrev pub Moved : (at : PlayerState → ℕ) → (marks : PlayerState → List Checkpoint) → (old new : Option PlayerState) → Type 0
 Moved at marks None new = new ≡ None
 Moved at marks (Some old) None = ⊥
 Moved at marks (Some old) (Some new) = KeepsPlayer old new × (position_of new ≡ at old) × (marks_of new ≡ marks old)
 
 -- a player stands at the opening of a tune
-abbrev pub IsOpening : (bytes table : List ℕ) → (pages : ℕ) → Option PlayerState → Type 0
-IsOpening bytes table pages None = ⊥
-IsOpening bytes table pages (Some player) = IsOpened bytes table 0 pages player
+abbrev pub IsOpening : (bytes table : List ℕ) → PlayerOptions → Option PlayerState → Type 0
+IsOpening bytes table options None = ⊥
+IsOpening bytes table options (Some player) = IsOpened bytes table options player

@@ -8,10 +8,14 @@ mod lending;
 mod parts;
 mod status;
 mod tags;
+mod telling;
 
 pub use engine::Engine;
 pub use exports::{
-    spcwave_close, spcwave_free_pages, spcwave_length, spcwave_mark, spcwave_open, spcwave_play,
-    spcwave_position, spcwave_seek, spcwave_tag,
+    spcwave_close, spcwave_mark, spcwave_open, spcwave_play, spcwave_play_faded, spcwave_seek,
 };
 pub use handle::SpcwavePlayer;
+pub use telling::{
+    spcwave_free_pages, spcwave_length, spcwave_position, spcwave_registers, spcwave_tag,
+    spcwave_version, spcwave_voice,
+};

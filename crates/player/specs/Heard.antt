@@ -1,0 +1,27 @@
+-- That what was heard is near: laws of the marks that a player takes by itself.
+use Rattle.std.specs.Prelude.{◌≡◌, ℕ, suc, ◌+◌, ◌-◌, ◌%◌, ◌<◌, ◌≤◌, true, List}
+use Rattle.cut_form.specs.Checkpoints.{Checkpoint, has_room, stands_at}
+use Rattle.player.specs.OwnMarks.{is_own_mark, marks_after}
+
+-- the last multiple of the spacing up to a sample
+abbrev pub last_multiple : (spacing at : ℕ) → ℕ
+last_multiple spacing at = at - at % spacing
+
+-- there was room for each mark as it came, so that no other was given up for it
+abbrev pub HasRoomForEach : (room : ℕ) → (memory : ℕ → List (List ℕ)) → (spacing from : ℕ) → List Checkpoint → (count : ℕ) → Type 0
+HasRoomForEach room memory spacing from marks count =
+    (k : ℕ) → k < count → is_own_mark spacing (from + suc k) ≡ true → has_room room (memory (from + suc k)) (marks_after room memory spacing from marks k) ≡ true
+
+-- then each mark that stood stands once so many frames are played
+abbrev pub MarksStay : Type 0
+MarksStay =
+    (room : ℕ) (memory : ℕ → List (List ℕ)) (spacing from : ℕ) (marks : List Checkpoint) (count : ℕ) → HasRoomForEach room memory spacing from marks count
+    → (sample : ℕ) → stands_at marks sample ≡ true → stands_at (marks_after room memory spacing from marks count) sample ≡ true
+
+-- And each frame that was heard has a mark less than the spacing before it, where the first one had: a seek to it makes no more frames.
+abbrev pub HeardIsNear : Type 0
+HeardIsNear =
+    (room : ℕ) (memory : ℕ → List (List ℕ)) (spacing from : ℕ) (marks : List Checkpoint) (count : ℕ) → HasRoomForEach room memory spacing from marks count
+    → 0 < spacing → stands_at marks (last_multiple spacing from) ≡ true
+    → (at : ℕ) → from ≤ at → at ≤ from + count
+    → (stands_at (marks_after room memory spacing from marks count) (last_multiple spacing at) ≡ true) × (at < last_multiple spacing at + spacing)

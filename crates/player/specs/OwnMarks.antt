@@ -1,0 +1,18 @@
+-- The marks that a player takes by itself while it plays (own): one wherever the position comes to a multiple of its spacing.
+use Rattle.std.specs.Prelude.{ℕ, zero, suc, ◌+◌, ◌%◌, Bool, not, ◌&&◌, ◌==◌, if◌then◌else◌, List}
+use Rattle.cut_form.specs.Checkpoints.{Checkpoint}
+use Rattle.cut_form.specs.Marks.{mark_at}
+
+-- whether a mark is taken at a sample; at spacing 0 none is
+abbrev pub is_own_mark : (spacing at : ℕ) → Bool
+is_own_mark spacing at = not (spacing == 0) && at % spacing == 0
+
+-- the marks once the position has come to a sample. `memory` are the pages of the memory once so many samples are made
+abbrev pub with_own_mark : (room : ℕ) → (memory : ℕ → List (List ℕ)) → (spacing at : ℕ) → List Checkpoint → List Checkpoint
+with_own_mark room memory spacing at marks = if is_own_mark spacing at then (mark_at room (memory at) at marks).live else marks
+
+-- the marks once so many frames from a sample on were played, one after another
+unfoldable pub marks_after : (room : ℕ) → (memory : ℕ → List (List ℕ)) → (spacing from : ℕ) → List Checkpoint → (count : ℕ) → List Checkpoint
+marks_after room memory spacing from marks zero = marks
+marks_after room memory spacing from marks (suc count) =
+    with_own_mark room memory spacing (from + suc count) (marks_after room memory spacing from marks count)

@@ -1,0 +1,137 @@
+// What C is told of a player.
+ghost use Rattle.std.specs.Prelude.{◌≡◌, ◌≢◌, nat_lt, None, IfSome, length};
+ghost use Rattle.spc_form.specs.Tags.{length_of};
+ghost use Rattle.cut_form.specs.Checkpoints.{slots_free};
+ghost use Rattle.player.specs.Output.{with_text};
+ghost use Rattle.player.specs.Player.{position_of, marks_of, room_of, chip_here};
+ghost use Rattle.player.specs.Voices.{shown_voice};
+ghost use Rattle.player_c.specs.Handle.{IsKept, playing};
+ghost use Rattle.player_c.specs.Status.{ok, open_status, range_status, version};
+ghost use Rattle.player_c.specs.Tags.{tag_text};
+
+use crate::handle::SpcwavePlayer;
+use crate::status::{NOT_OPEN, OK, OUT_OF_RANGE};
+use crate::tags::tag_of;
+use player::{ShownVoice, put_text};
+
+/// The version of the library: 65,536 times the first of its three numbers, 256 times the second, and the third.
+#[unsafe(no_mangle)]
+pub extern "C" fn spcwave_version() -> u32
+    ensures { result ≡ version }
+{
+    0x01_01_00
+}
+
+/// The position: how many frames stand before it; 0 where none is open.
+#[unsafe(no_mangle)]
+pub extern "C" fn spcwave_position(player: &mut SpcwavePlayer) -> u32
+    requires { IsKept player.old }
+    ensures kept { IsKept player.new }
+    ensures position { IfSome (playing player.old) (λ p. result ≡ position_of p) }
+    ensures none { playing player.old ≡ None → result ≡ 0 }
+    ensures same { playing player.new ≡ playing player.old }
+{
+    if !player.is_open {
+        return 0;
+    }
+    player.engine.player().position()
+}
+
+/// How many pages are free for marks; 0 where none is open.
+#[unsafe(no_mangle)]
+pub extern "C" fn spcwave_free_pages(player: &mut SpcwavePlayer) -> u32
+    requires { IsKept player.old }
+    ensures kept { IsKept player.new }
+    ensures free { IfSome (playing player.old) (λ p. result ≡ slots_free (room_of p) (marks_of p)) }
+    ensures none { playing player.old ≡ None → result ≡ 0 }
+    ensures same { playing player.new ≡ playing player.old }
+{
+    if !player.is_open {
+        return 0;
+    }
+    player.engine.player().free_pages()
+}
+
+/// The length by the tags of the file, and how many of its last frames fade out, in frames. Where none is open both stay as they were.
+#[unsafe(no_mangle)]
+pub extern "C" fn spcwave_length(
+    player: &mut SpcwavePlayer,
+    frames: &mut u32,
+    fade: &mut u32,
+) -> u32
+    requires { IsKept player.old }
+    ensures kept { IsKept player.new }
+    ensures status { result ≡ open_status (playing player.old) }
+    ensures length { IfSome (playing player.old) (λ p. record { frames = frames.new; fade = fade.new } ≡ length_of p.file) }
+    ensures frames_left { playing player.old ≡ None → frames.new ≡ frames.old }
+    ensures fade_left { playing player.old ≡ None → fade.new ≡ fade.old }
+    ensures same { playing player.new ≡ playing player.old }
+{
+    if !player.is_open {
+        return NOT_OPEN;
+    }
+    let length = player.engine.player().length();
+    *frames = length.frames;
+    *fade = length.fade;
+    OK
+}
+
+/// Writes the text of a tag as `player::Player::tag` does, and tells its whole length. It is empty where none is open, or no tag has the
+/// number: 0 title, 1 game, 2 artist, 3 dumper, 4 comments, 5 date, 6 seconds, 7 fade.
+#[unsafe(no_mangle)]
+pub extern "C" fn spcwave_tag(player: &mut SpcwavePlayer, number: u32, text: &mut [u8]) -> usize
+    requires { IsKept player.old }
+    ensures kept { IsKept player.new }
+    ensures text { text.new ≡ with_text (tag_text (playing player.old) number) text.old }
+    ensures length { result ≡ length (tag_text (playing player.old) number) }
+    ensures same { playing player.new ≡ playing player.old }
+{
+    if player.is_open {
+        if let Some(tag) = tag_of(number) {
+            return player.engine.player().tag(tag, text);
+        }
+    }
+    put_text(&[], text);
+    0
+}
+
+/// Copies the 128 registers of the S-DSP at the position. Where none is open they stay as they were.
+#[unsafe(no_mangle)]
+pub extern "C" fn spcwave_registers(player: &mut SpcwavePlayer, registers: &mut [u8; 128]) -> u32
+    requires { IsKept player.old }
+    ensures kept { IsKept player.new }
+    ensures status { result ≡ open_status (playing player.old) }
+    ensures registers { IfSome (playing player.old) (λ p. registers.new ≡ (chip_here p).registers) }
+    ensures left { playing player.old ≡ None → registers.new ≡ registers.old }
+    ensures same { playing player.new ≡ playing player.old }
+{
+    if !player.is_open {
+        return NOT_OPEN;
+    }
+    *registers = *player.engine.player().registers();
+    OK
+}
+
+/// Tells what shows of voice 0 to 7 at the position. Where it isn't told it stays as it was.
+#[unsafe(no_mangle)]
+pub extern "C" fn spcwave_voice(
+    player: &mut SpcwavePlayer,
+    number: u32,
+    voice: &mut ShownVoice,
+) -> u32
+    requires { IsKept player.old }
+    ensures kept { IsKept player.new }
+    ensures status { result ≡ range_status (nat_lt number 8) (playing player.old) }
+    ensures voice { result ≡ ok → IfSome (playing player.old) (λ p. voice.new ≡ shown_voice (chip_here p) number) }
+    ensures left { result ≢ ok → voice.new ≡ voice.old }
+    ensures same { playing player.new ≡ playing player.old }
+{
+    if !player.is_open {
+        return NOT_OPEN;
+    }
+    if number >= 8 {
+        return OUT_OF_RANGE;
+    }
+    *voice = player.engine.player().voice(number as u8);
+    OK
+}
