@@ -40,6 +40,6 @@ open_status player = if is_some player then ok else not_open
 abbrev pub range_status : (within : Bool) → Option PlayerState → ℕ
 range_status within player = if is_some player then (if within then ok else out_of_range) else not_open
 
--- the version of the library, 1.0.0: a byte for each of the last two numbers
+-- the version of the library, 1.1.0: a byte for each of the last two numbers
 abbrev pub version : ℕ
 version = 0x010100
