@@ -46,10 +46,10 @@ check_report sums counts =
 
 -- the frames of the demo file of a number in ten seconds, and the counts of the batches in which they are made
 abbrev pub demo_frames : (number : ℕ) → List Frame
-demo_frames number = tune_frames (demo_bytes number) straight_table 0 checked_samples
+demo_frames number = tune_frames (demo_bytes number) straight_table 0 0 checked_samples
 
 abbrev pub demo_counts : (number : ℕ) → Counts
-demo_counts number = tune_counts (demo_bytes number) straight_table 0 checked_samples
+demo_counts number = tune_counts (demo_bytes number) straight_table 0 0 checked_samples
 
 abbrev pub check_answer : (number : ℕ) → Answer Cause
 check_answer number = done [] (check_report (sums_of (demo_frames number)) (demo_counts number))

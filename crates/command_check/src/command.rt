@@ -77,7 +77,7 @@ fn sum_demo(alloc: Global, number: u32) -> Result<Findings, OutOfMemory>
 {
     let file = demo_gen::demo(alloc, number)?;
     let table = GaussTable::straight(alloc)?;
-    let mut render = open_tune(alloc, &file, table, SAMPLES, 0)?;
+    let mut render = open_tune(alloc, &file, table, 0, SAMPLES, 0)?;
     let sums = sums_of(&mut render);
     Ok(Findings {
         sums,
