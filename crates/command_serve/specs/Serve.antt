@@ -10,29 +10,32 @@ use Rattle.command_frame.specs.Stream.{pair}
 use Rattle.exit_status.specs.declared.cause.Cause.{Cause}
 use Rattle.input_files.specs.Reading.{answer_from}
 use Rattle.input_files.specs.Inputs.{file_in, table_in}
+use Rattle.render_options.specs.declared.SessionOptions.{SessionOptions}
 use Rattle.tune_opening.specs.Tune.{tune_frames, tune_pages}
 use Rattle.session_files.specs.Report.{report_on}
 use Rattle.command_serve.specs.Scripts.{script_in}
 
--- the replies to lines of a session over a tune, with so many slots for the pages of its checkpoints
-abbrev pub tune_replies : (slots : ℕ) → (file : List ℕ) → (table : List ℤ) → List ScriptLine → List Reply
-tune_replies slots file table lines = replies slots (tune_pages file table) (opened_session (tune_pages file table)) lines
+-- the replies to lines of a session over a tune: so many slots for the pages of its checkpoints, and these voices muted
+abbrev pub tune_replies : SessionOptions → (file : List ℕ) → (table : List ℤ) → List ScriptLine → List Reply
+tune_replies options file table lines =
+    let pages = tune_pages file table options.muted in
+    replies options.pages pages (opened_session pages) lines
 
 -- the sound file of what they tell to have been played, and the replies, one a line
-abbrev pub replies_answer : (wave file : List ℕ) → (table : List ℤ) → List Reply → Answer Cause
-replies_answer wave file table told =
-    done (pair wave None (stereo_wave (cut_frames (tune_frames file table 0) (played_cuts told))) []) (report_on told)
+abbrev pub replies_answer : (wave : List ℕ) → (muted : ℕ) → (file : List ℕ) → (table : List ℤ) → List Reply → Answer Cause
+replies_answer wave muted file table told =
+    done (pair wave None (stereo_wave (cut_frames (tune_frames file table muted 0) (played_cuts told))) []) (report_on told)
 
 -- what a script answers over a file and a table
-abbrev pub script_answer : (wave : List ℕ) → (slots : ℕ) → (file : List ℕ) → (table : List ℤ) → List ScriptLine → Answer Cause
-script_answer wave slots file table lines = replies_answer wave file table (tune_replies slots file table lines)
+abbrev pub script_answer : (wave : List ℕ) → SessionOptions → (file : List ℕ) → (table : List ℤ) → List ScriptLine → Answer Cause
+script_answer wave options file table lines = replies_answer wave options.muted file table (tune_replies options file table lines)
 
 -- the same by what the script holds, by what the table holds, and by what the inputs hold: the file comes first
-abbrev pub table_answer : (wave : List ℕ) → (slots : ℕ) → (held_script : Option (List ℕ)) → (file : List ℕ) → (table : List ℤ) → Answer Cause
-table_answer wave slots held_script file table = answer_from (script_in held_script) (script_answer wave slots file table)
+abbrev pub table_answer : (wave : List ℕ) → SessionOptions → (held_script : Option (List ℕ)) → (file : List ℕ) → (table : List ℤ) → Answer Cause
+table_answer wave options held_script file table = answer_from (script_in held_script) (script_answer wave options file table)
 
-abbrev pub file_answer : (wave : List ℕ) → (slots : ℕ) → (held_table held_script : Option (List ℕ)) → (file : List ℕ) → Answer Cause
-file_answer wave slots held_table held_script file = answer_from (table_in held_table) (table_answer wave slots held_script file)
+abbrev pub file_answer : (wave : List ℕ) → SessionOptions → (held_table held_script : Option (List ℕ)) → (file : List ℕ) → Answer Cause
+file_answer wave options held_table held_script file = answer_from (table_in held_table) (table_answer wave options held_script file)
 
-abbrev pub serve_answer : (wave : List ℕ) → (slots : ℕ) → (held_file held_table held_script : Option (List ℕ)) → Answer Cause
-serve_answer wave slots held_file held_table held_script = answer_from (file_in held_file) (file_answer wave slots held_table held_script)
+abbrev pub serve_answer : (wave : List ℕ) → SessionOptions → (held_file held_table held_script : Option (List ℕ)) → Answer Cause
+serve_answer wave options held_file held_table held_script = answer_from (file_in held_file) (file_answer wave options held_table held_script)

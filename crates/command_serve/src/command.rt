@@ -23,6 +23,7 @@ use dsp_core::Dsp;
 use exit_status::Cause;
 use gauss_table::GaussTable;
 use input_files::{read_file, read_table};
+use render_options::SessionOptions;
 use session_files::SessionFiles;
 use snd_host::Host;
 use spc_form::SpcFile;
@@ -36,15 +37,15 @@ fn open_session(
     file: &SpcFile,
     table: GaussTable,
     script: ScriptLines,
-    pages: u32,
+    options: SessionOptions,
 ) -> Result<SessionFiles<Dsp>, OutOfMemory>
-    requires enough { fewest_pages ≤ pages }
-    requires few { pages ≤ most_pages }
+    requires enough { fewest_pages ≤ options.pages }
+    requires few { options.pages ≤ most_pages }
     ensures wave { IfOk result (λ files. header_of 2 (played_frames 0 0 script) ++ (to_come_of dsp_chip dsp_saving files).wave
-        ≡ stereo_wave (cut_frames (tune_frames file.now table 0) (played_cuts (tune_replies pages file.now table script)))) }
-    ensures report { IfOk result (λ files. report_of dsp_chip dsp_saving files ≡ report_on (tune_replies pages file.now table script)) }
+        ≡ stereo_wave (cut_frames (tune_frames file.now table options.muted 0) (played_cuts (tune_replies options file.now table script)))) }
+    ensures report { IfOk result (λ files. report_of dsp_chip dsp_saving files ≡ report_on (tune_replies options file.now table script)) }
 {
-    let server = open_server(alloc, file, table, pages)?;
+    let server = open_server(alloc, file, table, options.muted, options.pages)?;
     let files = SessionFiles::open(alloc, server, script)?;
     Ok(files)
 }
@@ -56,17 +57,17 @@ fn plan<'a>(
     table: GaussTable,
     script: ScriptLines,
     wave: &'a str,
-    pages: u32,
+    options: SessionOptions,
 ) -> Result<StreamedPlan<'a, SessionFiles<Dsp>>, Refusal<Cause>>
-    requires enough { fewest_pages ≤ pages }
-    requires few { pages ≤ most_pages }
-    ensures { let answer = script_answer wave.now pages file.now table script in
+    requires enough { fewest_pages ≤ options.pages }
+    requires few { options.pages ≤ most_pages }
+    ensures { let answer = script_answer wave.now options file.now table script in
         Plans (stream_makes (to_come_of dsp_chip dsp_saving) (report_of dsp_chip dsp_saving)) answer result }
 {
     let Ok(head) = Vec::from_slice(alloc, &header(2, script.samples())) else {
         return Err(Refusal::OutOfMemory);
     };
-    let Ok(source) = open_session(alloc, file, table, script, pages) else {
+    let Ok(source) = open_session(alloc, file, table, script, options) else {
         return Err(Refusal::OutOfMemory);
     };
     Ok(StreamedPlan {
@@ -85,15 +86,15 @@ fn prepare_script<'a, H: Host>(
     table: GaussTable,
     script: &str,
     wave: &'a str,
-    pages: u32,
+    options: SessionOptions,
 ) -> Result<StreamedPlan<'a, SessionFiles<Dsp>>, Refusal<Cause>>
-    requires enough { fewest_pages ≤ pages }
-    requires few { pages ≤ most_pages }
-    ensures { let answer = λ (files : Files). table_answer wave.now pages (files script.now) file.now table in
+    requires enough { fewest_pages ≤ options.pages }
+    requires few { options.pages ≤ most_pages }
+    ensures { let answer = λ (files : Files). table_answer wave.now options (files script.now) file.now table in
         Prepares (stream_makes (to_come_of dsp_chip dsp_saving) (report_of dsp_chip dsp_saving)) answer (H.state host.old) (H.state host.new) result }
 {
     match read_lines(alloc, host, script) {
-        Ok(lines) => plan(alloc, file, table, lines, wave, pages),
+        Ok(lines) => plan(alloc, file, table, lines, wave, options),
         Err(refusal) => Err(refusal),
     }
 }
@@ -105,15 +106,15 @@ fn prepare_table<'a, H: Host>(
     file: &SpcFile,
     inputs: (&str, &str),
     wave: &'a str,
-    pages: u32,
+    options: SessionOptions,
 ) -> Result<StreamedPlan<'a, SessionFiles<Dsp>>, Refusal<Cause>>
-    requires enough { fewest_pages ≤ pages }
-    requires few { pages ≤ most_pages }
-    ensures { let answer = λ (files : Files). file_answer wave.now pages (files inputs.entry.0.now) (files inputs.entry.1.now) file.now in
+    requires enough { fewest_pages ≤ options.pages }
+    requires few { options.pages ≤ most_pages }
+    ensures { let answer = λ (files : Files). file_answer wave.now options (files inputs.entry.0.now) (files inputs.entry.1.now) file.now in
         Prepares (stream_makes (to_come_of dsp_chip dsp_saving) (report_of dsp_chip dsp_saving)) answer (H.state host.old) (H.state host.new) result }
 {
     match read_table(alloc, host, inputs.0) {
-        Ok(table) => prepare_script(alloc, host, file, table, inputs.1, wave, pages),
+        Ok(table) => prepare_script(alloc, host, file, table, inputs.1, wave, options),
         Err(refusal) => Err(refusal),
     }
 }
@@ -125,36 +126,36 @@ fn prepare<'a, H: Host>(
     file: &str,
     inputs: (&str, &str),
     wave: &'a str,
-    pages: u32,
+    options: SessionOptions,
 ) -> Result<StreamedPlan<'a, SessionFiles<Dsp>>, Refusal<Cause>>
-    requires enough { fewest_pages ≤ pages }
-    requires few { pages ≤ most_pages }
-    ensures { let answer = λ (files : Files). serve_answer wave.now pages (files file.now) (files inputs.entry.0.now) (files inputs.entry.1.now) in
+    requires enough { fewest_pages ≤ options.pages }
+    requires few { options.pages ≤ most_pages }
+    ensures { let answer = λ (files : Files). serve_answer wave.now options (files file.now) (files inputs.entry.0.now) (files inputs.entry.1.now) in
         Prepares (stream_makes (to_come_of dsp_chip dsp_saving) (report_of dsp_chip dsp_saving)) answer (H.state host.old) (H.state host.new) result }
 {
     match read_file(alloc, host, file) {
-        Ok(file) => prepare_table(alloc, host, &file, inputs, wave, pages),
+        Ok(file) => prepare_table(alloc, host, &file, inputs, wave, options),
         Err(refusal) => Err(refusal),
     }
 }
 
-/// Runs the script over the tune of the file and the table, with so many pages for its checkpoints, writes all that is
-/// played to the sound file, and reports a reply to each line. `inputs` are the table and the script.
+/// Runs the script over the tune of the file and the table, with the pages for its checkpoints and the muted voices that the
+/// options say, writes all that is played to the sound file, and reports a reply to each line. `inputs` are the table and the script.
 pub fn serve<H: Host>(
     alloc: Global,
     host: &mut H,
     file: &str,
     inputs: (&str, &str),
     wave: &str,
-    pages: u32,
+    options: SessionOptions,
 ) -> Option<Refusal<Cause>>
     requires outputs { CanDeliver (H.state host.old) }
-    requires enough { fewest_pages ≤ pages }
-    requires few { pages ≤ most_pages }
-    ensures attempts { let answer = λ (files : Files). serve_answer wave.now pages (files file.now) (files inputs.entry.0.now) (files inputs.entry.1.now) in
+    requires enough { fewest_pages ≤ options.pages }
+    requires few { options.pages ≤ most_pages }
+    ensures attempts { let answer = λ (files : Files). serve_answer wave.now options (files file.now) (files inputs.entry.0.now) (files inputs.entry.1.now) in
         Attempts answer true result (H.state host.old) (H.state host.new) }
     ensures not_usage { result ≡ Some Refusal.Usage → ⊥ }
 {
-    let prepared = prepare(alloc, host, file, inputs, wave, pages);
+    let prepared = prepare(alloc, host, file, inputs, wave, options);
     carry_stream(host, prepared)
 }

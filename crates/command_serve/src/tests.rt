@@ -5,6 +5,7 @@ ghost use Rattle.cut_form.specs.Checkpoints.{fewest_pages};
 
 use crate::serve;
 use exit_status::Status;
+use render_options::SessionOptions;
 use std::alloc::Global;
 use std::test::Fail;
 use test_support::{
@@ -21,7 +22,8 @@ fn serve_over(alloc: Global, inputs: &[(&str, &[u8])], pages: u32) -> Result<Out
     requires few { pages ≤ most_pages }
 {
     let mut host = host_with(alloc, inputs, &[], ROOM)?;
-    let refusal = serve(alloc, &mut host, "SPC", ("TABLE", "SCRIPT"), "OUT", pages);
+    let options = SessionOptions { pages, muted: 0 };
+    let refusal = serve(alloc, &mut host, "SPC", ("TABLE", "SCRIPT"), "OUT", options);
     Ok(Outcome::of(refusal, host))
 }
 

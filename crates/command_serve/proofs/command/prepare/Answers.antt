@@ -11,6 +11,6 @@ use Rattle.command_serve.proofs.command.prepare.Goals as goal
 pub returns-in-Ok : goal.returns-in-Ok
 returns-in-Ok g c =
     reads_then (stream_makes (to_come_of dsp_chip dsp_saving) (report_of dsp_chip dsp_saving)) (λ (files : Files). file_in (files c.args.file.now))
-    (λ (files : Files) (file : List ℕ). file_answer c.args.wave.now c.args.pages (files c.args.inputs.0.now) (files c.args.inputs.1.now) file)
+    (λ (files : Files) (file : List ℕ). file_answer c.args.wave.now c.args.options (files c.args.inputs.0.now) (files c.args.inputs.1.now) file)
     (g.H.Host.state c.args.host.now) (g.H.Host.state c.read_file.new.host) (g.H.Host.state c.prepare_table.new.host) c.in-Ok.file c.prepare_table.result
     c.in-Ok.ensures c.prepare_table.ensures
