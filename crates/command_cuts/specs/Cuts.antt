@@ -13,17 +13,18 @@ use Rattle.tune_opening.specs.Tune.{tune_frames, tune_pages}
 use Rattle.cut_files.specs.CutFiles.{cuts_report}
 use Rattle.command_cuts.specs.Lists.{cuts_in}
 
--- what cuts answer over a file and a table: their frames are those of the run before any fade
-abbrev pub list_answer : (wave file : List ℕ) → (table : List ℤ) → List Cut → Answer Cause
-list_answer wave file table cuts =
-    done (pair wave None (stereo_wave (cut_frames (tune_frames file table 0) cuts)) []) (cuts_report cuts (cut_book (tune_pages file table) cuts))
+-- what cuts answer over a file and a table, with these voices muted: their frames are those of the run before any fade
+abbrev pub list_answer : (wave : List ℕ) → (muted : ℕ) → (file : List ℕ) → (table : List ℤ) → List Cut → Answer Cause
+list_answer wave muted file table cuts =
+    done (pair wave None (stereo_wave (cut_frames (tune_frames file table muted 0) cuts)) [])
+    (cuts_report cuts (cut_book (tune_pages file table muted) cuts))
 
 -- the same by what the list holds, by what the table holds, and by what the inputs hold: the file comes first
-abbrev pub table_answer : (wave : List ℕ) → (held_list : Option (List ℕ)) → (file : List ℕ) → (table : List ℤ) → Answer Cause
-table_answer wave held_list file table = answer_from (cuts_in held_list) (list_answer wave file table)
+abbrev pub table_answer : (wave : List ℕ) → (muted : ℕ) → (held_list : Option (List ℕ)) → (file : List ℕ) → (table : List ℤ) → Answer Cause
+table_answer wave muted held_list file table = answer_from (cuts_in held_list) (list_answer wave muted file table)
 
-abbrev pub file_answer : (wave : List ℕ) → (held_table held_list : Option (List ℕ)) → (file : List ℕ) → Answer Cause
-file_answer wave held_table held_list file = answer_from (table_in held_table) (table_answer wave held_list file)
+abbrev pub file_answer : (wave : List ℕ) → (muted : ℕ) → (held_table held_list : Option (List ℕ)) → (file : List ℕ) → Answer Cause
+file_answer wave muted held_table held_list file = answer_from (table_in held_table) (table_answer wave muted held_list file)
 
-abbrev pub cuts_answer : (wave : List ℕ) → (held_file held_table held_list : Option (List ℕ)) → Answer Cause
-cuts_answer wave held_file held_table held_list = answer_from (file_in held_file) (file_answer wave held_table held_list)
+abbrev pub cuts_answer : (wave : List ℕ) → (muted : ℕ) → (held_file held_table held_list : Option (List ℕ)) → Answer Cause
+cuts_answer wave muted held_file held_table held_list = answer_from (file_in held_file) (file_answer wave muted held_table held_list)

@@ -27,18 +27,19 @@ use std::alloc::Global;
 use tune_opening::open_server;
 use wav_form::header;
 
-/// Opens the cuts of a list over a file and a table.
+/// Opens the cuts of a list over a file and a table, with these voices muted.
 fn open_cuts(
     alloc: Global,
     file: &SpcFile,
     table: GaussTable,
+    muted: u8,
     cuts: CutList,
 ) -> Result<CutFiles<Dsp>, OutOfMemory>
     ensures wave { IfOk result (λ files. header_of 2 (cut_samples cuts) ++ (to_come_of dsp_chip dsp_saving files).wave
-        ≡ stereo_wave (cut_frames (tune_frames file.now table 0) cuts)) }
-    ensures report { IfOk result (λ files. report_of dsp_chip dsp_saving files ≡ cuts_report cuts (cut_book (tune_pages file.now table) cuts)) }
+        ≡ stereo_wave (cut_frames (tune_frames file.now table muted 0) cuts)) }
+    ensures report { IfOk result (λ files. report_of dsp_chip dsp_saving files ≡ cuts_report cuts (cut_book (tune_pages file.now table muted) cuts)) }
 {
-    let server = open_server(alloc, file, table, SLOTS_FOR_CUTS)?;
+    let server = open_server(alloc, file, table, muted, SLOTS_FOR_CUTS)?;
     let files = CutFiles::open(alloc, server, cuts)?;
     Ok(files)
 }
@@ -50,14 +51,15 @@ fn plan<'a>(
     table: GaussTable,
     cuts: CutList,
     wave: &'a str,
+    muted: u8,
 ) -> Result<StreamedPlan<'a, CutFiles<Dsp>>, Refusal<Cause>>
-    ensures { let answer = list_answer wave.now file.now table cuts in
+    ensures { let answer = list_answer wave.now muted file.now table cuts in
         Plans (stream_makes (to_come_of dsp_chip dsp_saving) (report_of dsp_chip dsp_saving)) answer result }
 {
     let Ok(head) = Vec::from_slice(alloc, &header(2, cuts.samples())) else {
         return Err(Refusal::OutOfMemory);
     };
-    let Ok(source) = open_cuts(alloc, file, table, cuts) else {
+    let Ok(source) = open_cuts(alloc, file, table, muted, cuts) else {
         return Err(Refusal::OutOfMemory);
     };
     Ok(StreamedPlan {
@@ -76,12 +78,13 @@ fn prepare_list<'a, H: Host>(
     table: GaussTable,
     list: &str,
     wave: &'a str,
+    muted: u8,
 ) -> Result<StreamedPlan<'a, CutFiles<Dsp>>, Refusal<Cause>>
-    ensures { let answer = λ (files : Files). table_answer wave.now (files list.now) file.now table in
+    ensures { let answer = λ (files : Files). table_answer wave.now muted (files list.now) file.now table in
         Prepares (stream_makes (to_come_of dsp_chip dsp_saving) (report_of dsp_chip dsp_saving)) answer (H.state host.old) (H.state host.new) result }
 {
     let cuts = read_list(alloc, host, list)?;
-    plan(alloc, file, table, cuts, wave)
+    plan(alloc, file, table, cuts, wave, muted)
 }
 
 /// Reads the table and the list and makes the plan for them and a file.
@@ -92,12 +95,13 @@ fn prepare_table<'a, H: Host>(
     table: &str,
     list: &str,
     wave: &'a str,
+    muted: u8,
 ) -> Result<StreamedPlan<'a, CutFiles<Dsp>>, Refusal<Cause>>
-    ensures { let answer = λ (files : Files). file_answer wave.now (files table.now) (files list.now) file.now in
+    ensures { let answer = λ (files : Files). file_answer wave.now muted (files table.now) (files list.now) file.now in
         Prepares (stream_makes (to_come_of dsp_chip dsp_saving) (report_of dsp_chip dsp_saving)) answer (H.state host.old) (H.state host.new) result }
 {
     let table = read_table(alloc, host, table)?;
-    prepare_list(alloc, host, file, table, list, wave)
+    prepare_list(alloc, host, file, table, list, wave, muted)
 }
 
 /// Reads the file, the table and the list and makes the plan for them.
@@ -108,16 +112,17 @@ fn prepare<'a, H: Host>(
     table: &str,
     list: &str,
     wave: &'a str,
+    muted: u8,
 ) -> Result<StreamedPlan<'a, CutFiles<Dsp>>, Refusal<Cause>>
-    ensures { let answer = λ (files : Files). cuts_answer wave.now (files file.now) (files table.now) (files list.now) in
+    ensures { let answer = λ (files : Files). cuts_answer wave.now muted (files file.now) (files table.now) (files list.now) in
         Prepares (stream_makes (to_come_of dsp_chip dsp_saving) (report_of dsp_chip dsp_saving)) answer (H.state host.old) (H.state host.new) result }
 {
     let file = read_file(alloc, host, file)?;
-    prepare_table(alloc, host, &file, table, list, wave)
+    prepare_table(alloc, host, &file, table, list, wave, muted)
 }
 
-/// Renders the cuts of the list, of the tune of the file and the table, joined to the sound file, and reports how many they
-/// are, what they took and what was made for them.
+/// Renders the cuts of the list, of the tune of the file and the table with these voices muted, joined to the sound file, and
+/// reports how many they are, what they took and what was made for them.
 pub fn cuts<H: Host>(
     alloc: Global,
     host: &mut H,
@@ -125,12 +130,13 @@ pub fn cuts<H: Host>(
     table: &str,
     list: &str,
     wave: &str,
+    muted: u8,
 ) -> Option<Refusal<Cause>>
     requires outputs { CanDeliver (H.state host.old) }
-    ensures attempts { let answer = λ (files : Files). cuts_answer wave.now (files file.now) (files table.now) (files list.now) in
+    ensures attempts { let answer = λ (files : Files). cuts_answer wave.now muted (files file.now) (files table.now) (files list.now) in
         Attempts answer true result (H.state host.old) (H.state host.new) }
     ensures not_usage { result ≡ Some Refusal.Usage → ⊥ }
 {
-    let prepared = prepare(alloc, host, file, table, list, wave);
+    let prepared = prepare(alloc, host, file, table, list, wave, muted);
     carry_stream(host, prepared)
 }

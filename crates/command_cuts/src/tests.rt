@@ -18,7 +18,7 @@ const CHANGES_241_PAGES: Pieces = &[(
 /// Renders the cuts of a list over these inputs.
 fn cut_over(alloc: Global, inputs: &[(&str, &[u8])]) -> Result<Outcome, Fail> {
     let mut host = host_with(alloc, inputs, &[], ROOM)?;
-    let refusal = cuts(alloc, &mut host, "SPC", "TABLE", "LIST", "OUT");
+    let refusal = cuts(alloc, &mut host, "SPC", "TABLE", "LIST", "OUT", 0);
     Ok(Outcome::of(refusal, host))
 }
 

@@ -49,6 +49,7 @@ fn first_second(alloc: Global, file: &[u8], table: &[u8]) -> io::Result<Outcome>
         samples: Some(SECOND),
         trace: None,
         voices: None,
+        muted: None,
     };
     let refusal = render(alloc, &mut host, TUNE, TABLE, WAVE, options);
     Ok(Outcome::of(refusal, host))

@@ -31,5 +31,5 @@ answer_of (check number) files = check_answer number
 answer_of (asm input origin output) files = asm_answer origin output (files input)
 answer_of (dis input origin output) files = dis_answer origin output (files input)
 answer_of (rip file prefix range) files = rip_answer prefix range (files file)
-answer_of (cuts file table list wave) files = cuts_answer wave (files file) (files table) (files list)
-answer_of (serve file table script wave pages) files = serve_answer wave pages (files file) (files table) (files script)
+answer_of (cuts file table list wave muted) files = cuts_answer wave muted (files file) (files table) (files list)
+answer_of (serve file table script wave options) files = serve_answer wave options (files file) (files table) (files script)

@@ -70,14 +70,15 @@ fn attempt<H: Host>(alloc: Global, words: &[String], host: &mut H) -> Option<Ref
             table,
             list,
             wave,
-        } => cuts(alloc, host, file, table, list, wave),
+            muted,
+        } => cuts(alloc, host, file, table, list, wave, muted),
         Command::Serve {
             file,
             table,
             script,
             wave,
-            pages,
-        } => serve(alloc, host, file, (table, script), wave, pages),
+            options,
+        } => serve(alloc, host, file, (table, script), wave, options),
     }
 }
 

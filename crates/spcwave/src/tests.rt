@@ -48,6 +48,8 @@ const WORDS: &[&[&str]] = &[
     &["render", "A", "B", "C", "--trace", "-T"],
     &["render", "A", "B", "C", "--voices", "1"],
     &["render", "A", "B", "C", "--voices", "0g"],
+    &["render", "A", "B", "C", "--mute", "1"],
+    &["render", "A", "B", "C", "--mute", "01", "--mute", "01"],
     &["render", "A", "B", "C", "--loop", "1"],
     &["--Help"],
     &["help", "render"],
@@ -76,6 +78,10 @@ const WORDS: &[&[&str]] = &[
     &["cuts", "A", "B", "C"],
     &["cuts", "A", "B", "C", "-D"],
     &["cuts", "A", "B", "C", "D", "E"],
+    &["cuts", "A", "B", "C", "D", "--mute"],
+    &["cuts", "A", "B", "C", "D", "--mute", "0g"],
+    &["cuts", "A", "B", "C", "D", "--pages", "256"],
+    &["cuts", "A", "B", "C", "D", "--mute", "01", "--mute", "01"],
     &["serve", "A", "B", "C"],
     &["serve", "A", "B", "C", "-D"],
     &["serve", "A", "B", "C", "D", "E"],
@@ -87,6 +93,8 @@ const WORDS: &[&[&str]] = &[
     &[
         "serve", "A", "B", "C", "D", "--pages", "256", "--pages", "256",
     ],
+    &["serve", "A", "B", "C", "D", "--mute", "001"],
+    &["serve", "A", "B", "C", "D", "--mute", "01", "--mute", "01"],
     &["rip", "A"],
     &["rip", "A", ""],
     &["rip", "A", "-B"],
@@ -137,7 +145,24 @@ const COMMANDS: &[(&[&str], Status, &str)] = &[
     (&["cuts", "IN", "IN", "IN", "OUT"], Status::SpcLength, ""),
     (&["serve", "IN", "IN", "IN", "OUT"], Status::SpcLength, ""),
     (
+        &["render", "IN", "IN", "OUT", "--mute", "fF"],
+        Status::SpcLength,
+        "",
+    ),
+    (
+        &["cuts", "IN", "IN", "IN", "OUT", "--mute", "00"],
+        Status::SpcLength,
+        "",
+    ),
+    (
         &["serve", "IN", "IN", "IN", "OUT", "--pages", "00256"],
+        Status::SpcLength,
+        "",
+    ),
+    (
+        &[
+            "serve", "IN", "IN", "IN", "OUT", "--mute", "0A", "--pages", "256",
+        ],
         Status::SpcLength,
         "",
     ),

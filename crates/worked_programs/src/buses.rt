@@ -251,7 +251,7 @@ fn the_dsp_is_a_chip(rt: HostRuntime) -> Result<(), Fail> {
     let mut memory = Aram::from_image(alloc, &image)?;
     let mut frames = Frames::new(alloc)?;
     let mut records = Records::new(alloc)?;
-    let mut dsp = Dsp::open(alloc, &[0; 128], GaussTable::straight(alloc)?)?;
+    let mut dsp = Dsp::open(alloc, &[0; 128], GaussTable::straight(alloc)?, 0)?;
     Chip::advance(&mut dsp, 2, &mut memory, 0x80, &mut frames, &mut records);
     assert!(rt; registers_and_numbers(&mut dsp) == (0x12, 0, 2, 1));
     assert!(rt; which_are_results(&dsp) == [true, true, true, false]);

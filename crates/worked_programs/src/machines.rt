@@ -76,7 +76,7 @@ pub fn opening_of(
 pub fn chip_of(alloc: Global, opening: &OpenState) -> Result<Dsp, Fail>
     ensures { IfOk result (λ chip. (chip.sample ≡ 0) × (chip.batches ≡ 0)) }
 {
-    Ok(Dsp::open(alloc, &opening.dsp, GaussTable::straight(alloc)?)?)
+    Ok(Dsp::open(alloc, &opening.dsp, GaussTable::straight(alloc)?, 0)?)
 }
 
 /// The bus that makes each sample at once, with the records of the voices in a mask.

@@ -127,7 +127,7 @@ fn served(alloc: Global, more: Pieces, pages: u32, calls: &[Call]) -> Result<Tol
         live: Vec::new(alloc),
     };
     let file = file(alloc, more)?;
-    let chip = Dsp::open(alloc, file.dsp(), GaussTable::straight(alloc)?)?;
+    let chip = Dsp::open(alloc, file.dsp(), GaussTable::straight(alloc)?, 0)?;
     serve(alloc, &file, chip, pages, calls, &mut told)?;
     Ok(told)
 }

@@ -19,7 +19,7 @@ pub fn file(alloc: Global, sound: &[(usize, &[u8])], program: &[u8]) -> Result<S
 pub fn chip_of(alloc: Global, file: &SpcFile) -> Result<Dsp, Fail>
     ensures { IfOk result (λ chip. (chip.sample ≡ 0) × (chip.batches ≡ 0)) }
 {
-    Ok(Dsp::open(alloc, file.dsp(), GaussTable::straight(alloc)?)?)
+    Ok(Dsp::open(alloc, file.dsp(), GaussTable::straight(alloc)?, 0)?)
 }
 
 pub const SILENT: Frame = Frame { left: 0, right: 0 };

@@ -11,6 +11,6 @@ use Rattle.command_cuts.proofs.command.prepare.Goals as goal
 pub returns : goal.returns
 returns g c =
     reads_then (stream_makes (to_come_of dsp_chip dsp_saving) (report_of dsp_chip dsp_saving)) (λ (files : Files). file_in (files c.args.file.now))
-    (λ (files : Files) (file : List ℕ). file_answer c.args.wave.now (files c.args.table.now) (files c.args.list.now) file)
+    (λ (files : Files) (file : List ℕ). file_answer c.args.wave.now c.args.muted (files c.args.table.now) (files c.args.list.now) file)
     (g.H.Host.state c.args.host.now) (g.H.Host.state c.read_file.new.host) (g.H.Host.state c.prepare_table.new.host) c.in_ok-file.file c.prepare_table.result
     c.in_ok-file.ensures c.prepare_table.ensures

@@ -11,6 +11,6 @@ use Rattle.command_cuts.proofs.command.prepare_table.Goals as goal
 pub returns : goal.returns
 returns g c =
     reads_then (stream_makes (to_come_of dsp_chip dsp_saving) (report_of dsp_chip dsp_saving)) (λ (files : Files). table_in (files c.args.table.now))
-    (λ (files : Files) (table : List ℤ). table_answer c.args.wave.now (files c.args.list.now) c.args.file.now table)
+    (λ (files : Files) (table : List ℤ). table_answer c.args.wave.now c.args.muted (files c.args.list.now) c.args.file.now table)
     (g.H.Host.state c.args.host.now) (g.H.Host.state c.read_table.new.host) (g.H.Host.state c.prepare_list.new.host) c.in_ok-table.table c.prepare_list.result
     c.in_ok-table.ensures c.prepare_list.ensures
