@@ -41,7 +41,10 @@ fn each_call_of_the_host_may_fail(rt: HostRuntime) -> Result<(), Fail> {
     assert!(rt; is_of_seven(whole.first()));
     for call in 0..whole.calls() {
         let outcome = demo_of_seven(rt.alloc(), &[call])?;
-        assert!(rt; outcome.is_cut_off(call, whole.first(), &[], REPORT), "at {call}");
+        assert!(rt;
+            outcome.is_cut_off(call, whole.first(), &[], REPORT),
+            "at {call}"
+        );
     }
     Ok(())
 }
