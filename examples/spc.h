@@ -3,10 +3,11 @@
  * A frame is two samples, left first, and counts are of samples, as there. What differs:
  *  - spc_load_spc takes the memory, not spc_new, and plays each file as it is: spc_clear_echo does nothing, and silence at the head stays;
  *  - spc_skip is exact, and takes as long as playing; with marks in between (spcwave_mark) it would be quick;
- *  - an hour is the most that is played: behind it spc_play gives zeros and an error;
+ *  - an hour is the most that is played: behind it spc_play gives zeros and an error, and spc_skip an error, and stays;
  *  - the filter (spc_filter_*) leaves samples as they are, which are those that the console's chip hands on.
- * Without an equal, and left out, so that a player which calls them isn't linked: emulator use (spc_init_rom, spc_set_output, spc_sample_count,
- * spc_reset, spc_soft_reset, spc_read_port, spc_write_port, spc_end_frame), spc_mute_voices, spc_disable_surround, spc_set_tempo, and saved states
+ * Without an equal, and left out, so that a player which calls them doesn't compile: emulator use (spc_init_rom, spc_set_output, spc_sample_count,
+ * spc_reset, spc_soft_reset, spc_read_port, spc_write_port, spc_end_frame), spc_mute_voices (voices are muted where a player is opened: the options'
+ * `muted`), spc_disable_surround, spc_set_tempo, and saved states
  * (spc_init_header, spc_save_spc, spc_check_kon, spc_copy_state).
  */
 #ifndef SPC_H

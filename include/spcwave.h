@@ -1,16 +1,18 @@
 /* spcwave.h: plays SPC music files of the Super Nintendo's sound unit, 16-bit stereo at 32,000 frames a second.
  *
  * The sound: the frames that spcwave_play gives are, whatever was sought, marked or played before, frames [position, position + given)
- * of the run of the machine that the file opens, its processor and S-DSP in lock step. The library is proved to do what each comment
- * below says, where its caller keeps the following, which nothing checks. Of a caller's errors only NOT_OPEN and OUT_OF_RANGE tell.
+ * of the run of the machine that the file opens over the table, with the muted voices of its options, its processor and S-DSP in lock
+ * step. The library is proved to do what each comment below says, but for time and memory, which are measured, where its caller keeps the
+ * following, which nothing checks. Of a caller's errors only NOT_OPEN and OUT_OF_RANGE tell.
  *
  * You owe, for every call:
  *  - a handle that was zeroed once (SPCWAVE_CLOSED, or memset) and since then was written by these functions alone. It may be moved
  *    (memcpy, and the old one forgotten), never copied. No two calls may use it at once, and it stays on the thread that opened it;
- *  - pointers that aren't null, also where the length is 0, to memory that nobody else reads or writes during the call;
- *  - malloc, realloc and free of one allocator; 128 KB of stack for spcwave_open, 32 KB for the others; no call from a signal handler.
+ *  - pointers that aren't null, also where the length is 0, to memory that nobody else reads or writes during the call; no two of them, nor
+ *    the handle, overlap;
+ *  - malloc, realloc and free of one allocator; 512 KB of stack for spcwave_open, 32 KB for the others; no call from a signal handler.
  * Nothing is global: any number of handles may be used side by side.
- * Only spcwave_open takes memory: half a megabyte, and 256 bytes a page. Only spcwave_close, and spcwave_open of an open handle, gives it back.
+ * Only spcwave_open takes memory: three quarters of a megabyte, and 256 bytes a page. Only spcwave_close, and spcwave_open of an open handle, gives it back.
  */
 #ifndef SPCWAVE_H
 #define SPCWAVE_H
@@ -54,8 +56,9 @@ enum spcwave_tags {
 /* What a player is opened with beside its tune. */
 typedef struct spcwave_options {
     uint32_t pages;         /* of 256 bytes for marks, 256 to 65,536. The mark of frame 0 takes 256, each other those that changed */
-    uint32_t mark_seconds;  /* while it plays a mark is taken each so many seconds, 1 to 3,600; 0 for none */
-    uint8_t muted;          /* voices that are left out of the sound and of its echo: bit v is voice v, 0 for none */
+    uint32_t mark_seconds;  /* while it plays a mark is taken each so many seconds, 1 to 3,600; 0 for none. The last 63 stay, fewer where pages are short */
+    uint8_t muted;          /* voices that are left out of the sound and of its echo: bit v is voice v, 0 for none. A tune that reads
+                               or runs in the echo's buffer may go another way without them */
 } spcwave_options;
 
 /* 4,096 pages, no marks but those that are asked for, and all voices. */
@@ -77,7 +80,7 @@ typedef struct spcwave_frame {
 /* What shows of a voice once a sample is made. */
 typedef struct spcwave_voice_shown {
     uint16_t level;   /* of its envelope, 0 to 2,047 */
-    uint16_t pitch;   /* of its registers, 0 to 16,383: at 4,096 its sample is played 32,000 numbers a second */
+    uint16_t pitch;   /* of its registers, 0 to 16,383: at 4,096 its sample is played 32,000 of its samples a second */
     int16_t output;   /* the high byte of its output, -128 to 127, as the register OUTX has it */
     uint16_t source;  /* the number of its sample in the directory, 0 to 255 */
 } spcwave_voice_shown;
@@ -97,7 +100,8 @@ uint32_t spcwave_open(spcwave_player *player, const uint8_t *spc, size_t spc_len
 void spcwave_close(spcwave_player *player);
 
 /* Plays: writes min(count, MOST - position) frames, moves the position behind them, and tells how many; 0 where none is open. Frames of the
- * array behind those stay as they were. Where the position comes to a multiple of the options' mark_seconds, a mark is taken. */
+ * array behind those stay as they were. Where the position comes to a multiple of the options' mark_seconds, a mark is asked
+ * for, as by spcwave_mark. */
 size_t spcwave_play(spcwave_player *player, spcwave_frame *frames, size_t count);
 
 /* The same, of the frames that the program renders: they end at the length that the tags tell, and the last of them fade out. So it writes
@@ -110,7 +114,8 @@ size_t spcwave_play_faded(spcwave_player *player, spcwave_frame *frames, size_t 
 uint32_t spcwave_seek(spcwave_player *player, uint32_t frame);
 
 /* Keeps the state at the position, so that a later seek to it or soon behind it is quick. There are 64 marks at most, that of frame 0
- * among them, which always stays; the oldest others are given up where pages or places are short. Answers OK or NOT_OPEN. */
+ * among them, which always stays; the oldest others are given up where pages or places are short. Where there isn't room
+ * even then, none is kept, and the others are gone all the same. Answers OK or NOT_OPEN. */
 uint32_t spcwave_mark(spcwave_player *player);
 
 /* The position: how many frames stand before it. 0 where none is open. */
@@ -128,8 +133,8 @@ uint32_t spcwave_length(spcwave_player *player, uint32_t *frames, uint32_t *fade
  * the number. */
 size_t spcwave_tag(spcwave_player *player, uint32_t tag, char *text, size_t size);
 
-/* Copies the S-DSP's 128 registers at the position: those that the step of the processor left by which the frame before it was made. Answers
- * OK; or NOT_OPEN, and then they stay as they were. */
+/* Copies the S-DSP's 128 registers at the position: as they stand once the step of the processor is done in which the frame before it was
+ * made; at 0 those of the file. Answers OK; or NOT_OPEN, and then they stay as they were. */
 uint32_t spcwave_registers(spcwave_player *player, uint8_t registers[128]);
 
 /* Tells what shows of voice 0 to 7 at the position. Answers OK; or NOT_OPEN, or OUT_OF_RANGE for another number, and then it stays as it was. */

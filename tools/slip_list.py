@@ -120,7 +120,7 @@ SLIPS = [
     Slip('an artist of 31 bytes', ['spc_form'], ['command_info'], [
         (TAGS, 'field_size Artist = 32', 'field_size Artist = 31'),
         (TAGS_CODE, 'Tag::Title | Tag::Game | Tag::Comments | Tag::Artist => 32', 'Tag::Artist => 31, Tag::Title | Tag::Game | Tag::Comments => 32')]),
-    Slip('33 frames a millisecond of a fade', ['spc_form'], ['worked_files'], [
+    Slip('31 frames a millisecond of a fade', ['spc_form'], ['worked_files'], [
         (TAGS, 'frames = 32000 * seconds + 32 * milliseconds; fade = 32 * milliseconds', 'frames = 32000 * seconds + 31 * milliseconds; fade = 31 * milliseconds'),
         (TAGS_CODE, '32 * fade.unwrap_or(0)', '31 * fade.unwrap_or(0)')]),
     Slip('another length without tags', ['spc_form'], ['worked_files'], [
@@ -232,11 +232,13 @@ SLIPS = [
         (FLG, 'has_bit flg 5', 'has_bit flg 4'), (FLG_CODE, 'has_bit(flg, 5)', 'has_bit(flg, 4)')]),
     Slip("the echo's volumes exchanged", ['dsp_state'], ['worked_sounds', 'worked_renders'], [
         (REGISTERS, 'EVOLL: usize = 0x2c', 'EVOLL: usize = 0x3c'), (REGISTERS, 'EVOLR: usize = 0x3c', 'EVOLR: usize = 0x2c')]),
+    Slip('the main volumes exchanged', ['dsp_state'], ['worked_sounds', 'worked_renders'], [
+        (REGISTERS, 'MVOLL: usize = 0x0c', 'MVOLL: usize = 0x1c'), (REGISTERS, 'MVOLR: usize = 0x1c', 'MVOLR: usize = 0x0c')]),
     Slip('ESA and EDL exchanged', ['dsp_state'], ['worked_sounds', 'worked_renders'], [
         (REGISTERS, 'ESA: usize = 0x6d', 'ESA: usize = 0x7d'), (REGISTERS, 'EDL: usize = 0x7d', 'EDL: usize = 0x6d')]),
     Slip('KON and KOFF exchanged', ['dsp_state'], ['worked_sounds', 'worked_renders'], [
         (REGISTERS, 'KON: usize = 0x4c', 'KON: usize = 0x5c'), (REGISTERS, 'KOFF: usize = 0x5c', 'KOFF: usize = 0x4c')]),
-    Slip('PMON and NON exchanged', ['dsp_state'], ['worked_sounds', 'worked_renders'], [
+    Slip('PMON and NON exchanged', ['dsp_state'], ['worked_sounds', 'worked_renders', 'command_render'], [
         (REGISTERS, 'PMON: usize = 0x2d', 'PMON: usize = 0x3d'), (REGISTERS, 'NON: usize = 0x3d', 'NON: usize = 0x2d')]),
 
     # statuses and complaints

@@ -35,7 +35,7 @@ int main(int argc, char **argv) {
     in = fopen(argv[argc - 1], "rb");
     if (fread(table, 1, 1024, in) != 1024) return 2;
     fclose(in);
-    const spcwave_options options = { 4096, 1 };
+    const spcwave_options options = { 4096, 1, 0 };
     uint8_t registers[128];
     spcwave_voice_shown voice;
     spcwave_player player = SPCWAVE_CLOSED;

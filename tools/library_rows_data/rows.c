@@ -32,7 +32,7 @@ static uint32_t below(uint32_t n) { seed = seed * 6364136223846793005u + 1442695
 struct second { const uint8_t *spc, *table; size_t spc_length; const spcwave_frame *wanted; uint32_t count; int same; };
 static void *play_second(void *given) {
     struct second *it = given;
-    const spcwave_options options = { 256, 0 };
+    const spcwave_options options = { 256, 0, 0 };
     spcwave_player player = SPCWAVE_CLOSED;
     spcwave_frame *got = malloc(sizeof *got * it->count);
     it->same = spcwave_open(&player, it->spc, it->spc_length, it->table, 1024, &options) == SPCWAVE_OK
@@ -159,7 +159,7 @@ int main(int argc, char **argv) {
     memset(got, 0x55, sizeof *got * 8);
     row(spcwave_play(&player, got, 3) == 3 && memcmp(got, mine + 10, 12) == 0 && ((uint8_t *)got)[12] == 0x55, "frames behind are left");
     row(spcwave_play(&player, got, 0) == 0 && spcwave_position(&player) == 13, "none are none");
-    /* the hour's end, and past it */
+    /* past the hour's end */
     row(spcwave_seek(&player, SPCWAVE_MOST + 1) == SPCWAVE_OUT_OF_RANGE && spcwave_position(&player) == 13, "past the hour");
     /* seeks */
     for (marks = 0; marks < 3; marks++) {

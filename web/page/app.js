@@ -1,18 +1,23 @@
 // The page: a list of tunes, one of which plays.
-import { load, Player, Refused, MOST_FRAMES, RATE, Tag } from './library.js';
+import { load, MOST_BYTES, MOST_FRAMES, PIECE, Player, RATE, Refused, Tag } from './library.js';
 import { drawPeaks, drawVoices, drawWave, makeVoices } from './pictures.js';
 
 const STEP = 5 * RATE; // an arrow key
+const MOST_WAITING = 64; // pieces that are kept to be shown: a page that is hidden shows none
 const id = (name) => document.getElementById(name);
 
-const tunes = []; // { name, spc, title, frames, refusal }
+const tunes = []; // { name, spc, title, game, artist, frames }, or { name, refusal }
 let current = -1;
 let inputs; // the module and the table
+let reader; // tells of files what their tags say
 let sound = null; // { context, output, engine, gain }, made when something first plays
+let opening = null;
+let resuming = false;
 let renderer = null;
+let loudness = { peaks: [], part: 0 }; // of the current tune, as far as it is rendered
 let plays = false;
-let turn = 0; // of the last seek
-let shown = []; // what shows of the voices, of pieces that are not yet heard
+let turn = 0; // of the last order
+let shown = []; // what shows of pieces that are not yet heard
 let begun = []; // when pieces began to sound
 let heard = 0; // the frame that is heard
 
@@ -21,53 +26,68 @@ const clock = (frames) => {
   return `${Math.floor(seconds / 60)}:${String(seconds % 60).padStart(2, '0')}`;
 };
 
+const wait = (milliseconds) => new Promise((go) => setTimeout(go, milliseconds));
+
 function tell(text) {
   id('status').textContent = text;
 }
 
-/** A file as a tune of the list: refused ones keep the cause. */
-function tuneOf(name, spc) {
+// The list
+
+/** A file as a tune of the list, or why it is refused. */
+async function read(file) {
+  const { name, size } = file;
+  if (size > MOST_BYTES) return { name, refusal: new Refused(4).message };
+  let spc;
   try {
-    const player = new Player(inputs.module, spc, inputs.table);
-    const { frames } = player.length;
-    return { name, spc, frames, title: player.tag(Tag.TITLE), game: player.tag(Tag.GAME), artist: player.tag(Tag.ARTIST) };
+    spc = new Uint8Array(await file.arrayBuffer());
+  } catch {
+    return { name, refusal: 'it could not be read' }; // a folder, or a file that is gone
+  }
+  try {
+    reader.open(spc, inputs.table);
   } catch (error) {
     if (error instanceof Refused) return { name, refusal: error.message };
     throw error;
   }
+  return { name, spc, frames: reader.length, title: reader.tag(Tag.TITLE), game: reader.tag(Tag.GAME), artist: reader.tag(Tag.ARTIST) };
 }
 
-function showList() {
-  id('list').hidden = tunes.length === 0;
-  id('tunes').replaceChildren(
-    ...tunes.map((tune, place) => {
-      const item = document.createElement('li');
-      const button = document.createElement('button');
-      button.type = 'button';
-      button.textContent = tune.refusal ? `${tune.name}: refused, ${tune.refusal}` : `${tune.title || tune.name}, ${clock(tune.frames)}`;
-      button.disabled = Boolean(tune.refusal);
-      if (place === current) button.setAttribute('aria-current', 'true');
-      button.onclick = () => start(place);
-      item.append(button);
-      return item;
-    }),
-  );
-}
-
-/** Adds files to the list; the first of them that isn't refused plays, unless one plays already. */
+/** Adds files to the list. The first of them that isn't refused plays, unless one plays already. */
 async function add(files) {
+  const added = await Promise.all(files.map(read));
   const first = tunes.length;
-  for (const file of files) tunes.push(tuneOf(file.name, new Uint8Array(await file.arrayBuffer())));
-  showList();
-  const refused = tunes.slice(first).filter((tune) => tune.refusal);
-  tell(refused.map((tune) => `${tune.name} was refused: ${tune.refusal}.`).join(' '));
+  tunes.push(...added);
+  added.forEach((tune, place) => showTune(tune, first + place));
+  id('list').hidden = tunes.length === 0;
+  tell(added.filter((tune) => tune.refusal).map((tune) => `${tune.name} was refused: ${tune.refusal}.`).join(' '));
   const next = tunes.findIndex((tune, place) => place >= first && !tune.refusal);
   if (next >= 0 && !plays) await start(next);
 }
 
+/** A line of the list. */
+function showTune(tune, place) {
+  const item = document.createElement('li');
+  const button = document.createElement('button');
+  button.type = 'button';
+  button.textContent = tune.refusal ? `${tune.name}: refused, ${tune.refusal}` : `${tune.title || tune.name}, ${clock(tune.frames)}`;
+  button.disabled = Boolean(tune.refusal);
+  button.onclick = () => start(place);
+  item.append(button);
+  id('tunes').append(item);
+}
+
+function showCurrent() {
+  [...id('tunes').querySelectorAll('button')].forEach((button, place) => {
+    if (place === current) button.setAttribute('aria-current', 'true');
+    else button.removeAttribute('aria-current');
+  });
+}
+
+// Sound
+
 /** The sound card, the thread that makes frames and the one that hands them over. */
-async function openSound() {
-  if (sound) return;
+async function makeSound() {
   const context = new AudioContext({ sampleRate: RATE, latencyHint: 'playback' });
   await context.audioWorklet.addModule('worklet.js');
   const output = new AudioWorkletNode(context, 'spcwave-output', { numberOfInputs: 0, outputChannelCount: [2] });
@@ -79,23 +99,44 @@ async function openSound() {
   engine.postMessage({ inputs, output: port2 }, [port2]);
   output.port.onmessage = ({ data }) => fromOutput(data);
   engine.onmessage = ({ data }) => fromEngine(data);
+  engine.onerror = () => tell('The tune can’t be played: there is not enough memory.');
+  context.onstatechange = () => {
+    if (context.state !== 'running' && plays && !resuming) setPlays(false); // something else took the sound
+  };
   sound = { context, output, engine, gain };
   setVolume();
 }
 
+function openSound() {
+  opening ??= makeSound().catch((error) => {
+    opening = null;
+    throw error;
+  });
+  return opening;
+}
+
+/** Has the engine go on at a frame, of another tune where one is given: what was ordered before is forgotten. */
+function order(words) {
+  turn++;
+  [shown, begun] = [[], []];
+  heard = words.seek;
+  sound.engine.postMessage({ ...words, endless: id('endless').checked, turn });
+}
+
+function keep(list, item) {
+  if (list.push(item) > MOST_WAITING) list.shift();
+}
+
 function fromOutput(data) {
   if (data.turn !== turn) return;
-  if (data.ended) next(1);
-  else begun.push(data);
+  if (data.ended) goOn();
+  else keep(begun, data);
 }
 
 function fromEngine(data) {
-  if ('seeking' in data) {
-    turn = data.turn;
-    [shown, begun] = [[], []];
-    if (!data.seeking) heard = data.at;
-    tell(data.seeking ? 'Going there…' : '');
-  } else if (data.shown.turn === turn) shown.push(data.shown);
+  if (data.turn !== turn) return;
+  if (data.shown) keep(shown, data.shown);
+  else id('going').textContent = data.seeking ? 'Going there…' : '';
 }
 
 function setVolume() {
@@ -108,13 +149,18 @@ async function setPlays(wanted) {
   id('play').textContent = plays ? 'Pause' : 'Play';
   sound.output.port.postMessage({ runs: plays });
   if (!plays) return sound.context.suspend();
-  // A browser may hold back sound until something is pressed: then it never answers.
-  const answered = await Promise.race([sound.context.resume().then(() => true), new Promise((done) => setTimeout(done, 500, false))]);
-  if (!answered && plays) {
-    await setPlays(false);
-    tell('Press Play: this browser wants a press before a page may sound.');
-  }
+  resuming = true;
+  // A browser may hold back sound until something is pressed: then it doesn't answer.
+  const pressed = navigator.userActivation?.hasBeenActive;
+  const answered = sound.context.resume().then(() => true);
+  const sounds = await (pressed ? answered : Promise.race([answered, wait(500).then(() => false)]));
+  resuming = false;
+  if (sounds || !plays) return undefined;
+  tell('Press Play: this browser wants a press before a page may sound.');
+  return setPlays(false);
 }
+
+// The tune that plays
 
 /** Plays a tune of the list from its beginning. */
 async function start(place) {
@@ -126,22 +172,41 @@ async function start(place) {
   document.title = `${tune.title || tune.name} – spcwave`;
   id('player').hidden = false;
   id('place').max = tune.frames;
-  heard = 0;
-  showList();
+  showCurrent();
   renderAll(tune);
-  sound.engine.postMessage({ endless: id('endless').checked, spc: tune.spc });
+  order({ spc: tune.spc, seek: 0 });
   await setPlays(true);
 }
 
-/** The tune before or behind the current one that isn't refused. */
-function next(step) {
+/** The place of the tune before or behind the current one that isn't refused, or -1. */
+function neighbour(step) {
   let place = current + step;
   while (tunes[place]?.refusal) place += step;
-  if (tunes[place]) start(place);
-  else if (step > 0) {
-    setPlays(false);
+  return tunes[place] ? place : -1;
+}
+
+/** At a tune's end: on to the next one, or stop once the last frame was heard. */
+async function goOn() {
+  const its = turn;
+  const place = neighbour(1);
+  await wait(1000 * (sound.context.outputLatency || 0));
+  if (turn !== its) return;
+  if (place >= 0) await start(place);
+  else {
+    await setPlays(false);
     seek(0);
   }
+}
+
+function skip(step) {
+  const place = neighbour(step);
+  if (place >= 0) start(place);
+  else if (step < 0) seek(0);
+}
+
+function seek(frame) {
+  const last = id('endless').checked ? MOST_FRAMES : Number(id('place').max);
+  if (sound && current >= 0) order({ seek: Math.max(0, Math.min(last, Math.round(frame))) });
 }
 
 /** Renders the whole tune in the background, for the bar and for the download. */
@@ -152,10 +217,15 @@ function renderAll(tune) {
   if (link.href) URL.revokeObjectURL(link.href);
   link.removeAttribute('href');
   link.setAttribute('aria-disabled', 'true');
-  drawPeaks(id('peaks'), [], 0);
+  loudness = { peaks: [], part: 0 };
+  drawBar();
+  renderer.onerror = () => {
+    link.textContent = 'Too long to download';
+  };
   renderer.onmessage = ({ data }) => {
     if (data.peaks) {
-      drawPeaks(id('peaks'), data.peaks, data.part);
+      loudness = data;
+      drawBar();
       link.textContent = `Rendering, ${Math.floor(100 * data.part)} %`;
     } else {
       link.textContent = 'Download as WAV';
@@ -167,18 +237,26 @@ function renderAll(tune) {
   renderer.postMessage({ module: inputs.module, table: inputs.table, spc: tune.spc });
 }
 
-function seek(frame) {
-  const last = id('endless').checked ? MOST_FRAMES : Number(id('place').max);
-  if (sound && current >= 0) sound.engine.postMessage({ seek: Math.max(0, Math.min(last, Math.round(frame))) });
-}
+// What is shown
 
 /** The frame that is heard now: pieces are made and handed over before that. */
 function place() {
   if (!sound || !plays) return heard;
-  const contextTime = sound.context.getOutputTimestamp().contextTime || sound.context.currentTime;
-  while (begun.length > 1 && begun[1].time <= contextTime) begun.shift();
-  if (begun[0] && begun[0].time <= contextTime) heard = Math.floor(begun[0].at + (contextTime - begun[0].time) * RATE);
+  const now = sound.context.getOutputTimestamp().contextTime || sound.context.currentTime;
+  while (begun.length > 1 && begun[1].time <= now) begun.shift();
+  if (begun[0] && begun[0].time <= now) heard = begun[0].at + Math.min(PIECE, Math.floor((now - begun[0].time) * RATE));
   return heard;
+}
+
+function showTime(frame) {
+  const time = `${clock(frame)} / ${clock(tunes[current].frames)}`;
+  if (id('time').textContent === time) return;
+  id('time').textContent = time;
+  id('place').setAttribute('aria-valuetext', time);
+}
+
+function drawBar() {
+  drawPeaks(id('peaks'), loudness.peaks, loudness.part);
 }
 
 function draw() {
@@ -188,67 +266,74 @@ function draw() {
     drawWave(id('wave'), shown[0].frames);
     drawVoices(shown[0].voices);
   }
-  if (current >= 0) {
-    if (document.activeElement !== id('place') || !id('place').matches(':active')) id('place').value = at;
-    const time = `${clock(at)} / ${clock(tunes[current].frames)}`;
-    if (id('time').textContent !== time) id('time').textContent = time;
-    id('place').setAttribute('aria-valuetext', time);
+  if (current >= 0 && !id('place').matches(':active')) {
+    id('place').value = at;
+    showTime(at);
   }
   requestAnimationFrame(draw);
 }
+
+// What is done
 
 const KEYS = {
   ' ': () => current >= 0 && setPlays(!plays),
   ArrowLeft: () => seek(place() - STEP),
   ArrowRight: () => seek(place() + STEP),
-  ArrowUp: () => changeVolume(5),
-  ArrowDown: () => changeVolume(-5),
 };
-
-function changeVolume(step) {
-  id('volume').value = Number(id('volume').value) + step;
-  setVolume();
-}
 
 /** Keys belong to the page, unless something that takes them itself has the focus. */
 function onKey(event) {
   const own = event.target.closest('button, a, label, input[type=checkbox], input[type=file]');
   if (!KEYS[event.key] || event.ctrlKey || event.altKey || event.metaKey || (own && event.key === ' ') || event.target === id('volume')) return;
   event.preventDefault();
-  KEYS[event.key]();
+  if (event.key !== ' ' || !event.repeat) KEYS[event.key]();
+}
+
+async function playExample() {
+  const answer = await fetch('tune.spc');
+  await add([new File([await answer.arrayBuffer()], 'tune.spc')]);
 }
 
 function listen() {
-  id('files').onchange = ({ target }) => add([...target.files]);
-  id('example').onclick = async () => {
-    const answer = await fetch('tune.spc');
-    await add([new File([await answer.arrayBuffer()], 'tune.spc')]);
+  id('files').onchange = ({ target }) => {
+    add([...target.files]);
+    target.value = '';
   };
+  id('example').onclick = playExample;
   id('play').onclick = () => setPlays(!plays);
-  id('previous').onclick = () => next(-1);
-  id('next').onclick = () => next(1);
+  id('previous').onclick = () => skip(-1);
+  id('next').onclick = () => skip(1);
   id('volume').oninput = setVolume;
-  id('endless').onchange = ({ target }) => sound?.engine.postMessage({ endless: target.checked });
+  id('endless').onchange = () => seek(place());
+  id('place').oninput = ({ target }) => showTime(Number(target.value));
   id('place').onchange = ({ target }) => seek(Number(target.value));
   document.addEventListener('keydown', onKey);
   document.addEventListener('dragover', (event) => {
     event.preventDefault();
     document.body.classList.add('over');
   });
-  document.addEventListener('dragleave', () => document.body.classList.remove('over'));
+  document.addEventListener('dragleave', ({ relatedTarget }) => {
+    if (relatedTarget === null) document.body.classList.remove('over');
+  });
   document.addEventListener('drop', (event) => {
     event.preventDefault();
     document.body.classList.remove('over');
     add([...event.dataTransfer.files]);
   });
+  window.addEventListener('resize', drawBar);
+  window.matchMedia('(prefers-color-scheme: dark)').addEventListener('change', drawBar);
+  window.addEventListener('unhandledrejection', ({ reason }) => tell(`Something went wrong: ${reason.message ?? reason}.`));
 }
 
 try {
+  if (!window.isSecureContext) throw new Error('a browser gives it sound only over https, or at localhost');
   inputs = await load();
+  reader = new Player(inputs.module);
   makeVoices(id('voices'));
   listen();
+  tell('');
   requestAnimationFrame(draw);
   document.body.dataset.ready = 'yes';
 } catch (error) {
-  tell(`The page could not be made ready: ${error.message}.`);
+  tell(`The page can’t be made ready: ${error.message}.`);
 }

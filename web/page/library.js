@@ -2,9 +2,11 @@
 
 export const RATE = 32000;
 export const MOST_FRAMES = 115200000; // an hour
+export const MOST_BYTES = 1048576; // of an SPC file
+export const PIECE = 512; // frames that the engine sends at once: 16 milliseconds
 const ROOM = 8192; // frames that are handed over at once
-const PAGES = 16384; // of 256 bytes, for marks: 4 MB
-const TAG_SIZE = 33;
+const TABLE_BYTES = 1024;
+const TAG_BYTES = 33;
 
 /** The tags by the numbers that spcwave.h gives them. */
 export const Tag = { TITLE: 0, GAME: 1, ARTIST: 2 };
@@ -25,23 +27,34 @@ export class Refused extends Error {
   }
 }
 
-/** A player of one tune. A module can have several, each with its own memory. */
+/** A player, with a memory of its own. It plays one tune after another. */
 export class Player {
-  /** Opens a tune; `markSeconds` is how often a mark is taken while it plays, 0 for never, and `muted` has a bit for each silent voice. */
-  constructor(module, spc, table, { markSeconds = 0, muted = 0 } = {}) {
+  constructor(module) {
     this.calls = new WebAssembly.Instance(module, {}).exports;
-    this.handle = this.put(new Uint8Array(16));
-    this.frames = this.calls.web_take(4 * ROOM);
-    this.small = this.calls.web_take(64);
-    const options = this.put(new Uint8Array(new Uint32Array([PAGES, markSeconds, muted]).buffer));
-    const status = this.calls.spcwave_open(this.handle, this.put(spc), BigInt(spc.length), this.put(table), BigInt(table.length), options);
+    this.handle = this.room(16);
+    this.view(Uint8Array, this.handle, 16).fill(0);
+    this.options = this.room(12);
+    this.small = this.room(64);
+    this.frames = this.room(4 * ROOM);
+    this.table = this.room(TABLE_BYTES);
+    this.file = this.room(MOST_BYTES);
+  }
+
+  /** Opens a tune; one that was open is closed. `pages` of 256 bytes are for marks, one of which is taken each `markSeconds` while it plays. */
+  open(spc, table, { pages = 256, markSeconds = 0 } = {}) {
+    if (spc.length > MOST_BYTES) throw new Refused(4);
+    this.view(Uint8Array, this.file, spc.length).set(spc);
+    this.view(Uint8Array, this.table, TABLE_BYTES).set(table.subarray(0, TABLE_BYTES));
+    this.view(Uint32Array, this.options, 3).set([pages, markSeconds, 0]);
+    const status = this.calls.spcwave_open(
+      this.handle, this.file, BigInt(spc.length), this.table, BigInt(table.length), this.options);
     if (status !== 0) throw new Refused(status);
   }
 
-  /** Copies bytes into the library's memory, and tells where they lie. */
-  put(bytes) {
-    const at = this.calls.web_take(bytes.length);
-    this.view(Uint8Array, at, bytes.length).set(bytes);
+  /** Bytes of the library's memory. */
+  room(size) {
+    const at = this.calls.web_take(size);
+    if (at === 0) throw new Refused(7);
     return at;
   }
 
@@ -67,20 +80,23 @@ export class Player {
     this.calls.spcwave_seek(this.handle, frame);
   }
 
+  mark() {
+    this.calls.spcwave_mark(this.handle);
+  }
+
   get position() {
     return this.calls.spcwave_position(this.handle);
   }
 
-  /** The length by the tags, and how many of its last frames fade out. */
+  /** The length by the tags, in frames. */
   get length() {
     this.calls.spcwave_length(this.handle, this.small, this.small + 4);
-    const [frames, fade] = this.view(Uint32Array, this.small, 2);
-    return { frames, fade };
+    return this.view(Uint32Array, this.small, 1)[0];
   }
 
   tag(number) {
-    const length = Number(this.calls.spcwave_tag(this.handle, number, this.small, BigInt(TAG_SIZE)));
-    const bytes = this.view(Uint8Array, this.small, Math.min(length, TAG_SIZE - 1));
+    const length = Number(this.calls.spcwave_tag(this.handle, number, this.small, BigInt(TAG_BYTES)));
+    const bytes = this.view(Uint8Array, this.small, Math.min(length, TAG_BYTES - 1));
     return Array.from(bytes, (byte) => String.fromCharCode(byte)).join('').trim();
   }
 

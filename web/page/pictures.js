@@ -2,7 +2,9 @@
 
 const NOTES = ['C', 'C♯', 'D', 'D♯', 'E', 'F', 'F♯', 'G', 'G♯', 'A', 'A♯', 'B'];
 const MOST_LEVEL = 2047;
+const FRAMES_TOLD = 30; // pictures after which levels are told to a screen reader again
 let rows = [];
+let told = 0;
 
 /** A canvas as large as it is shown, with its pen. */
 function penOf(canvas) {
@@ -32,7 +34,7 @@ export function drawWave(canvas, frames) {
   pen.lineWidth = 2;
   pen.beginPath();
   for (let place = 0; place < count; place++) {
-    const value = (frames[2 * place] + frames[2 * place + 1]) / 65536;
+    const value = (frames[2 * place] + frames[2 * place + 1]) / 131072;
     pen.lineTo((place * width) / count, height * (0.5 - value));
   }
   pen.stroke();
@@ -54,18 +56,25 @@ export function makeVoices(body) {
     name.textContent = voice;
     const level = document.createElement('td');
     level.className = 'level';
-    level.append(document.createElement('span'));
+    const meter = document.createElement('span');
+    meter.setAttribute('role', 'meter');
+    meter.setAttribute('aria-label', `Level of voice ${voice}`);
+    meter.setAttribute('aria-valuemin', 0);
+    meter.setAttribute('aria-valuemax', 100);
+    level.append(meter);
     const [note, source] = [document.createElement('td'), document.createElement('td')];
     row.append(name, level, note, source);
-    return { meter: level.firstChild, note, source };
+    return { meter, note, source };
   });
 }
 
 /** What shows of the voices: level, pitch, output and source of each. */
 export function drawVoices(voices) {
+  told = (told + 1) % FRAMES_TOLD;
   rows.forEach(({ meter, note, source }, voice) => {
     const [level, pitch, , sample] = voices.slice(4 * voice, 4 * voice + 4);
     meter.style.transform = `scaleX(${level / MOST_LEVEL})`;
+    if (told === 0) meter.setAttribute('aria-valuenow', Math.round((100 * level) / MOST_LEVEL));
     const name = level > 0 ? noteName(pitch) : '–';
     if (note.textContent !== name) note.textContent = name;
     const text = level > 0 ? String(sample) : '–';

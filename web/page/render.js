@@ -26,8 +26,9 @@ function head(bytes) {
 
 /** Renders the tune; the page is told of each piece, and then gets the file. */
 function render({ module, table, spc }) {
-  const player = new Player(module, spc, table);
-  const { frames } = player.length;
+  const player = new Player(module);
+  player.open(spc, table);
+  const frames = player.length;
   const file = new Uint8Array(HEAD + 4 * frames);
   file.set(head(4 * frames));
   const peaks = new Float32Array(PEAKS);

@@ -1,12 +1,12 @@
-// Hands frames to the sound card. The engine sends pieces, each with the frame that it begins at; the worklet asks for more as it uses them up,
-// and tells the page when each piece begins to sound.
+// Hands frames to the sound card. The engine sends pieces, each with the frame that it begins at and the turn that it belongs to; the worklet
+// tells it of each that was used up, and the page of when each begins to sound.
 
 class Output extends AudioWorkletProcessor {
   constructor() {
     super();
     this.pieces = []; // those still to be heard
-    this.place = 0; // of the first one, how many frames were heard
-    this.turn = 0; // of the seek that the pieces belong to
+    this.place = 0; // of the first one, how many frames were handed over
+    this.turn = 0; // of the last order
     this.runs = false;
     this.port.onmessage = ({ data }) => {
       if (data.engine) {
@@ -28,7 +28,7 @@ class Output extends AudioWorkletProcessor {
 
   /** One frame of both sides into the buffers, at this place; false where there is none. */
   put(left, right, at) {
-    const [piece] = this.pieces;
+    const piece = this.pieces[0];
     if (!piece || piece.ends) return false;
     if (this.place === 0) this.port.postMessage({ at: piece.at, time: currentTime + at / sampleRate, turn: piece.turn });
     left[at] = piece.frames[2 * this.place] / 32768;
@@ -49,7 +49,6 @@ class Output extends AudioWorkletProcessor {
     }
     if (this.pieces[0]?.ends) {
       this.pieces.shift();
-      this.runs = false;
       this.port.postMessage({ ended: true, turn: this.turn });
     }
     return true;

@@ -17,7 +17,8 @@ const same = (one, other) => one.length === other.length && one.every((value, pl
 /** What of a tune differs from its sound file, in words; nothing where all is the same. */
 export function differences(Player, module, spc, table, wav) {
   const wanted = new Int16Array(wav.slice(HEAD).buffer);
-  const player = new Player(module, spc, table, { markSeconds: 5 });
+  const player = new Player(module);
+  player.open(spc, table, { pages: 4096, markSeconds: 5 });
   for (let at = 0; at < wanted.length; ) {
     const made = player.playFaded(1000);
     if (made.length === 0 || !same(made, wanted.subarray(at, at + made.length))) return `frames from ${at / 2} on differ`;
