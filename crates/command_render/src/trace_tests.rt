@@ -19,6 +19,15 @@ const PORT: Pieces = &[(
     b"\0\0\0\0\0\0\0\0\0\0\0\0\0\0\x8f\x5a\xf4\x2f\xfe",
 )];
 
+/// The program writes A, X, Y, the status and the stack pointer, as the file has them, to ports.
+const OPENING: Pieces = &[
+    (0x27, b"\x01\x02\x03\x08"),
+    (
+        MEMORY + 0x0400,
+        b"\xc4\xf4\xd8\xf5\xcb\xf6\x0d\xae\xc4\xf7\x9d\xd8\xf4\x2f\xfe",
+    ),
+];
+
 /// Those lines, on to where its block ends, after 16 samples that are decoded by fours, and it goes to the loop word.
 const LOOPED: &str =
     "V 0 0 0 0 0000 k-\nV 1 0 0 0 0500 --\nV 2 0 0 0 0500 --\nV 3 0 0 0 0500 --\nV 4 0 0 0 0500 --\n\
@@ -105,6 +114,16 @@ const TRACED: &[Traced] = &[
         frames: &[(3, 0)],
         trace: "P 1 0 5a\n",
         batches: "batches 3 register 0 memory 0 echo 2 full 0 events 0 end 1\n",
+    },
+    Traced {
+        shows: "the registers of the processor at the opening",
+        sound: &[],
+        more: OPENING,
+        samples: 1,
+        voices: Some(0x00),
+        frames: &[(1, 0)],
+        trace: "P 0 0 01\nP 0 1 02\nP 0 2 03\nP 0 3 08\nP 0 0 ef\n",
+        batches: ONE_BATCH,
     },
     Traced {
         shows: "a write to a port before the last sample",

@@ -93,10 +93,8 @@ fn prepare_script<'a, H: Host>(
     ensures { let answer = λ (files : Files). table_answer wave.now options (files script.now) file.now table in
         Prepares (stream_makes (to_come_of dsp_chip dsp_saving) (report_of dsp_chip dsp_saving)) answer (H.state host.old) (H.state host.new) result }
 {
-    match read_lines(alloc, host, script) {
-        Ok(lines) => plan(alloc, file, table, lines, wave, options),
-        Err(refusal) => Err(refusal),
-    }
+    let lines = read_lines(alloc, host, script)?;
+    plan(alloc, file, table, lines, wave, options)
 }
 
 /// Reads the table and the script and makes the plan for them and a file.
@@ -104,19 +102,18 @@ fn prepare_table<'a, H: Host>(
     alloc: Global,
     host: &mut H,
     file: &SpcFile,
-    inputs: (&str, &str),
+    table: &str,
+    script: &str,
     wave: &'a str,
     options: SessionOptions,
 ) -> Result<StreamedPlan<'a, SessionFiles<Dsp>>, Refusal<Cause>>
     requires enough { fewest_pages ≤ options.pages }
     requires few { options.pages ≤ most_pages }
-    ensures { let answer = λ (files : Files). file_answer wave.now options (files inputs.entry.0.now) (files inputs.entry.1.now) file.now in
+    ensures { let answer = λ (files : Files). file_answer wave.now options (files table.now) (files script.now) file.now in
         Prepares (stream_makes (to_come_of dsp_chip dsp_saving) (report_of dsp_chip dsp_saving)) answer (H.state host.old) (H.state host.new) result }
 {
-    match read_table(alloc, host, inputs.0) {
-        Ok(table) => prepare_script(alloc, host, file, table, inputs.1, wave, options),
-        Err(refusal) => Err(refusal),
-    }
+    let table = read_table(alloc, host, table)?;
+    prepare_script(alloc, host, file, table, script, wave, options)
 }
 
 /// Reads the file, the table and the script and makes the plan for them.
@@ -124,38 +121,38 @@ fn prepare<'a, H: Host>(
     alloc: Global,
     host: &mut H,
     file: &str,
-    inputs: (&str, &str),
+    table: &str,
+    script: &str,
     wave: &'a str,
     options: SessionOptions,
 ) -> Result<StreamedPlan<'a, SessionFiles<Dsp>>, Refusal<Cause>>
     requires enough { fewest_pages ≤ options.pages }
     requires few { options.pages ≤ most_pages }
-    ensures { let answer = λ (files : Files). serve_answer wave.now options (files file.now) (files inputs.entry.0.now) (files inputs.entry.1.now) in
+    ensures { let answer = λ (files : Files). serve_answer wave.now options (files file.now) (files table.now) (files script.now) in
         Prepares (stream_makes (to_come_of dsp_chip dsp_saving) (report_of dsp_chip dsp_saving)) answer (H.state host.old) (H.state host.new) result }
 {
-    match read_file(alloc, host, file) {
-        Ok(file) => prepare_table(alloc, host, &file, inputs, wave, options),
-        Err(refusal) => Err(refusal),
-    }
+    let file = read_file(alloc, host, file)?;
+    prepare_table(alloc, host, &file, table, script, wave, options)
 }
 
 /// Runs the script over the tune of the file and the table, with the pages for its checkpoints and the muted voices that the
-/// options say, writes all that is played to the sound file, and reports a reply to each line. `inputs` are the table and the script.
+/// options say, writes all that is played to the sound file, and reports a reply to each line.
 pub fn serve<H: Host>(
     alloc: Global,
     host: &mut H,
     file: &str,
-    inputs: (&str, &str),
+    table: &str,
+    script: &str,
     wave: &str,
     options: SessionOptions,
 ) -> Option<Refusal<Cause>>
     requires outputs { CanDeliver (H.state host.old) }
     requires enough { fewest_pages ≤ options.pages }
     requires few { options.pages ≤ most_pages }
-    ensures attempts { let answer = λ (files : Files). serve_answer wave.now options (files file.now) (files inputs.entry.0.now) (files inputs.entry.1.now) in
+    ensures attempts { let answer = λ (files : Files). serve_answer wave.now options (files file.now) (files table.now) (files script.now) in
         Attempts answer true result (H.state host.old) (H.state host.new) }
     ensures not_usage { result ≡ Some Refusal.Usage → ⊥ }
 {
-    let prepared = prepare(alloc, host, file, inputs, wave, options);
+    let prepared = prepare(alloc, host, file, table, script, wave, options);
     carry_stream(host, prepared)
 }

@@ -30,8 +30,6 @@ pub(crate) fn read_lines<H: Host>(
 ) -> Result<ScriptLines, Refusal<Cause>>
     ensures { Reads (λ files. script_in (files name.now)) (H.state host.old) (H.state host.new) result }
 {
-    match read_input(alloc, host, name, INPUT_LIMIT, Cause::InputTooLong) {
-        Ok(bytes) => accept_script(alloc, bytes.as_slice()),
-        Err(refusal) => Err(refusal),
-    }
+    let bytes = read_input(alloc, host, name, INPUT_LIMIT, Cause::InputTooLong)?;
+    accept_script(alloc, bytes.as_slice())
 }

@@ -23,7 +23,7 @@ fn serve_over(alloc: Global, inputs: &[(&str, &[u8])], pages: u32) -> Result<Out
 {
     let mut host = host_with(alloc, inputs, &[], ROOM)?;
     let options = SessionOptions { pages, muted: 0 };
-    let refusal = serve(alloc, &mut host, "SPC", ("TABLE", "SCRIPT"), "OUT", options);
+    let refusal = serve(alloc, &mut host, "SPC", "TABLE", "SCRIPT", "OUT", options);
     Ok(Outcome::of(refusal, host))
 }
 

@@ -78,7 +78,7 @@ fn attempt<H: Host>(alloc: Global, words: &[String], host: &mut H) -> Option<Ref
             script,
             wave,
             options,
-        } => serve(alloc, host, file, (table, script), wave, options),
+        } => serve(alloc, host, file, table, script, wave, options),
     }
 }
 

@@ -292,6 +292,40 @@ fn look_beside(rt: &impl Abort, whole: &Stage, split: &Stage) {
     assert!(rt; have_same_bytes(&whole.memory, &split.memory));
 }
 
+/// A chip of which nothing is heard but the echo of one cell, 4032 on both sides, with these volumes of the echo.
+fn lone_cell(alloc: Global, left: u8, right: u8) -> Result<Stage, Fail> {
+    let zeros = vec![in alloc; 0u8; 0x10000]?;
+    let mut memory = Aram::from_image(alloc, &zeros)?;
+    put_all(&mut memory, 0xe000, &[0xc0, 0x0f, 0xc0, 0x0f]);
+    let mut registers = [0; 128];
+    registers[0x2c] = left;
+    registers[0x3c] = right;
+    registers[0x6c] = 0x20;
+    registers[0x6d] = 0xe0;
+    registers[0x7f] = 0x7f;
+    Stage::open(alloc, &registers, memory)
+}
+
+// A sound of 4000 on the side that has a main volume; 4032 is read as 2016, filtered to 4000, and 3968 on the side that has a volume of the echo.
+#[test]
+fn each_side_has_its_own_volumes(rt: HostRuntime) -> Result<(), Fail> {
+    let mut stage = one_voice(rt.alloc())?;
+    take_step(&mut stage, &[(0x1c, 0x00), (0x4c, 0x01)], 7);
+    let heard = Frame {
+        left: 4000,
+        right: 0,
+    };
+    assert!(rt; stage.frames.as_slice().get(6) == Some(&heard));
+    let mut stage = lone_cell(rt.alloc(), 0x7f, 0)?;
+    take_step(&mut stage, &[], 1);
+    let heard = Frame {
+        left: 3968,
+        right: 0,
+    };
+    assert!(rt; stage.frames.as_slice() == [heard].as_slice());
+    Ok(())
+}
+
 /// How many bytes from an address on are 0.
 fn zeros_from(memory: &Aram, from: u16) -> u32 {
     for k in 0..0x10000u32 {

@@ -8,9 +8,9 @@ use Rattle.session_files.specs.SessionFiles.{to_come_of, report_of}
 use Rattle.command_serve.specs.Serve.{file_answer}
 use Rattle.command_serve.proofs.command.prepare.Goals as goal
 
-pub returns-in-Ok : goal.returns-in-Ok
-returns-in-Ok g c =
+pub returns : goal.returns
+returns g c =
     reads_then (stream_makes (to_come_of dsp_chip dsp_saving) (report_of dsp_chip dsp_saving)) (λ (files : Files). file_in (files c.args.file.now))
-    (λ (files : Files) (file : List ℕ). file_answer c.args.wave.now c.args.options (files c.args.inputs.0.now) (files c.args.inputs.1.now) file)
-    (g.H.Host.state c.args.host.now) (g.H.Host.state c.read_file.new.host) (g.H.Host.state c.prepare_table.new.host) c.in-Ok.file c.prepare_table.result
-    c.in-Ok.ensures c.prepare_table.ensures
+    (λ (files : Files) (file : List ℕ). file_answer c.args.wave.now c.args.options (files c.args.table.now) (files c.args.script.now) file)
+    (g.H.Host.state c.args.host.now) (g.H.Host.state c.read_file.new.host) (g.H.Host.state c.prepare_table.new.host) c.in_ok-file.file c.prepare_table.result
+    c.in_ok-file.ensures c.prepare_table.ensures

@@ -8,9 +8,9 @@ use Rattle.session_files.specs.SessionFiles.{to_come_of, report_of}
 use Rattle.command_serve.specs.Serve.{table_answer}
 use Rattle.command_serve.proofs.command.prepare_table.Goals as goal
 
-pub returns-in-Ok : goal.returns-in-Ok
-returns-in-Ok g c =
-    reads_then (stream_makes (to_come_of dsp_chip dsp_saving) (report_of dsp_chip dsp_saving)) (λ (files : Files). table_in (files c.args.inputs.0.now))
-    (λ (files : Files) (table : List ℤ). table_answer c.args.wave.now c.args.options (files c.args.inputs.1.now) c.args.file.now table)
-    (g.H.Host.state c.args.host.now) (g.H.Host.state c.read_table.new.host) (g.H.Host.state c.prepare_script.new.host) c.in-Ok.table c.prepare_script.result
-    c.in-Ok.ensures c.prepare_script.ensures
+pub returns : goal.returns
+returns g c =
+    reads_then (stream_makes (to_come_of dsp_chip dsp_saving) (report_of dsp_chip dsp_saving)) (λ (files : Files). table_in (files c.args.table.now))
+    (λ (files : Files) (table : List ℤ). table_answer c.args.wave.now c.args.options (files c.args.script.now) c.args.file.now table)
+    (g.H.Host.state c.args.host.now) (g.H.Host.state c.read_table.new.host) (g.H.Host.state c.prepare_script.new.host) c.in_ok-table.table c.prepare_script.result
+    c.in_ok-table.ensures c.prepare_script.ensures
