@@ -1,13 +1,12 @@
 -- Each mark that a player takes by itself stands where none was given up.
-use Rattle.std.proofs.Common.{◌≡◌, ◌∙◌, refl, sym, ap, ℕ, zero, suc, ◌+◌, ◌-◌, ◌*◌, ◌/◌, ◌%◌, ◌<◌, ◌≤◌, true, false, ◌||◌, ◌==◌, nat_le, inl, inr, if◌then◌else◌, List, [], ◌∷◌, ◌++◌, length, arith}
+use Rattle.std.proofs.Common.{◌≡◌, ◌∙◌, ◌⊎◌, refl, sym, ap, ℕ, zero, suc, ◌+◌, ◌-◌, ◌*◌, ◌/◌, ◌%◌, ◌<◌, ◌≤◌, true, false, ◌||◌, ◌==◌, nat_le, inl, inr, if◌then◌else◌, List, [], ◌∷◌, length, arith}
 use Rattle.std.proofs.Math.Nat.{mod-add-div'}
 use Rattle.std.proofs.lemmas.Nat.{mod-mul-add}
 use Rattle.std.proofs.lemmas.Bool.{cases_Bool}
 use Rattle.std.proofs.lemmas.Bool.Decides.{nat_tests}
 use Rattle.std.proofs.lemmas.List.Folds.{list_any-append}
-use Rattle.std.specs.List.{list_any}
 use Rattle.cut_form.specs.Checkpoints.{Checkpoint, has_room, stands_at, with_checkpoint, shared_with_newest}
-use Rattle.cut_form.specs.Marks.{Room, room_made, mark_in, mark_at, without_oldest}
+use Rattle.cut_form.specs.Marks.{room_made, mark_in, mark_at, without_oldest}
 use Rattle.player.specs.OwnMarks.{is_own_mark, with_own_mark, marks_after}
 use Rattle.player.specs.Heard.{last_multiple, HasRoomForEach}
 
@@ -27,21 +26,28 @@ is_there : (live : List Checkpoint) (at sample : ℕ) (pages : List (List ℕ)) 
 is_there live at sample pages = list_any-append (λ (c : Checkpoint). c.sample == sample) live (record { sample = at; pages = pages; shared = shared_with_newest live pages } ∷ [])
 
 -- what stood stands, and what is taken stands
-module _ (slots : ℕ) (pages : List (List ℕ)) (at : ℕ) (live : List Checkpoint) (has : has_room slots pages live ≡ true) where
+module _ (slots : ℕ) (pages : List (List ℕ)) (at : ℕ) (live : List Checkpoint) (has : (stands_at live at ≡ true) ⊎ (has_room slots pages live ≡ true)) where
+  -- where none stands there is room
+  has_for : stands_at live at ≡ false → has_room slots pages live ≡ true
+  has_for none = elim has [
+    | inl here ↦ cc
+    | inr room ↦ room
+  ]
+
   mark_stays : (sample : ℕ) → stands_at live sample ≡ true → stands_at (mark_at slots pages at live).live sample ≡ true
   mark_stays sample stands = elim (cases_Bool (stands_at live at)) [
     | inl here ↦ rw here stands
-    | inr none ↦ rw (none, marked_in slots pages at live has, is_there live at sample pages, stands) refl
+    | inr none ↦ rw (none, marked_in slots pages at live (has_for none), is_there live at sample pages, stands) refl
   ]
 
   mark_taken : stands_at (mark_at slots pages at live).live at ≡ true
   mark_taken = elim (cases_Bool (stands_at live at)) [
     | inl here ↦ rw here here
-    | inr none ↦ let same : (at == at) ≡ true = grind (arith, nat_tests) in rw (none, marked_in slots pages at live has, is_there live at at pages, none, same) refl
+    | inr none ↦ let same : (at == at) ≡ true = grind (arith, nat_tests) in rw (none, marked_in slots pages at live (has_for none), is_there live at at pages, none, same) refl
   ]
 
 module _ (room : ℕ) (memory : ℕ → List (List ℕ)) (spacing from : ℕ) (marks : List Checkpoint) where
-  own_stays : (at : ℕ) (live : List Checkpoint) (sample : ℕ) → (is_own_mark spacing at ≡ true → has_room room (memory at) live ≡ true) → stands_at live sample ≡ true
+  own_stays : (at : ℕ) (live : List Checkpoint) (sample : ℕ) → (is_own_mark spacing at ≡ true → (stands_at live at ≡ true) ⊎ (has_room room (memory at) live ≡ true)) → stands_at live sample ≡ true
       → stands_at (with_own_mark room memory spacing at live) sample ≡ true
   own_stays at live sample has stands = elim (cases_Bool (is_own_mark spacing at)) [
     | inl own ↦ ap (λ b. stands_at (if b then (mark_at room (memory at) at live).live else live) sample) own ∙ mark_stays room (memory at) at live (has own) sample stands

@@ -1,9 +1,9 @@
 -- A seek runs from a sample at or behind each mark up to its goal.
-use Rattle.std.proofs.Common.{◌≡◌, ◌∙◌, ap, sym, ℕ, ◌-◌, ◌≤◌, Bool, true, false, ◌==◌, ◌||◌, nat_le, max, inl, inr, List, [], ◌∷◌, map, if◌then◌else◌, arith}
+use Rattle.std.proofs.Common.{◌≡◌, ◌∙◌, ap, sym, ℕ, ◌-◌, ◌≤◌, true, ◌==◌, ◌||◌, nat_le, inl, inr, List, [], ◌∷◌, arith}
 use Rattle.std.proofs.lemmas.Bool.{cases_Bool}
 use Rattle.std.proofs.lemmas.Bool.Decides.{nat_tests}
 use Rattle.std.specs.List.{list_any}
-use Rattle.cut_form.specs.Checkpoints.{Checkpoint, stands_at, nearest, greatest_up_to}
+use Rattle.cut_form.specs.Checkpoints.{Checkpoint, stands_at, nearest}
 use Rattle.cut_form.specs.CutBook.{CutBook, runs_from}
 
 pub nearest_behind : (live : List Checkpoint) (mark at : ℕ) → stands_at live mark ≡ true → mark ≤ at → mark ≤ nearest live at

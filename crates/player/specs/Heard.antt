@@ -1,5 +1,5 @@
 -- That what was heard is near: laws of the marks that a player takes by itself.
-use Rattle.std.specs.Prelude.{◌≡◌, ℕ, suc, ◌+◌, ◌-◌, ◌%◌, ◌<◌, ◌≤◌, true, List}
+use Rattle.std.specs.Prelude.{◌≡◌, ◌⊎◌, ℕ, suc, ◌+◌, ◌-◌, ◌%◌, ◌<◌, ◌≤◌, true, List}
 use Rattle.cut_form.specs.Checkpoints.{Checkpoint, has_room, stands_at}
 use Rattle.player.specs.OwnMarks.{is_own_mark, marks_after}
 
@@ -7,10 +7,11 @@ use Rattle.player.specs.OwnMarks.{is_own_mark, marks_after}
 abbrev pub last_multiple : (spacing at : ℕ) → ℕ
 last_multiple spacing at = at - at % spacing
 
--- there was room for each mark as it came, so that no other was given up for it
+-- for each mark that was due one stood, or there was room as it came, so that no other was given up for it
 abbrev pub HasRoomForEach : (room : ℕ) → (memory : ℕ → List (List ℕ)) → (spacing from : ℕ) → List Checkpoint → (count : ℕ) → Type 0
 HasRoomForEach room memory spacing from marks count =
-    (k : ℕ) → k < count → is_own_mark spacing (from + suc k) ≡ true → has_room room (memory (from + suc k)) (marks_after room memory spacing from marks k) ≡ true
+    (k : ℕ) → k < count → is_own_mark spacing (from + suc k) ≡ true → let before = marks_after room memory spacing from marks k in
+    (stands_at before (from + suc k) ≡ true) ⊎ (has_room room (memory (from + suc k)) before ≡ true)
 
 -- then each mark that stood stands once so many frames are played
 abbrev pub MarksStay : Type 0

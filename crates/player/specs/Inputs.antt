@@ -10,7 +10,7 @@ use Rattle.player.specs.declared.refusal.PlayerRefusal.{PlayerRefusal}
 use Rattle.player.specs.declared.options.PlayerOptions.{PlayerOptions}
 use Rattle.player.specs.Options.{spacing_of}
 use Rattle.player.specs.Refusals.{of_spc, of_table}
-use Rattle.player.specs.Player.{PlayerState, frames_of, memory_of, chip_of, position_of, marks_of, room_of}
+use Rattle.player.specs.Player.{PlayerState, frames_of, memory_of, chip_of, position_of, marks_of, room_of, made_of}
 
 pub record Inputs : Type 0 where
   -- the padded bytes of the file, and the 512 weights
@@ -26,7 +26,7 @@ inputs_from (Ok file) (Ok weights) = Ok (record { file = file; weights = weights
 abbrev pub inputs_of : (bytes table : List ℕ) → Result Inputs PlayerRefusal
 inputs_of bytes table = inputs_from (spc_file bytes) (weights_in table)
 
--- A player stands at the opening of a tune, with the voices of its options muted, where its one mark is.
+-- A player stands at the opening of a tune, with the voices of its options muted, where its one mark is, and has made no frame.
 pub record IsAtOpening (inputs : Inputs) (options : PlayerOptions) (player : PlayerState) : Type 0 where
   pub file : player.file ≡ inputs.file
   pub frames : frames_of player ≡ tune_frames inputs.file inputs.weights options.muted 0
@@ -36,6 +36,7 @@ pub record IsAtOpening (inputs : Inputs) (options : PlayerOptions) (player : Pla
   pub marks : marks_of player ≡ with_checkpoint [] 0 (tune_pages inputs.file inputs.weights options.muted 0)
   pub room : room_of player ≡ options.pages
   pub spacing : player.spacing ≡ spacing_of options
+  pub made : made_of player ≡ 0
 
 -- it was opened with these bytes
 abbrev pub IsOpened : (bytes table : List ℕ) → PlayerOptions → PlayerState → Type 0

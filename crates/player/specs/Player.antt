@@ -1,5 +1,5 @@
 -- What contracts see of a player.
-use Rattle.std.specs.Prelude.{◌≡◌, ℕ, ◌-◌, ◌≤◌, List, take, drop}
+use Rattle.std.specs.Prelude.{◌≡◌, ℕ, ◌-◌, ◌^◌, ◌<◌, ◌≤◌, true, List, take, drop}
 use Rattle.num_fix.specs.declared.Frame.{Frame}
 use Rattle.num_fix.specs.Limits.{most_frames}
 use Rattle.dsp_state.specs.declared.state.ChipState.{ChipState}
@@ -7,7 +7,7 @@ use Rattle.dsp_core.specs.Saved.{SavedDsp}
 use Rattle.dsp_core.specs.DspChip.{dsp_chip, dsp_saving}
 use Rattle.render_core.specs.Fade.{faded_frames}
 use Rattle.spc_form.specs.Tags.{length_of}
-use Rattle.cut_form.specs.Checkpoints.{Checkpoint}
+use Rattle.cut_form.specs.Checkpoints.{Checkpoint, stands_at}
 use Rattle.cut_form.specs.CutBook.{runs_from}
 use Rattle.cut_form.specs.GrowingFrames.{AreOfRun}
 use Rattle.cut_form.specs.Marks.{MarkOutcome, mark_here}
@@ -63,6 +63,10 @@ made_of player = (book_of player.server).made
 abbrev pub frames_sought : PlayerState → (at : ℕ) → ℕ
 frames_sought player at = at - runs_from (book_of player.server) at
 
+-- a seek makes no more frames than lie between its goal and any mark up to it
+abbrev pub SeekIsNear : PlayerState → (at : ℕ) → Type 0
+SeekIsNear player at = (mark : ℕ) → stands_at (marks_of player) mark ≡ true → mark ≤ at → frames_sought player at ≤ at - mark
+
 -- the frames of a render of the tune: as many as its tags tell, with their fade
 abbrev pub faded_run : PlayerState → List Frame
 faded_run player = let length = length_of player.file in faded_frames (frames_of player length.frames) length.fade
@@ -75,6 +79,7 @@ faded_frames_played player count = take count (drop (position_of player) (faded_
 pub record IsPlaying (server : ChipServer ChipState SavedDsp) : Type 0 where
   pub run : AreOfRun (frames_to dsp_chip dsp_saving server)
   pub within : (book_of server).position ≤ most_frames
+  pub counted : (book_of server).made < 2 ^ 64
 
 -- what each call keeps of a player: its tune, its file, the pages that it has for marks, and their spacing
 pub record KeepsPlayer (old new : PlayerState) : Type 0 where

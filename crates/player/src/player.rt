@@ -1,8 +1,8 @@
 // A player.
-ghost use Rattle.std.specs.Prelude.{◌≡◌, ℕ, ◌+◌, ◌-◌, ◌≤◌, ◌<◌, ◌++◌, true, min, length, take, drop, map, IfOk, IfErr, ◌⊎◌};
+ghost use Rattle.std.specs.Prelude.{◌≡◌, ◌+◌, ◌-◌, ◌^◌, ◌≤◌, ◌<◌, ◌++◌, true, min, length, take, drop, map, IfOk, IfErr, ◌⊎◌};
 ghost use Rattle.num_fix.specs.Limits.{most_frames};
 ghost use Rattle.chip_form.specs.Samples.{count_after};
-ghost use Rattle.cut_form.specs.Checkpoints.{slots_free, stands_at};
+ghost use Rattle.cut_form.specs.Checkpoints.{slots_free};
 ghost use Rattle.cut_form.specs.CutBook.{most_played};
 ghost use Rattle.cut_form.specs.Slices.{slice_of};
 ghost use Rattle.cut_form.specs.GrowingFrames.{AreOfRun};
@@ -13,8 +13,8 @@ ghost use Rattle.player.specs.Output.{stereo, with_text};
 ghost use Rattle.player.specs.OwnMarks.{with_own_mark};
 ghost use Rattle.player.specs.Voices.{shown_voice};
 ghost use Rattle.player.specs.declared.refusal.PlayerRefusal.TheVariants as refusals;
-ghost use Rattle.player.specs.Player.{frames_of, memory_of, position_of, chip_here, marks_of, room_of, marking, marks_played, made_of, frames_sought};
-ghost use Rattle.player.specs.Player.{faded_frames_played, KeepsPlayer};
+ghost use Rattle.player.specs.Player.{frames_of, memory_of, position_of, chip_here, marks_of, room_of, marking, marks_played, made_of};
+ghost use Rattle.player.specs.Player.{frames_sought, SeekIsNear, faded_frames_played, KeepsPlayer};
 
 use crate::output::{StereoFrame, fade_frames, put_frames, put_text};
 use crate::own_marks::{frames_at_once, is_own_mark};
@@ -120,6 +120,7 @@ impl Player {
         ensures position { result ≡ position_of self.now }
         ensures within { result ≤ most_frames }
         ensures run { AreOfRun (frames_of self.now) }
+        ensures counted { made_of self.now < 2 ^ 64 }
     {
         self.server.at()
     }
@@ -160,7 +161,7 @@ impl Player {
         ensures position { position_of self.new ≡ at }
         ensures marks { marks_of self.new ≡ marks_of self.old }
         ensures made { made_of self.new ≡ count_after (made_of self.old) (frames_sought self.old at) }
-        ensures near { (mark : ℕ) → stands_at (marks_of self.old) mark ≡ true → mark ≤ at → frames_sought self.old at ≤ at - mark }
+        ensures near { SeekIsNear self.old at }
         ensures tune { KeepsPlayer self.old self.new }
     {
         self.server.seek(at);
@@ -182,6 +183,7 @@ impl Player {
     fn take_own_mark(&mut self)
         ensures marks { marks_of self.new ≡ with_own_mark (room_of self.old) (memory_of self.old) self.old.spacing (position_of self.old) (marks_of self.old) }
         ensures position { position_of self.new ≡ position_of self.old }
+        ensures made { made_of self.new ≡ made_of self.old }
         ensures tune { KeepsPlayer self.old self.new }
     {
         if is_own_mark(self.spacing, self.server.at()) {
@@ -201,6 +203,7 @@ impl Player {
             out.new ≡ take from out.old ++ map stereo played ++ drop (from + result) out.old }
         ensures position { position_of self.new ≡ position_of self.old + result }
         ensures marks { marks_of self.new ≡ marks_played self.old result }
+        ensures made { made_of self.new ≡ count_after (made_of self.old) result }
         ensures tune { KeepsPlayer self.old self.new }
     {
         let most = ((end - from) as u32).min(frames_at_once(self.spacing, self.server.at()));
@@ -217,6 +220,7 @@ impl Player {
         ensures frames { out.new ≡ map stereo (slice_of (frames_of self.old) (position_of self.old) result) ++ drop result out.old }
         ensures position { position_of self.new ≡ position_of self.old + result }
         ensures marks { marks_of self.new ≡ marks_played self.old result }
+        ensures made { made_of self.new ≡ count_after (made_of self.old) result }
         ensures tune { KeepsPlayer self.old self.new }
     {
         let count = out.len().min((MOST_FRAMES - self.position()) as usize);
@@ -233,6 +237,7 @@ impl Player {
         ensures frames { out.new ≡ map stereo (faded_frames_played self.old result) ++ drop result out.old }
         ensures position { position_of self.new ≡ position_of self.old + result }
         ensures marks { marks_of self.new ≡ marks_played self.old result }
+        ensures made { made_of self.new ≡ count_after (made_of self.old) result }
         ensures tune { KeepsPlayer self.old self.new }
     {
         let length = self.length();

@@ -12,6 +12,7 @@ pieces-init c = let player = c.args.self.now in record {
   put = played_none stereo (frames_of player) (position_of player) c.args.out.now c.position.ensures.run;
   there = omega arith;
   marks = marks_none (room_of player) (memory_of player) player.spacing (position_of player) (marks_of player);
+  made = omega (arith, c.position.ensures.counted);
   tune = keeps_none player;
 }
 
@@ -25,5 +26,6 @@ pieces-preserved c =
           c.position.ensures.run c.pieces.invariant.tune.frames c.pieces.invariant.there c.pieces.invariant.put c.play_some-done.ensures.frames;
       there = omega (arith, c.play_some-done.ensures.position, c.pieces.invariant.there);
       marks = marks_more first next c.pieces.done more _ c.pieces.invariant.tune c.pieces.invariant.there c.pieces.invariant.marks c.play_some-done.ensures.marks;
+      made = omega (arith, c.play_some-done.ensures.made, c.pieces.invariant.made);
       tune = keeps_both first next c.play_some-done.new.self c.pieces.invariant.tune c.play_some-done.ensures.tune;
     }

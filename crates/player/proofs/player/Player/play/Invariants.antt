@@ -1,7 +1,8 @@
 use Rattle.std.proofs.Common.{◌≡◌, ◌+◌, ◌-◌, ◌≤◌, ◌++◌, drop, map}
+use Rattle.chip_form.specs.Samples.{count_after}
 use Rattle.cut_form.specs.Slices.{slice_of}
 use Rattle.player.specs.Output.{stereo}
-use Rattle.player.specs.Player.{frames_of, position_of, marks_of, marks_played, KeepsPlayer}
+use Rattle.player.specs.Player.{frames_of, position_of, marks_of, marks_played, made_of, KeepsPlayer}
 use Rattle.player.proofs.player.Player.play.Given as goal
 
 -- so many frames are played, and stand at the front
@@ -11,6 +12,7 @@ invariant-pieces l = record {
   put : l.out ≡ map stereo (slice_of (frames_of l.fn.self) (position_of l.fn.self) l.done) ++ drop l.done l.fn.out;
   there : position_of l.self ≡ position_of l.fn.self + l.done;
   marks : marks_of l.self ≡ marks_played l.fn.self l.done;
+  made : made_of l.self ≡ count_after (made_of l.fn.self) l.done;
   tune : KeepsPlayer l.fn.self l.self;
 }
 

@@ -1,4 +1,4 @@
-use Rattle.std.proofs.Common.{◌≡◌, ◌∙◌, ◌+◌, ◌-◌, ◌≤◌, ◌++◌, ap, length, take, drop, map, arith}
+use Rattle.std.proofs.Common.{◌≡◌, ◌∙◌, ◌-◌, ◌≤◌, ◌++◌, ap, take, drop, map, arith}
 use Rattle.std.proofs.lemmas.List.{length-take}
 use Rattle.num_fix.specs.Limits.{most_frames}
 use Rattle.spc_form.specs.Tags.{length_of}

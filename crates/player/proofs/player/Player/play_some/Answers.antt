@@ -1,4 +1,4 @@
-use Rattle.std.proofs.Common.{◌≡◌, ◌∙◌, ◌+◌, ◌<◌, refl, sym, ap, arith}
+use Rattle.std.proofs.Common.{◌∙◌, ◌+◌, ◌<◌, refl, sym, ap, arith}
 use Rattle.dsp_core.specs.DspChip.{dsp_chip, dsp_saving}
 use Rattle.cut_server.specs.Server.{lock_step_machines}
 use Rattle.cut_server.specs.ServerState.{pages_after}
