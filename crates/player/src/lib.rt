@@ -8,6 +8,8 @@ mod output;
 mod own_marks;
 mod player;
 mod refusal;
+#[cfg(test)]
+mod tests;
 mod voices;
 
 pub use laws::what_was_heard_is_near;

@@ -1,0 +1,86 @@
+// A player's calls over a made file, in which voice 0 sounds the same from frame 6 on.
+use crate::{Player, PlayerOptions, StereoFrame};
+use cut_form::Marked;
+use spc_form::Tag;
+use std::process::Abort;
+use std::test::Fail;
+use test_support::{FIVE, file_of, straight_table};
+
+/// Tags that tell a title, a second, and a fade of a millisecond, 32 frames.
+const TOLD: &[(usize, &[u8])] = &[
+    (0x23, b"\x1a"),
+    (0x2e, b"Five steps"),
+    (0xa9, b"001"),
+    (0xac, b"00001"),
+];
+
+const OPTIONS: PlayerOptions = PlayerOptions {
+    pages: 512,
+    mark_seconds: 0,
+    muted: 0,
+};
+
+/// A frame with the same number on both sides.
+fn even(side: i16) -> StereoFrame {
+    StereoFrame {
+        left: side,
+        right: side,
+    }
+}
+
+/// Plays eight frames of the opening: six are silent.
+fn look_at_the_opening(rt: &impl Abort, player: &mut Player) {
+    let mut frames = [even(1); 8];
+    let given = player.play(&mut frames);
+    assert!(rt; given == 8);
+    assert!(rt; frames.iter().take(6).all(|frame| *frame == even(0)));
+    assert!(rt; frames.iter().skip(6).all(|frame| *frame == even(4000)));
+}
+
+/// Its envelope is at 127 times 16 and its output at 4,064, of which OUTX has the high byte.
+fn look_at_the_voice(rt: &impl Abort, player: &Player) {
+    let shown = player.voice(0);
+    assert!(rt; (shown.level, shown.pitch, shown.output, shown.source) == (2032, 4096, 15, 0));
+}
+
+/// A mark at the position is taken once, and a seek to it makes no frame.
+fn look_at_a_mark(rt: &impl Abort, player: &mut Player) {
+    let (first, second) = (player.mark(), player.mark());
+    assert!(rt; (first, second) == (Marked::Taken { gave: 0 }, Marked::Kept));
+    player.seek(2);
+    assert!(rt; (player.position(), player.made()) == (2, 10));
+    player.seek(8);
+    assert!(rt; (player.position(), player.made()) == (8, 10));
+}
+
+/// The 32 frames of the fade go down in steps of 4000 / 32, and none follows.
+fn look_at_the_fade(rt: &impl Abort, player: &mut Player) {
+    player.seek(32_000);
+    let mut frames = [even(1); 40];
+    let given = player.play_faded(&mut frames);
+    assert!(rt; given == 32);
+    let (first, last, behind) = (frames[0], frames[31], frames[32]);
+    assert!(rt; (first, last, behind) == (even(3875), even(0), even(1)));
+}
+
+/// A title that is cut off where there is no more room, and the whole title's length.
+fn look_at_the_title(rt: &impl Abort, player: &Player) {
+    let mut text = [b'.'; 5];
+    let length = player.tag(Tag::Title, &mut text);
+    assert!(rt; player.is_tagged() && length == 10);
+    assert!(rt; text.as_slice() == b"Five\0".as_slice());
+}
+
+#[test]
+fn a_made_file_is_played(rt: HostRuntime) -> Result<(), Fail> {
+    let alloc = rt.alloc();
+    let image = file_of(alloc, 66048, FIVE, TOLD)?;
+    let table = straight_table(alloc)?;
+    let mut player = Player::open_bytes(alloc, &image, &table, OPTIONS)?;
+    look_at_the_title(&rt, &player);
+    look_at_the_opening(&rt, &mut player);
+    look_at_the_voice(&rt, &player);
+    look_at_a_mark(&rt, &mut player);
+    look_at_the_fade(&rt, &mut player);
+    Ok(())
+}
