@@ -35,6 +35,7 @@ class Player:
             call.argtypes = [handle]
         self.lib.spcwave_length.argtypes = [handle, ctypes.POINTER(number), ctypes.POINTER(number)]
         self.lib.spcwave_tag.argtypes, self.lib.spcwave_tag.restype = [handle, number, ctypes.c_char_p, size], size
+        self.lib.spcwave_tagged.argtypes, self.lib.spcwave_tagged.restype = [handle], ctypes.c_bool
         self.lib.spcwave_registers.argtypes = [handle, ctypes.c_char_p]
         self.lib.spcwave_voice.argtypes = [handle, number, ctypes.POINTER(Voice)]
         self.told(self.lib.spcwave_open(self.handle, spc, len(spc), table, len(table), Options(pages, mark_seconds, muted)))
@@ -47,6 +48,10 @@ class Player:
         frames, fade = ctypes.c_uint32(), ctypes.c_uint32()
         self.told(self.lib.spcwave_length(self.handle, frames, fade))
         return frames.value, fade.value
+
+    def is_tagged(self):
+        """Whether the file says that it has tags."""
+        return self.lib.spcwave_tagged(self.handle)
 
     def tag(self, number):
         """The text of a tag: 0 is the title, 1 the game, 2 the artist; spcwave.h has the others."""
@@ -91,7 +96,7 @@ def main():
     library, tune, table, out = sys.argv[1:5]
     begin, seconds = (float(it) for it in (sys.argv[5:] + ['0', '-1'][len(sys.argv) - 5:])[:2])
     player = Player(library, open(tune, 'rb').read(), open(table, 'rb').read())
-    print(' / '.join(player.tag(number) for number in range(3)))
+    print(' / '.join(player.tag(number) for number in range(3)) if player.is_tagged() else 'no tags')
     player.seek(int(begin * 32000))
     count = int(seconds * 32000) if seconds >= 0 else player.length()[0]
     with wave.open(out, 'wb') as sound:

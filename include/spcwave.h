@@ -128,6 +128,9 @@ uint32_t spcwave_free_pages(spcwave_player *player);
  * tell none. Frames can be played behind it. Answers OK; or NOT_OPEN, and then both numbers stay as they were. */
 uint32_t spcwave_length(spcwave_player *player, uint32_t *frames, uint32_t *fade);
 
+/* Whether the file says that it has tags; their texts are told either way. False where none is open. */
+bool spcwave_tagged(spcwave_player *player);
+
 /* Writes the text of a tag: as many of its bytes as `size` has room for with a zero byte behind them, whatever bytes the file has there, up
  * to its first zero byte; nothing where `size` is 0. Tells the whole text's length. The text is empty where none is open or no tag has
  * the number. */

@@ -71,6 +71,7 @@ int main(int argc, char **argv) {
     row(spcwave_registers(&player, registers) == SPCWAVE_NOT_OPEN && registers[0] == 0x55 && registers[127] == 0x55, "or has registers");
     row(spcwave_voice(&player, 0, &voice) == SPCWAVE_NOT_OPEN && voice.level == 0x5555 && voice.source == 0x5555, "or voices");
     row(spcwave_tag(&player, SPCWAVE_TITLE, text, sizeof text) == 0 && text[0] == 0, "or a title");
+    row(!spcwave_tagged(&player), "or tags");
     spcwave_close(&player);
     spcwave_close(&player);
     /* refusals */
@@ -86,7 +87,8 @@ int main(int argc, char **argv) {
     row(spcwave_open(&player, spc, spc_length, table, table_length, &options) == SPCWAVE_OK, "opens");
     row(spcwave_length(&player, &length, &fade) == SPCWAVE_OK && length == count, "its length is that of the sound file");
     steady = length - fade;
-    /* its tags, which stand in the file's bytes from 2Eh on */
+    /* its tags, which stand in the file's bytes from 2Eh on, and byte 23h says whether there are any */
+    row(spcwave_tagged(&player) == (spc[0x23] == 0x1A), "whether it has tags");
     for (i = 0; i < 32 && spc[0x2E + i]; i++) {}
     row(spcwave_tag(&player, SPCWAVE_TITLE, text, sizeof text) == i && memcmp(text, spc + 0x2E, i) == 0 && text[i] == 0, "its title");
     for (i = 0; i < 32 && spc[0xB1 + i]; i++) {}

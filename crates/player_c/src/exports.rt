@@ -1,11 +1,12 @@
 // What C calls. No call but `spcwave_open` takes memory.
-ghost use Rattle.std.specs.Prelude.{◌≡◌, ◌≢◌, ◌+◌, ◌++◌, ◌⊎◌, true, false, nat_le, None, IfErr, IfOk, length, drop};
+ghost use Rattle.std.specs.Prelude.{◌≡◌, ◌≢◌, ◌++◌, ◌⊎◌, true, false, nat_le, None, IfErr, IfOk, IfSome, length, drop};
 ghost use Rattle.num_fix.specs.Limits.{most_frames};
+ghost use Rattle.chip_form.specs.Samples.{count_after};
 ghost use Rattle.player.specs.Inputs.{inputs_of, IsOpened};
 ghost use Rattle.player.specs.Options.{are_in_range};
-ghost use Rattle.player.specs.Player.{position_of, marks_of, marks_played, marking};
+ghost use Rattle.player.specs.Player.{position_of, marks_of, marking, made_of, frames_sought, SeekIsNear};
 ghost use Rattle.player.specs.declared.refusal.PlayerRefusal.TheVariants as refusals;
-ghost use Rattle.player_c.specs.Handle.{IsOpening, IsKept, playing, frames_given, frames_played, faded_frames_given, faded_frames_of, Moved};
+ghost use Rattle.player_c.specs.Handle.{IsOpening, IsKept, playing, frames_given, frames_played, faded_frames_given, faded_frames_of, Moved, PlayedOn};
 ghost use Rattle.player_c.specs.Status.{ok, out_of_memory, out_of_range, inputs_status, open_status, range_status};
 
 use crate::handle::SpcwavePlayer;
@@ -83,7 +84,7 @@ pub extern "C" fn spcwave_play(player: &mut SpcwavePlayer, frames: &mut [StereoF
     ensures kept { IsKept player.new }
     ensures count { result ≡ frames_given (playing player.old) (length frames.old) }
     ensures frames { frames.new ≡ frames_played (playing player.old) result ++ drop result frames.old }
-    ensures moved { Moved (λ p. position_of p + result) (λ p. marks_played p result) (playing player.old) (playing player.new) }
+    ensures moved { PlayedOn result (playing player.old) (playing player.new) }
 {
     if !player.is_open {
         return 0;
@@ -101,7 +102,7 @@ pub extern "C" fn spcwave_play_faded(
     ensures kept { IsKept player.new }
     ensures count { result ≡ faded_frames_given (playing player.old) (length frames.old) }
     ensures frames { frames.new ≡ faded_frames_of (playing player.old) result ++ drop result frames.old }
-    ensures moved { Moved (λ p. position_of p + result) (λ p. marks_played p result) (playing player.old) (playing player.new) }
+    ensures moved { PlayedOn result (playing player.old) (playing player.new) }
 {
     if !player.is_open {
         return 0;
@@ -109,13 +110,14 @@ pub extern "C" fn spcwave_play_faded(
     player.engine.player().play_faded(frames)
 }
 
-/// Goes to a frame, 0 to 115,200,000: 32,000 are a second.
+/// Goes to a frame, 0 to 115,200,000: 32,000 are a second. It makes at most the frames from any mark up to it.
 #[unsafe(no_mangle)]
 pub extern "C" fn spcwave_seek(player: &mut SpcwavePlayer, frame: u32) -> u32
     requires { IsKept player.old }
     ensures kept { IsKept player.new }
     ensures status { result ≡ range_status (nat_le frame most_frames) (playing player.old) }
-    ensures moved { result ≡ ok → Moved (λ _. frame) marks_of (playing player.old) (playing player.new) }
+    ensures moved { result ≡ ok → Moved (λ _. frame) marks_of (λ p. count_after (made_of p) (frames_sought p frame)) (playing player.old) (playing player.new) }
+    ensures near { result ≡ ok → IfSome (playing player.old) (λ p. SeekIsNear p frame) }
     ensures otherwise { result ≢ ok → playing player.new ≡ playing player.old }
 {
     if !player.is_open {
@@ -134,7 +136,7 @@ pub extern "C" fn spcwave_mark(player: &mut SpcwavePlayer) -> u32
     requires { IsKept player.old }
     ensures kept { IsKept player.new }
     ensures status { result ≡ open_status (playing player.old) }
-    ensures moved { Moved position_of (λ p. (marking p).live) (playing player.old) (playing player.new) }
+    ensures moved { Moved position_of (λ p. (marking p).live) made_of (playing player.old) (playing player.new) }
 {
     if !player.is_open {
         return NOT_OPEN;

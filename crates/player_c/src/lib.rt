@@ -17,5 +17,5 @@ pub use exports::{
 pub use handle::SpcwavePlayer;
 pub use telling::{
     spcwave_free_pages, spcwave_length, spcwave_position, spcwave_registers, spcwave_tag,
-    spcwave_version, spcwave_voice,
+    spcwave_tagged, spcwave_version, spcwave_voice,
 };

@@ -1,6 +1,6 @@
 // What C is told of a player.
-ghost use Rattle.std.specs.Prelude.{◌≡◌, ◌≢◌, nat_lt, None, IfSome, length};
-ghost use Rattle.spc_form.specs.Tags.{length_of};
+ghost use Rattle.std.specs.Prelude.{◌≡◌, ◌≢◌, nat_lt, false, None, IfSome, length};
+ghost use Rattle.spc_form.specs.Tags.{length_of, has_tags};
 ghost use Rattle.cut_form.specs.Checkpoints.{slots_free};
 ghost use Rattle.player.specs.Output.{with_text};
 ghost use Rattle.player.specs.Player.{position_of, marks_of, room_of, chip_here};
@@ -74,6 +74,21 @@ pub extern "C" fn spcwave_length(
     *frames = length.frames;
     *fade = length.fade;
     OK
+}
+
+/// Whether the file says that it has tags; false where none is open.
+#[unsafe(no_mangle)]
+pub extern "C" fn spcwave_tagged(player: &mut SpcwavePlayer) -> bool
+    requires { IsKept player.old }
+    ensures kept { IsKept player.new }
+    ensures tagged { IfSome (playing player.old) (λ p. result ≡ has_tags p.file) }
+    ensures none { playing player.old ≡ None → result ≡ false }
+    ensures same { playing player.new ≡ playing player.old }
+{
+    if !player.is_open {
+        return false;
+    }
+    player.engine.player().is_tagged()
 }
 
 /// Writes the text of a tag as `player::Player::tag` does, and tells its whole length. It is empty where none is open, or no tag has the
