@@ -54,6 +54,10 @@ INFO = 'command_info/specs/Info.antt'
 INFO_CODE = 'command_info/src/command.rt'
 DECIMAL = 'spc700_alu/specs/Decimal.antt'
 DECIMAL_CODE = 'spc700_alu/src/decimal.rt'
+OPENED = 'render_core/specs/Opening.antt'
+OPENED_CODE = 'render_core/src/render.rt'
+BATCHES = 'render_files/specs/RenderReport.antt'
+BATCHES_CODE = 'render_files/src/sound_report.rt'
 SESSION = 'cut_form/specs/Session.antt'
 REPLIES = 'session_files/src/replies.rt'
 
@@ -250,6 +254,18 @@ SLIPS = [
     Slip('the faults far and long exchanged', ['exit_status'], ['worked_files'], [
         (LINES, 'codes ": far\\n"', 'codes ": faar\\n"'), (LINES, 'codes ": long\\n"', 'codes ": far\\n"'), (LINES, 'codes ": faar\\n"', 'codes ": long\\n"'),
         (LINES_CODE, 'b": far\\n"', 'b": faar\\n"'), (LINES_CODE, 'b": long\\n"', 'b": far\\n"'), (LINES_CODE, 'b": faar\\n"', 'b": long\\n"')]),
+
+    # the opening, and what a render reports
+    Slip('X and Y exchanged at the opening', ['render_core'], ['command_render', 'worked_renders'], [
+        (OPENED, 'x = slice_index file 0x28', 'x = slice_index file 0x29'), (OPENED, 'y = slice_index file 0x29', 'y = slice_index file 0x28'),
+        (OPENED_CODE, 'x: file.x()', 'x: file.y()'), (OPENED_CODE, 'y: file.y()', 'y: file.x()')]),
+    Slip('the causes register and memory exchanged', ['render_files'], ['command_render'], [
+        (BATCHES, 'decimal counts.register ++ codes " memory " ++ decimal counts.memory', 'decimal counts.memory ++ codes " memory " ++ decimal counts.register'),
+        (BATCHES_CODE, 'b" register ", counts.register', 'b" register ", counts.memory'), (BATCHES_CODE, 'b" memory ", counts.memory', 'b" memory ", counts.register')]),
+    Slip('the causes echo and events exchanged', ['render_files'], ['command_render'], [
+        (BATCHES, 'codes " echo " ++ decimal counts.echo', 'codes " echo " ++ decimal counts.events'),
+        (BATCHES, 'codes " events " ++ decimal counts.events', 'codes " events " ++ decimal counts.echo'),
+        (BATCHES_CODE, 'b" echo ", counts.echo', 'b" echo ", counts.events'), (BATCHES_CODE, 'b" events ", counts.events', 'b" events ", counts.echo')]),
 
     # demo files, cuts and sessions
     Slip('another factor of the draws', ['demo_gen'], ['worked_files'], [

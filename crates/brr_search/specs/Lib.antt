@@ -4,8 +4,10 @@
 -- Links: the blocks of ways, each linked to the way that it goes on from.
 -- Options: how a sound is encoded.
 -- Found: the encoding that is found, and what it costs.
+-- Headers: the headers of its blocks.
 pub mod Ways
 pub mod Beam
 pub mod Links
 pub mod Options
 pub mod Found
+pub mod Headers

@@ -1,9 +1,10 @@
 // What the definitions come to.
-ghost use Rattle.std.specs.Prelude.{◌≡◌, ◌≤◌, ℕ, ℤ, List, Bool, All};
+ghost use Rattle.std.specs.Prelude.{◌≡◌, ◌≤◌, ◌/◌, ℕ, ℤ, List, Bool, All, length};
 ghost use Rattle.brr_encode.specs.Encoding.{encoding_from, header_count, padded_samples};
 ghost use Rattle.brr_encode.specs.Triples.{IsAllowedHeader};
 ghost use Rattle.brr_search.specs.Beam.{best_ways};
 ghost use Rattle.brr_search.specs.Found.{cost_of, found_encoding};
+ghost use Rattle.brr_search.specs.Headers.{AreAllowedBlocks};
 ghost use Rattle.brr_search.specs.declared.way.Way.{Way};
 
 /// What is found never costs more than the plain encoding: the squared differences of all samples sum to no more.
@@ -23,4 +24,11 @@ pub fn one_way_is_the_plain_encoding()
 pub fn each_way_has_an_allowed_header()
     ensures { (most : ℕ) (ways : List Way) (targets : List ℤ) (alone : Bool) →
         All (λ way. IsAllowedHeader alone way.header) (best_ways most ways targets (header_count alone)) }
+{}
+
+/// The blocks that are found have headers that a block may have: filter 0 in the first one and in the one from which a loop goes on, a
+/// shift of at most 12 in each; and the last one alone has the end bit, and where the sound loops the loop bit.
+pub fn blocks_that_are_found_have_allowed_headers()
+    ensures { (ways loop_block : ℕ) (samples : List ℤ) (looped : Bool) →
+        AreAllowedBlocks (length (padded_samples samples) / 16) loop_block looped (found_encoding ways loop_block samples looped) }
 {}

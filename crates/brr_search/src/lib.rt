@@ -15,7 +15,8 @@ mod way;
 
 pub use found::find_encoding;
 pub use laws::{
-    each_way_has_an_allowed_header, one_way_is_the_plain_encoding, what_is_found_is_never_dearer,
+    blocks_that_are_found_have_allowed_headers, each_way_has_an_allowed_header,
+    one_way_is_the_plain_encoding, what_is_found_is_never_dearer,
 };
 pub use options::EncodeOptions;
 pub use std::alloc::AllocError as OutOfMemory;

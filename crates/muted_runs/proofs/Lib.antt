@@ -1,0 +1,6 @@
+-- BlindRuns: runs of machines whose chips differ in what no read that is made shows.
+-- AlikeChips: S-DSPs that differ in volumes of muted voices alone.
+-- AlikeFiles: what files give that differ there alone.
+pub mod BlindRuns
+pub mod AlikeChips
+pub mod AlikeFiles

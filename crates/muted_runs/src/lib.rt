@@ -1,0 +1,6 @@
+//! That volumes of muted voices aren't heard in whole runs.
+#![tactic(auto)]
+
+mod laws;
+
+pub use laws::{volumes_of_muted_voices_are_not_heard, watching_changes_nothing};
