@@ -1,8 +1,8 @@
 -- The S-DSP is blind to volumes of muted voices.
-use Rattle.std.proofs.Common.{◌≡◌, ℕ, ◌%◌, ◌==◌, nat_le, List, [], ◌∷◌, Bool, true, false, refl, ap, ◌∙◌, arith}
+use Rattle.std.proofs.Common.{◌≡◌, ℕ, ◌+◌, ◌%◌, ◌==◌, nat_le, List, [], ◌∷◌, Bool, true, false, refl, ap, ◌∙◌, arith}
 use Rattle.std.specs.Prelude.{if◌then◌else◌, slice_set}
 use Rattle.num_fix.specs.declared.Frame.{Frame}
-use Rattle.chip_form.specs.Samples.{SampleResult, samples}
+use Rattle.chip_form.specs.Samples.{SampleResult, SamplesResult, one_more, samples}
 use Rattle.dsp_state.specs.Sample.{sample}
 use Rattle.dsp_state.specs.Outside.{register_write}
 use Rattle.dsp_state.specs.declared.registers.TheConstants.{KON, ENDX}
@@ -19,19 +19,29 @@ pub record AreAlikeMuted (muted : ℕ) (s t : ChipState) : Type 0 where
   pub own : s.muted ≡ muted
   pub alike : AreAlike s t
 
-first_or : Frame → List Frame → Frame
+abbrev first_or : Frame → List Frame → Frame
 first_or other [] = other
 first_or other (frame ∷ frames) = frame
 
 module _ (muted k : ℕ) (s t : ChipState) (memory : List ℕ) (both : AreAlikeMuted muted s t) where
-  one : SampleResult ChipState
+  abbrev one : SampleResult ChipState
   one = sample k s memory
 
-  other : SampleResult ChipState
+  abbrev other : SampleResult ChipState
   other = sample k t memory
 
-  made : MakeTheSame (samples sample 1 k s memory) (samples sample 1 k t memory)
-  made = samples_stay_alike 1 k s t memory both.alike
+  -- one sample alone
+  abbrev alone : ChipState → SamplesResult ChipState
+  alone u = one_more sample k (record { state = u; memory = memory; frames = []; records = [] })
+
+  is_alone : (u : ChipState) → samples sample 1 k u memory ≡ alone u
+  unfolding samples
+  is_alone u =
+      let at : k + 0 ≡ k = omega arith in
+      ap (λ (n : ℕ). one_more sample n (record { state = u; memory = memory; frames = []; records = [] })) at
+
+  made : MakeTheSame (alone s) (alone t)
+  made = rw (is_alone s, is_alone t) at (samples_stay_alike 1 k s t memory both.alike)
 
   gives : other ≡ with_state one other.state
   gives =
@@ -57,7 +67,9 @@ muted-write s address byte = by (nat_le 0x80 address)
 
 pub dsp_is_blind : (muted : ℕ) → IsBlindTo dsp_chip (is_muted_volume muted) (AreAlikeMuted muted)
 dsp_is_blind muted = record {
-  reads = λ s t address both free. reads_stay_alike s t (address % 0x80) both.alike (rw (both.own, ((omega arith) : (address % 0x80) % 0x80 ≡ address % 0x80)) free);
+  reads = λ s t address both free.
+      let again : address % 0x80 % 0x80 ≡ address % 0x80 = omega arith in
+      reads_stay_alike s t (address % 0x80) both.alike (rw (both.own, again) free);
   writes = λ s t address byte both. record { own = muted-write s address byte ∙ both.own; alike = writes_stay_alike s t address byte both.alike };
   gives = λ k s t memory both. gives muted k s t memory both;
   leaves = λ k s t memory both. leaves muted k s t memory both;

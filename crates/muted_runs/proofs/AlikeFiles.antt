@@ -1,11 +1,11 @@
 -- What files open and give that differ in volumes of muted voices alone.
-use Rattle.std.proofs.Common.{◌≡◌, ℕ, ℤ, ◌+◌, ◌-◌, ◌<◌, ◌&&◌, nat_le, nat_lt, List, length, drop, Bool, true, false, refl, ap, sym, ◌∙◌, arith}
+use Rattle.std.proofs.Common.{◌≡◌, ℕ, ℤ, ◌+◌, ◌-◌, ◌/◌, ◌<◌, ◌≤◌, ◌&&◌, nat_le, nat_lt, List, length, drop, Bool, true, false, refl, ap, sym, ◌∙◌, arith}
 use Rattle.std.specs.Prelude.{slice_index}
 use Rattle.std.proofs.lemmas.Bool.Decides.{nat_tests}
 use Rattle.std.proofs.lemmas.List.{get_or-take, get_or-drop, get_or_past, length-take, length-drop}
 use Rattle.std.proofs.lemmas.Grind.{same_number_lists}
+use Rattle.num_fix.specs.Arithmetic.{has_bit}
 use Rattle.spc_form.specs.Layout.{part_of, memory_of, dsp_of, extra_of}
-use Rattle.spc_form.specs.Opening.{opening_memory, opening_cells, opening_rom}
 use Rattle.dsp_state.specs.declared.registers.TheConstants.{KON}
 use Rattle.dsp_state.specs.Outside.{opened_state}
 use Rattle.dsp_state.specs.declared.state.ChipState.{ChipState}
@@ -13,10 +13,10 @@ use Rattle.dsp_core.specs.DspChip.{dsp_chip}
 use Rattle.lock_step.specs.Machine.{Machine}
 use Rattle.lock_step.specs.LockStep.{lock_step}
 use Rattle.render_core.specs.MachineRun.{Whole, after_run}
-use Rattle.render_core.specs.Opening.{opened_cpu, opened_whole}
+use Rattle.render_core.specs.Opening.{opened_cpu}
 use Rattle.render_core.specs.Items.{records_before}
 use Rattle.tune_opening.specs.Tune.{opened_tune}
-use Rattle.mute_laws.specs.MutedVolumes.{AreAlike, is_muted_volume}
+use Rattle.mute_laws.specs.MutedVolumes.{is_muted_volume}
 use Rattle.muted_runs.specs.Watching.{Watched, watched, begun_watching}
 use Rattle.muted_runs.specs.MutedFiles.{dsp_place, holds_muted_volume, DifferInMutedVolumes, reads_muted_volume, SoundAlike}
 use Rattle.muted_runs.proofs.BlindRuns.{run_seen, run_beside, with_chip}
@@ -46,6 +46,14 @@ among_registers muted address low =
     let to : nat_lt (dsp_place + address) (dsp_place + 0x80) ≡ true = grind (arith, nat_tests, low) in
     let is : dsp_place + address - dsp_place ≡ address = omega arith in
     rw (from, to, is) refl
+
+and_false : (b : Bool) → (b && false) ≡ false
+and_false true = refl
+and_false false = refl
+
+-- the keys aren't such a volume
+keys_stay : (muted : ℕ) → is_muted_volume muted KON ≡ false
+keys_stay muted = and_false (has_bit muted (KON / 16))
 
 module _ (muted : ℕ) (file other : List ℕ) (differ : DifferInMutedVolumes muted file other) where
   same_length : (place count : ℕ) → length (part_of file place count) ≡ length (part_of other place count)
@@ -98,17 +106,17 @@ module _ (muted : ℕ) (file other : List ℕ) (differ : DifferInMutedVolumes mu
           get_or_past (dsp_of file) address 0 (omega (arith, high, one)) ∙ sym (get_or_past (dsp_of other) address 0 (omega (arith, high, two)))
 
   module _ (table : List ℤ) where
-    chip_of_file : ChipState
+    abbrev chip_of_file : ChipState
     chip_of_file = opened_state (dsp_of file) table muted
 
-    chip_of_other : ChipState
+    abbrev chip_of_other : ChipState
     chip_of_other = opened_state (dsp_of other) table muted
 
     alike_chips : AreAlikeMuted muted chip_of_file chip_of_other
     unfolding opened_state
     alike_chips = record {
       own = refl;
-      alike = record { rest = rw (same_registers KON refl) refl; count = same_length dsp_place 0x80; others = same_registers };
+      alike = record { rest = rw (same_registers KON (keys_stay muted)) refl; count = same_length dsp_place 0x80; others = same_registers };
     }
 
     same_opening : (mask : ℕ) → opened_tune other table muted mask ≡ (opened_cpu file, with_chip (opened_tune file table muted mask).1 chip_of_other)

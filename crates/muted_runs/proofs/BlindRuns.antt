@@ -1,5 +1,5 @@
 -- Runs of machines whose chips differ in registers that no program reads which isn't noted.
-use Rattle.std.proofs.Common.{◌≡◌, ℕ, zero, suc, ◌+◌, ◌-◌, ◌*◌, ◌%◌, ◌==◌, ◌&&◌, ◌||◌, nat_le, nat_lt, Bool, true, false, refl, ap, sym, ◌∙◌}
+use Rattle.std.proofs.Common.{◌≡◌, ℕ, zero, suc, ◌+◌, ◌-◌, ◌*◌, ◌%◌, ◌==◌, ◌&&◌, nat_le, nat_lt, List, Bool, true, false, refl, ap, sym, ◌∙◌}
 use Rattle.std.specs.Prelude.{if◌then◌else◌, unwrap_or}
 use Rattle.std.proofs.lemmas.Bool.{or_parts}
 use Rattle.aram_core.specs.Memory.{byte_at}
@@ -56,16 +56,16 @@ module _ {S : Type 0} (chip : ChipMeaning S) (hidden : ℕ → Bool) where
   steps_seen : (samples steps : ℕ) (w : Whole (Watched S))
       → after_steps (lock_step chip) samples steps (seen_through w) ≡ seen_through (after_steps (watched chip hidden) samples steps w)
   steps_seen samples zero w = refl
-  steps_seen samples (suc steps) w = by (nat_le samples (samples_made w.1.machine))
+  steps_seen samples (suc steps) w = by (nat_le samples (samples_made w.1.machine)) (steps_seen samples steps (after_step (watched chip hidden) w))
     where
       next : Whole (Watched S)
       next = after_step (watched chip hidden) w
 
-      by : (b : Bool)
+      by : (b : Bool) → after_steps (lock_step chip) samples steps (seen_through next) ≡ seen_through (after_steps (watched chip hidden) samples steps next)
           → (if b then seen_through w else after_steps (lock_step chip) samples steps (after_step (lock_step chip) (seen_through w)))
           ≡ seen_through (if b then w else after_steps (watched chip hidden) samples steps next)
-      by true = refl
-      by false = ap (λ (v : Whole (Machine S)). after_steps (lock_step chip) samples steps v) (step_seen w) ∙ steps_seen samples steps next
+      by true rest = refl
+      by false rest = ap (λ (v : Whole (Machine S)). after_steps (lock_step chip) samples steps v) (step_seen w) ∙ rest
 
   pub run_seen : (samples : ℕ) (w : Whole (Machine S))
       → after_run (lock_step chip) samples w ≡ seen_through (after_run (watched chip hidden) samples (begun_watching w))
@@ -89,14 +89,16 @@ module _ {S : Type 0} (chip : ChipMeaning S) (hidden : ℕ → Bool) where
 
   steps_noted : (samples steps : ℕ) (w : Whole (Watched S)) → w.1.noted ≡ true → (after_steps (watched chip hidden) samples steps w).1.noted ≡ true
   steps_noted samples zero w noted = noted
-  steps_noted samples (suc steps) w noted = by (nat_le samples (samples_made w.1.machine))
+  steps_noted samples (suc steps) w noted =
+      by (nat_le samples (samples_made w.1.machine)) (steps_noted samples steps (after_step (watched chip hidden) w) (step_noted w noted))
     where
       next : Whole (Watched S)
       next = after_step (watched chip hidden) w
 
-      by : (b : Bool) → (if b then w else after_steps (watched chip hidden) samples steps next).1.noted ≡ true
-      by true = noted
-      by false = steps_noted samples steps next (step_noted w noted)
+      by : (b : Bool) → (after_steps (watched chip hidden) samples steps next).1.noted ≡ true
+          → (if b then w else after_steps (watched chip hidden) samples steps next).1.noted ≡ true
+      by true rest = noted
+      by false rest = rest
 
   -- so what isn't noted in the end wasn't before
   outcome_unnoted : (it : Script) (start made : ℕ) (w : Watched S) → (outcome (watched chip hidden) start made it w).1.noted ≡ false → w.noted ≡ false
@@ -207,19 +209,22 @@ module _ {S : Type 0} (chip : ChipMeaning S) (hidden : ℕ → Bool) where
         → (after_steps (watched chip hidden) samples steps w).1.noted ≡ false
         → IsBeside (after_steps (watched chip hidden) samples steps w) (after_steps (lock_step chip) samples steps (w.0, with_chip w.1.machine s))
     steps_beside samples zero w s alike none = record { other = s; is = refl; alike = alike }
-    steps_beside samples (suc steps) w s alike none = by (nat_le samples (samples_made w.1.machine)) none
+    steps_beside samples (suc steps) w s alike none =
+        by (nat_le samples (samples_made w.1.machine)) (steps_beside samples steps (after_step (watched chip hidden) w)) none
       where
         next : Whole (Watched S)
         next = after_step (watched chip hidden) w
 
-        by : (b : Bool) → (if b then w else after_steps (watched chip hidden) samples steps next).1.noted ≡ false
+        by : (b : Bool)
+            → ((t : S) → Alike next.1.machine.chip t → (after_steps (watched chip hidden) samples steps next).1.noted ≡ false
+            → IsBeside (after_steps (watched chip hidden) samples steps next) (after_steps (lock_step chip) samples steps (next.0, with_chip next.1.machine t)))
+            → (if b then w else after_steps (watched chip hidden) samples steps next).1.noted ≡ false
             → IsBeside (if b then w else after_steps (watched chip hidden) samples steps next)
             (if b then (w.0, with_chip w.1.machine s) else after_steps (lock_step chip) samples steps (after_step (lock_step chip) (w.0, with_chip w.1.machine s)))
-        by true unread = record { other = s; is = refl; alike = alike }
-        by false unread =
+        by true rest unread = record { other = s; is = refl; alike = alike }
+        by false rest unread =
             let one = step_beside w s alike (steps_unnoted samples steps next unread) in
-            let rest = steps_beside samples steps next one.other one.alike unread in
-            rw one.is rest
+            rw one.is (rest one.other one.alike unread)
 
     pub run_beside : (samples : ℕ) (w : Whole (Machine S)) (s : S) → Alike w.1.chip s
         → (after_run (watched chip hidden) samples (begun_watching w)).1.noted ≡ false
