@@ -15,16 +15,16 @@ use Rattle.voice_unit.specs.Batch.{steps, answer_of_step}
 use Rattle.voice_unit.specs.Plain.{PlaysPlainly}
 use Rattle.voice_unit.specs.Play.{Lane, IsOnItsWay, voice_at, answer_at}
 use Rattle.voice_unit.specs.Rest.{IsSilent, IsAtRest}
-use Rattle.voice_unit.specs.Row.{place_after, groups_before, is_end, is_read_in, loops_in, PlaysOn, row_of, place_of, StandsAt}
+use Rattle.voice_unit.specs.Row.{AreWays, place_after, groups_before, is_end, is_read_in, loops_in, PlaysOn, row_of, place_of, StandsAt}
+use Rattle.voice_unit.specs.Track.{MoveOn}
 use Rattle.voice_unit.specs.OutsOverRow.{sounding_at, out_in_stretch}
-use Rattle.voice_unit.specs.Voice.{is_silencing, VoiceState, interpolation, output, source_sample, needs_group, is_at_last_group, after_reading, after_pitch, voice_step}
+use Rattle.voice_unit.specs.Voice.{is_silencing, VoiceState, pitch_of, interpolation, output, source_sample, needs_group, is_at_last_group, after_reading, after_pitch, voice_step}
 use Rattle.voice_unit.specs.declared.batch.VoiceView.{VoiceView}
 use Rattle.voice_unit.specs.declared.interface.VoiceIn.{VoiceIn}
 use Rattle.voice_unit.specs.declared.interface.VoiceOut.{VoiceOut}
 use Rattle.voice_unit.specs.declared.row.Place.{Place}
 use Rattle.voice_unit.proofs.AtRest.{step_at_rest, out_at_rest, answer_is, looped_at_rest, rests_on, envelope-after_reading, no_rest}
-use Rattle.voice_unit.proofs.Glided.{own_pitch}
-use Rattle.voice_unit.proofs.Counting.{groups_before-more, groups_before-rise}
+use Rattle.voice_unit.proofs.Counting.{moves_on, groups_before-more, groups_before-rise}
 use Rattle.voice_unit.proofs.RowOfVoice.{plays_row, reads_row}
 
 -- an interpolation looks at four samples of a row
@@ -56,26 +56,26 @@ same_voice a b samples position place delay envelope =
     ∙ ap (λ (x : EnvelopeState). record { samples = b.samples; position = b.position; block = b.block; offset = b.offset; delay = b.delay; envelope = x }) envelope
 
 -- what is so where a voice has come to so many groups
-reads_a_group : (position pitch j now : ℕ) → position < 0x8000 → now + 0x4000 * groups_before position pitch j ≡ position + j * pitch → now < 0x8000
-    → nat_le 0x4000 now ≡ is_read_in position pitch (groups_before position pitch j) j
-reads_a_group position pitch j now low stands within = by (nat_le 0x4000 now) refl
+reads_a_group : (ways : ℕ → ℕ) (j now : ℕ) → now + 0x4000 * groups_before ways j ≡ ways j → now < 0x8000
+    → nat_le 0x4000 now ≡ is_read_in ways (groups_before ways j) j
+reads_a_group ways j now stands within = by (nat_le 0x4000 now) refl
   where
     g : ℕ
-    g = groups_before position pitch j
+    g = groups_before ways j
 
-    same : (b : Bool) → (g == g) ≡ true → (groups_before position pitch (j + 1) == g + 1) ≡ b → b ≡ ((g == g) && (groups_before position pitch (j + 1) == g + 1))
+    same : (b : Bool) → (g == g) ≡ true → (groups_before ways (j + 1) == g + 1) ≡ b → b ≡ ((g == g) && (groups_before ways (j + 1) == g + 1))
     same b e f = rw (e, f) refl
 
-    by : (b : Bool) → nat_le 0x4000 now ≡ b → b ≡ is_read_in position pitch g j
+    by : (b : Bool) → nat_le 0x4000 now ≡ b → b ≡ is_read_in ways g j
     by true e =
         let late : 0x4000 ≤ now = grind (arith, nat_tests, e) in
-        let next : groups_before position pitch (j + 1) ≡ g + 1 = groups_before-more position pitch j ∙ omega (arith, stands, within, late) in
+        let next : groups_before ways (j + 1) ≡ g + 1 = groups_before-more ways j ∙ omega (arith, stands, within, late) in
         same true (eq-eqb g g refl) (eq-eqb _ _ next)
     by false e =
         let early : now < 0x4000 = grind (arith, nat_tests, e) in
-        let next : groups_before position pitch (j + 1) ≡ g = groups_before-more position pitch j ∙ omega (arith, stands, early) in
-        let other : groups_before position pitch (j + 1) ≢ g + 1 = λ is. absurd (omega (arith, next, is)) in
-        let test : (groups_before position pitch (j + 1) == g + 1) ≡ false = grind (arith, nat_tests, other) in
+        let next : groups_before ways (j + 1) ≡ g = groups_before-more ways j ∙ omega (arith, stands, early) in
+        let other : groups_before ways (j + 1) ≢ g + 1 = λ is. absurd (omega (arith, next, is)) in
+        let test : (groups_before ways (j + 1) == g + 1) ≡ false = grind (arith, nat_tests, other) in
         same false (eq-eqb g g refl) test
 
 -- the last of three tests grouped the other way
@@ -84,11 +84,12 @@ regrouped true b c = refl
 regrouped false b c = refl
 
 module _ (own : VoiceView) (lane : Lane) (n m rest : ℕ) (before loops : List ℕ) (outs : List ℤ) (voice : VoiceState)
-    (way : IsOnItsWay own lane n rest before loops outs voice) (twelve : length voice.samples ≡ 12) (low : voice.position < 0x8000) (slow : lane.regs.pitch < 0x4000)
+    (way : IsOnItsWay own lane n rest before loops outs voice) (twelve : length voice.samples ≡ 12) (low : voice.position < 0x8000)
     (heard : ℕ → ℕ) (noise : (j : ℕ) → (lane.inputs j).noise ≡ heard j)
     (glides : (j : ℕ) → j < m → PlaysPlainly own (lane.inputs (n + j))) (some : 0 < m) (resting : m ≤ rest)
-    (quiet : (j : ℕ) → j < m → 0 < groups_before voice.position lane.regs.pitch j
-    → is_silencing own.reset (byte_at lane.memory (place_after lane.memory (loop_word own.dir lane.regs.srcn lane.memory) (place_of voice) (groups_before voice.position lane.regs.pitch j)).block) ≡ true
+    (ways : ℕ → ℕ) (by_pitch : AreWays (λ j. pitch_of lane.regs (lane.inputs (n + j))) m voice.position ways)
+    (quiet : (j : ℕ) → j < m → 0 < groups_before ways j
+    → is_silencing own.reset (byte_at lane.memory (place_after lane.memory (loop_word own.dir lane.regs.srcn lane.memory) (place_of voice) (groups_before ways j)).block) ≡ true
     → IsSilent voice.envelope) where
   abbrev koff : Bool
   koff = has_bit own.koff own.voice
@@ -97,7 +98,7 @@ module _ (own : VoiceView) (lane : Lane) (n m rest : ℕ) (before loops : List �
   loop_to = loop_word own.dir lane.regs.srcn lane.memory
 
   abbrev g : ℕ → ℕ
-  g j = groups_before voice.position lane.regs.pitch j
+  g j = groups_before ways j
 
   abbrev there : ℕ → Place
   there d = place_after lane.memory loop_to (place_of voice) d
@@ -111,42 +112,43 @@ module _ (own : VoiceView) (lane : Lane) (n m rest : ℕ) (before loops : List �
   on zero = let none : n + 0 ≡ n = omega arith in rw none (sym way.played.voice_is)
   on (suc j) = rw add-suc (ap (λ (v : VoiceState). voice_step v lane.regs (lane.inputs (n + j)) lane.memory (counter_at (lane.k + (n + j)))) (on j))
 
-  plays_on : PlaysOn lane.regs (λ i. lane.inputs (n + i)) own.dir m voice
+  plays_on : PlaysOn lane.regs (λ i. lane.inputs (n + i)) own.dir m ways voice
   plays_on = record {
     delay = way.at_rest.delay (omega (arith, some, resting));
     twelve = twelve;
     position = low;
-    pitch = slow;
+    stands = by_pitch;
     unkeyed = λ j below. (glides j below).unkeyed;
-    unbent = λ j below. (glides j below).unbent;
     same_dir = λ j below. (glides j below).dir;
   }
 
-  stands : (j : ℕ) → j ≤ m → StandsAt lane.regs own.dir lane.memory voice (g j) (voice.position + j * lane.regs.pitch) (s j)
-  stands j few = reads_row lane.regs (λ i. lane.inputs (n + i)) own.dir m lane.memory (λ i. counter_at (lane.k + (n + i))) voice j plays_on few
+  on_and_on : MoveOn ways m
+  on_and_on = moves_on (λ j. pitch_of lane.regs (lane.inputs (n + j))) m voice.position ways low by_pitch
+
+  stands : (j : ℕ) → j ≤ m → StandsAt lane.regs own.dir lane.memory voice (g j) (ways j) (s j)
+  stands j few = reads_row lane.regs (λ i. lane.inputs (n + i)) own.dir m lane.memory (λ i. counter_at (lane.k + (n + i))) ways voice j plays_on few
 
   abbrev Rests : ℕ → Type 0
   Rests j = IsAtRest own.reset koff lane.regs lane.memory (lane.k + (n + j)) (rest - j) (s j)
 
   -- a step reads and moves on
-  moved : (j : ℕ) → j < m → Rests j → s (j + 1) ≡ after_pitch (after_reading (s j) lane.memory (byte_at lane.memory (s j).block) loop_to) lane.regs.pitch
+  moved : (j : ℕ) → j < m → Rests j → s (j + 1) ≡ after_pitch (after_reading (s j) lane.memory (byte_at lane.memory (s j).block) loop_to) (pitch_of lane.regs (lane.inputs (n + j)))
   unfolding steps
   moved j below rests =
       let plain = glides j below in
       let at : IsAtRest (lane.inputs (n + j)).reset (lane.inputs (n + j)).koff lane.regs lane.memory (lane.k + (n + j)) (rest - j) (s j) = rw (plain.reset, plain.koff) rests in
       rw add-one (step_at_rest lane.regs (lane.inputs (n + j)) lane.memory (lane.k + (n + j)) (rest - j) (s j) at (omega (arith, below, resting)) plain.unkeyed
-      ∙ ap (λ (p : ℕ). after_pitch (after_reading (s j) lane.memory (byte_at lane.memory (s j).block) (loop_word (lane.inputs (n + j)).dir lane.regs.srcn lane.memory)) p) (own_pitch lane.regs (lane.inputs (n + j)) plain.unbent)
-      ∙ ap (λ (dir : ℕ). after_pitch (after_reading (s j) lane.memory (byte_at lane.memory (s j).block) (loop_word dir lane.regs.srcn lane.memory)) lane.regs.pitch) plain.dir)
+      ∙ ap (λ (dir : ℕ). after_pitch (after_reading (s j) lane.memory (byte_at lane.memory (s j).block) (loop_word dir lane.regs.srcn lane.memory)) (pitch_of lane.regs (lane.inputs (n + j)))) plain.dir)
 
   same_on : (j : ℕ) → j < m → Rests j → (s j).envelope ≡ voice.envelope → (s (j + 1)).envelope ≡ voice.envelope
   same_on j below rests same =
-      ap (λ (v : VoiceState). v.envelope) (moved j below rests) ∙ envelope-after_reading (s j) lane.memory (byte_at lane.memory (s j).block) loop_to lane.regs.pitch ∙ same
+      ap (λ (v : VoiceState). v.envelope) (moved j below rests) ∙ envelope-after_reading (s j) lane.memory (byte_at lane.memory (s j).block) loop_to (pitch_of lane.regs (lane.inputs (n + j))) ∙ same
 
   rests_more : (j : ℕ) → j < m → Rests j → (is_silencing own.reset (byte_at lane.memory (s (j + 1)).block) ≡ true → IsSilent (s (j + 1)).envelope) → Rests (j + 1)
   rests_more j below rests heard =
       let further : lane.k + (n + (j + 1)) ≡ lane.k + (n + j) + 1 = omega arith in
       let less : rest - (j + 1) ≡ rest - j - 1 = omega arith in
-      rw (further, less) (rests_on own.reset koff lane.regs lane.memory (lane.k + (n + j)) (rest - j) (byte_at lane.memory (s j).block) loop_to lane.regs.pitch (s j) (s (j + 1))
+      rw (further, less) (rests_on own.reset koff lane.regs lane.memory (lane.k + (n + j)) (rest - j) (byte_at lane.memory (s j).block) loop_to (pitch_of lane.regs (lane.inputs (n + j))) (s j) (s (j + 1))
       rests (omega (arith, below, resting)) (moved j below rests) (inl heard))
 
   -- the header that the voice sees in a sample
@@ -177,17 +179,17 @@ module _ (own : VoiceView) (lane : Lane) (n m rest : ℕ) (before loops : List �
   -- what sample j gives
   out_is : (j : ℕ) → j < m → (row : List ℤ) → take (12 + 4 * g m) row ≡ row_of lane.regs own.dir lane.memory voice (g m)
       → (answer_at lane (n + j)).out
-      ≡ out_in_stretch (has_bit own.non own.voice) (heard (n + j)) lane.table row voice.position lane.regs.pitch voice.envelope.level j
+      ≡ out_in_stretch (has_bit own.non own.voice) (heard (n + j)) lane.table row (ways j) voice.envelope.level
   unfolding answer_of_step
   out_is j below row is =
       let plain = glides j below in
       let now = rests j below in
       let at : IsAtRest (lane.inputs (n + j)).reset (lane.inputs (n + j)).koff lane.regs lane.memory (lane.k + (n + j)) (rest - j) (s j) = rw (plain.reset, plain.koff) now.0 in
       let gave = out_at_rest lane.regs (lane.inputs (n + j)) lane.memory (lane.k + (n + j)) (rest - j) (s j) at (omega (arith, below, resting)) plain.unkeyed lane.table in
-      let rise = groups_before-rise voice.position lane.regs.pitch j m (omega (arith, below)) in
+      let rise = groups_before-rise ways m on_and_on j m (omega (arith, below)) (omega arith) in
       let more : (g m - g j) + g j ≡ g m = omega (arith, rise) in
-      let at_row = rw more at (plays_row lane.regs (λ i. lane.inputs (n + i)) own.dir m lane.memory (λ i. counter_at (lane.k + (n + i))) voice lane.table j (g m - g j) plays_on (omega (arith, below))) in
-      let total : ℕ = voice.position + j * lane.regs.pitch in
+      let at_row = rw more at (plays_row lane.regs (λ i. lane.inputs (n + i)) own.dir m lane.memory (λ i. counter_at (lane.k + (n + i))) ways voice lane.table j (g m - g j) plays_on (omega (arith, below))) in
+      let total : ℕ = ways j in
       let here : (s j).position + 0x4000 * g j ≡ total = (stands j (omega (arith, below))).position in
       let inside : (s j).position < 0x8000 = (stands j (omega (arith, below))).within in
       let same : interpolation lane.table (row_of lane.regs own.dir lane.memory voice (g m)) total ≡ interpolation lane.table row total =
@@ -209,7 +211,7 @@ module _ (own : VoiceView) (lane : Lane) (n m rest : ℕ) (before loops : List �
   pub last_level : (answer_at lane (n + m - 1)).level ≡ voice.envelope.level
   last_level = let last : n + m - 1 ≡ n + (m - 1) = omega (arith, some) in rw last (level_is (m - 1) (omega (arith, some)))
 
-  looped_is : (j : ℕ) → j < m → (answer_at lane (n + j)).looped ≡ loops_in lane.memory loop_to (place_of voice) voice.position lane.regs.pitch j
+  looped_is : (j : ℕ) → j < m → (answer_at lane (n + j)).looped ≡ loops_in lane.memory loop_to (place_of voice) ways j
   unfolding answer_of_step
   looped_is j below =
       let plain = glides j below in
@@ -217,20 +219,20 @@ module _ (own : VoiceView) (lane : Lane) (n m rest : ℕ) (before loops : List �
       let at : IsAtRest (lane.inputs (n + j)).reset (lane.inputs (n + j)).koff lane.regs lane.memory (lane.k + (n + j)) (rest - j) (s j) = rw (plain.reset, plain.koff) now.0 in
       let marked = looped_at_rest lane.regs (lane.inputs (n + j)) lane.memory (lane.k + (n + j)) (rest - j) (s j) at (omega (arith, below, resting)) plain.unkeyed lane.table in
       let here = stands j (omega (arith, below)) in
-      let needs = reads_a_group voice.position lane.regs.pitch j (s j).position low here.position here.within in
+      let needs = reads_a_group ways j (s j).position here.position here.within in
       rw (on j) (marked ∙ regrouped (needs_group (s j)) (is_at_last_group (s j)) (has_end (byte_at lane.memory (s j).block))
-      ∙ ap (λ (b : Bool). b && is_end lane.memory (place_of (s j))) needs ∙ ap (λ (p : Place). is_read_in voice.position lane.regs.pitch (g j) j && is_end lane.memory p) here.place)
+      ∙ ap (λ (b : Bool). b && is_end lane.memory (place_of (s j))) needs ∙ ap (λ (p : Place). is_read_in ways (g j) j && is_end lane.memory p) here.place)
 
   -- what the stretch leaves
   pub glided_over : (now : VoiceState) (left : ℕ) (after : List ℕ) (given row : List ℤ) → take (12 + 4 * g m) row ≡ row_of lane.regs own.dir lane.memory voice (g m)
-      → now.samples ≡ drop (4 * g m) (row_of lane.regs own.dir lane.memory voice (g m)) → now.position + 0x4000 * g m ≡ voice.position + m * lane.regs.pitch
+      → now.samples ≡ drop (4 * g m) (row_of lane.regs own.dir lane.memory voice (g m)) → now.position + 0x4000 * g m ≡ ways m
       → place_of now ≡ there (g m) → now.delay ≡ voice.delay → now.envelope ≡ voice.envelope
       → ((left ≡ 0) ⊎ ((left ≡ rest - m) × (0 < g m → is_silencing own.reset (byte_at lane.memory (there (g m)).block) ≡ true → IsSilent voice.envelope)))
       → ((j : ℕ) → j < n → number_at given j ≡ number_at outs j)
       → ((j : ℕ) → j < m → number_at given (n + j)
-      ≡ out_in_stretch (has_bit own.non own.voice) (heard (n + j)) lane.table row voice.position lane.regs.pitch voice.envelope.level j)
+      ≡ out_in_stretch (has_bit own.non own.voice) (heard (n + j)) lane.table row (ways j) voice.envelope.level)
       → ((j : ℕ) → j < n → slice_index after j ≡ slice_index loops j)
-      → ((j : ℕ) → j < m → slice_index after (n + j) ≡ slice_index loops (n + j) + (if loops_in lane.memory loop_to (place_of voice) voice.position lane.regs.pitch j then 2 ^ own.voice else 0))
+      → ((j : ℕ) → j < m → slice_index after (n + j) ≡ slice_index loops (n + j) + (if loops_in lane.memory loop_to (place_of voice) ways j then 2 ^ own.voice else 0))
       → ((j : ℕ) → n + m ≤ j → slice_index after j ≡ slice_index loops j)
       → IsOnItsWay own lane (n + m) left before after given now
   unfolding place_after
@@ -256,7 +258,7 @@ module _ (own : VoiceView) (lane : Lane) (n m rest : ℕ) (before loops : List �
       same : (s m).envelope ≡ voice.envelope
       same = rw all at (same_on (m - 1) last (rests (m - 1) last).0 (rests (m - 1) last).1)
 
-      here : StandsAt lane.regs own.dir lane.memory voice (g m) (voice.position + m * lane.regs.pitch) (s m)
+      here : StandsAt lane.regs own.dir lane.memory voice (g m) (ways m) (s m)
       here = stands m (omega arith)
 
       voice_is : now ≡ s m

@@ -12,7 +12,7 @@ use Rattle.voice_unit.specs.declared.interface.VoiceRegs.{VoiceRegs}
 use Rattle.voice_unit.specs.declared.interface.VoiceIn.{VoiceIn}
 use Rattle.voice_unit.specs.declared.row.Place.{Place}
 use Rattle.voice_unit.specs.Batch.{steps}
-use Rattle.voice_unit.specs.Row.{next_place, place_after, kept_row, groups_before, PlaysOn, row_of, place_of, StandsAt}
+use Rattle.voice_unit.specs.Row.{next_place, place_after, kept_row, next_way, groups_before, PlaysOn, row_of, place_of, StandsAt}
 
 -- the end of a list doesn't look at what stands before its last samples
 from_end-append : (xs s : List ℤ) (k : ℕ) → k < length s → sample_from_end (xs ++ s) k ≡ sample_from_end s k
@@ -152,10 +152,10 @@ next-same part voice header loop_to same = by (voice.offset == 7)
     by false = same voice.block (voice.offset + 2)
 
 -- one step more
-read_on : (memory : List ℕ) (loop_to : ℕ) (first : Place) (samples : List ℤ) (d total pitch : ℕ) (voice : VoiceState) → 2 ≤ length samples → pitch < 0x4000
-    → IsAt memory loop_to first samples d total voice → IsAt memory loop_to first samples (total / 0x4000) (total + pitch) (read_step memory loop_to pitch voice)
+read_on : (memory : List ℕ) (loop_to : ℕ) (first : Place) (samples : List ℤ) (d way pitch : ℕ) (voice : VoiceState) → 2 ≤ length samples
+    → IsAt memory loop_to first samples d way voice → IsAt memory loop_to first samples (way / 0x4000) (next_way way pitch) (read_step memory loop_to pitch voice)
 unfolding after_pitch after_reading after_decoding place_after
-read_on memory loop_to first samples d total pitch voice two slow at = by (needs_group voice) refl
+read_on memory loop_to first samples d way pitch voice two at = by (needs_group voice) refl
   where
     header : ℕ
     header = byte_at memory voice.block
@@ -173,32 +173,36 @@ read_on memory loop_to first samples d total pitch voice two slow at = by (needs
         ∙ ap (λ (s : List ℤ). drop 4 (with_group s (byte_at memory there.block) (byte_at memory (there.block + there.offset)) (byte_at memory (there.block + there.offset + 1)))) at.last
         ∙ drop-kept_row memory loop_to first samples d two
 
+    -- what is left of a way, where so many groups are read of it
+    part : voice.position % 0x4000 ≡ way % 0x4000
+    part = omega (arith, at.position)
+
     by : (b : Bool) → needs_group voice ≡ b
-        → IsAt memory loop_to first samples (total / 0x4000) (total + pitch) (after_pitch (if b then at_next_group decoded header loop_to else voice) pitch)
+        → IsAt memory loop_to first samples (way / 0x4000) (next_way way pitch) (after_pitch (if b then at_next_group decoded header loop_to else voice) pitch)
     by true needs =
         let late : 0x4000 ≤ voice.position = grind (arith, nat_tests) in
-        let same : suc d ≡ total / 0x4000 = omega (arith, at.position, at.within, late) in
+        let same : suc d ≡ way / 0x4000 = omega (arith, at.position, at.within, late) in
         rw (← same) record {
           last = next-same (λ (w : VoiceState). w.samples) decoded header loop_to (λ block offset. refl) ∙ newest;
           place = next-place memory loop_to decoded ∙ ap (next_place memory loop_to) at.place;
-          position = rw moved (omega (arith, at.position, at.within, late, slow));
-          within = rw moved (omega (arith, at.within, late, slow));
+          position = rw (moved, part) (omega arith);
+          within = rw moved (omega arith);
         }
     by false needs =
         let early : voice.position < 0x4000 = grind (arith, nat_tests) in
-        let same : d ≡ total / 0x4000 = omega (arith, at.position, early) in
-        rw (← same) record { last = at.last; place = at.place; position = omega (arith, at.position, early, slow); within = omega (arith, early, slow) }
+        let same : d ≡ way / 0x4000 = omega (arith, at.position, early) in
+        rw (← same) record { last = at.last; place = at.place; position = rw part (omega arith); within = omega arith }
 
 -- a step of a voice that plays on
-step_reads : (r : VoiceRegs) (i : VoiceIn) (memory : List ℕ) (counter : ℕ) (voice : VoiceState) → voice.delay ≡ 0 → i.modulated ≡ false
-    → voice_step voice r i memory counter ≡ read_step memory (loop_word i.dir r.srcn memory) r.pitch (after_envelope voice r i (byte_at memory voice.block) counter)
-unfolding voice_step step_header step_pitch pitch_of after_delay after_envelope
-step_reads r i memory counter voice none steady = rw (none, steady) refl
+step_reads : (r : VoiceRegs) (i : VoiceIn) (memory : List ℕ) (counter : ℕ) (voice : VoiceState) → voice.delay ≡ 0
+    → voice_step voice r i memory counter ≡ read_step memory (loop_word i.dir r.srcn memory) (pitch_of r i) (after_envelope voice r i (byte_at memory voice.block) counter)
+unfolding voice_step step_header step_pitch after_delay after_envelope
+step_reads r i memory counter voice none = rw none refl
 
-still_none : (r : VoiceRegs) (i : VoiceIn) (memory : List ℕ) (loop_to counter : ℕ) (voice : VoiceState) → voice.delay ≡ 0 → is_keyed i ≡ false
-    → (read_step memory loop_to r.pitch (after_envelope voice r i (byte_at memory voice.block) counter)).delay ≡ 0
+still_none : (r : VoiceRegs) (i : VoiceIn) (memory : List ℕ) (loop_to pitch counter : ℕ) (voice : VoiceState) → voice.delay ≡ 0 → is_keyed i ≡ false
+    → (read_step memory loop_to pitch (after_envelope voice r i (byte_at memory voice.block) counter)).delay ≡ 0
 unfolding after_pitch after_reading after_decoding after_envelope
-still_none r i memory loop_to counter voice none unkeyed = by (needs_group voice)
+still_none r i memory loop_to pitch counter voice none unkeyed = by (needs_group voice)
   where
     header : ℕ
     header = byte_at memory voice.block
@@ -214,30 +218,31 @@ still_none r i memory loop_to counter voice none unkeyed = by (needs_group voice
     by false = zero_left
 
 -- silencing, keys and the envelope leave it where it stands
-enveloped : {memory : List ℕ} {loop_to : ℕ} {first : Place} {samples : List ℤ} {d total : ℕ} (r : VoiceRegs) (i : VoiceIn) (header counter : ℕ) (voice : VoiceState)
-    → IsAt memory loop_to first samples d total voice → IsAt memory loop_to first samples d total (after_envelope voice r i header counter)
+enveloped : {memory : List ℕ} {loop_to : ℕ} {first : Place} {samples : List ℤ} {d way : ℕ} (r : VoiceRegs) (i : VoiceIn) (header counter : ℕ) (voice : VoiceState)
+    → IsAt memory loop_to first samples d way voice → IsAt memory loop_to first samples d way (after_envelope voice r i header counter)
 unfolding after_envelope
 enveloped r i header counter voice at = record { last = at.last; place = at.place; position = at.position; within = at.within }
 
-module _ (r : VoiceRegs) (inputs : ℕ → VoiceIn) (dir n : ℕ) (memory : List ℕ) (counters : ℕ → ℕ) (voice : VoiceState) (plays : PlaysOn r inputs dir n voice) where
+module _ (r : VoiceRegs) (inputs : ℕ → VoiceIn) (dir n : ℕ) (memory : List ℕ) (counters ways : ℕ → ℕ) (voice : VoiceState) (plays : PlaysOn r inputs dir n ways voice) where
   at_step : (j : ℕ) → j ≤ n
       → ((steps r inputs memory counters voice j).delay ≡ 0)
-      × IsAt memory (loop_word dir r.srcn memory) (place_of voice) voice.samples (groups_before voice.position r.pitch j) (voice.position + j * r.pitch) (steps r inputs memory counters voice j)
+      × IsAt memory (loop_word dir r.srcn memory) (place_of voice) voice.samples (groups_before ways j) (ways j) (steps r inputs memory counters voice j)
   unfolding kept_row place_after groups_before steps
-  at_step zero few = (plays.delay, record { last = refl; place = refl; position = omega arith; within = plays.position })
+  at_step zero few = (plays.delay, record { last = refl; place = refl; position = omega (arith, plays.stands.first); within = plays.position })
   at_step (suc j) few =
       let now : VoiceState = steps r inputs memory counters voice j in
-      let total : ℕ = voice.position + j * r.pitch in
+      let pitch : ℕ = pitch_of r (inputs j) in
       let before = at_step j (omega (arith, few)) in
       let after : VoiceState = after_envelope now r (inputs j) (byte_at memory now.block) (counters j) in
-      let same : voice_step now r (inputs j) memory (counters j) ≡ read_step memory (loop_word dir r.srcn memory) r.pitch after =
-      step_reads r (inputs j) memory (counters j) now before.0 (plays.unbent j (omega (arith, few)))
-      ∙ ap (λ (at : ℕ). read_step memory (loop_word at r.srcn memory) r.pitch after) (plays.same_dir j (omega (arith, few))) in
-      let further : voice.position + suc j * r.pitch ≡ total + r.pitch = omega arith in
+      let same : voice_step now r (inputs j) memory (counters j) ≡ read_step memory (loop_word dir r.srcn memory) pitch after =
+      step_reads r (inputs j) memory (counters j) now before.0
+      ∙ ap (λ (at : ℕ). read_step memory (loop_word at r.srcn memory) pitch after) (plays.same_dir j (omega (arith, few))) in
+      let one : suc j ≡ j + 1 = omega arith in
+      let further : ways (suc j) ≡ next_way (ways j) pitch = ap ways one ∙ plays.stands.next j (omega (arith, few)) in
       let here = enveloped r (inputs j) (byte_at memory now.block) (counters j) now before.1 in
-      let read = read_on memory (loop_word dir r.srcn memory) (place_of voice) voice.samples (groups_before voice.position r.pitch j) total r.pitch after
-      (omega (arith, plays.twelve)) plays.pitch here in (
-        ap (λ (w : VoiceState). w.delay) same ∙ still_none r (inputs j) memory (loop_word dir r.srcn memory) (counters j) now before.0 (plays.unkeyed j (omega (arith, few))),
+      let read = read_on memory (loop_word dir r.srcn memory) (place_of voice) voice.samples (groups_before ways j) (ways j) pitch after
+      (omega (arith, plays.twelve)) here in (
+        ap (λ (w : VoiceState). w.delay) same ∙ still_none r (inputs j) memory (loop_word dir r.srcn memory) pitch (counters j) now before.0 (plays.unkeyed j (omega (arith, few))),
         rw (same, further) read,
       )
 
@@ -269,17 +274,17 @@ plays_at memory loop_to first samples d total more voice table twelve at =
     ) refl
 
 -- what a voice plays in sample j is read off the row
-pub plays_row : (r : VoiceRegs) (inputs : ℕ → VoiceIn) (dir n : ℕ) (memory : List ℕ) (counters : ℕ → ℕ) (voice : VoiceState) (table : List ℤ) (j more : ℕ)
-    → PlaysOn r inputs dir n voice → j ≤ n
+pub plays_row : (r : VoiceRegs) (inputs : ℕ → VoiceIn) (dir n : ℕ) (memory : List ℕ) (counters ways : ℕ → ℕ) (voice : VoiceState) (table : List ℤ) (j more : ℕ)
+    → PlaysOn r inputs dir n ways voice → j ≤ n
     → interpolation table (steps r inputs memory counters voice j).samples (steps r inputs memory counters voice j).position
-    ≡ interpolation table (row_of r dir memory voice (more + groups_before voice.position r.pitch j)) (voice.position + j * r.pitch)
-plays_row r inputs dir n memory counters voice table j more plays few =
-    plays_at memory (loop_word dir r.srcn memory) (place_of voice) voice.samples (groups_before voice.position r.pitch j) (voice.position + j * r.pitch) more
-    (steps r inputs memory counters voice j) table plays.twelve (at_step r inputs dir n memory counters voice plays j few).1
+    ≡ interpolation table (row_of r dir memory voice (more + groups_before ways j)) (ways j)
+plays_row r inputs dir n memory counters ways voice table j more plays few =
+    plays_at memory (loop_word dir r.srcn memory) (place_of voice) voice.samples (groups_before ways j) (ways j) more
+    (steps r inputs memory counters voice j) table plays.twelve (at_step r inputs dir n memory counters ways voice plays j few).1
 
 -- where it stands then
-pub reads_row : (r : VoiceRegs) (inputs : ℕ → VoiceIn) (dir n : ℕ) (memory : List ℕ) (counters : ℕ → ℕ) (voice : VoiceState) (j : ℕ)
-    → PlaysOn r inputs dir n voice → j ≤ n → StandsAt r dir memory voice (groups_before voice.position r.pitch j) (voice.position + j * r.pitch) (steps r inputs memory counters voice j)
-reads_row r inputs dir n memory counters voice j plays few =
-    let at = at_step r inputs dir n memory counters voice plays j few in
+pub reads_row : (r : VoiceRegs) (inputs : ℕ → VoiceIn) (dir n : ℕ) (memory : List ℕ) (counters ways : ℕ → ℕ) (voice : VoiceState) (j : ℕ)
+    → PlaysOn r inputs dir n ways voice → j ≤ n → StandsAt r dir memory voice (groups_before ways j) (ways j) (steps r inputs memory counters voice j)
+reads_row r inputs dir n memory counters ways voice j plays few =
+    let at = at_step r inputs dir n memory counters ways voice plays j few in
     record { delay = at.0; last = at.1.last; place = at.1.place; position = at.1.position; within = at.1.within }

@@ -4,7 +4,7 @@
 -- Batch: a voice over a batch of samples.
 -- Rest: voices whose envelopes rest.
 -- OneSample: one sample of a voice.
--- Plain: a sample in which nothing but its blocks and registers tells what a voice plays.
+-- Plain: a sample in which nothing but its blocks, its registers and the voice before tells what a voice plays.
 -- Play: a voice over a batch, as rows of numbers alone.
 -- RunOfVoice: the same with what each step gives.
 pub mod Directory
@@ -16,7 +16,9 @@ pub mod OneSample
 pub mod Plain
 pub mod Play
 pub mod RunOfVoice
--- Row: the row of kept samples that a voice reads in a stretch of samples. Course: the course of a voice over it. OutsOverRow: its outputs over that row.
+-- Row: the row of kept samples that a voice reads in a stretch of samples. Track: how far the samples of a stretch stand in it.
+-- Course: the course of a voice over it. OutsOverRow: its outputs over that row.
 pub mod Row
+pub mod Track
 pub mod Course
 pub mod OutsOverRow

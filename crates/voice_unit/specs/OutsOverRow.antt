@@ -1,5 +1,5 @@
 -- The outputs of a stretch of samples, over a row of kept samples or over noise.
-use Rattle.std.specs.Prelude.{ℕ, ◌+◌, ◌*◌, Bool, List, ℤ, pos, Option, Some, None, slice_get, if◌then◌else◌}
+use Rattle.std.specs.Prelude.{ℕ, ◌*◌, Bool, List, ℤ, pos, Option, Some, None, slice_get, if◌then◌else◌}
 use Rattle.num_fix.specs.Arithmetic.{scaled, wrap16, clear_bit0}
 use Rattle.gauss_table.specs.Interpolation.{mix_of}
 use Rattle.gauss_table.specs.declared.taps.Taps.{Taps}
@@ -18,11 +18,11 @@ mixed_at taps j = mixed (slice_get taps j)
 abbrev pub sounding_at : (level : ℕ) → (sample : ℤ) → ℤ
 sounding_at level sample = clear_bit0 (scaled sample (pos level) 11)
 
--- what sample j puts out at a level, over a row of kept samples, from a position in it on
-abbrev pub out_over_row : (table row : List ℤ) → (position pitch level j : ℕ) → ℤ
-out_over_row table row position pitch level j = sounding_at level (interpolation table row (position + j * pitch))
+-- what a sample that stands so far in a row of kept samples puts out at a level
+abbrev pub out_over_row : (table row : List ℤ) → (way level : ℕ) → ℤ
+out_over_row table row way level = sounding_at level (interpolation table row way)
 
--- what sample j of a stretch puts out: noise at a level where the voice plays that, else what stands in the row
-abbrev pub out_in_stretch : (noisy : Bool) → (noise : ℕ) → (table row : List ℤ) → (position pitch level j : ℕ) → ℤ
-out_in_stretch noisy noise table row position pitch level j =
-    if noisy then sounding_at level (wrap16 (pos (2 * noise))) else out_over_row table row position pitch level j
+-- what a sample of a stretch puts out: noise at a level where the voice plays that, else what stands in the row
+abbrev pub out_in_stretch : (noisy : Bool) → (noise : ℕ) → (table row : List ℤ) → (way level : ℕ) → ℤ
+out_in_stretch noisy noise table row way level =
+    if noisy then sounding_at level (wrap16 (pos (2 * noise))) else out_over_row table row way level

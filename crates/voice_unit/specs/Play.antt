@@ -1,9 +1,10 @@
 -- A voice over a batch, as rows of numbers alone.
-use Rattle.std.specs.Prelude.{◌≡◌, ℕ, ◌+◌, ◌^◌, ◌<◌, ◌≤◌, List, ℤ, slice_index, if◌then◌else◌}
+use Rattle.std.specs.Prelude.{◌≡◌, ℕ, ◌+◌, ◌^◌, ◌<◌, ◌≤◌, List, ℤ, true, slice_index, if◌then◌else◌}
 use Rattle.num_fix.specs.Arithmetic.{has_bit}
 use Rattle.num_fix.specs.SignedWords.{number_at}
+use Rattle.num_fix.specs.declared.TheConstants.{BATCH_SIZE}
 use Rattle.rate_clock.specs.Counter.{counter_at}
-use Rattle.voice_unit.specs.Voice.{VoiceState}
+use Rattle.voice_unit.specs.Voice.{VoiceState, is_modulated, bent_pitch}
 use Rattle.voice_unit.specs.Rest.{IsAtRest}
 use Rattle.voice_unit.specs.Plain.{PlaysPlainly}
 use Rattle.voice_unit.specs.Batch.{lane_inputs, steps, answer_of_step}
@@ -33,9 +34,11 @@ lane_of reads previous voice k = record {
   voice = voice;
 }
 
--- a lane has the registers, the memory, the table and the noise that are read
-pub record IsLaneOver (reads : VoiceReads) (lane : Lane) : Type 0 where
+-- a lane has the registers, the memory, the table and the noise that are read, and where its voice is bent the pitches
+pub record IsLaneOver (reads : VoiceReads) (pitches : List ℕ) (lane : Lane) : Type 0 where
   pub regs : lane.regs ≡ reads.regs
+  pub bent : is_modulated reads.seen.pmon reads.seen.voice ≡ true
+      → (j : ℕ) → j < BATCH_SIZE → slice_index pitches j ≡ bent_pitch reads.regs.pitch (lane.inputs j).previous
   pub memory : lane.memory ≡ reads.memory.now
   pub table : lane.table ≡ reads.table.now
   pub noise : (j : ℕ) → (lane.inputs j).noise ≡ slice_index reads.rows.now.noise j

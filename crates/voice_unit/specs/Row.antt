@@ -1,10 +1,10 @@
 -- The row of kept samples that a voice reads in a stretch of samples.
-use Rattle.std.specs.Prelude.{◌≡◌, ℕ, zero, suc, ◌+◌, ◌-◌, ◌*◌, ◌/◌, ◌%◌, ◌<◌, ◌==◌, Bool, ◌&&◌, List, ℤ, false, length, drop, if◌then◌else◌}
+use Rattle.std.specs.Prelude.{◌≡◌, ℕ, zero, suc, ◌+◌, ◌-◌, ◌*◌, ◌/◌, ◌%◌, ◌<◌, ◌==◌, Bool, ◌&&◌, List, ℤ, false, min, length, drop, if◌then◌else◌}
 use Rattle.aram_core.specs.Memory.{byte_at}
 use Rattle.brr_decode.specs.Header.{has_end, next_block}
 use Rattle.brr_decode.specs.Kept.{with_group}
 use Rattle.voice_unit.specs.Directory.{loop_word}
-use Rattle.voice_unit.specs.Voice.{VoiceState, is_keyed}
+use Rattle.voice_unit.specs.Voice.{VoiceState, pitch_of, is_keyed}
 use Rattle.voice_unit.specs.declared.interface.VoiceRegs.{VoiceRegs}
 use Rattle.voice_unit.specs.declared.interface.VoiceIn.{VoiceIn}
 use Rattle.voice_unit.specs.declared.row.Place.{Place}
@@ -45,37 +45,46 @@ further at groups = record { block = at.block; offset = at.offset + 2 * groups }
 abbrev pub last_of : (block : ℕ) → Place
 last_of block = record { block = block; offset = 7 }
 
--- how many groups a voice has read before sample j, from a position on, at a pitch that stays
-unfoldable pub groups_before : (position pitch j : ℕ) → ℕ
-groups_before position pitch zero = 0
-groups_before position pitch (suc j) = (position + j * pitch) / 0x4000
+-- How far a sample stands in the row, in 4096ths of a kept sample, where the one before stands so far: a pitch further, but at most 7FFFh past the
+-- groups that are read by then.
+abbrev pub next_way : (way pitch : ℕ) → ℕ
+next_way way pitch = 0x4000 * (way / 0x4000) + min 0x7fff (way % 0x4000 + pitch)
+
+-- how far n samples stand in the row, and the one after them, from a position on: each by its pitch after the one before
+pub record AreWays (pitches : ℕ → ℕ) (n position : ℕ) (ways : ℕ → ℕ) : Type 0 where
+  pub first : ways 0 ≡ position
+  pub next : (j : ℕ) → j < n → ways (j + 1) ≡ next_way (ways j) (pitches j)
+
+-- how many groups a voice has read before sample j, where its samples stand so far
+unfoldable pub groups_before : (ways : ℕ → ℕ) → (j : ℕ) → ℕ
+groups_before ways zero = 0
+groups_before ways (suc j) = ways j / 0x4000
 
 -- a group is the last of a block that has its end bit
 abbrev pub is_end : (memory : List ℕ) → Place → Bool
 is_end memory at = at.offset == 7 && has_end (byte_at memory at.block)
 
 -- sample j reads the group after so many others
-abbrev pub is_read_in : (position pitch group j : ℕ) → Bool
-is_read_in position pitch group j = groups_before position pitch j == group && groups_before position pitch (j + 1) == group + 1
+abbrev pub is_read_in : (ways : ℕ → ℕ) → (group j : ℕ) → Bool
+is_read_in ways group j = groups_before ways j == group && groups_before ways (j + 1) == group + 1
 
 -- sample j reads a group, after so many others, that ends a block which has its end bit
-abbrev pub ends_in : (memory : List ℕ) → Place → (position pitch group j : ℕ) → Bool
-ends_in memory at position pitch group j = is_read_in position pitch group j && is_end memory at
+abbrev pub ends_in : (memory : List ℕ) → Place → (ways : ℕ → ℕ) → (group j : ℕ) → Bool
+ends_in memory at ways group j = is_read_in ways group j && is_end memory at
 
 -- in sample j a voice reads the last group of a block that has its end bit
-abbrev pub loops_in : (memory : List ℕ) → (loop_to : ℕ) → Place → (position pitch j : ℕ) → Bool
-loops_in memory loop_to first position pitch j =
-    let group = groups_before position pitch j in
-    ends_in memory (place_after memory loop_to first group) position pitch group j
+abbrev pub loops_in : (memory : List ℕ) → (loop_to : ℕ) → Place → (ways : ℕ → ℕ) → (j : ℕ) → Bool
+loops_in memory loop_to first ways j =
+    let group = groups_before ways j in
+    ends_in memory (place_after memory loop_to first group) ways group j
 
--- a voice that plays on for n samples: it has no delay, isn't keyed, and its pitch is that of its registers
-pub record PlaysOn (r : VoiceRegs) (inputs : ℕ → VoiceIn) (dir n : ℕ) (voice : VoiceState) : Type 0 where
+-- a voice that plays on for n samples, which stand so far in its row: it has no delay and isn't keyed
+pub record PlaysOn (r : VoiceRegs) (inputs : ℕ → VoiceIn) (dir n : ℕ) (ways : ℕ → ℕ) (voice : VoiceState) : Type 0 where
   pub delay : voice.delay ≡ 0
   pub twelve : length voice.samples ≡ 12
   pub position : voice.position < 0x8000
-  pub pitch : r.pitch < 0x4000
+  pub stands : AreWays (λ j. pitch_of r (inputs j)) n voice.position ways
   pub unkeyed : (j : ℕ) → j < n → is_keyed (inputs j) ≡ false
-  pub unbent : (j : ℕ) → j < n → (inputs j).modulated ≡ false
   pub same_dir : (j : ℕ) → j < n → (inputs j).dir ≡ dir
 
 -- the group that a voice reads next

@@ -42,10 +42,14 @@ silent_voice = record {
 abbrev pub is_modulated : (pmon voice : ℕ) → Bool
 is_modulated pmon voice = nat_lt 0 voice && has_bit pmon voice
 
--- The pitch of the registers, changed by the output of the voice before where it is modulated.
+-- A pitch changed by the output of the voice before.
 -- The sum is never negative, as the output's 1024ths of the pitch are at least the pitch's negative; so its absolute value is itself.
+abbrev pub bent_pitch : (pitch : ℕ) → (previous : ℤ) → ℕ
+bent_pitch pitch previous = unsigned_abs (pos pitch +ℤ scaled (floor_shift previous 5) (pos pitch) 10)
+
+-- the pitch of the registers, bent by the voice before where it is modulated
 unfoldable pub pitch_of : VoiceRegs → VoiceIn → ℕ
-pitch_of r i = if i.modulated then unsigned_abs (pos r.pitch +ℤ scaled (floor_shift i.previous 5) (pos r.pitch) 10) else r.pitch
+pitch_of r i = if i.modulated then bent_pitch r.pitch i.previous else r.pitch
 
 -- the pitch at which a step moves on: none during the key-on delay
 unfoldable pub step_pitch : VoiceState → VoiceRegs → VoiceIn → ℕ

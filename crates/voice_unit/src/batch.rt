@@ -2,6 +2,7 @@
 
 ghost use Rattle.std.specs.Prelude.{◌≡◌, ◌<◌, slice_index};
 ghost use Rattle.voice_unit.specs.Batch.{lane_input};
+ghost use Rattle.voice_unit.specs.Voice.{is_modulated};
 
 use crate::interface::{VoiceIn, VoiceRegs, is_modulated};
 use aram_core::Aram;
@@ -64,6 +65,14 @@ pub struct PlayedRows {
 }
 
 impl VoiceView {
+    /// Whether the pitch of the voice is bent by the voice before.
+    pub(crate) fn is_bent(&self) -> bool
+        requires { self.now.voice < 8 }
+        ensures { result ≡ is_modulated self.now.pmon self.now.voice }
+    {
+        is_modulated(self.pmon, self.voice)
+    }
+
     /// What the voice reads in sample `j`, after the output of the voice before it.
     #[tactic(auto, unfolding(crate::specs::Batch::lane_input))]
     pub fn input(&self, rows: &BatchRows, previous: i16, j: u8) -> VoiceIn
@@ -75,7 +84,7 @@ impl VoiceView {
         let place = usize::from(j);
         VoiceIn {
             dir: self.dir,
-            modulated: is_modulated(self.pmon, self.voice),
+            modulated: self.is_bent(),
             previous,
             noisy: has_bit(self.non, self.voice),
             noise: rows.noise[place],

@@ -2,26 +2,28 @@
 
 ghost use Rattle.std.specs.Prelude.{◌≡◌, ◌<◌, ◌≤◌, ◌+◌, ◌*◌, ◌^◌, ◌-◌, ℕ, true, false, slice_index, take};
 ghost use Rattle.voice_unit.specs.Row.{IsGroup, next_place, last_of, kept_row, groups_before};
+ghost use Rattle.voice_unit.specs.Track.{way_at};
 ghost use Rattle.voice_unit.specs.Course.{IsCourse, IsStretch, AreLoopsMarked, LeavesSounding, place_at, ends_at, loops_at};
 
 use crate::play::mark_loop;
 use crate::rest::is_silencing;
-use crate::row::{Place, groups_left, is_end, next_place, read_rest};
-use crate::workspace::Workspace;
+use crate::row::{Place, ROW_SIZE, groups_left, is_end, next_place, read_rest};
+use crate::track::Track;
 use aram_core::Aram;
+use brr_decode::BlockMemory;
 use num_fix::BATCH_SIZE;
 
-/// What a voice goes by in a stretch of samples in which it rests and plays its samples at its own pitch.
-#[derive(Clone, Copy, Debug)]
-pub(crate) struct Course {
+/// What a voice goes by in a stretch of samples in which it rests and plays on.
+#[derive(Clone, Copy)]
+pub(crate) struct Course<'a> {
     /// The number of the voice, 0 to 7.
     pub voice: u8,
     /// The group that it reads first.
     pub first: Place,
     /// Where it loops to.
     pub loop_to: u16,
-    pub position: u16,
-    pub pitch: u16,
+    /// How far its samples stand in the row of kept samples.
+    pub track: Track<'a>,
     /// The level of its envelope.
     pub level: u16,
     /// The soft reset of FLG.
@@ -54,38 +56,7 @@ pub(crate) struct NextBlock {
     pub woken: bool,
 }
 
-/// How many groups are read in n samples from a position on.
-fn groups_in(position: u16, pitch: u16, n: u8) -> u8
-    requires position { position < 0x8000 }
-    requires pitch { pitch < 0x4000 }
-    requires some { 0 < n }
-    requires few { n ≤ BATCH_SIZE }
-    ensures value { result ≡ groups_before position pitch n }
-    ensures few { result ≤ BATCH_SIZE }
-{
-    let way = u32::from(position) + u32::from(n - 1) * u32::from(pitch);
-    (way / 0x4000) as u8
-}
-
-/// The sample that reads the group after so many others.
-fn reading_sample(position: u16, pitch: u16, group: u8, n: u8) -> u8
-    requires position { position < 0x8000 }
-    requires pitch { pitch < 0x4000 }
-    requires few { n ≤ BATCH_SIZE }
-    requires read { group < groups_before position pitch n }
-    ensures within { result < n }
-    ensures before { groups_before position pitch result ≡ group }
-    ensures after { groups_before position pitch (result + 1) ≡ group + 1 }
-{
-    let end = 0x4000 * (u32::from(group) + 1);
-    let from = u32::from(position);
-    if from >= end {
-        return 0;
-    }
-    ((end - 1 - from) / u32::from(pitch) + 1) as u8
-}
-
-impl Course {
+impl<'a> Course<'a> {
     /// Adds the bit of the voice in the sample of a stretch from sample `at` on in which it reads a group that ends a block with its end bit.
     fn mark_end(
         &self,
@@ -96,14 +67,14 @@ impl Course {
         memory: &Aram,
         loops: &mut [u8; BATCH_SIZE],
     )
-        requires course { IsCourse self.now }
+        requires course { IsCourse self.now n }
         requires few { at + n ≤ BATCH_SIZE }
-        requires read { group < groups_before self.now.position self.now.pitch n }
-        requires lower { (j : ℕ) → j < n → groups_before self.now.position self.now.pitch j ≡ group → slice_index loops.old (at + j) < 2 ^ self.now.voice }
+        requires read { group < groups_before (way_at self.now.track) n }
+        requires lower { (j : ℕ) → j < n → groups_before (way_at self.now.track) j ≡ group → slice_index loops.old (at + j) < 2 ^ self.now.voice }
         ensures { AreLoopsMarked at n self.now.voice (ends_at self.now memory.now place.now group) loops.old loops.new }
     {
         if is_end(place, memory) {
-            let j = reading_sample(self.position, self.pitch, group, n);
+            let j = self.track.reading_sample(group, n);
             mark_loop(loops, at + j, true, self.voice);
         }
     }
@@ -125,10 +96,10 @@ impl Course {
         memory: &Aram,
         loops: &mut [u8; BATCH_SIZE],
     ) -> NextBlock
-        requires course { IsCourse self.now }
+        requires course { IsCourse self.now n }
         requires few { at + n ≤ BATCH_SIZE }
-        requires read { group < groups_before self.now.position self.now.pitch n }
-        requires lower { (j : ℕ) → j < n → groups_before self.now.position self.now.pitch j ≡ group → slice_index loops.old (at + j) < 2 ^ self.now.voice }
+        requires read { group < groups_before (way_at self.now.track) n }
+        requires lower { (j : ℕ) → j < n → groups_before (way_at self.now.track) j ≡ group → slice_index loops.old (at + j) < 2 ^ self.now.voice }
         ensures first { result.first ≡ next_place memory.now self.now.loop_to (last_of block) }
         ensures group { IsGroup result.first }
         ensures quiet { result.woken ≡ false → LeavesSounding self.now memory.now result.first.block }
@@ -150,28 +121,29 @@ impl Course {
         at: u8,
         n: u8,
         memory: &Aram,
-        work: &mut Workspace,
+        row: &mut [i16; ROW_SIZE],
+        blocks: &mut BlockMemory,
         loops: &mut [u8; BATCH_SIZE],
     ) -> Stretch
-        requires course { IsCourse self.now }
+        requires course { IsCourse self.now n }
         requires some { 0 < n }
         requires few { at + n ≤ BATCH_SIZE }
         requires lower { (i : ℕ) → at ≤ i → i < BATCH_SIZE → slice_index loops.old i < 2 ^ self.now.voice }
         ensures stretch { IsStretch self.now memory.now n result }
-        ensures row { take (12 + 4 * result.groups) work.new.row
-            ≡ kept_row memory.now self.now.loop_to self.now.first (take 12 work.old.row) result.groups }
+        ensures row { take (12 + 4 * result.groups) row.new
+            ≡ kept_row memory.now self.now.loop_to self.now.first (take 12 row.old) result.groups }
         ensures loops { AreLoopsMarked at result.samples self.now.voice (loops_at self.now memory.now) loops.old loops.new }
         ensures quiet { LeavesSounding self.now memory.now self.now.first.block
             → (j : ℕ) → j < result.samples → LeavesSounding self.now memory.now (place_at self.now memory.now j).block }
         ensures goes_on { LeavesSounding self.now memory.now self.now.first.block → result.woken ≡ false
             → LeavesSounding self.now memory.now result.next.block }
     {
-        let count = groups_in(self.position, self.pitch, n);
+        let count = self.track.groups_in(n);
         let mut place = self.first;
         let mut d = 0;
         'blocks: while d < count {
             let len = 12 + 4 * usize::from(d);
-            read_rest(&mut work.row, len, &place, memory, &mut work.blocks);
+            read_rest(row, len, &place, memory, blocks);
             let left = groups_left(&place);
             if count - d < left {
                 return Stretch {
@@ -185,7 +157,7 @@ impl Course {
             let next = self.next_block(at, n, d - 1, place.block, memory, loops);
             place = next.first;
             if next.woken {
-                let last = reading_sample(self.position, self.pitch, d - 1, n);
+                let last = self.track.reading_sample(d - 1, n);
                 return Stretch {
                     samples: last + 1,
                     groups: d,

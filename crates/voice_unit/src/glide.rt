@@ -5,13 +5,16 @@ ghost use Rattle.num_fix.specs.Arithmetic.{has_bit};
 ghost use Rattle.voice_unit.specs.Directory.{loop_word};
 ghost use Rattle.voice_unit.specs.Rest.{IsSilent};
 ghost use Rattle.voice_unit.specs.Course.{IsCourse};
-ghost use Rattle.voice_unit.specs.Row.{groups_before, place_of};
+ghost use Rattle.voice_unit.specs.Row.{AreWays, place_of};
+ghost use Rattle.voice_unit.specs.Track.{MoveOn, pitches_from};
+ghost use Rattle.voice_unit.specs.Voice.{is_modulated};
 ghost use Rattle.voice_unit.specs.Play.{Lane, IsLaneOver, Glides, IsOnItsWay, answer_at};
 
-use crate::batch::{PlayedRows, VoiceReads};
+use crate::batch::{PlayedRows, VoiceReads, VoiceView};
 use crate::course::{Course, Stretch};
 use crate::directory::loop_word;
 use crate::rest::is_silent;
+use crate::track::{Track, WAYS, put_ways};
 use crate::voice::Voice;
 use crate::workspace::Workspace;
 use num_fix::{BATCH_SIZE, has_bit};
@@ -23,20 +26,6 @@ fn glide_length(j: u8, end: u8, rest: u16) -> u8
     ensures rest { result ≤ rest }
 {
     rest.min(u16::from(end - j)) as u8
-}
-
-/// The position of a voice after so many samples, in which so many groups were read.
-fn position_after(position: u16, pitch: u16, stretch: &Stretch) -> u16
-    requires position { position < 0x8000 }
-    requires pitch { pitch < 0x4000 }
-    requires some { 0 < stretch.now.samples }
-    requires few { stretch.now.samples ≤ BATCH_SIZE }
-    requires groups { stretch.now.groups ≡ groups_before position pitch stretch.now.samples }
-    ensures value { result + 0x4000 * stretch.now.groups ≡ position + stretch.now.samples * pitch }
-    ensures within { result < 0x8000 }
-{
-    let way = u32::from(position) + u32::from(stretch.samples) * u32::from(pitch);
-    (way - 0x4000 * u32::from(stretch.groups)) as u16
 }
 
 /// For how many more samples a voice rests after a stretch.
@@ -62,28 +51,55 @@ pub(crate) struct Glided {
 }
 
 impl Voice {
-    /// What the voice goes by in a stretch of samples.
-    fn course(&self, reads: &VoiceReads) -> Course
+    /// Puts how far n samples from sample `at` on stand, where the voice is bent.
+    fn put_ways(
+        &self,
+        at: u8,
+        n: u8,
+        seen: &VoiceView,
+        pitches: &[u16; BATCH_SIZE],
+        ways: &mut [u32; WAYS],
+    )
+        requires few { at + n ≤ BATCH_SIZE }
+        requires voice { seen.now.voice < 8 }
+        ensures ways { is_modulated seen.now.pmon seen.now.voice ≡ true → AreWays (pitches_from pitches.now at) n self.now.position (slice_index ways.new) }
+        ensures moves { is_modulated seen.now.pmon seen.now.voice ≡ true → MoveOn (slice_index ways.new) n }
+    {
+        if !seen.is_bent() {
+            return;
+        }
+        put_ways(ways, pitches, self.position(), at, n);
+    }
+
+    /// What the voice goes by in a stretch of n samples.
+    fn course<'a>(&self, n: u8, reads: &VoiceReads, ways: &'a [u32; WAYS]) -> Course<'a>
         requires voice { reads.now.seen.voice < 8 }
         requires pitch { reads.now.regs.pitch < 0x4000 }
+        requires ways { is_modulated reads.now.seen.pmon reads.now.seen.voice ≡ true → MoveOn (slice_index ways.now) n }
         ensures voice { result.voice ≡ reads.now.seen.voice }
         ensures first { result.first ≡ place_of self.now }
         ensures loop_to { result.loop_to ≡ loop_word reads.now.seen.dir reads.now.regs.srcn reads.now.memory.now }
-        ensures position { result.position ≡ self.now.position }
-        ensures pitch { result.pitch ≡ reads.now.regs.pitch }
+        ensures position { result.track.position ≡ self.now.position }
+        ensures pitch { result.track.pitch ≡ reads.now.regs.pitch }
+        ensures bent { result.track.bent ≡ is_modulated reads.now.seen.pmon reads.now.seen.voice }
+        ensures ways { result.track.ways.now ≡ ways.now }
         ensures level { result.level ≡ self.now.envelope.level }
         ensures reset { result.reset ≡ reads.now.seen.reset }
         ensures silent { result.silent ≡ true → IsSilent self.now.envelope }
         ensures noisy { result.noisy ≡ has_bit reads.now.seen.non reads.now.seen.voice }
         ensures all_silent { IsSilent self.now.envelope → result.silent ≡ true }
-        ensures course { IsCourse result }
+        ensures course { IsCourse result n }
     {
         Course {
             voice: reads.seen.voice,
             first: self.place(),
             loop_to: loop_word(reads.seen.dir, reads.regs.srcn, reads.memory),
-            position: self.position(),
-            pitch: reads.regs.pitch,
+            track: Track {
+                position: self.position(),
+                pitch: reads.regs.pitch,
+                bent: reads.seen.is_bent(),
+                ways,
+            },
             level: self.level(),
             reset: reads.seen.reset,
             silent: is_silent(&self.envelope()),
@@ -109,19 +125,28 @@ impl Voice {
         requires lower { (i : ℕ) → at ≤ i → i < BATCH_SIZE → slice_index made.old.loops i < 2 ^ reads.now.seen.voice }
         ensures from { at ≤ result.at }
         ensures to { result.at ≤ at + n }
-        ensures way { (lane : Lane) (before : List ℕ) → IsLaneOver reads.now lane
+        ensures way { (lane : Lane) (before : List ℕ) → IsLaneOver reads.now work.old.pitches lane
             → Glides reads.now.seen lane at (at + n) → IsOnItsWay reads.now.seen lane at rest before made.old.loops made.old.outs self.old
             → IsOnItsWay reads.now.seen lane result.at result.rest before made.new.loops made.new.outs self.new }
-        ensures level { (lane : Lane) (before : List ℕ) → IsLaneOver reads.now lane
+        ensures pitches { work.new.pitches ≡ work.old.pitches }
+        ensures level { (lane : Lane) (before : List ℕ) → IsLaneOver reads.now work.old.pitches lane
             → Glides reads.now.seen lane at (at + n) → IsOnItsWay reads.now.seen lane at rest before made.old.loops made.old.outs self.old
             → self.new.envelope.level ≡ (answer_at lane (result.at - 1)).level }
         ensures later { (i : ℕ) → result.at ≤ i → slice_index made.new.loops i ≡ slice_index made.old.loops i }
         ensures before { (i : ℕ) → i < at → slice_index made.new.loops i ≡ slice_index made.old.loops i }
         ensures lower { (i : ℕ) → at ≤ i → i < BATCH_SIZE → slice_index made.new.loops i < 2 ^ (reads.now.seen.voice + 1) }
     {
-        let course = self.course(reads);
+        self.put_ways(at, n, &reads.seen, &work.pitches, &mut work.ways);
+        let course = self.course(n, reads, &work.ways);
         self.begin_row(&mut work.row);
-        let stretch = course.read_stretch(at, n, reads.memory, work, &mut made.loops);
+        let stretch = course.read_stretch(
+            at,
+            n,
+            reads.memory,
+            &mut work.row,
+            &mut work.blocks,
+            &mut made.loops,
+        );
         course.sound(
             &mut made.outs,
             &mut work.taps,
@@ -130,7 +155,7 @@ impl Voice {
             &work.row,
             reads,
         );
-        let position = position_after(course.position, course.pitch, &stretch);
+        let position = course.track.position_after(&stretch);
         self.go_to(&work.row, stretch.groups, position, stretch.next);
         Glided {
             at: at + stretch.samples,
@@ -156,10 +181,11 @@ impl Voice {
         requires before { (i : ℕ) → i < BATCH_SIZE → slice_index made.old.loops i < 2 ^ (reads.now.seen.voice + 1) }
         ensures from { j ≤ result.at }
         ensures to { result.at ≤ end }
-        ensures way { (lane : Lane) (before : List ℕ) → IsLaneOver reads.now lane
+        ensures way { (lane : Lane) (before : List ℕ) → IsLaneOver reads.now work.old.pitches lane
             → Glides reads.now.seen lane j end → IsOnItsWay reads.now.seen lane j rest before made.old.loops made.old.outs self.old
             → IsOnItsWay reads.now.seen lane result.at result.rest before made.new.loops made.new.outs self.new }
-        ensures level { (lane : Lane) (before : List ℕ) → IsLaneOver reads.now lane
+        ensures pitches { work.new.pitches ≡ work.old.pitches }
+        ensures level { (lane : Lane) (before : List ℕ) → IsLaneOver reads.now work.old.pitches lane
             → Glides reads.now.seen lane j end → IsOnItsWay reads.now.seen lane j rest before made.old.loops made.old.outs self.old
             → j < result.at → self.new.envelope.level ≡ (answer_at lane (result.at - 1)).level }
         ensures later { (i : ℕ) → result.at ≤ i → slice_index made.new.loops i ≡ slice_index made.old.loops i }

@@ -14,6 +14,7 @@ mod play;
 mod rest;
 mod row;
 mod sounding;
+mod track;
 mod voice;
 mod workspace;
 

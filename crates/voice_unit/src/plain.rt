@@ -1,4 +1,4 @@
-//! The samples of a batch in which a voice plays plainly: at its own pitch, and no key on of it is taken.
+//! The samples of a batch in which a voice plays plainly: no key on of it is taken.
 
 ghost use Rattle.std.specs.Prelude.{◌≡◌, ◌<◌, ◌≤◌, ℕ, false, slice_index};
 ghost use Rattle.num_fix.specs.Arithmetic.{has_bit};
@@ -75,17 +75,11 @@ impl PlainSamples {
 }
 
 impl VoiceView {
-    /// The samples in which the voice plays plainly: those before and after its key on, unless its pitch is bent.
+    /// The samples in which the voice plays plainly: those before and after its key on.
     pub(crate) fn plain_samples(&self, rows: &BatchRows) -> PlainSamples
         requires { self.now.voice < 8 }
         ensures { (j : ℕ) → j < BATCH_SIZE → IsToldPlain result j → IsPlain self.now rows.now j }
     {
-        if has_bit(self.pmon, self.voice) {
-            return PlainSamples {
-                before: 0,
-                from: END,
-            };
-        }
         if !is_ever_taken(&rows.kon, self.voice) {
             return PlainSamples {
                 before: END,

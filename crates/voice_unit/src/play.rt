@@ -120,6 +120,7 @@ impl Voice {
         let seen = reads.seen;
         let koff = has_bit(seen.koff, seen.voice);
         let mut rest = self.rest_from(&reads.regs, seen.reset, koff, reads.memory, &reads.clock);
+        seen.put_pitches(&mut work.pitches, reads.regs.pitch, previous);
         let plain = seen.plain_samples(reads.rows);
         let mut j = 0;
         'samples: while j < last {

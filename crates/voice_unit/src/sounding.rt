@@ -7,12 +7,14 @@ ghost use Rattle.gauss_table.specs.Interpolation.{mix_of};
 ghost use Rattle.gauss_table.specs.Quads.{AreQuads};
 ghost use Rattle.voice_unit.specs.Course.{IsCourse};
 ghost use Rattle.voice_unit.specs.Voice.{interpolation};
+ghost use Rattle.voice_unit.specs.Track.{IsTrack, way_at};
 ghost use Rattle.voice_unit.specs.OutsOverRow.{mixed_at, sounding_at, out_in_stretch};
 
 use crate::batch::VoiceReads;
 use crate::course::Course;
 use crate::level::at_level;
 use crate::row::ROW_SIZE;
+use crate::track::{Track, WAYS};
 use gauss_table::{GaussTable, Quad, Taps};
 use num_fix::{BATCH_SIZE, clear_bit0, wrap16};
 
@@ -52,6 +54,46 @@ fn take_taps(
         taps[j] = taps_at(row, way, quads);
         way += step;
     }
+}
+
+/// The taps of n samples that stand so far in a row. It stands apart, since few voices are bent.
+#[inline(never)]
+fn take_bent_taps(
+    taps: &mut [Taps; BATCH_SIZE],
+    n: u8,
+    row: &[i16; ROW_SIZE],
+    table: &GaussTable,
+    ways: &[u32; WAYS],
+)
+    requires few { n ≤ BATCH_SIZE }
+    requires within { (j : ℕ) → j < n → 0x10 * slice_index ways.now j < WAY_END }
+    ensures { (j : ℕ) → j < n → mixed_at taps.new j ≡ interpolation table.now row.now (slice_index ways.now j) }
+{
+    let quads = table.quads();
+    for j in 0..usize::from(n) {
+        taps[j] = taps_at(row, 0x10 * ways[j], quads);
+    }
+}
+
+/// The taps of n samples of a track.
+#[inline(always)]
+#[tactic(auto, unfolding(crate::specs::Track::way_at))]
+fn take_track_taps(
+    taps: &mut [Taps; BATCH_SIZE],
+    n: u8,
+    row: &[i16; ROW_SIZE],
+    table: &GaussTable,
+    track: &Track,
+)
+    requires few { n ≤ BATCH_SIZE }
+    requires track { IsTrack track.now n }
+    ensures { (j : ℕ) → j < n → mixed_at taps.new j ≡ interpolation table.now row.now (way_at track.now j) }
+{
+    if track.bent {
+        take_bent_taps(taps, n, row, table, track.ways);
+        return;
+    }
+    take_taps(taps, n, row, table, track.position, track.pitch);
 }
 
 /// The outputs of n samples at a level.
@@ -94,7 +136,7 @@ fn put_silence(outs: &mut [i16; BATCH_SIZE], at: u8, n: u8)
     }
 }
 
-impl Course {
+impl<'a> Course<'a> {
     /// The outputs of n samples from sample `at` on, over a row of kept samples or over noise. At level 0 they are 0, whatever the samples are.
     pub(crate) fn sound(
         &self,
@@ -105,11 +147,11 @@ impl Course {
         row: &[i16; ROW_SIZE],
         reads: &VoiceReads,
     )
-        requires course { IsCourse self.now }
+        requires course { IsCourse self.now n }
         requires few { at + n ≤ BATCH_SIZE }
         ensures outs { (j : ℕ) → j < n
             → number_at outs.new (at + j) ≡ out_in_stretch self.now.noisy (slice_index reads.now.rows.now.noise (at + j))
-            reads.now.table.now row.now self.now.position self.now.pitch self.now.level j }
+            reads.now.table.now row.now (way_at self.now.track j) self.now.level }
         ensures before { (i : ℕ) → i < at → number_at outs.new i ≡ number_at outs.old i }
     {
         if self.level == 0 {
@@ -120,7 +162,7 @@ impl Course {
             put_noise(outs, at, n, &reads.rows.noise, self.level);
             return;
         }
-        take_taps(taps, n, row, reads.table, self.position, self.pitch);
+        take_track_taps(taps, n, row, reads.table, &self.track);
         put_at_level(outs, at, n, taps, self.level);
     }
 }

@@ -1,6 +1,7 @@
 //! What a voice works with over a batch.
 
 use crate::row::ROW_SIZE;
+use crate::track::WAYS;
 use brr_decode::{BlockMemory, OutOfMemory};
 use gauss_table::{GaussTable, Taps};
 use num_fix::BATCH_SIZE;
@@ -13,6 +14,10 @@ pub struct Workspace {
     /// Twelve samples, those of 64 groups, and the rest of the last one's block.
     pub(crate) row: [i16; ROW_SIZE],
     pub(crate) taps: [Taps; BATCH_SIZE],
+    /// The pitches of a voice in a batch, where they are bent.
+    pub(crate) pitches: [u16; BATCH_SIZE],
+    /// How far the samples of such a voice stand in the row, and the one after them.
+    pub(crate) ways: [u32; WAYS],
     pub(crate) blocks: BlockMemory,
 }
 
@@ -23,6 +28,8 @@ impl Workspace {
         Ok(Workspace {
             row: [0; ROW_SIZE],
             taps: [Taps::at(table.quads(), 0, 0, 0, 0, 0); BATCH_SIZE],
+            pitches: [0; BATCH_SIZE],
+            ways: [0; WAYS],
             blocks: BlockMemory::new(alloc)?,
         })
     }

@@ -1,8 +1,9 @@
 use Rattle.std.proofs.Common.{◌≡◌, ◌+◌, ◌-◌, ◌<◌, ◌≤◌, nat_lt, ℕ, Bool, true, false, List, take, slice_index, refl, sym, ap, ◌∙◌, arith}
 use Rattle.std.proofs.lemmas.Bool.Decides.{nat_tests}
 use Rattle.voice_unit.specs.Row.{groups_left, groups_before, loops_in}
+use Rattle.voice_unit.specs.Track.{way_at}
 use Rattle.voice_unit.specs.declared.row.Place.{Place}
-use Rattle.voice_unit.proofs.Counting.{groups_before-rise}
+use Rattle.voice_unit.proofs.Counting.{fewer, groups_before-rise}
 use Rattle.voice_unit.proofs.LoopBits.{bit_if, marked, marked-none, marked-later, marked-all}
 use Rattle.voice_unit.proofs.InBlock.{within_block, after_block, row_with_block, marks_with_block, marked-through, quiet_in_block, quiet_after_block}
 use Rattle.voice_unit.proofs.RowOfVoice.{kept_row-zero, place_after-zero}
@@ -15,7 +16,7 @@ blocks-2-init c = record {
   there = sym (place_after-zero _ _ _);
   group = c.requires.course.group;
   marks = λ j below.
-      let none = marked-none c.args.memory.now c.args.self.now.loop_to c.args.self.now.first c.args.self.now.position c.args.self.now.pitch c.args.self.now.voice j in
+      let none = marked-none c.args.memory.now c.args.self.now.loop_to c.args.self.now.first (way_at c.args.self.now.track) c.args.self.now.voice j in
       rw none (omega arith);
   before = λ i below. refl;
   later = λ i above. refl;
@@ -37,11 +38,11 @@ blocks-2-preserved c =
     let group = c.blocks-2.invariant.group in
     record {
       few = omega (arith, c.if-count-d.false);
-      row = row_with_block memory loop_to first d at there group left all (take 12 c.args.work.now.row) c.blocks-2.work.row c.read_rest.new.row c.blocks-2.invariant.row
+      row = row_with_block memory loop_to first d at there group left all (take 12 c.args.row.now) c.blocks-2.row c.read_rest.new.row c.blocks-2.invariant.row
           (λ e few. rw c.from.ensures at (c.read_rest.ensures loop_to e few)) left (omega arith);
       there = c.next_block-next.ensures.first ∙ sym (after_block memory loop_to first d at there group left all);
       group = c.next_block-next.ensures.group;
-      marks = λ j below. marks_with_block memory loop_to first d at there group left all c.args.self.now.position c.args.self.now.pitch c.args.self.now.voice j _ _ _
+      marks = λ j below. marks_with_block memory loop_to first d at there group left all (way_at c.args.self.now.track) c.args.self.now.voice j _ _ _
           (c.next_block-next.ensures.loops.marks j below) (c.blocks-2.invariant.marks j below);
       before = λ i below. c.next_block-next.ensures.loops.before_it i below ∙ c.blocks-2.invariant.before i below;
       later = λ i above. c.next_block-next.ensures.loops.later i above ∙ c.blocks-2.invariant.later i above;
@@ -74,7 +75,7 @@ returns-then-count-d-clause-row c =
     let few : e < c.groups_left-left.result = c.if-count-d.true in
     let done : d + e ≡ c.groups_in-count.result = omega (arith, c.blocks-2.invariant.few) in
     rw done at (row_with_block c.args.memory.now c.args.self.now.loop_to c.args.self.now.first d at c.blocks-2.invariant.there c.blocks-2.invariant.group
-    c.groups_left-left.result c.groups_left-left.ensures.value (take 12 c.args.work.now.row) c.blocks-2.work.row c.read_rest.new.row c.blocks-2.invariant.row
+    c.groups_left-left.result c.groups_left-left.ensures.value (take 12 c.args.row.now) c.blocks-2.row c.read_rest.new.row c.blocks-2.invariant.row
     (λ e few. rw c.from.ensures at (c.read_rest.ensures c.args.self.now.loop_to e few)) e (omega (arith, few)))
 
 pub returns-then-count-d-clause-loops : goal.returns-then-count-d-clause-loops
@@ -85,22 +86,22 @@ returns-then-count-d-clause-loops c = record {
 }
   where
     marks : (j : ℕ) → j < c.args.n → slice_index c.blocks-2.loops (c.args.at + j) ≡ slice_index c.args.loops.now (c.args.at + j)
-        + bit_if (loops_in c.args.memory.now c.args.self.now.loop_to c.args.self.now.first c.args.self.now.position c.args.self.now.pitch j) c.args.self.now.voice
+        + bit_if (loops_in c.args.memory.now c.args.self.now.loop_to c.args.self.now.first (way_at c.args.self.now.track) j) c.args.self.now.voice
     marks j below =
         let d : ℕ = c.blocks-2.d in
         let v : ℕ = c.args.self.now.voice in
         let e : ℕ = c.groups_in-count.result - d in
         let few : e < groups_left c.blocks-2.place = rw c.groups_left-left.ensures.value at c.if-count-d.true in
-        let done : groups_before c.args.self.now.position c.args.self.now.pitch c.args.n ≡ d + e = omega (arith, c.groups_in-count.ensures.value, c.blocks-2.invariant.few) in
-        let through = marked-through c.args.memory.now c.args.self.now.loop_to c.args.self.now.first c.blocks-2.place c.args.self.now.position c.args.self.now.pitch v d j e
+        let done : groups_before (way_at c.args.self.now.track) c.args.n ≡ d + e = omega (arith, c.groups_in-count.ensures.value, c.blocks-2.invariant.few) in
+        let through = marked-through c.args.memory.now c.args.self.now.loop_to c.args.self.now.first c.blocks-2.place (way_at c.args.self.now.track) v d j e
         c.blocks-2.invariant.group c.blocks-2.invariant.there few in
-        let all = rw done at (marked-all c.args.memory.now c.args.self.now.loop_to c.args.self.now.first c.args.self.now.position c.args.self.now.pitch v c.args.n j below) in
+        let all = rw done at (marked-all c.args.memory.now c.args.self.now.loop_to c.args.self.now.first (way_at c.args.self.now.track) v c.args.n j c.requires.course.track.moves below) in
         c.blocks-2.invariant.marks j below ∙ ap (λ (x : ℕ). slice_index c.args.loops.now (c.args.at + j) + x) (sym through)
         ∙ ap (λ (b : Bool). slice_index c.args.loops.now (c.args.at + j) + bit_if b v) all
 
 pub returns-then-count-d-clause-quiet : goal.returns-then-count-d-clause-quiet
 returns-then-count-d-clause-quiet c awake j below loud =
-    let rise = groups_before-rise c.args.self.now.position c.args.self.now.pitch j c.args.n (omega (arith, below)) in
+    let rise = groups_before-rise (way_at c.args.self.now.track) c.args.n c.requires.course.track.moves j c.args.n (omega (arith, below)) (omega arith) in
     quiet_in_block c.args.memory.now c.args.self.now.loop_to c.args.self.now.first c.blocks-2.d c.blocks-2.place c.blocks-2.invariant.there c.blocks-2.invariant.group
     c.groups_left-left.result c.groups_left-left.ensures.value c.args.self.now.reset c.args.self.now.silent (c.blocks-2.invariant.quiet awake) _
     (omega (arith, rise, c.groups_in-count.ensures.value, c.blocks-2.invariant.few, c.if-count-d.true)) loud
@@ -120,7 +121,7 @@ returns-then-next-clause-stretch c = record {
 pub returns-then-next-clause-row : goal.returns-then-next-clause-row
 returns-then-next-clause-row c =
     row_with_block c.args.memory.now c.args.self.now.loop_to c.args.self.now.first c.blocks-2.d c.blocks-2.place c.blocks-2.invariant.there c.blocks-2.invariant.group
-    c.groups_left-left.result c.groups_left-left.ensures.value (take 12 c.args.work.now.row) c.blocks-2.work.row c.read_rest.new.row c.blocks-2.invariant.row
+    c.groups_left-left.result c.groups_left-left.ensures.value (take 12 c.args.row.now) c.blocks-2.row c.read_rest.new.row c.blocks-2.invariant.row
     (λ e few. rw c.from.ensures at (c.read_rest.ensures c.args.self.now.loop_to e few)) c.groups_left-left.result (omega arith)
 
 pub returns-then-next-clause-loops : goal.returns-then-next-clause-loops
@@ -130,11 +131,8 @@ returns-then-next-clause-loops c = record {
   later = λ i above. later i above;
 }
   where
-    position : ℕ
-    position = c.args.self.now.position
-
-    pitch : ℕ
-    pitch = c.args.self.now.pitch
+    ways : ℕ → ℕ
+    ways = way_at c.args.self.now.track
 
     v : ℕ
     v = c.args.self.now.voice
@@ -145,19 +143,20 @@ returns-then-next-clause-loops c = record {
     q : ℕ
     q = c.reading_sample-last.result
 
-    after : groups_before position pitch (q + 1) ≡ d
+    after : groups_before ways (q + 1) ≡ d
     after = omega (arith, c.reading_sample-last.ensures.after, c.groups_left-left.ensures.some)
 
     grown : (j : ℕ) → j < c.args.n → slice_index c.next_block-next.new.loops (c.args.at + j) ≡ slice_index c.args.loops.now (c.args.at + j)
-        + bit_if (marked c.args.memory.now c.args.self.now.loop_to c.args.self.now.first position pitch v d j) v
+        + bit_if (marked c.args.memory.now c.args.self.now.loop_to c.args.self.now.first ways v d j) v
     grown j within = marks_with_block c.args.memory.now c.args.self.now.loop_to c.args.self.now.first c.blocks-2.d c.blocks-2.place c.blocks-2.invariant.there c.blocks-2.invariant.group
-        c.groups_left-left.result c.groups_left-left.ensures.value position pitch v j _ _ _ (c.next_block-next.ensures.loops.marks j within) (c.blocks-2.invariant.marks j within)
+        c.groups_left-left.result c.groups_left-left.ensures.value ways v j _ _ _ (c.next_block-next.ensures.loops.marks j within) (c.blocks-2.invariant.marks j within)
 
     marks : (j : ℕ) → j < q + 1 → slice_index c.next_block-next.new.loops (c.args.at + j) ≡ slice_index c.args.loops.now (c.args.at + j)
-        + bit_if (loops_in c.args.memory.now c.args.self.now.loop_to c.args.self.now.first position pitch j) v
+        + bit_if (loops_in c.args.memory.now c.args.self.now.loop_to c.args.self.now.first ways j) v
     marks j below =
         let within : j < c.args.n = omega (arith, below, c.reading_sample-last.ensures.within) in
-        let all = rw after at (marked-all c.args.memory.now c.args.self.now.loop_to c.args.self.now.first position pitch v (q + 1) j below) in
+        let all = rw after at (marked-all c.args.memory.now c.args.self.now.loop_to c.args.self.now.first ways v (q + 1) j
+        (fewer ways c.args.n (q + 1) (omega (arith, c.reading_sample-last.ensures.within)) c.requires.course.track.moves) below) in
         grown j within ∙ ap (λ (b : Bool). slice_index c.args.loops.now (c.args.at + j) + bit_if b v) all
 
     later : (i : ℕ) → c.args.at + (q + 1) ≤ i → slice_index c.next_block-next.new.loops i ≡ slice_index c.args.loops.now i
@@ -168,8 +167,8 @@ returns-then-next-clause-loops c = record {
             let below : i < c.args.at + c.args.n = grind (arith, nat_tests, e) in
             let part : c.args.at + (i - c.args.at) ≡ i = omega (arith, above) in
             let within : i - c.args.at < c.args.n = omega (arith, below, above) in
-            let rise = groups_before-rise position pitch (q + 1) (i - c.args.at) (omega (arith, above)) in
-            let none = marked-later c.args.memory.now c.args.self.now.loop_to c.args.self.now.first position pitch v d (i - c.args.at) (omega (arith, rise, after)) in
+            let rise = groups_before-rise ways c.args.n c.requires.course.track.moves (q + 1) (i - c.args.at) (omega (arith, above)) (omega (arith, within)) in
+            let none = marked-later c.args.memory.now c.args.self.now.loop_to c.args.self.now.first ways v d (i - c.args.at) (omega (arith, rise, after)) in
             let old : ℕ = slice_index c.args.loops.now (c.args.at + (i - c.args.at)) in
             let more : old + 0 ≡ old = omega arith in
             let kept = rw none at (grown (i - c.args.at) within) ∙ more in
@@ -180,7 +179,8 @@ returns-then-next-clause-loops c = record {
 
 pub returns-then-next-clause-quiet : goal.returns-then-next-clause-quiet
 returns-then-next-clause-quiet c awake j below loud =
-    let rise = groups_before-rise c.args.self.now.position c.args.self.now.pitch j c.reading_sample-last.result (omega (arith, below)) in
+    let rise = groups_before-rise (way_at c.args.self.now.track) c.args.n c.requires.course.track.moves j c.reading_sample-last.result (omega (arith, below))
+    (omega (arith, c.reading_sample-last.ensures.within)) in
     quiet_in_block c.args.memory.now c.args.self.now.loop_to c.args.self.now.first c.blocks-2.d c.blocks-2.place c.blocks-2.invariant.there c.blocks-2.invariant.group
     c.groups_left-left.result c.groups_left-left.ensures.value c.args.self.now.reset c.args.self.now.silent (c.blocks-2.invariant.quiet awake) _
     (omega (arith, rise, c.reading_sample-last.ensures.before, c.groups_left-left.ensures.some)) loud
@@ -194,15 +194,15 @@ returns-clause-loops c = record {
 }
   where
     marks : (j : ℕ) → j < c.args.n → slice_index c.blocks-2.loops (c.args.at + j) ≡ slice_index c.args.loops.now (c.args.at + j)
-        + bit_if (loops_in c.args.memory.now c.args.self.now.loop_to c.args.self.now.first c.args.self.now.position c.args.self.now.pitch j) c.args.self.now.voice
+        + bit_if (loops_in c.args.memory.now c.args.self.now.loop_to c.args.self.now.first (way_at c.args.self.now.track) j) c.args.self.now.voice
     marks j below =
         let d : ℕ = c.blocks-2.d in
         let v : ℕ = c.args.self.now.voice in
-        let done : groups_before c.args.self.now.position c.args.self.now.pitch c.args.n ≡ d = omega (arith, c.groups_in-count.ensures.value, c.blocks-2-test.false, c.blocks-2.invariant.few) in
-        let all = rw done at (marked-all c.args.memory.now c.args.self.now.loop_to c.args.self.now.first c.args.self.now.position c.args.self.now.pitch v c.args.n j below) in
+        let done : groups_before (way_at c.args.self.now.track) c.args.n ≡ d = omega (arith, c.groups_in-count.ensures.value, c.blocks-2-test.false, c.blocks-2.invariant.few) in
+        let all = rw done at (marked-all c.args.memory.now c.args.self.now.loop_to c.args.self.now.first (way_at c.args.self.now.track) v c.args.n j c.requires.course.track.moves below) in
         c.blocks-2.invariant.marks j below ∙ ap (λ (b : Bool). slice_index c.args.loops.now (c.args.at + j) + bit_if b v) all
 
 pub returns-clause-quiet : goal.returns-clause-quiet
 returns-clause-quiet c awake j below loud =
-    let rise = groups_before-rise c.args.self.now.position c.args.self.now.pitch j c.args.n (omega (arith, below)) in
+    let rise = groups_before-rise (way_at c.args.self.now.track) c.args.n c.requires.course.track.moves j c.args.n (omega (arith, below)) (omega arith) in
     c.blocks-2.invariant.quiet awake _ (omega (arith, rise, c.groups_in-count.ensures.value, c.blocks-2-test.false, c.blocks-2.invariant.few)) loud

@@ -2,17 +2,18 @@ use Rattle.std.proofs.Common.{◌≡◌, ◌<◌, ◌≤◌, ◌+◌, ◌-◌, �
 use Rattle.aram_core.specs.Memory.{byte_at}
 use Rattle.voice_unit.specs.Voice.{is_silencing}
 use Rattle.voice_unit.specs.Row.{IsGroup, place_after, kept_row}
+use Rattle.voice_unit.specs.Track.{way_at}
 use Rattle.voice_unit.proofs.LoopBits.{bit_if, marked}
 use Rattle.voice_unit.proofs.course.Course.read_stretch.Given as goal
 
 abbrev pub invariant-blocks-2 : goal.invariant-blocks-2
 invariant-blocks-2 l = record {
   few : l.d ≤ l.count;
-  row : take (12 + 4 * l.d) l.work.row ≡ kept_row l.memory l.self.loop_to l.self.first (take 12 l.initial.work.row) l.d;
+  row : take (12 + 4 * l.d) l.row ≡ kept_row l.memory l.self.loop_to l.self.first (take 12 l.initial.row) l.d;
   there : l.place ≡ place_after l.memory l.self.loop_to l.self.first l.d;
   group : IsGroup l.place;
   marks : (j : ℕ) → j < l.n → slice_index l.loops (l.at + j)
-      ≡ slice_index l.initial.loops (l.at + j) + bit_if (marked l.memory l.self.loop_to l.self.first l.self.position l.self.pitch l.self.voice l.d j) l.self.voice;
+      ≡ slice_index l.initial.loops (l.at + j) + bit_if (marked l.memory l.self.loop_to l.self.first (way_at l.self.track) l.self.voice l.d j) l.self.voice;
   before : (i : ℕ) → i < l.at → slice_index l.loops i ≡ slice_index l.initial.loops i;
   later : (i : ℕ) → l.at + l.n ≤ i → slice_index l.loops i ≡ slice_index l.initial.loops i;
   quiet : (is_silencing l.self.reset (byte_at l.memory l.self.first.block) ≡ true → l.self.silent ≡ true)

@@ -24,6 +24,7 @@ samples-init c = record {
   within = omega arith;
   later = λ j above. refl;
   lower = λ j below. rw (doubled c.args.reads.now.seen.voice) (omega (arith, c.requires.lower j below));
+  bent = c.put_pitches.ensures;
   outs_long = search rules;
   loops_long = search rules;
 }
@@ -39,7 +40,7 @@ samples-preserved c =
     let way : (k : ℕ) → c.args.reads.now.clock ≡ counter_at k
     → IsOnItsWay c.args.reads.now.seen (lane_of c.args.reads.now c.args.previous.now c.args.self.now k)
     to c.glide-glided.result.rest c.args.made.now.loops c.glide-glided.new.made.loops c.glide-glided.new.made.outs c.glide-glided.new.self =
-    λ k at. c.glide-glided.ensures.way _ c.args.made.now.loops (record { regs = refl; memory = refl; table = refl; noise = λ i. refl })
+    λ k at. c.glide-glided.ensures.way _ c.args.made.now.loops (record { regs = refl; bent = c.samples.invariant.bent; memory = refl; table = refl; noise = λ i. refl })
     (lane_glides c.args.reads.now c.args.previous.now c.args.self.now k c.samples.j c.end_from-end.result
     (λ i since below. c.plain_samples-plain.ensures i (omega (arith, below, c.end_from-end.ensures.to, c.requires.few)) (c.end_from-end.ensures.plain i since below)))
     (c.samples.invariant.way k at) in
@@ -76,6 +77,7 @@ samples-preserved c =
       lower = λ i under.
           let own : slice_index c.glide-glided.new.made.loops to < 2 ^ c.args.reads.now.seen.voice = rw (c.glide-glided.ensures.later to (omega arith), c.samples.invariant.later to from) (c.requires.lower to (omega (arith, below, c.requires.few))) in
           rw c.mark_loop.ensures (with_loop-bound c.glide-glided.new.made.loops to c.args.reads.now.seen.voice i c.play_sample-played.result.looped within_loops own (c.glide-glided.ensures.lower i under));
+      bent = λ bent i below. rw c.glide-glided.ensures.pitches (c.samples.invariant.bent bent i below);
       outs_long = length-set c.glide-glided.new.made.outs c.from-place.result (to_z w16 (of_z w16 c.play_sample-played.result.out)) ∙ outs_long;
       loops_long = c.mark_loop.array_long.1;
     }
@@ -95,7 +97,7 @@ returns-then-last-eq0-clause-way c k at = record {
 pub returns-then-last-to-clause-way : goal.returns-then-last-to-clause-way
 unfolding lane_input
 returns-then-last-to-clause-way c k at =
-    c.glide-glided.ensures.way _ c.args.made.now.loops (record { regs = refl; memory = refl; table = refl; noise = λ i. refl })
+    c.glide-glided.ensures.way _ c.args.made.now.loops (record { regs = refl; bent = c.samples.invariant.bent; memory = refl; table = refl; noise = λ i. refl })
     (lane_glides c.args.reads.now c.args.previous.now c.args.self.now k c.samples.j c.end_from-end.result
     (λ i since below. c.plain_samples-plain.ensures i (omega (arith, below, c.end_from-end.ensures.to, c.requires.few)) (c.end_from-end.ensures.plain i since below)))
     (c.samples.invariant.way k at)
@@ -103,7 +105,7 @@ returns-then-last-to-clause-way c k at =
 pub returns-then-last-to-clause-level : goal.returns-then-last-to-clause-level
 unfolding lane_input
 returns-then-last-to-clause-level c k at all =
-    let level = c.glide-glided.ensures.level _ c.args.made.now.loops (record { regs = refl; memory = refl; table = refl; noise = λ i. refl })
+    let level = c.glide-glided.ensures.level _ c.args.made.now.loops (record { regs = refl; bent = c.samples.invariant.bent; memory = refl; table = refl; noise = λ i. refl })
     (lane_glides c.args.reads.now c.args.previous.now c.args.self.now k c.samples.j c.end_from-end.result
     (λ i since below. c.plain_samples-plain.ensures i (omega (arith, below, c.end_from-end.ensures.to, c.requires.few)) (c.end_from-end.ensures.plain i since below)))
     (c.samples.invariant.way k at) (omega (arith, all, c.samples-test.true)) in

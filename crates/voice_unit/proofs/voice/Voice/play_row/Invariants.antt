@@ -1,6 +1,8 @@
-use Rattle.std.proofs.Common.{◌≡◌, ℕ, ◌+◌, ◌-◌, ◌≤◌, ◌<◌, ◌^◌, length, slice_index}
+use Rattle.std.proofs.Common.{◌≡◌, ℕ, true, ◌+◌, ◌-◌, ◌≤◌, ◌<◌, ◌^◌, length, slice_index}
+use Rattle.num_fix.specs.SignedWords.{number_at}
 use Rattle.rate_clock.specs.Counter.{counter_at}
 use Rattle.voice_unit.specs.Play.{IsOnItsWay, lane_of}
+use Rattle.voice_unit.specs.Voice.{is_modulated, bent_pitch}
 use Rattle.voice_unit.proofs.voice.Voice.play_row.Given as goal
 
 abbrev pub invariant-samples : goal.invariant-samples
@@ -10,6 +12,8 @@ invariant-samples l = record {
   within : l.j ≤ l.last;
   later : (j : ℕ) → l.j ≤ j → slice_index l.made.loops j ≡ slice_index l.initial.made.loops j;
   lower : (j : ℕ) → j < 64 → slice_index l.made.loops j < 2 ^ (l.reads.seen.voice + 1);
+  bent : is_modulated l.reads.seen.pmon l.reads.seen.voice ≡ true
+      → (j : ℕ) → j < 64 → slice_index l.work.pitches j ≡ bent_pitch l.reads.regs.pitch (number_at l.previous j);
   outs_long : length l.made.outs ≡ 64;
   loops_long : length l.made.loops ≡ 64;
 }
