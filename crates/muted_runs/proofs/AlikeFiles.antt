@@ -66,8 +66,8 @@ module _ (muted : ℕ) (file other : List ℕ) (differ : DifferInMutedVolumes mu
   same_part : (place count : ℕ) → ((i : ℕ) → i < count → holds_muted_volume muted (place + i) ≡ false) → part_of file place count ≡ part_of other place count
   same_part place count free =
       same_number_lists (part_of file place count) (part_of other place count) (same_length place count) (λ i within.
-          let low : i < count = let most = length-part_of file place count in omega (arith, within, most) in
-          entry-part_of file place count i low ∙ differ.others (place + i) (free i low) ∙ sym (entry-part_of other place count i low))
+      let low : i < count = let most = length-part_of file place count in omega (arith, within, most) in
+      entry-part_of file place count i low ∙ differ.others (place + i) (free i low) ∙ sym (entry-part_of other place count i low))
 
   same_memory : memory_of file ≡ memory_of other
   same_memory = same_part 0x100 0x10000 (λ i low. before_registers muted (0x100 + i) (omega (arith, low)))
