@@ -1,6 +1,6 @@
 //! Whether the echo can write what the voices read, seen from afar: no chain is walked.
 
-ghost use Rattle.std.specs.Prelude.{◌≡◌, ◌<◌, ◌≤◌, true, false, slice_index};
+ghost use Rattle.std.specs.Prelude.{◌≡◌, ◌<◌, ◌≤◌, true, false, not, slice_index};
 ghost use Rattle.aram_core.specs.Pages.{has_page};
 ghost use Rattle.reach_map.specs.Reach.{pages_of_bytes};
 ghost use Rattle.echo_unit.specs.Flg.{has_echo_writes};
@@ -93,7 +93,7 @@ fn is_still(state: &ChipState) -> bool
 
 /// Whether the echo can't write what the voices read in the next 64 samples. Chains are walked only where it can't be told from afar.
 pub fn is_echo_apart(state: &ChipState, memory: &Aram) -> bool
-    ensures { result ≡ true → (chip_reach state.now memory.now).entangled ≡ false }
+    ensures { result ≡ not (chip_reach state.now memory.now).entangled }
 {
     let still = is_still(state);
     if still {

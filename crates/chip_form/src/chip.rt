@@ -1,5 +1,6 @@
 // The sound chip that a bus is handed.
 ghost use Rattle.std.specs.Prelude.{◌≡◌, ℕ, ◌+◌, ◌*◌, ◌≤◌, ◌==◌, true, length, if◌then◌else◌};
+ghost use Rattle.std.specs.FinSet as set;
 ghost use Rattle.chip_form.specs.Samples.{samples, AddsSamples, next_count, count_after};
 ghost use Rattle.chip_form.specs.ChipMeaning.{ChipMeaning};
 ghost use Rattle.chip_form.specs.ChipSaving.{ChipSaving};
@@ -8,7 +9,6 @@ ghost use Rattle.chip_form.specs.SavingLaws.{IsLawfulSaving};
 ghost use Rattle.trace_form.specs.Rooms.{frame_room, record_room};
 ghost use Rattle.chip_form.specs.Limits.{most_samples_of_batch, most_samples_of_chip};
 
-use crate::pages::ReachPages;
 use aram_core::Aram;
 use trace_form::{Frames, Records};
 
@@ -74,9 +74,17 @@ pub trait Chip: Drop {
         ensures batches { batches self.new ≡ (if n == 0 then batches self.old else next_count (batches self.old)) }
         ensures total { total self.new ≡ count_after (total self.old) n };
 
-    /// The pages that the next 64 samples can read and write.
-    fn reach(&self, memory: &Aram) -> ReachPages
-        ensures { result ≡ meaning.reach (state self.now) memory.now };
+    /// Whether the next 64 samples can write bytes of a page.
+    fn writes_page(&self, memory: &Aram, page: u8) -> bool
+        ensures { result ≡ set.contains (meaning.reach (state self.now) memory.now).write_pages page };
+
+    /// Whether they can read bytes of a page.
+    fn reads_page(&self, memory: &Aram, page: u8) -> bool
+        ensures { result ≡ set.contains (meaning.reach (state self.now) memory.now).read_pages page };
+
+    /// Whether their reach is entangled, as where they can write what later ones read.
+    fn is_entangled(&self, memory: &Aram) -> bool
+        ensures { result ≡ (meaning.reach (state self.now) memory.now).entangled };
 
     /// The number of batches made, each by an `advance` of at least one sample. It stays at its type's end.
     fn batches(&self) -> u64

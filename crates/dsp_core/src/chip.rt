@@ -6,7 +6,7 @@ ghost use Rattle.dsp_core.specs.DspLaws.{dsp_is_lawful, dsp_saves_lawfully};
 use crate::dsp::Dsp;
 use crate::saved::DspState;
 use aram_core::Aram;
-use chip_form::{Chip, ReachPages};
+use chip_form::Chip;
 use dsp_state::{ChipState, is_result};
 use trace_form::{Frames, Records};
 
@@ -54,8 +54,19 @@ impl Chip for Dsp {
         self.advance(n, memory, mask, frames, records);
     }
 
-    fn reach(&self, memory: &Aram) -> ReachPages {
-        self.reach(memory)
+    #[inline]
+    fn writes_page(&self, _memory: &Aram, page: u8) -> bool {
+        self.writes_page(page)
+    }
+
+    #[inline]
+    fn reads_page(&self, memory: &Aram, page: u8) -> bool {
+        self.reads_page(memory, page)
+    }
+
+    #[inline]
+    fn is_entangled(&self, memory: &Aram) -> bool {
+        self.is_entangled(memory)
     }
 
     #[inline]

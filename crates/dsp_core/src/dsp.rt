@@ -1,6 +1,7 @@
 //! The chip.
 
-ghost use Rattle.std.specs.Prelude.{◌≡◌, ◌≤◌, ◌<◌, ◌+◌, ◌*◌, ◌++◌, ◌∷◌, [], ◌==◌, true, false, length, IfOk, if◌then◌else◌};
+ghost use Rattle.std.specs.Prelude.{◌≡◌, ◌≤◌, ◌<◌, ◌+◌, ◌*◌, ◌++◌, ◌∷◌, [], ◌==◌, true, false, length, IfOk, if◌then◌else◌, ℕ, List};
+ghost use Rattle.std.specs.FinSet as set;
 ghost use Rattle.std.specs.List.{filter};
 ghost use Rattle.trace_form.specs.Rooms.{frame_room, record_room};
 ghost use Rattle.chip_form.specs.Limits.{most_samples_of_chip, most_samples_of_batch};
@@ -17,7 +18,6 @@ use crate::sample::make_sample;
 use crate::saved::DspState;
 use aram_core::Aram;
 use batch_rows::{BatchSamples, is_echo_apart, play_batch, play_recorded_batch, push_records};
-use chip_form::ReachPages;
 use dsp_state::registers::{ENDX, KON};
 use dsp_state::{ChipState, Hidden, Settings, settings_of};
 use echo_unit::Echo;
@@ -337,10 +337,24 @@ impl Dsp {
         &self.state
     }
 
-    /// What the next 64 samples can read and write.
-    pub fn reach(&self, memory: &Aram) -> ReachPages
-        ensures { result ≡ chip_reach self.now.state memory.now }
+    /// Whether the next 64 samples can write bytes of a page.
+    pub fn writes_page(&self, page: u8) -> bool
+        ensures { (memory : List ℕ) → result ≡ set.contains (chip_reach self.now.state memory).write_pages page }
     {
-        self.state.reach(memory)
+        self.state.writes_page(page)
+    }
+
+    /// Whether they can read bytes of a page of a memory.
+    pub fn reads_page(&self, memory: &Aram, page: u8) -> bool
+        ensures { result ≡ set.contains (chip_reach self.now.state memory.now).read_pages page }
+    {
+        self.state.reads_page(memory, page)
+    }
+
+    /// Whether they can write what voices read.
+    pub fn is_entangled(&self, memory: &Aram) -> bool
+        ensures { result ≡ (chip_reach self.now.state memory.now).entangled }
+    {
+        !is_echo_apart(&self.state, memory)
     }
 }

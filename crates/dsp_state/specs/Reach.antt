@@ -1,11 +1,12 @@
 -- What the next 64 samples of the chip can read and write, by pages.
 use Rattle.std.specs.Prelude.{ℕ, ◌+◌, List, [], ◌∷◌, ◌++◌, Bool, not, ◌||◌, ◌==◌, slice_index, if◌then◌else◌}
+use Rattle.aram_core.specs.Pages.{has_page}
 use Rattle.num_fix.specs.Arithmetic.{has_bit}
 use Rattle.voice_unit.specs.Directory.{entry_address, start_word, loop_word}
 use Rattle.voice_unit.specs.Voice.{VoiceState}
 use Rattle.echo_unit.specs.Flg.{has_echo_writes}
 use Rattle.reach_map.specs.Window.{echo_window}
-use Rattle.reach_map.specs.Reach.{reach}
+use Rattle.reach_map.specs.Reach.{reach, voice_pages}
 use Rattle.reach_map.specs.declared.Window.{Window}
 use Rattle.reach_map.specs.declared.ChainStart.{ChainStart}
 use Rattle.chip_form.specs.declared.pages.ReachPages.{ReachPages}
@@ -46,6 +47,14 @@ voice_starts s memory v voice = own_chain s memory v voice ∷ (if can_start s v
 abbrev pub starts_from : ChipState → List ℕ → (v : ℕ) → List VoiceState → List ChainStart
 starts_from s memory v [] = []
 starts_from s memory v (voice ∷ voices) = voice_starts s memory v voice ++ starts_from s memory (v + 1) voices
+
+-- voice v can read bytes of a page in the next 64 samples: of its entry of the directory, or of a chain on which it can be
+unfoldable pub voice_reads : ChipState → (memory : List ℕ) → (v : ℕ) → VoiceState → (page : ℕ) → Bool
+voice_reads s memory v voice page = has_page (voice_pages memory (voice_starts s memory v voice) (voice_entry s.registers v ∷ [])) page
+
+-- one of the voices from v on can
+unfoldable pub voices_read : ChipState → (memory : List ℕ) → (v : ℕ) → List VoiceState → (page : ℕ) → Bool
+voices_read s memory v voices page = has_page (voice_pages memory (starts_from s memory v voices) (entries_from s.registers v voices)) page
 
 -- the echo's window
 abbrev pub chip_window : ChipState → Window

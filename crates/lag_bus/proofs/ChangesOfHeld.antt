@@ -1,6 +1,6 @@
 -- What a chip some samples late comes to, after each change of what is held.
-use Rattle.std.proofs.Common.{◌≡◌, ◌≢◌, if◌then◌else◌, nat_le, ℕ, zero, suc, ◌+◌, ◌-◌, ◌*◌, ◌<◌, ◌≤◌, List, [], ◌∷◌, ◌++◌, length, Bool, true, false, not, ◌||◌, ◌==◌, refl, ap, sym, ◌∙◌, arith, rules, append_assoc, length-append}
-use Rattle.std.proofs.lemmas.Bool.{or_parts, not-true}
+use Rattle.std.proofs.Common.{◌≡◌, ◌≢◌, if◌then◌else◌, nat_le, ℕ, zero, suc, ◌+◌, ◌-◌, ◌*◌, ◌<◌, ◌≤◌, List, [], ◌∷◌, ◌++◌, length, Bool, true, false, not, ◌||◌, ◌==◌, inl, inr, refl, ap, subst, sym, ◌∙◌, arith, rules, append_assoc, length-append}
+use Rattle.std.proofs.lemmas.Bool.{cases_Bool, or_parts, not-true}
 use Rattle.std.proofs.lemmas.Bool.Decides.{nat_tests}
 use Rattle.std.proofs.lemmas.List.{append-nil}
 use Rattle.std.proofs.Math.Seq.{take-append_seam, drop-append_seam}
@@ -20,7 +20,9 @@ use Rattle.lock_step.specs.SampleNumbers.{sample_number}
 use Rattle.lag_bus.specs.Ready.{is_before_sample, ready_frames, waiting_frames, ready_records, waiting_records, NoneIsReady}
 use Rattle.lag_bus.specs.Book.{may_be_read, may_be_written}
 use Rattle.lag_bus.specs.Late.{late_with_sample}
-use Rattle.lag_bus.specs.Held.{Held, IsHeld, pending_samples, late_of}
+use Rattle.lag_bus.specs.Held.{Held, IsHeld, IsTaken, pending_samples, late_of}
+use Rattle.lag_bus.specs.declared.taken.TakenReach.{TakenReach}
+use Rattle.chip_form.specs.declared.pages.ReachPages.{ReachPages}
 use Rattle.lag_bus.proofs.MergedRecords.{Each-append, Each-map, Each-filter, Each-merge, merge_voices, merge_event, merge_nothing, length-merge, number_before, later_before, event_after, voice_before, voice_after, voice_number, filter_all, filter_none}
 use Rattle.chip_form.proofs.LawfulSamples.{frame_count_of_samples, is_valid-samples, voices_of_mask}
 use Rattle.lag_bus.proofs.VoicesWithin.{voices_within, voices_within-samples}
@@ -48,6 +50,25 @@ held_after_settle chip batches total h = record {
   mask = h.mask;
   pending = 0;
 }
+
+-- what is held of a chip that has made no sample
+pub held_new : {S : Type 0} (chip : ChipMeaning S) (h : Held S) → chip.is_valid h.state ≡ true → h.number ≡ 0 → h.pending ≡ 0 → h.frames ≡ [] → h.records ≡ [] → h.ring ≡ []
+    → IsHeld chip h
+held_new chip h valid number pending frames records ring =
+    let no_frame : length h.frames ≡ 0 = rw frames refl in
+    let no_record : length h.records ≡ 0 = rw records refl in
+    let no_event : length h.ring ≡ 0 = rw ring refl in
+    record {
+      is_valid = valid;
+      pending = omega (arith, pending);
+      number_fits = omega (arith, number, pending);
+      after_first = rw ring tt;
+      before_next = rw ring tt;
+      none_waits = λ _. ring;
+      made_before = rw records tt;
+      frames_fit = omega (arith, no_frame, pending);
+      records_fit = omega (arith, no_record, no_event, pending);
+    }
 
 module _ {S : Type 0} {chip : ChipMeaning S} (laws : IsLawfulChip chip) where
   byte_stays : (n k : ℕ) (s : S) (memory : List ℕ) (at : ℕ) → n ≤ 64 → chip.is_valid s ≡ true
@@ -102,6 +123,29 @@ module _ {S : Type 0} {chip : ChipMeaning S} (laws : IsLawfulChip chip) where
         → chip.reach h.state memory ≡ chip.reach (late_of chip (record h { memory = memory })).chip (late_of chip (record h { memory = memory })).memory
     late_put_reach memory none = rw (none, samples_none) refl
 
+    pub held_put : (memory : List ℕ) → IsHeld chip (record h { memory = memory })
+    held_put memory =
+        record {
+          is_valid = is.is_valid;
+          pending = is.pending;
+          number_fits = is.number_fits;
+          after_first = is.after_first;
+          before_next = is.before_next;
+          none_waits = is.none_waits;
+          made_before = is.made_before;
+          frames_fit = is.frames_fit;
+          records_fit = is.records_fit;
+        }
+
+    -- What was asked of the reach stays so over a byte that is put where they don't read, and so does what tells nothing.
+    pub taken_put : (at value : ℕ) (taken : TakenReach) → IsTaken (chip.reach h.state h.memory) taken
+        → (may_be_read (chip.reach h.state h.memory) at ≡ true → (reach : ReachPages) → IsTaken reach taken)
+        → IsTaken (chip.reach h.state (with_byte h.memory at value)) taken
+    taken_put at value taken is_taken any = elim (cases_Bool (may_be_read (chip.reach h.state h.memory) at)) [
+      | inl read ↦ any read (chip.reach h.state (with_byte h.memory at value))
+      | inr unread ↦ subst (λ (reach : ReachPages). IsTaken reach taken) (sym (untouched h.state h.memory at value is.is_valid unread)) is_taken
+    ]
+
     -- one sample more that is pending
     pub late_pend : late_of chip (record h { pending = h.pending + 1 }) ≡
         late_with_sample chip (late_of chip h)
@@ -127,6 +171,20 @@ module _ {S : Type 0} {chip : ChipMeaning S} (laws : IsLawfulChip chip) where
         → late_of chip (record h { state = chip.register_write h.state address byte }) ≡
         record (late_of chip h) { chip = chip.register_write (late_of chip h).chip address byte; reach = chip.reach (chip.register_write (late_of chip h).chip address byte) (late_of chip h).memory }
     late_reg_write address byte none = rw none (simp samples_none refl)
+
+    pub held_reg_write : (address byte : ℕ) → address < 0x100 → byte < 0x100 → IsHeld chip (record h { state = chip.register_write h.state address byte })
+    held_reg_write address byte small small' =
+        record {
+          is_valid = laws.write_keeps_valid h.state address byte small small' is.is_valid;
+          pending = is.pending;
+          number_fits = is.number_fits;
+          after_first = is.after_first;
+          before_next = is.before_next;
+          none_waits = is.none_waits;
+          made_before = is.made_before;
+          frames_fit = is.frames_fit;
+          records_fit = is.records_fit;
+        }
 
     -- the voices that are pending, of the mask
     pending_voices : Each (IsVoiceWithin h.number (h.number + h.pending)) (filter (in_mask h.mask) (pending_samples chip h).records)

@@ -1,8 +1,10 @@
--- Marks of pages that samples don't write or don't read.
-use Rattle.std.proofs.Common.{◌≡◌, ℕ, inl, inr, replicate, slice_index_or, arith}
+-- What was asked of a reach: nothing at first, and what marks of pages tell.
+use Rattle.std.proofs.Common.{◌≡◌, ℕ, inl, inr, false, None, replicate, slice_index_or, refl, arith}
 use Rattle.std.proofs.lemmas.Bool.{cases_lt}
 use Rattle.std.proofs.lemmas.List.{get_or-replicate, get_or_past, length-replicate}
-use Rattle.lag_bus.specs.Held.{AreMarks}
+use Rattle.chip_form.specs.declared.pages.ReachPages.{ReachPages}
+use Rattle.lag_bus.specs.Held.{AreMarks, IsTaken}
+use Rattle.lag_bus.specs.declared.taken.TakenReach.{TakenReach}
 
 -- at first each mark is 0
 unmarked : (page : ℕ) → ◌≡◌ {A = ℕ} (slice_index_or (replicate 256 0) page 0) 0
@@ -14,3 +16,18 @@ unmarked page = elim (cases_lt page 256) [
 -- and those are marks of any kind
 pub are_marks : (IsOfKind : ℕ → Type 0) → AreMarks IsOfKind (replicate 256 0)
 are_marks IsOfKind page some = let none = unmarked page in absurd (omega arith)
+
+-- so nothing is told of any reach
+pub none_taken : (reach : ReachPages) → IsTaken reach record { is_any = false; entangled = None; unwritten = replicate 256 0; unread = replicate 256 0 }
+none_taken reach = record { entangled = tt; unwritten = are_marks _; unread = are_marks _; none = λ _. (refl, are_marks _, are_marks _) }
+
+-- where nothing was kept, what there is is so of every reach
+pub taken_of_any : (before after : ReachPages) (taken : TakenReach) → taken.is_any ≡ false → IsTaken before taken → IsTaken after taken
+taken_of_any before after taken off is =
+    let none = is.none off in
+    record {
+      entangled = rw none.0 tt;
+      unwritten = λ page some. absurd (none.1 page some).0;
+      unread = λ page some. absurd (none.2 page some).0;
+      none = is.none;
+    }

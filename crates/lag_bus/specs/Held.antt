@@ -1,5 +1,5 @@
 -- What is held while samples are pending, and what it comes to once they are made.
-use Rattle.std.specs.Prelude.{◌≡◌, ◌<◌, ◌≤◌, ℕ, ◌+◌, ◌*◌, List, [], ◌++◌, length, slice_index_or, true, false, ◌||◌, ◌==◌, if◌then◌else◌, Option, Some, None, IfSome}
+use Rattle.std.specs.Prelude.{◌≡◌, ◌<◌, ◌≤◌, ℕ, ◌+◌, ◌*◌, List, [], ◌++◌, length, slice_index_or, true, false, ◌||◌, ◌==◌, if◌then◌else◌, None, IfSome}
 use Rattle.std.specs.List.{filter}
 use Rattle.std.specs.FinSet as set
 use Rattle.num_fix.specs.declared.Frame.{Frame}
@@ -15,6 +15,7 @@ use Rattle.lag_bus.specs.Merge.{merge}
 use Rattle.lock_step.specs.SampleNumbers.{sample_number}
 use Rattle.lag_bus.specs.Ready.{is_before_sample}
 use Rattle.lag_bus.specs.Late.{Late}
+use Rattle.lag_bus.specs.declared.taken.TakenReach.{TakenReach}
 
 pub record Held (S : Type 0) : Type 0 where
   -- the chip's state, the number of its next sample, and the batches and samples that it made in all
@@ -65,27 +66,23 @@ pub record IsHeld {S : Type 0} (chip : ChipMeaning S) (h : Held S) : Type 0 wher
   pub frames_fit : length h.frames + h.pending ≤ frame_room
   pub records_fit : length h.records + length h.ring + 8 * h.pending ≤ record_room
 
--- a reach that was taken and not dropped is that of what is held
-abbrev pub IsTaken : {S : Type 0} → ChipMeaning S → Option ReachPages → S → (memory : List ℕ) → Type 0
-IsTaken chip taken state memory = IfSome taken (λ reach. reach ≡ chip.reach state memory)
-
 -- where a page's plain memory ends: before the ports of page 0, or before the ROM
 abbrev pub plain_end : (page : ℕ) → ℕ
 plain_end page = if page == 0 then 0xF0 else 0xFFC0
 
--- samples to come don't write a page, by the reach that was taken
-abbrev pub IsUnwritten : Option ReachPages → (page : ℕ) → Type 0
-IsUnwritten None page = ⊥
-IsUnwritten (Some reach) page = set.contains reach.write_pages page ≡ false
-
--- and they don't read it, so that a write to it is nothing to them
-abbrev pub IsUnread : Option ReachPages → (page : ℕ) → Type 0
-IsUnread None page = ⊥
-IsUnread (Some reach) page = (reach.entangled || set.contains reach.read_pages page) ≡ false
-
 -- A page of a kind is marked by where its plain memory ends, or by an address before that. The mark 0 says nothing of its page.
 abbrev pub AreMarks : (IsOfKind : (page : ℕ) → Type 0) → (marks : List ℕ) → Type 0
 AreMarks IsOfKind marks = (page : ℕ) → 0 < slice_index_or marks page 0 → IsOfKind page × (slice_index_or marks page 0 ≤ plain_end page)
+
+-- what was asked of a reach, and not dropped, is so
+pub record IsTaken (reach : ReachPages) (taken : TakenReach) : Type 0 where
+  pub entangled : IfSome taken.entangled (λ is_entangled. is_entangled ≡ reach.entangled)
+  -- samples to come don't write a page that is marked as unwritten
+  pub unwritten : AreMarks (λ page. set.contains reach.write_pages page ≡ false) taken.unwritten
+  -- and they don't read one that is marked as unread, so that a write to it is nothing to them
+  pub unread : AreMarks (λ page. (reach.entangled || set.contains reach.read_pages page) ≡ false) taken.unread
+  -- where nothing was kept there is no mark
+  pub none : taken.is_any ≡ false → (taken.entangled ≡ None) × AreMarks (λ page. ⊥) taken.unwritten × AreMarks (λ page. ⊥) taken.unread
 
 -- memory alone is at an address
 abbrev pub IsPlain : (at : ℕ) → Type 0

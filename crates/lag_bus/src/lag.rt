@@ -530,7 +530,7 @@ impl<C: Chip> DrainedBus for LagBus<C> {
     }
 
     fn wait(&mut self, cpu: &Cpu, samples: u32) {
-        self.late.ensure_reach();
+        self.late.writes_within();
         if !self.late.is_drained() {
             return;
         }

@@ -13,13 +13,17 @@ ghost use Rattle.lag_bus.specs.Ready.{is_before_sample, ready_frames, waiting_fr
 use crate::cause::{self, Cause};
 use crate::merging::merge_into;
 use crate::taken::TakenReach;
-use aram_core::Aram;
-use chip_form::{Chip, ReachPages};
+use aram_core::{Aram, page_of};
+use chip_form::Chip;
+use lock_step::{writes_port, writes_register};
 use std::marker::Model;
 use trace_form::{EventRing, Frames, Record, Records};
 
-/// A chip, its memory and its output, with samples that are counted and not made yet. Its reach is taken where it is asked
-/// for, and kept until it may be another.
+/// The most events that wait for pending samples.
+const EVENT_ROOM: usize = 256;
+
+/// A chip, its memory and its output, with samples that are counted and not made yet. Of its reach that is asked which an access
+/// needs, and what was found is kept until it may be another.
 #[derive(Drop)]
 pub struct LateChip<C: Chip> {
     chip: C,
@@ -67,7 +71,7 @@ impl<C: Chip> Model for LateChip<C> {
       ring = b.ring;
       mask = b.mask;
       pending = b.pending;
-    }) × IsTaken C.meaning b.taken (C.state b.chip) b.memory };
+    }) × IsTaken (C.meaning.reach (C.state b.chip) b.memory) b.taken };
 }
 
 /// Clears a list and moves another one into it. Mostly that one is empty.
@@ -147,32 +151,12 @@ impl<C: Chip> LateChip<C> {
         self.pending
     }
 
-    /// Takes the reach.
-    fn take_reach(&mut self) -> ReachPages
-        ensures reach { result ≡ self.old.reach }
-        ensures rest { self.new ≡ self.old }
-    {
-        let reach = self.chip.reach(&self.memory);
-        let taken = reach;
-        self.taken.keep(taken);
-        reach
-    }
-
     /// Whether the pending samples may read the byte at an address. A page that they don't read is marked.
     pub fn may_be_read(&mut self, at: u16) -> bool
         ensures answer { result ≡ may_be_read self.old.reach at }
         ensures rest { self.new ≡ self.old }
     {
-        match self.taken.reach() {
-            Some(reach) => {
-                let is_read = cause::may_be_read(&reach, at);
-                if !is_read {
-                    self.taken.mark_unread(at);
-                }
-                is_read
-            }
-            None => cause::may_be_read(&self.take_reach(), at),
-        }
+        self.taken.may_be_read(&self.chip, &self.memory, at)
     }
 
     /// Whether the pending samples may write the byte at an address. A page that they don't write is marked.
@@ -182,16 +166,7 @@ impl<C: Chip> LateChip<C> {
         ensures answer { result ≡ may_be_written self.old.reach at }
         ensures rest { self.new ≡ self.old }
     {
-        match self.taken.reach() {
-            Some(reach) => {
-                let is_written = cause::may_be_written(&reach, at);
-                if !is_written {
-                    self.taken.mark_unwritten(at);
-                }
-                is_written
-            }
-            None => cause::may_be_written(&self.take_reach(), at),
-        }
+        self.taken.may_be_written(&self.chip, &self.memory, at)
     }
 
     /// Whether a mark tells that memory alone is at an address and that no pending sample writes it.
@@ -234,17 +209,10 @@ impl<C: Chip> LateChip<C> {
     }
 
     /// The cause for which a read has the pending samples made first.
-    pub fn cause_of_read(&mut self, dsp_address: u8, at: u16) -> Option<Cause>
-        ensures cause { result ≡ cause_of_read C.meaning self.old.reach dsp_address at }
-        ensures rest { self.new ≡ self.old }
+    pub fn cause_of_read(&self, dsp_address: u8, at: u16) -> Option<Cause>
+        ensures { result ≡ cause_of_read C.meaning self.now.reach dsp_address at }
     {
-        match self.taken.reach() {
-            Some(reach) => cause::cause_of_read(&self.chip, &reach, dsp_address, at),
-            None => {
-                let reach = self.take_reach();
-                cause::cause_of_read(&self.chip, &reach, dsp_address, at)
-            }
-        }
+        cause::cause_of_read(&self.chip, &self.memory, dsp_address, at)
     }
 
     /// The cause for which a write has the pending samples made first.
@@ -252,10 +220,16 @@ impl<C: Chip> LateChip<C> {
         ensures cause { result ≡ cause_of_write self.old.reach dsp_address at self.old.pending self.old.events }
         ensures rest { self.new ≡ self.old }
     {
-        let (pending, events) = (self.pending, self.ring.len());
-        match self.taken.reach() {
-            Some(reach) => cause::cause_of_write(&reach, dsp_address, at, pending, events),
-            None => cause::cause_of_write(&self.take_reach(), dsp_address, at, pending, events),
+        let waits = writes_port(at) && self.pending > 0;
+        let is_full = waits && self.ring.len() == EVENT_ROOM;
+        if writes_register(dsp_address, at) {
+            Some(Cause::Register)
+        } else if self.may_be_read(at) {
+            Some(Cause::Memory)
+        } else if is_full {
+            Some(Cause::Events)
+        } else {
+            None
         }
     }
 
@@ -277,7 +251,7 @@ impl<C: Chip> LateChip<C> {
         self.memory.get(at)
     }
 
-    /// Puts a byte at an address. Where samples may read it, none is pending, and the reach is taken anew.
+    /// Puts a byte at an address. Where samples may read it, none is pending, and what was found of the reach is dropped.
     #[inline]
     pub fn put(&mut self, at: u16, value: u8)
         requires { (self.old.pending == 0 || not (may_be_read self.old.reach at)) ≡ true }
@@ -285,11 +259,11 @@ impl<C: Chip> LateChip<C> {
         ensures reach { self.old.pending ≡ 0 → self.new.reach ≡ C.meaning.reach self.new.chip self.new.memory }
         ensures same_reach { may_be_read self.old.reach at ≡ false → self.new.reach ≡ self.old.reach }
     {
-        self.memory.put(at, value);
         if self.pending == 0 {
-            if self.taken.may_change(at) {
-                self.taken.forget();
-            }
+            self.taken.before_write(&self.chip, &self.memory, at);
+            self.memory.put(at, value);
+        } else {
+            self.memory.put(at, value);
         }
     }
 
@@ -336,20 +310,14 @@ impl<C: Chip> LateChip<C> {
     pub fn is_written(&self, at: u16) -> bool
         ensures { result ≡ may_be_written self.now.reach at }
     {
-        match self.taken.reach() {
-            Some(reach) => cause::may_be_written(&reach, at),
-            None => cause::may_be_written(&self.chip.reach(&self.memory), at),
-        }
+        self.chip.writes_page(&self.memory, page_of(at))
     }
 
-    /// Takes the reach, unless it was taken. Samples to come, too, write on its write pages alone.
-    pub fn ensure_reach(&mut self)
-        ensures rest { self.new ≡ self.old }
-        ensures writes { AreWritesWithin C.meaning self.old.reach self.old.pending self.old.made self.old.chip self.old.memory }
+    /// Samples to come, too, write on the write pages of the reach alone.
+    pub fn writes_within(&self)
+        ensures { AreWritesWithin C.meaning self.now.reach self.now.pending self.now.made self.now.chip self.now.memory }
     {
-        if self.taken.reach().is_none() {
-            self.take_reach();
-        }
+        let _pending = self.pending;
     }
 
     /// Whether nothing waits to be drained but what waits for pending samples.

@@ -1,36 +1,22 @@
-// A reach that was taken, and what was found by it. The tests of marks are inlined into each access of the bus.
-ghost use Rattle.std.specs.Prelude.{◌≡◌, ◌/◌, Some, None, true, false, IsSome, IfSome};
+// What was asked of a chip's reach, and what was found by it. The tests of marks are inlined into each access of the bus.
+ghost use Rattle.std.specs.Prelude.{◌≡◌, ◌/◌, true, false};
+ghost use Rattle.chip_form.specs.declared.pages.ReachPages.{ReachPages};
 ghost use Rattle.lag_bus.specs.Book.{may_be_read, may_be_written};
-ghost use Rattle.lag_bus.specs.Held.{plain_end, IsPlain};
+ghost use Rattle.lag_bus.specs.Held.{plain_end, IsPlain, IsTaken};
 
-use crate::cause;
-use aram_core::page_of;
-use chip_form::ReachPages;
-use std::marker::Model;
+use aram_core::{Aram, page_of};
+use chip_form::Chip;
 
-/// A reach, if one was taken, and marks of the pages that no sample writes by it, and of those that none reads. The mark of a
-/// page is the end of its plain memory, so that one comparison tells most addresses; 0 is no mark.
+/// What was asked of a chip's reach since it was dropped: whether it is entangled, and marks of the pages that no sample writes by
+/// it, and of those that none reads. The mark of a page is the end of its plain memory, so that one comparison tells most
+/// addresses; 0 is no mark.
 #[derive(Drop)]
 pub struct TakenReach {
-    reach: Option<ReachPages>,
+    /// Whether anything of it was kept.
+    is_any: bool,
+    entangled: Option<bool>,
     unwritten: [u16; 256],
     unread: [u16; 256],
-}
-
-impl Model for TakenReach {
-    ghost use Rattle.std.specs.Prelude.{Option};
-    ghost use Rattle.std.specs.Coded.{codes};
-    ghost use Rattle.aram_core.specs.contracts.page_set.PageSet as page_set;
-    ghost use Rattle.chip_form.specs.declared.pages.ReachPages.{ReachPages};
-    ghost use Rattle.lag_bus.specs.Held.{IsUnwritten, IsUnread, AreMarks};
-
-    ghost Value = { Option ReachPages };
-
-    ghost coded = { Prim.hlevel (codes, page_set.the_row.coded) };
-
-    ghost view = { λ t. t.reach };
-
-    ghost invariant = { λ t. AreMarks (IsUnwritten t.reach) t.unwritten × AreMarks (IsUnread t.reach) t.unread };
 }
 
 /// Where the plain memory of the page of an address ends.
@@ -41,42 +27,27 @@ fn plain_end(at: u16) -> u16
 }
 
 impl TakenReach {
-    /// None was taken.
+    /// Nothing was asked.
     pub fn none() -> Self
-        ensures { result ≡ None }
+        ensures { (reach : ReachPages) → IsTaken reach result }
     {
         TakenReach {
-            reach: None,
+            is_any: false,
+            entangled: None,
             unwritten: [0; 256],
             unread: [0; 256],
         }
     }
 
-    /// The reach.
-    // In line with what asks for it: a field is copied.
-    #[inline]
-    pub fn reach(&self) -> Option<ReachPages>
-        ensures { result ≡ self.now }
-    {
-        self.reach
-    }
-
-    /// Keeps a reach.
-    pub fn keep(&mut self, reach: ReachPages)
-        ensures { self.new ≡ Some reach }
-    {
-        self.forget();
-        self.reach = Some(reach);
-    }
-
-    /// Drops the reach, so that it is taken anew.
-    // In line with writes and batches: where none was taken it is one test.
+    /// Drops all of it, so that it is asked anew.
+    // In line with writes and batches: where nothing was asked it is one test.
     #[inline]
     pub fn forget(&mut self)
-        ensures { self.new ≡ None }
+        ensures { (before after : ReachPages) → IsTaken before self.old → IsTaken after self.new }
     {
-        if self.reach.is_some() {
-            self.reach = None;
+        if self.is_any {
+            self.is_any = false;
+            self.entangled = None;
             self.unwritten = [0; 256];
             self.unread = [0; 256];
         }
@@ -85,9 +56,8 @@ impl TakenReach {
     /// Whether a mark tells that memory alone is at an address, which no sample writes.
     #[inline(always)]
     pub fn is_plain(&self, at: u16) -> bool
-        ensures taken { result ≡ true → IsSome self.now }
-        ensures unwritten { result ≡ true → IfSome self.now (λ reach. may_be_written reach at ≡ false) }
-        ensures plain { result ≡ true → IsPlain at }
+        ensures unwritten { (reach : ReachPages) → IsTaken reach self.now → result ≡ true → may_be_written reach at ≡ false }
+        ensures plain { (reach : ReachPages) → IsTaken reach self.now → result ≡ true → IsPlain at }
     {
         at < self.unwritten[usize::from(page_of(at))]
     }
@@ -95,8 +65,7 @@ impl TakenReach {
     /// Whether the page of an address is marked as one that no sample writes.
     #[inline]
     pub fn is_unwritten(&self, at: u16) -> bool
-        ensures taken { result ≡ true → IsSome self.now }
-        ensures unwritten { result ≡ true → IfSome self.now (λ reach. may_be_written reach at ≡ false) }
+        ensures { (reach : ReachPages) → IsTaken reach self.now → result ≡ true → may_be_written reach at ≡ false }
     {
         0 < self.unwritten[usize::from(page_of(at))]
     }
@@ -104,43 +73,77 @@ impl TakenReach {
     /// Whether a mark tells that memory alone is at an address, which no sample reads.
     #[inline(always)]
     pub fn is_unread(&self, at: u16) -> bool
-        ensures taken { result ≡ true → IsSome self.now }
-        ensures unread { result ≡ true → IfSome self.now (λ reach. may_be_read reach at ≡ false) }
-        ensures plain { result ≡ true → IsPlain at }
+        ensures unread { (reach : ReachPages) → IsTaken reach self.now → result ≡ true → may_be_read reach at ≡ false }
+        ensures plain { (reach : ReachPages) → IsTaken reach self.now → result ≡ true → IsPlain at }
     {
         at < self.unread[usize::from(page_of(at))]
     }
 
-    /// Whether a write at an address may make the reach that was taken another one. Where it can't, the page of the address is marked.
-    pub fn may_change(&mut self, at: u16) -> bool
-        ensures rest { self.new ≡ self.old }
-        ensures unread { result ≡ false → IfSome self.old (λ reach. may_be_read reach at ≡ false) }
+    /// Whether the page of an address is marked as one that no sample reads.
+    #[inline]
+    fn is_marked_unread(&self, at: u16) -> bool
+        ensures { (reach : ReachPages) → IsTaken reach self.now → result ≡ true → may_be_read reach at ≡ false }
     {
-        let Some(reach) = self.reach else {
+        0 < self.unread[usize::from(page_of(at))]
+    }
+
+    /// Whether the reach of a chip is entangled. It is asked once.
+    fn is_entangled<C: Chip>(&mut self, chip: &C, memory: &Aram) -> bool
+        requires { IsTaken (C.meaning.reach (C.state chip.now) memory.now) self.old }
+        ensures answer { result ≡ (C.meaning.reach (C.state chip.now) memory.now).entangled }
+        ensures taken { IsTaken (C.meaning.reach (C.state chip.now) memory.now) self.new }
+    {
+        match self.entangled {
+            Some(entangled) => entangled,
+            None => {
+                let entangled = chip.is_entangled(memory);
+                self.is_any = true;
+                self.entangled = Some(entangled);
+                entangled
+            }
+        }
+    }
+
+    /// Whether samples may read the byte at an address. A page that they don't read is marked.
+    pub fn may_be_read<C: Chip>(&mut self, chip: &C, memory: &Aram, at: u16) -> bool
+        requires { IsTaken (C.meaning.reach (C.state chip.now) memory.now) self.old }
+        ensures answer { result ≡ may_be_read (C.meaning.reach (C.state chip.now) memory.now) at }
+        ensures taken { IsTaken (C.meaning.reach (C.state chip.now) memory.now) self.new }
+    {
+        if self.is_marked_unread(at) {
             return false;
-        };
-        if cause::may_be_read(&reach, at) {
+        }
+        if self.is_entangled(chip, memory) || chip.reads_page(memory, page_of(at)) {
             return true;
         }
-        self.mark_unread(at);
+        self.is_any = true;
+        self.unread[usize::from(page_of(at))] = plain_end(at);
         false
     }
 
-    /// Marks the page of an address, which no sample writes.
-    pub fn mark_unwritten(&mut self, at: u16)
-        requires taken { IsSome self.old }
-        requires unwritten { IfSome self.old (λ reach. may_be_written reach at ≡ false) }
-        ensures { self.new ≡ self.old }
+    /// Whether samples may write the byte at an address. A page that they don't write is marked.
+    pub fn may_be_written<C: Chip>(&mut self, chip: &C, memory: &Aram, at: u16) -> bool
+        requires { IsTaken (C.meaning.reach (C.state chip.now) memory.now) self.old }
+        ensures answer { result ≡ may_be_written (C.meaning.reach (C.state chip.now) memory.now) at }
+        ensures taken { IsTaken (C.meaning.reach (C.state chip.now) memory.now) self.new }
     {
+        if chip.writes_page(memory, page_of(at)) {
+            return true;
+        }
+        self.is_any = true;
         self.unwritten[usize::from(page_of(at))] = plain_end(at);
+        false
     }
 
-    /// Marks the page of an address, which no sample reads.
-    pub fn mark_unread(&mut self, at: u16)
-        requires taken { IsSome self.old }
-        requires unread { IfSome self.old (λ reach. may_be_read reach at ≡ false) }
-        ensures { self.new ≡ self.old }
+    /// Makes ready for a write at an address while no sample is pending: what was kept goes where the write may make the reach another one.
+    #[inline]
+    pub fn before_write<C: Chip>(&mut self, chip: &C, memory: &Aram, at: u16)
+        requires { IsTaken (C.meaning.reach (C.state chip.now) memory.now) self.old }
+        ensures taken { IsTaken (C.meaning.reach (C.state chip.now) memory.now) self.new }
+        ensures any { may_be_read (C.meaning.reach (C.state chip.now) memory.now) at ≡ true → (reach : ReachPages) → IsTaken reach self.new }
     {
-        self.unread[usize::from(page_of(at))] = plain_end(at);
+        if self.is_any && self.may_be_read(chip, memory, at) {
+            self.forget();
+        }
     }
 }

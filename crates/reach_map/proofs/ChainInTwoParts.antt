@@ -77,7 +77,7 @@ blocks_go_on memory block n left more goes_on =
     ap (λ k. blocks_to_end memory block k) more ∙ ap (λ ended. if ended then 1 else suc (blocks_to_end memory ((block + 9) % 0x10000) left)) goes_on
 
 -- the first block is one of them
-blocks_have_first : (memory : List ℕ) (block n : ℕ) → 0 < n → 0 < blocks_to_end memory block n
+pub blocks_have_first : (memory : List ℕ) (block n : ℕ) → 0 < n → 0 < blocks_to_end memory block n
 blocks_have_first memory block zero some = absurd (omega arith)
 blocks_have_first memory block (suc n) some = elim (has_end (byte_at memory block)) as (λ ended. 0 < (if ended then 1 else suc (blocks_to_end memory ((block + 9) % 0x10000) n))) [
   | true ↦ omega arith

@@ -11,6 +11,8 @@ use crate::pages::window_pages;
 use crate::voices::voice_pages;
 use aram_core::{Aram, PageSet};
 pub use chip_form::ReachPages;
+pub use pages::bytes_have_page;
+pub use voices::{chain_has_page, entry_has_page};
 
 /// A part of memory: `len` bytes from `start` on, which go on at 0000h after FFFFh.
 #[derive(Clone, Copy, Debug, PartialEq, Eq)]

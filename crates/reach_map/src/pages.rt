@@ -2,6 +2,7 @@
 
 ghost use Rattle.std.specs.Prelude.{◌≡◌, ◌≤◌};
 ghost use Rattle.std.specs.FinSet as set;
+ghost use Rattle.aram_core.specs.Pages.{has_page};
 ghost use Rattle.reach_map.specs.Added.{with_pages};
 ghost use Rattle.reach_map.specs.Reach.{pages_of_bytes, window_pages};
 
@@ -10,6 +11,17 @@ use aram_core::{PageSet, page_of};
 
 /// The bytes of a page.
 const PAGE: u16 = 256;
+
+/// Whether some of so many bytes from an address on lie on a page.
+#[inline]
+pub fn bytes_have_page(start: u16, count: u32, page: u8) -> bool
+    requires some { 1 ≤ count }
+    requires most { count ≤ 0x10000 }
+    ensures { result ≡ has_page (pages_of_bytes start count) page }
+{
+    let way = page.wrapping_sub(page_of(start));
+    u32::from(PAGE) * u32::from(way) < count + u32::from(start % PAGE)
+}
 
 /// Puts the pages of a few bytes into a set: those of the first and of the last one.
 pub fn add_bytes(pages: &mut PageSet, start: u16, count: u32)

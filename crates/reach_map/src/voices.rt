@@ -2,12 +2,13 @@
 
 ghost use Rattle.std.specs.Prelude.{◌≡◌, ◌≤◌, ◌++◌, flat_map, length};
 ghost use Rattle.std.specs.FinSet as set;
+ghost use Rattle.aram_core.specs.Pages.{has_page};
 ghost use Rattle.reach_map.specs.Added.{with_pages};
 ghost use Rattle.reach_map.specs.Reach.{block_pages, chain, chain_pages, entry_pages, voice_pages};
 ghost use Rattle.reach_map.specs.BlocksToEnd.{blocks_to_end};
 
 use crate::ChainStart;
-use crate::pages::add_bytes;
+use crate::pages::{add_bytes, bytes_have_page};
 use aram_core::{Aram, PageSet};
 use brr_decode::has_end;
 
@@ -19,6 +20,9 @@ const ENTRY: u32 = 4;
 
 /// The blocks in which a voice can be in 64 samples.
 const BLOCKS: u32 = 18;
+
+/// The bytes from its start on, and those from its loop word on, within which the blocks of a chain stand.
+const NEAR: u32 = BLOCK * BLOCKS;
 
 /// How many blocks stand one after another from a block on, up to the first that has its end bit, and at most so many.
 fn blocks_to_end(memory: &Aram, start: u16, most: u32) -> u32
@@ -50,6 +54,43 @@ fn add_blocks(pages: &mut PageSet, memory: &Aram, start: ChainStart, count: u32)
         let again = blocks_to_end(memory, start.loop_word, count - first);
         add_bytes(pages, start.loop_word, BLOCK * again);
     }
+}
+
+/// Whether some of the blocks of a chain lie on a page: one of those up to the first end, or of those from its loop word up to the
+/// first end there.
+fn blocks_have_page(memory: &Aram, start: ChainStart, page: u8) -> bool
+    ensures { result ≡ has_page (chain_pages memory.now start) page }
+{
+    let first = blocks_to_end(memory, start.block, BLOCKS);
+    if bytes_have_page(start.block, BLOCK * first, page) {
+        return true;
+    }
+    if first == BLOCKS {
+        return false;
+    }
+    let again = blocks_to_end(memory, start.loop_word, BLOCKS - first);
+    bytes_have_page(start.loop_word, BLOCK * again, page)
+}
+
+/// Whether a voice on a chain can read bytes of a page. The chain is walked only where the page is near to its start or to its loop word.
+pub fn chain_has_page(memory: &Aram, start: ChainStart, page: u8) -> bool
+    ensures { result ≡ has_page (chain_pages memory.now start) page }
+{
+    if bytes_have_page(start.block, NEAR, page) {
+        return blocks_have_page(memory, start, page);
+    }
+    if !bytes_have_page(start.loop_word, NEAR, page) {
+        return false;
+    }
+    blocks_have_page(memory, start, page)
+}
+
+/// Whether some of the four bytes of an entry of the directory lie on a page.
+#[inline]
+pub fn entry_has_page(entry: u16, page: u8) -> bool
+    ensures { result ≡ has_page (entry_pages entry) page }
+{
+    bytes_have_page(entry, ENTRY, page)
 }
 
 /// Puts the pages of chains into a set.

@@ -1,7 +1,7 @@
 //! Worked examples: the pages of a chain, of entries of the directory and of windows.
 
 use aram_core::Aram;
-use reach_map::{ChainStart, Window, reach};
+use reach_map::{ChainStart, Window, bytes_have_page, chain_has_page, entry_has_page, reach};
 use std::alloc::Global;
 use std::test::Fail;
 use test_support::has_exactly;
@@ -12,6 +12,11 @@ fn memory(alloc: Global) -> Result<Aram, Fail> {
     let mut memory = Aram::from_image(alloc, &zeros)?;
     memory.put(0x0601, 0x01);
     Ok(memory)
+}
+
+/// Whether voices on a chain can read these pages and no others.
+fn reads_exactly(memory: &Aram, start: ChainStart, pages: &[u8]) -> bool {
+    (0..=255u8).all(|page| chain_has_page(memory, start, page) == pages.contains(&page))
 }
 
 /// A window over the end of a page.
@@ -31,6 +36,7 @@ fn a_chain_goes_to_its_loop_after_an_end(rt: HostRuntime) -> Result<(), Fail> {
     let found = reach(&memory, &starts, &[], WINDOW, false);
     assert!(rt; has_exactly(&found.read_pages, &[0x03, 0x04, 0x05, 0x06, 0x40, 0x41]));
     assert!(rt; has_exactly(&found.write_pages, &[]));
+    assert!(rt; reads_exactly(&memory, starts[0], &[0x05, 0x06, 0x40, 0x41]));
     Ok(())
 }
 
@@ -44,6 +50,7 @@ fn a_loop_comes_again_and_again(rt: HostRuntime) -> Result<(), Fail> {
     }];
     let found = reach(&memory, &starts, &[], WINDOW, false);
     assert!(rt; has_exactly(&found.read_pages, &[0x03, 0x04, 0x05, 0x06]));
+    assert!(rt; reads_exactly(&memory, starts[0], &[0x05, 0x06]));
     Ok(())
 }
 
@@ -58,6 +65,12 @@ fn entries_and_windows_go_over_ends_of_pages_and_of_memory(rt: HostRuntime) -> R
     assert!(rt; has_exactly(&found.read_pages, &[0x00, 0x02, 0x03, 0x80, 0xff]));
     assert!(rt; has_exactly(&found.write_pages, &[0x00, 0xff]));
     assert!(rt; found.entangled == false);
+    for page in 0..=255u8 {
+        assert!(rt; entry_has_page(0x02fe, page) == [0x02, 0x03].contains(&page));
+        assert!(rt;
+            bytes_have_page(window.start, window.len, page) == [0x00, 0xff].contains(&page)
+        );
+    }
     Ok(())
 }
 

@@ -10,7 +10,6 @@ use num_fix::Frame;
 use std::alloc::Global;
 use std::process::Abort;
 use std::test::Fail;
-use test_support::has_exactly;
 use trace_form::Record;
 
 /// A chip whose voice 0 is set to play one source, with such a KON.
@@ -379,10 +378,10 @@ fn the_echo_goes_round_its_window(rt: HostRuntime) -> Result<(), Fail> {
 
 /// Looks at the pages that the samples to come read and write, and at whether the echo can write what they read.
 fn look_at_reach(rt: &impl Abort, stage: &Stage, read: &[u8], written: &[u8], entangled: bool) {
-    let reach = stage.dsp.reach(&stage.memory);
-    assert!(rt; has_exactly(&reach.read_pages, read));
-    assert!(rt; has_exactly(&reach.write_pages, written));
-    assert!(rt; reach.entangled == entangled);
+    let (dsp, memory) = (&stage.dsp, &stage.memory);
+    assert!(rt; (0..=255u8).all(|page| dsp.reads_page(memory, page) == read.contains(&page)));
+    assert!(rt; (0..=255u8).all(|page| dsp.writes_page(page) == written.contains(&page)));
+    assert!(rt; dsp.is_entangled(memory) == entangled);
 }
 
 #[test]

@@ -19,12 +19,12 @@ use Rattle.spc700_exec.specs.declared.bus.TheConstants.{CYCLES_PER_SAMPLE}
 
 pub returns-then-not-is_drained : goal.returns-then-not-is_drained
 returns-then-not-is_drained g c =
-    rw (c.ensure_reach.ensures.rest, ← c.self.view_is)
+    rw (← c.self.view_is)
     (no_wait (lagging g.C.Chip.meaning) (lag_emits g.C.Chip.meaning) c.args.samples c.args.cpu.now _ (rw (← c.self.view_is) at c.requires.more))
 
 pub returns-in_default : goal.returns-in_default
 returns-in_default g c =
-    rw (c.ensure_reach.ensures.rest, ← c.self.view_is)
+    rw (← c.self.view_is)
     (no_wait (lagging g.C.Chip.meaning) (lag_emits g.C.Chip.meaning) c.args.samples c.args.cpu.now _ (rw (← c.self.view_is) at c.requires.more))
 
 pub returns : goal.returns
@@ -39,28 +39,26 @@ returns g c =
     let d : ℕ = c.from-2.result in
     let k : ℕ = most / c.from.result in
     let made : late.made ≡ clock / CYCLES_PER_SAMPLE = c.self.invariant.same_made in
-    let reached : c.ensure_reach.new.self ≡ late = c.ensure_reach.ensures.rest in
     let kept : IsKept chip (lagging_of late io clock counts calls) = record {
       batches = c.self.invariant.same_batches;
       sample = ap (λ (n : ℕ). n - late.pending) made;
       total = refl;
-      writes = λ due at few free. subst (λ (n : ℕ). byte_at (samples chip.sample due n late.chip late.memory).memory at ≡ byte_at late.memory at) made (c.ensure_reach.ensures.writes due at few free);
+      writes = λ due at few free. subst (λ (n : ℕ). byte_at (samples chip.sample due n late.chip late.memory).memory at ≡ byte_at late.memory at) made (c.writes_within.ensures due at few free);
     } in
-    let small : AreTimers io = c.cycles_to_wait.ensures.timers in
-    let free : late.pending + samples_in clock most < 64 = subst (λ (l : Late g.row.C-State.Denot). l.pending + samples_in clock most < 64) reached c.cycles_to_wait.ensures.free in
+    let small : AreTimers io = rw (← c.self.view_is) at c.cycles_to_wait.ensures.timers in
+    let free : late.pending + samples_in clock most < 64 = rw (← c.self.view_is) at c.cycles_to_wait.ensures.free in
     let tried = c.in-Some.ensures.round in
     let length : c.in-Some.round ≡ d = sym c.from-2.ensures in
     let round : look_of_steps (byte_seen chip (lagging_of late io clock counts calls)) tried.0 c.args.cpu.now ≡ Some (c.args.cpu.now, d) =
-    subst (λ (l : Late g.row.C-State.Denot). look_of_steps (byte_seen chip (lagging_of l io clock counts calls)) tried.0 c.args.cpu.now ≡ Some (c.args.cpu.now, d)) reached
-    (tried.1 ∙ (λ i. Some (c.args.cpu.now, length i))) in
+    (rw (← c.self.view_is) at tried.1) ∙ (λ i. Some (c.args.cpu.now, length i)) in
     let same : c.from.result ≡ d = c.from.ensures ∙ sym c.from-2.ensures in
     let parts = mod-add-div' most c.from.result in
     let whole : k * c.from.result ≤ most = omega arith in
     let fits : k * d ≤ most = subst (λ (n : ℕ). k * n ≤ most) same whole in
     let due : ℕ = samples_in clock (k * d) in
     let moment : c.clock-clock.result ≡ clock = c.clock-clock.ensures.clock in
-    let pends : c.pend_all.new.late ≡ late_with_samples chip late due = c.pend_all.ensures ∙ (λ i. late_with_samples chip (reached i) (samples_in (moment i) (k * d))) in
+    let pends : c.pend_all.new.late ≡ late_with_samples chip late due = c.pend_all.ensures ∙ (λ i. late_with_samples chip late (samples_in (moment i) (k * d))) in
     rw (← c.self.view_is)
     (is_wait chip c.args.samples c.args.cpu.now (lagging_of late io clock counts calls) (lagging_of c.pend_all.new.late c.wait.new.self.io c.wait.new.self.clock counts c.wait.new.self.calls)
-    most k tried.0 d kept small c.cycles_to_wait.ensures.zeros free c.cycles_to_wait.ensures.below round fits
+    most k tried.0 d kept small (rw (← c.self.view_is) at c.cycles_to_wait.ensures.zeros) free (rw (← c.self.view_is) at c.cycles_to_wait.ensures.below) round fits
     ((λ i. lagging_of (pends i) (c.wait.ensures i).io (c.wait.ensures i).clock counts (c.wait.ensures i).calls) ∙ lagging_of-wait chip late io clock counts calls (k * d) due c.self.invariant.same_batches made refl))

@@ -1,4 +1,4 @@
-use Rattle.std.proofs.Common.{◌≤◌, arith, rules}
+use Rattle.std.proofs.Common.{◌≤◌, arith}
 use Rattle.chip_form.specs.Limits.{most_samples_of_chip}
 use Rattle.lag_bus.proofs.ChangesOfHeld.{held_loaded, late_loaded}
 use Rattle.lag_bus.proofs.late.LateChip.load.Goals as goal
@@ -9,7 +9,7 @@ invariant_of-self g c =
       rw (c.load.ensures.batches, c.load.ensures.total)
           (held_loaded g.met.C.Chip.lawful c.self.invariant.0 (g.C.Chip.state c.load.new.self) (g.C.Chip.sample c.load.new.self) c.copy_from.new.self
           (rw (← c.self.view_is) at c.requires.pending) (rw (← c.self.view_is) at c.requires.frames) (rw (← c.self.view_is) at c.requires.records) c.load.ensures.is_valid few),
-      search rules,
+      c.none-self-inside.ensures _,
     )
 
 pub returns : goal.returns

@@ -11,7 +11,7 @@ pub invariant_of-self : goal.invariant_of-self
 invariant_of-self g c = (
   rw (c.make_samples.ensures.made.state_made, c.make_samples.ensures.sample, c.make_samples.ensures.made.memory_made, c.make_samples.ensures.made.frames_made, c.merge_into.ensures.ring, c.merge_into.ensures.records, c.make_samples.ensures.made.records_made)
       (held_settled g.met.C.Chip.lawful c.self.invariant.0 _ _),
-  rw c.forget.ensures tt,
+  c.forget.ensures _ _ c.self.invariant.1,
 )
 
 pub returns-clause-made : goal.returns-clause-made

@@ -1,5 +1,8 @@
-use Rattle.lag_bus.proofs.PageMarks.{are_marks}
+use Rattle.lag_bus.proofs.PageMarks.{none_taken, taken_of_any}
 use Rattle.lag_bus.proofs.taken.TakenReach.forget.Goals as goal
 
-pub invariant_of-self : goal.invariant_of-self
-invariant_of-self c = (are_marks _, are_marks _)
+pub returns-then-self : goal.returns-then-self
+returns-then-self c = λ before after is. none_taken after
+
+pub returns-else-self : goal.returns-else-self
+returns-else-self c = λ before after is. taken_of_any before after c.args.self.now c.if-self.false is
