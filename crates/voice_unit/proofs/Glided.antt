@@ -28,6 +28,12 @@ same_pitches pitches others n position ways same are = record {
   next = λ j below. are.next j below ∙ ap (next_way (ways j)) (same j below);
 }
 
+-- at its own pitch a voice's samples stand so
+pub unbent_ways : (r : VoiceRegs) (inputs : ℕ → VoiceIn) (n position : ℕ) → ((j : ℕ) → j < n → (inputs j).modulated ≡ false) → r.pitch < 0x4000
+    → AreWays (λ j. pitch_of r (inputs j)) n position (steady_ways position r.pitch)
+unbent_ways r inputs n position unbent slow =
+    same_pitches (λ j. r.pitch) (λ j. pitch_of r (inputs j)) n position (steady_ways position r.pitch) (λ j below. sym (own_pitch r (inputs j) (unbent j below))) (steady r.pitch n position slow)
+
 -- a voice glides over plain samples
 pub lane_glides : (reads : VoiceReads) (previous : List ℤ) (voice : VoiceState) (k from end : ℕ)
     → ((j : ℕ) → from ≤ j → j < end → IsPlain reads.seen reads.rows.now j)
@@ -61,8 +67,7 @@ track_ways reads pitches lane track at n m position ways over glides few less sl
         (fewer_ways (pitches_from pitches at) n m position (slice_index ways) less (put e))
 
     own : is_modulated reads.seen.pmon reads.seen.voice ≡ false → AreWays (λ j. pitch_of lane.regs (lane.inputs (at + j))) m position (steady_ways position reads.regs.pitch)
-    own e = same_pitches (λ j. reads.regs.pitch) (λ j. pitch_of lane.regs (lane.inputs (at + j))) m position (steady_ways position reads.regs.pitch)
-        (λ j below. sym (own_pitch lane.regs (lane.inputs (at + j)) (heard j below ∙ e) ∙ ap (λ (r : VoiceRegs). r.pitch) over.regs)) (steady reads.regs.pitch m position slow)
+    own e = rw over.regs (unbent_ways reads.regs (λ j. lane.inputs (at + j)) m position (λ j below. heard j below ∙ e) slow)
 
     by : (b : Bool) → is_modulated reads.seen.pmon reads.seen.voice ≡ b → AreWays (λ j. pitch_of lane.regs (lane.inputs (at + j))) m position (way_at track)
     by true e = rw (is_bent, e, are) (bent e)
