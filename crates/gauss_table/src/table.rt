@@ -1,11 +1,14 @@
 //! The table and the interpolation.
 
-ghost use Rattle.std.specs.Prelude.{◌≡◌, ◌<◌, ◌⊎◌, IfOk, IfErr};
+ghost use Rattle.std.specs.Prelude.{◌≡◌, ◌<◌, ◌⊎◌, IfOk, IfErr, MatchOption};
+ghost use Rattle.gauss_table.specs.Factors.{AreFractions, AreFactors};
+ghost use Rattle.gauss_table.specs.Inside.{AreItsFactors};
 ghost use Rattle.gauss_table.specs.Interpolation.{mix};
 ghost use Rattle.gauss_table.specs.Quads.{AreQuads};
 ghost use Rattle.gauss_table.specs.StraightTable.{straight_table, straight_weight};
 ghost use Rattle.gauss_table.specs.Weights.{weights_in};
 
+use crate::factors::{Factors, are_fractions, factors_of};
 use crate::quad::{Quad, quads_of};
 use crate::taps::Taps;
 use crate::{OutOfMemory, TableRefusal};
@@ -20,17 +23,19 @@ pub struct GaussTable {
     weights: Box<[i16; 512]>,
     /// The four weights of each place, side by side.
     quads: Box<[Quad; 256]>,
+    /// Their factors, where each weight is from 0 to 2,047.
+    factors: Option<Box<[Factors; 256]>>,
 }
 
 impl Model for GaussTable {
     ghost use Rattle.std.specs.Prelude.{List, ℤ};
-    ghost use Rattle.gauss_table.specs.Quads.{AreQuads};
+    ghost use Rattle.gauss_table.specs.Inside.{IsTable};
 
     ghost Value = { List ℤ };
 
     ghost view = { λ t. t.weights.value };
 
-    ghost invariant = { λ t. AreQuads t.weights.value t.quads.value };
+    ghost invariant = { IsTable };
 }
 
 /// Entry `i` of the table of straight lines.
@@ -45,15 +50,33 @@ fn straight_weight(i: u16) -> i16
     }
 }
 
+/// The factors of these weights, where each weight is from 0 to 2,047.
+fn kept_factors(
+    alloc: Global,
+    weights: &[i16; 512],
+) -> Result<Option<Box<[Factors; 256]>>, OutOfMemory>
+    ensures { IfOk result (λ factors. AreItsFactors weights.now factors) }
+{
+    if !are_fractions(weights) {
+        return Ok(None);
+    }
+    Ok(Some(Box::new(alloc, factors_of(weights))?))
+}
+
 impl GaussTable {
     /// The table of these weights.
     fn from_weights(alloc: Global, weights: [i16; 512]) -> Result<GaussTable, OutOfMemory>
         ensures { IfOk result (λ table. table ≡ weights) }
     {
         let quads = quads_of(&weights);
+        let factors = kept_factors(alloc, &weights)?;
         let weights = Box::new(alloc, weights)?;
         let quads = Box::new(alloc, quads)?;
-        Ok(GaussTable { weights, quads })
+        Ok(GaussTable {
+            weights,
+            quads,
+            factors,
+        })
     }
 
     /// Reads a table of 1,024 bytes: 512 numbers, the low byte of each first.
@@ -86,6 +109,13 @@ impl GaussTable {
         ensures { AreQuads self.now result.now }
     {
         &self.quads
+    }
+
+    /// The factors of the weights of all places, where each weight is from 0 to 2,047.
+    pub fn factors(&self) -> Option<&[Factors; 256]>
+        ensures { MatchOption result (¬ AreFractions self.now) (λ factors. AreFactors self.now factors.now) }
+    {
+        self.factors.as_deref()
     }
 
     /// The interpolation of four samples, oldest first, at place `i` of 256 between the middle two.

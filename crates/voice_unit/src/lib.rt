@@ -13,6 +13,7 @@ mod plain;
 mod play;
 mod rest;
 mod row;
+mod short_sounding;
 mod sounding;
 mod track;
 mod voice;

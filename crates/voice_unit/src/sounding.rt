@@ -14,12 +14,14 @@ use crate::batch::VoiceReads;
 use crate::course::Course;
 use crate::level::at_level;
 use crate::row::ROW_SIZE;
+use crate::short_sounding::{LAST_OF_EIGHT, factors_of_level, put_short, take_short_track_taps};
 use crate::track::{Track, WAYS};
+use crate::workspace::TapRows;
 use gauss_table::{GaussTable, Quad, Taps};
 use num_fix::{BATCH_SIZE, clear_bit0, wrap16};
 
 /// The way to the last four samples of a row, in 65,536ths of a sample.
-const WAY_END: u32 = 0x10000 * (ROW_SIZE as u32 - 4);
+pub(crate) const WAY_END: u32 = 0x10000 * (ROW_SIZE as u32 - 4);
 
 /// The taps at a place of a row of kept samples, on a way in 65,536ths of a sample, so that the place of the weights is a byte of it.
 #[tactic(auto, unfolding(crate::specs::Voice::interpolation))]
@@ -141,7 +143,7 @@ impl<'a> Course<'a> {
     pub(crate) fn sound(
         &self,
         outs: &mut [i16; BATCH_SIZE],
-        taps: &mut [Taps; BATCH_SIZE],
+        taps: &mut TapRows,
         at: u8,
         n: u8,
         row: &[i16; ROW_SIZE],
@@ -162,7 +164,16 @@ impl<'a> Course<'a> {
             put_noise(outs, at, n, &reads.rows.noise, self.level);
             return;
         }
-        take_track_taps(taps, n, row, reads.table, &self.track);
-        put_at_level(outs, at, n, taps, self.level);
+        match reads.table.factors() {
+            Some(factors) if at <= LAST_OF_EIGHT => {
+                take_short_track_taps(&mut taps.short_taps, n, row, factors, &self.track);
+                let factors = factors_of_level(self.level);
+                put_short(outs, at, n, &taps.short_taps, &factors);
+            }
+            _ => {
+                take_track_taps(&mut taps.taps, n, row, reads.table, &self.track);
+                put_at_level(outs, at, n, &taps.taps, self.level);
+            }
+        }
     }
 }

@@ -1,0 +1,190 @@
+//! The outputs of a stretch of samples by products of 16 bits, eight at a time, where each weight of the table is from 0 to 2,047.
+
+ghost use Rattle.std.specs.Prelude.{◌≡◌, ◌≢◌, ◌<◌, ◌≤◌, ◌+◌, ◌*◌, ℕ, List, ℤ, slice_index};
+ghost use Rattle.num_fix.specs.SignedWords.{number_at};
+ghost use Rattle.gauss_table.specs.Factors.{AreFactors};
+ghost use Rattle.gauss_table.specs.Interpolation.{mix_of};
+ghost use Rattle.voice_unit.specs.Track.{IsTrack, way_at};
+ghost use Rattle.voice_unit.specs.Voice.{interpolation};
+ghost use Rattle.voice_unit.specs.OutsOverRow.{AreFactorsOfLevel, short_mixed_at, sounding_at};
+
+use crate::row::ROW_SIZE;
+use crate::sounding::WAY_END;
+use crate::track::{Track, WAYS};
+use gauss_table::{Factors, Products, ShortTaps, factor_of, product_by_factor};
+use num_fix::{BATCH_SIZE, clear_bit0};
+
+/// The last sample of a batch that seven follow.
+pub(crate) const LAST_OF_EIGHT: u8 = BATCH_SIZE as u8 - 8;
+
+/// What four samples give at a place of a row of kept samples, on a way in 65,536ths of a sample.
+#[tactic(auto, unfolding(crate::specs::Voice::interpolation))]
+fn products_at(row: &[i16; ROW_SIZE], way: u32, factors: &[Factors; 256]) -> Products
+    requires { way < WAY_END }
+    ensures { (table : List ℤ) (place : ℕ) → AreFactors table factors.now → way ≡ 0x10 * place
+        → mix_of result.oldest result.older result.newer result.newest ≡ interpolation table row.now place }
+{
+    let m = (way / 0x10000) as usize;
+    let i = (way / 0x100 % 0x100) as u8;
+    Products::at(factors, i, row[m], row[m + 1], row[m + 2], row[m + 3])
+}
+
+/// Puts what four samples give into a row.
+fn put_products(taps: &mut [ShortTaps; BATCH_SIZE], j: usize, products: &Products)
+    requires { j < BATCH_SIZE }
+    ensures here { short_mixed_at taps.new j ≡ mix_of products.now.oldest products.now.older products.now.newer products.now.newest }
+    ensures others { (i : ℕ) → i ≢ j → short_mixed_at taps.new i ≡ short_mixed_at taps.old i }
+{
+    taps[j].put(products);
+}
+
+/// Puts the taps of two samples, of which the second stands a step further on the way. Two have eight products, which are made at once.
+fn put_two(
+    taps: &mut [ShortTaps; BATCH_SIZE],
+    j: usize,
+    row: &[i16; ROW_SIZE],
+    way: u32,
+    step: u32,
+    factors: &[Factors; 256],
+)
+    requires few { j + 2 ≤ BATCH_SIZE }
+    requires way { way + step < WAY_END }
+    ensures first { (table : List ℤ) (place : ℕ) → AreFactors table factors.now → way ≡ 0x10 * place
+        → short_mixed_at taps.new j ≡ interpolation table row.now place }
+    ensures second { (table : List ℤ) (place : ℕ) → AreFactors table factors.now → way + step ≡ 0x10 * place
+        → short_mixed_at taps.new (j + 1) ≡ interpolation table row.now place }
+    ensures before { (i : ℕ) → i < j → short_mixed_at taps.new i ≡ short_mixed_at taps.old i }
+{
+    let first = products_at(row, way, factors);
+    let second = products_at(row, way + step, factors);
+    put_products(taps, j, &first);
+    put_products(taps, j + 1, &second);
+}
+
+/// The taps of n samples, from a position in a row on, four at a time. It stands apart, so that its loop keeps its numbers in registers.
+#[inline(never)]
+fn take_short_taps(
+    taps: &mut [ShortTaps; BATCH_SIZE],
+    n: u8,
+    row: &[i16; ROW_SIZE],
+    factors: &[Factors; 256],
+    position: u16,
+    pitch: u16,
+)
+    requires few { n ≤ BATCH_SIZE }
+    requires position { position < 0x8000 }
+    requires pitch { pitch < 0x4000 }
+    ensures { (table : List ℤ) → AreFactors table factors.now → (j : ℕ) → j < n
+        → short_mixed_at taps.new j ≡ interpolation table row.now (position + j * pitch) }
+{
+    let step = 0x10 * u32::from(pitch);
+    let mut way = 0x10 * u32::from(position);
+    for c in 0..(usize::from(n) + 3) / 4 {
+        put_two(taps, 4 * c, row, way, step, factors);
+        put_two(taps, 4 * c + 2, row, way + 2 * step, step, factors);
+        way += 4 * step;
+    }
+}
+
+/// The taps of n samples that stand so far in a row, each at its own place.
+fn take_short_bent_taps(
+    taps: &mut [ShortTaps; BATCH_SIZE],
+    n: u8,
+    row: &[i16; ROW_SIZE],
+    factors: &[Factors; 256],
+    ways: &[u32; WAYS],
+)
+    requires few { n ≤ BATCH_SIZE }
+    requires within { (j : ℕ) → j < n → 0x10 * slice_index ways.now j < WAY_END }
+    ensures { (table : List ℤ) → AreFactors table factors.now → (j : ℕ) → j < n
+        → short_mixed_at taps.new j ≡ interpolation table row.now (slice_index ways.now j) }
+{
+    for j in 0..usize::from(n) {
+        let products = products_at(row, 0x10 * ways[j], factors);
+        put_products(taps, j, &products);
+    }
+}
+
+/// The taps of n samples of a track.
+#[tactic(auto, unfolding(crate::specs::Track::way_at))]
+pub(crate) fn take_short_track_taps(
+    taps: &mut [ShortTaps; BATCH_SIZE],
+    n: u8,
+    row: &[i16; ROW_SIZE],
+    factors: &[Factors; 256],
+    track: &Track,
+)
+    requires few { n ≤ BATCH_SIZE }
+    requires track { IsTrack track.now n }
+    ensures { (table : List ℤ) → AreFactors table factors.now → (j : ℕ) → j < n
+        → short_mixed_at taps.new j ≡ interpolation table row.now (way_at track.now j) }
+{
+    if track.bent {
+        take_short_bent_taps(taps, n, row, factors, track.ways);
+        return;
+    }
+    take_short_taps(taps, n, row, factors, track.position, track.pitch);
+}
+
+/// The factor of a level as a row, so that 16-bit numbers meet 16-bit numbers.
+pub(crate) fn factors_of_level(level: u16) -> [i16; BATCH_SIZE]
+    requires { level ≤ 0x7ff }
+    ensures { AreFactorsOfLevel level result }
+{
+    let factor = factor_of(level as i16);
+    [factor; BATCH_SIZE]
+}
+
+/// The outputs of eight samples from one on, at the level of a row of factors.
+fn eight_at_level(
+    taps: &[ShortTaps; BATCH_SIZE],
+    from: usize,
+    factors: &[i16; BATCH_SIZE],
+) -> [i16; 8]
+    requires { from + 8 ≤ BATCH_SIZE }
+    ensures { (level : ℕ) → level ≤ 0x7ff → AreFactorsOfLevel level factors.now → (k : ℕ) → k < 8
+        → number_at result k ≡ sounding_at level (short_mixed_at taps.now (from + k)) }
+{
+    let mut eight = [0; 8];
+    for k in 0..8usize {
+        let product = product_by_factor(factors[from + k], taps[from + k].mixed());
+        eight[k] = clear_bit0(product);
+    }
+    eight
+}
+
+/// Puts eight outputs from a place on.
+fn put_eight(outs: &mut [i16; BATCH_SIZE], at: usize, eight: &[i16; 8])
+    requires { at + 8 ≤ BATCH_SIZE }
+    ensures outs { (k : ℕ) → k < 8 → number_at outs.new (at + k) ≡ number_at eight.now k }
+    ensures before { (i : ℕ) → i < at → number_at outs.new i ≡ number_at outs.old i }
+{
+    for k in 0..8usize {
+        outs[at + k] = eight[k];
+    }
+}
+
+/// The outputs of n samples at the level of a row of factors, eight at a time: where fewer are left, some after them are written too, and where the row
+/// ends, some of those before them are made again.
+#[inline(never)]
+pub(crate) fn put_short(
+    outs: &mut [i16; BATCH_SIZE],
+    at: u8,
+    n: u8,
+    taps: &[ShortTaps; BATCH_SIZE],
+    factors: &[i16; BATCH_SIZE],
+)
+    requires few { at + n ≤ BATCH_SIZE }
+    requires early { at ≤ LAST_OF_EIGHT }
+    ensures outs { (level : ℕ) → level ≤ 0x7ff → AreFactorsOfLevel level factors.now → (j : ℕ) → j < n
+        → number_at outs.new (at + j) ≡ sounding_at level (short_mixed_at taps.now j) }
+    ensures before { (i : ℕ) → i < at → number_at outs.new i ≡ number_at outs.old i }
+{
+    let begin = usize::from(at);
+    let last = usize::from(LAST_OF_EIGHT - at);
+    for c in 0..(usize::from(n) + 7) / 8 {
+        let from = (8 * c).min(last);
+        let eight = eight_at_level(taps, from, factors);
+        put_eight(outs, begin + from, &eight);
+    }
+}
