@@ -1,12 +1,18 @@
 //! Worked examples: one key on and eight steps, one by one and over a batch, and pitches that an output bends.
 
-ghost use Rattle.std.specs.Prelude.{◌<◌, ℕ, slice_index};
+ghost use Rattle.std.specs.Prelude.{◌≡◌, ◌<◌, ℕ, slice_index};
 
-use crate::sources::memory_of_a_source;
+use crate::sources::{memory_of_a_source, put_all};
+use aram_core::Aram;
 use gauss_table::GaussTable;
 use rate_clock::RateClock;
+use std::alloc::Global;
+use std::process::Abort;
 use std::test::Fail;
-use voice_unit::{BatchRows, OutRow, Voice, VoiceIn, VoiceOut, VoiceReads, VoiceRegs, VoiceView};
+use voice_unit::{
+    BatchRows, OutRow, PlayedRows, Voice, VoiceIn, VoiceOut, VoiceReads, VoiceRegs, VoiceView,
+    Workspace,
+};
 
 /// What a step reads in sample `k`, where a key on waits for the first poll.
 fn input_of(k: u32) -> VoiceIn
@@ -71,6 +77,33 @@ fn rows_with_a_key_on() -> BatchRows
     }
 }
 
+/// What voice 3 reads in a batch, with those registers.
+fn reads_of_voice_3<'a>(
+    rows: &'a BatchRows,
+    memory: &'a Aram,
+    table: &'a GaussTable,
+) -> VoiceReads<'a>
+    ensures regs { result.regs.pitch < 0x4000 }
+    ensures voice { result.seen.voice ≡ 3 }
+    ensures rows { result.rows.now ≡ rows.now }
+{
+    VoiceReads {
+        regs: registers(),
+        seen: VoiceView {
+            voice: 3,
+            dir: 2,
+            pmon: 0,
+            non: 0,
+            koff: 0,
+            reset: false,
+        },
+        rows,
+        memory,
+        table,
+        clock: RateClock::new().after_samples(1),
+    }
+}
+
 /// What an answer tells but for the level and the registers.
 fn told(answer: &VoiceOut) -> (i16, u16, bool, bool) {
     (answer.out, answer.block, answer.looped, answer.keyed)
@@ -81,21 +114,7 @@ fn a_run_gives_the_answers_of_its_steps(rt: HostRuntime) -> Result<(), Fail> {
     let memory = memory_of_a_source(rt.alloc())?;
     let table = GaussTable::straight(rt.alloc())?;
     let rows = rows_with_a_key_on();
-    let reads = VoiceReads {
-        regs: registers(),
-        seen: VoiceView {
-            voice: 3,
-            dir: 2,
-            pmon: 0,
-            non: 0,
-            koff: 0,
-            reset: false,
-        },
-        rows: &rows,
-        memory: &memory,
-        table: &table,
-        clock: RateClock::new().after_samples(1),
-    };
+    let reads = reads_of_voice_3(&rows, &memory, &table);
     let mut out = OutRow::silent();
     out.items[8].block = 0x1234;
     let mut voice = Voice::new();
@@ -163,9 +182,87 @@ fn an_output_bends_the_pitch_of_the_next_voice(rt: HostRuntime) -> Result<(), Fa
         (0x1000, -0x4000, Some(14)),
         // at 0000h never
         (0x3fff, -0x8000, None),
+        // at 7FDEh in one
+        (0x3fff, 0x7fff, Some(7)),
     ] {
         let step = first_loop(rt, pitch, previous)?;
         assert!(rt; step == want, "at {pitch} and {previous}");
+    }
+    Ok(())
+}
+
+/// Rows before a voice plays.
+fn unplayed() -> PlayedRows
+    ensures { (j : ℕ) → j < 64 → slice_index result.loops j ≡ 0 }
+{
+    PlayedRows {
+        outs: [0; 64],
+        loops: [0; 64],
+    }
+}
+
+/// The bit of voice 3 in each sample of a batch from its key on in which it loops, at a pitch that the outputs of voice 2 bend. It plays the batch, and
+/// beside that makes the steps one by one.
+fn loops_of_a_bent_voice(
+    rt: &impl Abort,
+    alloc: Global,
+    pitch: u16,
+    previous: &[i16; 64],
+) -> Result<[u8; 64], Fail>
+    requires { pitch < 0x4000 }
+{
+    let mut memory = memory_of_a_source(alloc)?;
+    let block = [0xc3, 0x71, 0x9e, 0x05, 0xd8, 0x2b, 0xf4, 0x63, 0xac];
+    put_all(&mut memory, 0x0600, &block);
+    let table = GaussTable::straight(alloc)?;
+    let rows = rows_with_a_key_on();
+    let mut reads = reads_of_voice_3(&rows, &memory, &table);
+    reads.regs.pitch = pitch;
+    reads.seen.pmon = 0x08;
+    let mut work = Workspace::new(alloc, &table)?;
+    let mut made = unplayed();
+    let mut voice = Voice::new();
+    let last = voice.play(64, &reads, previous, &mut work, &mut made);
+    let mut beside = Voice::new();
+    for j in 0..64u8 {
+        let place = usize::from(j);
+        let input = reads.seen.input(&rows, previous[place], j);
+        let clock = reads.clock.after_samples(j);
+        let answer = beside.step(&reads.regs, &input, &memory, &table, &clock);
+        assert!(rt; answer.out == made.outs[place], "in sample {j} at {pitch}");
+        assert!(rt;
+            answer.looped == (made.loops[place] == 0x08),
+            "in sample {j} at {pitch}"
+        );
+        assert!(rt; j < 63 || told(&answer) == told(&last));
+    }
+    Ok(made.loops)
+}
+
+// At 7FDEh the position comes past the end of a group in each step, and stays before the end of the next one. So each sample from step 7 on reads a group,
+// of which every fourth ends a block.
+#[test]
+fn at_its_greatest_pitch_a_voice_reads_a_group_a_sample(rt: HostRuntime) -> Result<(), Fail> {
+    let loops = loops_of_a_bent_voice(&rt, rt.alloc(), 0x3fff, &[0x7fff; 64])?;
+    for (j, bit) in (0..64u32).zip(loops) {
+        let want = if j >= 7 && j % 4 == 3 { 0x08 } else { 0 };
+        assert!(rt; bit == want, "in sample {j}");
+    }
+    Ok(())
+}
+
+// This compares two ways of making the same samples: as a batch, and step by step. At 2800h and 3FFFh the greatest of these outputs can lead the position
+// to its end, at the others none can.
+#[test]
+fn a_bent_voice_plays_a_batch_as_its_steps(rt: HostRuntime) -> Result<(), Fail> {
+    let mut previous = [0x1234; 64];
+    for k in 0..16 {
+        previous[4 * k] = 0x7ffe;
+        previous[4 * k + 1] = -0x8000;
+        previous[4 * k + 2] = -0x0765;
+    }
+    for pitch in [0, 0x07d1, 0x1000, 0x1fff, 0x2800, 0x3fff] {
+        loops_of_a_bent_voice(&rt, rt.alloc(), pitch, &previous)?;
     }
     Ok(())
 }
