@@ -1,8 +1,10 @@
 // The command `brr`: blocks of BRR to a sound file of one channel.
-ghost use Rattle.std.specs.Prelude.{◌≡◌, ◌≤◌, ◌++◌, length, codes, decimal, IfOk, true};
+ghost use Rattle.std.specs.Prelude.{◌≡◌, ◌≤◌, ◌++◌, length, codes, decimal, IfOk, [], ◌∷◌};
 ghost use Rattle.num_fix.specs.Limits.{most_frames};
 ghost use Rattle.wav_form.specs.Wave.{mono_wave};
 ghost use Rattle.snd_host.specs.Host.{HostState, Files};
+ghost use Rattle.snd_host.specs.OpenedInputs.{inputs_up_to};
+ghost use Rattle.input_files.specs.Reading.{input_limit};
 ghost use Rattle.command_frame.specs.Conduct.{Plans, Prepares, Attempts};
 ghost use Rattle.command_frame.specs.Delivery.{CanDeliver};
 ghost use Rattle.command_frame.specs.Plan.{plan_makes};
@@ -77,7 +79,7 @@ fn prepare<'a, H: Host>(
     output: &'a str,
 ) -> Result<Plan<'a>, Refusal<Cause>>
     ensures { let answer = λ (files : Files). brr_answer output.now (files input.now) in
-        Prepares plan_makes answer (H.state host.old) (H.state host.new) result }
+        Prepares plan_makes answer (inputs_up_to input_limit (input.now ∷ [])) (H.state host.old) (H.state host.new) result }
 {
     let bytes = read_input(alloc, host, input, INPUT_LIMIT, Cause::InputTooLong)?;
     plan(alloc, bytes.as_slice(), output)
@@ -92,7 +94,7 @@ pub fn brr<H: Host>(
 ) -> Option<Refusal<Cause>>
     requires { CanDeliver (H.state host.old) }
     ensures attempts { let answer = λ (files : Files). brr_answer output.now (files input.now) in
-        Attempts answer true result (H.state host.old) (H.state host.new) }
+        Attempts answer (inputs_up_to input_limit (input.now ∷ [])) result (H.state host.old) (H.state host.new) }
     ensures not_usage { result ≡ Some Refusal.Usage → ⊥ }
 {
     let prepared = prepare(alloc, host, input, output);

@@ -1,5 +1,5 @@
 // The command `check`: sums over the frames of a demo file, and the counts of its batches.
-ghost use Rattle.std.specs.Prelude.{◌≡◌, ◌≤◌, IfOk, length, false};
+ghost use Rattle.std.specs.Prelude.{◌≡◌, ◌≤◌, IfOk, length, []};
 ghost use Rattle.dsp_core.specs.DspChip.{dsp_chip};
 ghost use Rattle.render_core.specs.RenderState.{frames_to_come, counts_to_come};
 ghost use Rattle.snd_host.specs.Host.{HostState, Files};
@@ -111,7 +111,7 @@ fn plan<'a>(alloc: Global, number: u32) -> Result<Plan<'a>, Refusal<Cause>>
 pub fn check<H: Host>(alloc: Global, host: &mut H, number: u32) -> Option<Refusal<Cause>>
     requires { CanDeliver (H.state host.old) }
     ensures attempts { let answer = λ (files : Files). check_answer number in
-        Attempts answer false result (H.state host.old) (H.state host.new) }
+        Attempts answer [] result (H.state host.old) (H.state host.new) }
     ensures not_usage { result ≡ Some Refusal.Usage → ⊥ }
 {
     let prepared = plan(alloc, number);

@@ -1,5 +1,5 @@
 // The command `demo`: a demo file.
-ghost use Rattle.std.specs.Prelude.{◌≡◌, false, IfOk};
+ghost use Rattle.std.specs.Prelude.{◌≡◌, IfOk, []};
 ghost use Rattle.command_frame.specs.Answer.{done};
 ghost use Rattle.snd_host.specs.Host.{HostState, Files};
 ghost use Rattle.command_frame.specs.Conduct.{Plans, Attempts};
@@ -48,7 +48,7 @@ pub fn demo<H: Host>(
 ) -> Option<Refusal<Cause>>
     requires { CanDeliver (H.state host.old) }
     ensures attempts { let answer = λ (files : Files). demo_answer number output.now in
-        Attempts answer false result (H.state host.old) (H.state host.new) }
+        Attempts answer [] result (H.state host.old) (H.state host.new) }
     ensures not_usage { result ≡ Some Refusal.Usage → ⊥ }
 {
     let prepared = plan(alloc, number, output);

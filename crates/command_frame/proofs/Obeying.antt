@@ -1,13 +1,15 @@
 -- What a command did is what its answer says.
-use Rattle.std.proofs.Common.{◌≡◌, ◌⊎◌, inl, inr, Result, Ok, Err, IsOk, IsSome, ℕ, ◌+◌, ◌≤◌, Bool, true, false, List, [], ◌++◌, length, get_or, Option, Some, None, refl, sym, ◌∙◌, ap, subst, rules}
+use Rattle.std.proofs.Common.{◌≡◌, ◌⊎◌, inl, inr, Result, Ok, Err, IsOk, IsSome, ℕ, ◌+◌, ◌≤◌, Bool, List, [], ◌++◌, length, get_or, Option, Some, None, refl, sym, ◌∙◌, ap, subst, rules}
 use Rattle.std.proofs.lemmas.List.{append-nil}
-use Rattle.snd_host.specs.Host.{HostState, Files, Output, Rose, ChangesInputs}
+use Rattle.snd_host.specs.Host.{HostState, Files, Output, Asked, Rose, ChangesInputs, asked_of}
+use Rattle.snd_host.specs.OpenedInputs.{NamedInput}
+use Rattle.snd_host.proofs.OpenedInputs.{in_order_same, in_order_nothing}
 use Rattle.snd_host.specs.declared.host.Failed.{Failed}
 use Rattle.command_frame.specs.declared.refusals.Refusal.{Refusal}
 use Rattle.command_frame.specs.declared.refusals.Refusal.TheVariants.{Usage, ReadFault, WriteFault, OutOfMemory}
 use Rattle.command_frame.specs.Delivery.{Gains, HaveRooms, Delivers, all_ended}
 use Rattle.command_frame.specs.Answer.{Answer, done, refused, refusal_of, outputs_of, report_of, line_of, delivery_refusal}
-use Rattle.command_frame.specs.Conduct.{Delivery, NoneRose, EndsAs, Attempts, WritesComplaint, Obeys, Prepares, CarriesOut}
+use Rattle.command_frame.specs.Conduct.{Delivery, NoneRose, EndsAs, IsSettled, Attempts, WritesComplaint, Obeys, Prepares, CarriesOut}
 use Rattle.command_frame.proofs.Delivering.{gains_nothing}
 
 -- reading changes nothing that was made
@@ -18,6 +20,16 @@ made_after r c o e x y z reads made = record {
   holds = made.holds ∙ reads.holds;
 }
 
+-- no call for an input came after
+faults_kept : (a b : HostState) → asked_of b ≡ asked_of a → b.faults.inputs ≡ a.faults.inputs
+faults_kept a b same = ap (λ (asked : Asked). asked.faults) same
+
+opened_kept : (a b : HostState) → asked_of b ≡ asked_of a → b.opened ≡ a.opened
+opened_kept a b same = ap (λ (asked : Asked). asked.opened) same
+
+prepared_is_settled : {C : Type 0} → IsSettled {C = C} None
+prepared_is_settled = (λ wrong. absurd (cc), λ wrong. absurd (cc))
+
 -- all was delivered
 all_done : {C T E : Type 0} (outputs : List Output) (report : List ℕ) (x y z : HostState) (t : T) (reads : ChangesInputs x y) (calm : y.faults.inputs ≡ x.faults.inputs) (d : Delivers {T = T} {E = E} outputs report y z (Ok t)) → EndsAs {C = C} (done outputs report) None d.reported d.begun d.ended x z
 all_done outputs report x y z t reads calm d = record {
@@ -27,7 +39,7 @@ all_done outputs report x y z t reads calm d = record {
   report_last = d.report_last;
   truthful = inl refl;
   steady = λ steady. inl refl;
-  steady_inputs = λ steady other. d.inputs ∙ calm;
+  steady_inputs = λ steady other. faults_kept y z d.inputs ∙ calm;
   enough = λ rooms told have fits. (inl refl, d.cause.same ∙ reads.outputs);
 }
 
@@ -40,7 +52,7 @@ part_done {C = C} {T = T} {E = E} outputs report x y z e reads calm d = record {
   report_last = d.report_last;
   truthful = inr (inr (inl refl));
   steady = λ steady. inr (inl refl);
-  steady_inputs = λ steady other. d.inputs ∙ calm;
+  steady_inputs = λ steady other. faults_kept y z d.inputs ∙ calm;
   enough = λ rooms told have fits.
       let ok : IsOk {T = T} {E = E} (Err e) = d.enough rooms (reads.rooms rooms told) (subst (λ (l : List Bool). HaveRooms outputs rooms (length l + 2)) (sym reads.ended) have) fits in absurd (search rules);
 }
@@ -102,21 +114,22 @@ not_read {C = C} a x y reads steadily = record {
 note_room_kept : {T E : Type 0} (outputs : List Output) (report : List ℕ) (x y z : HostState) (r : Result T E) → ChangesInputs x y → Delivers outputs report y z r → (rooms : List ℕ) → x.steady ≡ Some rooms → (after : List ℕ) × (z.steady ≡ Some after) × (get_or after 1 0 ≡ get_or rooms 1 0)
 note_room_kept outputs report x y z r reads d rooms told = let after = d.rooms rooms (reads.rooms rooms told) in (after.0, after.1, after.3)
 
-module _ {P C : Type 0} (makes : P → Delivery) (answer : Files → Answer C) (x y z : HostState) where
-  attempts_done : (plan : P) (refusal : Option (Refusal C)) (p : Prepares makes answer x y (Ok plan)) (outcome : Result (Unit {0}) Failed) → refusal ≡ delivery_refusal outcome → Delivers (makes plan).outputs (makes plan).report y z outcome → Attempts answer true refusal x z
-  attempts_done plan refusal p (Ok t) is d = subst (λ (r : Option (Refusal C)). Attempts answer true r x z) (sym is) (record {
+module _ {P C : Type 0} {inputs : List NamedInput} (makes : P → Delivery) (answer : Files → Answer C) (x y z : HostState) where
+  attempts_done : (plan : P) (refusal : Option (Refusal C)) (p : Prepares makes answer inputs x y (Ok plan)) (outcome : Result (Unit {0}) Failed) → refusal ≡ delivery_refusal outcome → Delivers (makes plan).outputs (makes plan).report y z outcome → Attempts answer inputs refusal x z
+  attempts_done plan refusal p (Ok t) is d = subst (λ (r : Option (Refusal C)). Attempts answer inputs r x z) (sym is) (record {
     report = d.reported;
     outputs = d.begun;
     ended = d.ended;
     made = made_after d.reported [] d.begun d.ended x y z p.others d.made;
     causes = record {
-      calm_inputs = λ _. d.inputs ∙ calm;
+      calm_inputs = λ _. faults_kept y z d.inputs ∙ calm;
       calm_outputs = λ _. d.cause.same ∙ p.others.outputs;
       read = λ wrong. absurd (cc);
       write = λ wrong. absurd (cc);
       refused = λ some not_write. absurd (some refl);
       report_last = λ some. let last = d.report_last some in last.1 ∙ ap all_ended (sym last.0);
     };
+    read = λ files told. in_order_same _ _ _ _ _ x y z (p.opened files told) (λ settled. settled) (λ prepared. prepared) (opened_kept y z d.inputs);
     notes = d.notes ∙ p.others.notes;
     note_room = note_room_kept (makes plan).outputs (makes plan).report x y z (Ok t) p.others d;
     answered = λ files told. subst (λ (a : Answer C). EndsAs a None d.reported d.begun d.ended x z) (sym (p.ok files told)) (all_done (makes plan).outputs (makes plan).report x y z t p.others calm d);
@@ -124,19 +137,20 @@ module _ {P C : Type 0} (makes : P → Delivery) (answer : Files → Answer C) (
     where
       calm : y.faults.inputs ≡ x.faults.inputs
       calm = p.calm (λ wrong. absurd (cc))
-  attempts_done plan refusal p (Err e) is d = subst (λ (r : Option (Refusal C)). Attempts answer true r x z) (sym is) (record {
+  attempts_done plan refusal p (Err e) is d = subst (λ (r : Option (Refusal C)). Attempts answer inputs r x z) (sym is) (record {
     report = d.reported;
     outputs = d.begun;
     ended = d.ended;
     made = made_after d.reported [] d.begun d.ended x y z p.others d.made;
     causes = record {
-      calm_inputs = λ _. d.inputs ∙ calm;
+      calm_inputs = λ _. faults_kept y z d.inputs ∙ calm;
       calm_outputs = λ other. absurd (other refl);
       read = λ wrong. absurd (cc);
       write = λ _. subst (λ (n : ℕ). Rose n z.faults.outputs) p.others.outputs d.cause.failed;
       refused = λ some not_write. absurd (not_write refl);
       report_last = λ some. let last = d.report_last some in last.1 ∙ ap all_ended (sym last.0);
     };
+    read = λ files told. in_order_same _ _ _ _ _ x y z (p.opened files told) (λ settled. prepared_is_settled {C = C}) (λ prepared. inl refl) (opened_kept y z d.inputs);
     notes = d.notes ∙ p.others.notes;
     note_room = note_room_kept (makes plan).outputs (makes plan).report x y z (Err e) p.others d;
     answered = λ files told. subst (λ (a : Answer C). EndsAs a (Some WriteFault) d.reported d.begun d.ended x z) (sym (p.ok files told)) (part_done (makes plan).outputs (makes plan).report x y z e p.others calm d);
@@ -145,7 +159,7 @@ module _ {P C : Type 0} (makes : P → Delivery) (answer : Files → Answer C) (
       calm : y.faults.inputs ≡ x.faults.inputs
       calm = p.calm (λ wrong. absurd (cc))
 
-  refused_answer : (why : Refusal C) (p : Prepares makes answer x y (Err why)) (files : Files) → x.holds ≡ Some files → EndsAs (answer files) (Some why) [] [] [] x y
+  refused_answer : (why : Refusal C) (p : Prepares makes answer inputs x y (Err why)) (files : Files) → x.holds ≡ Some files → EndsAs (answer files) (Some why) [] [] [] x y
   refused_answer why p files told = by (p.err files told)
     where
       no_write : why ≡ WriteFault → ⊥
@@ -159,7 +173,7 @@ module _ {P C : Type 0} (makes : P → Delivery) (answer : Files → Answer C) (
       by (inr (inl is)) = subst (λ (r : Refusal C). EndsAs (answer files) (Some r) [] [] [] x y) (sym is) (not_read (answer files) x y p.others (λ steady. p.steady (ap (λ (r : Refusal C). Err r) is) steady files told))
       by (inr (inr is)) = subst (λ (r : Refusal C). EndsAs (answer files) (Some r) [] [] [] x y) (sym is) (no_memory (answer files) x y p.others (calm (λ wrong. absurd (cc))))
 
-  attempts_refused : (why : Refusal C) (p : Prepares makes answer x y (Err why)) → Attempts answer true (Some why) x y
+  attempts_refused : (why : Refusal C) (p : Prepares makes answer inputs x y (Err why)) → Attempts answer inputs (Some why) x y
   attempts_refused why p = record {
     report = [];
     outputs = [];
@@ -168,32 +182,33 @@ module _ {P C : Type 0} (makes : P → Delivery) (answer : Files → Answer C) (
     causes = record {
       calm_inputs = λ other. p.calm (λ is. other cc);
       calm_outputs = λ other. p.others.outputs;
-      read = λ is. (p.read (ap (λ (r : Refusal C). Err r) cc), search rules);
+      read = λ is. p.read (ap (λ (r : Refusal C). Err r) cc);
       write = λ is. absurd (p.no_write (ap (λ (r : Refusal C). Err r) cc));
       refused = λ some not_write. (refl, refl, refl);
       report_last = λ some. absurd (some refl);
     };
+    read = p.opened;
     notes = p.others.notes;
     note_room = λ rooms told. (rooms, p.others.rooms rooms told, refl);
     answered = refused_answer why p;
   }
 
-  attempts_carried : (prepared : Result P (Refusal C)) (refusal : Option (Refusal C)) → Prepares makes answer x y prepared → CarriesOut makes prepared y z refusal → Attempts answer true refusal x z
+  attempts_carried : (prepared : Result P (Refusal C)) (refusal : Option (Refusal C)) → Prepares makes answer inputs x y prepared → CarriesOut makes prepared y z refusal → Attempts answer inputs refusal x z
   attempts_carried (Ok plan) refusal p c = attempts_done plan refusal p c.ok.0 c.ok.1 c.ok.2
   attempts_carried (Err why) refusal p c =
-      subst (λ (s : HostState). Attempts answer true refusal x s) (sym c.err.1) (subst (λ (r : Option (Refusal C)). Attempts answer true r x y) (sym c.err.0) (attempts_refused why p))
+      subst (λ (s : HostState). Attempts answer inputs refusal x s) (sym c.err.1) (subst (λ (r : Option (Refusal C)). Attempts answer inputs r x y) (sym c.err.0) (attempts_refused why p))
 
   -- a command that answers what the frame's call answers
-  pub attempts : (prepared : Result P (Refusal C)) (carried refusal : Option (Refusal C)) → Prepares makes answer x y prepared → CarriesOut makes prepared y z carried → carried ≡ refusal → Attempts answer true refusal x z
-  attempts prepared carried refusal p c is = subst (λ (r : Option (Refusal C)). Attempts answer true r x z) is (attempts_carried prepared carried p c)
+  pub attempts : (prepared : Result P (Refusal C)) (carried refusal : Option (Refusal C)) → Prepares makes answer inputs x y prepared → CarriesOut makes prepared y z carried → carried ≡ refusal → Attempts answer inputs refusal x z
+  attempts prepared carried refusal p c is = subst (λ (r : Option (Refusal C)). Attempts answer inputs r x z) is (attempts_carried prepared carried p c)
 
 -- what was carried out is what was prepared, or whatever equals it
 pub carries_same : {P C : Type 0} (makes : P → Delivery) (prepared passed : Result P (Refusal C)) (y z : HostState) (refusal : Option (Refusal C)) → CarriesOut makes passed y z refusal → passed ≡ prepared → CarriesOut makes prepared y z refusal
 carries_same {P = P} {C = C} makes prepared passed y z refusal c same = subst (λ (r : Result P (Refusal C)). CarriesOut makes r y z refusal) same c
 
 -- the attempt, and then its complaint
-pub obeys : {C : Type 0} (line : Refusal C → List ℕ) (answer : Files → Answer C) (names : Bool) (refusal : Option (Refusal C)) (x y z : HostState) → Attempts answer names refusal x y → WritesComplaint (line_of line refusal) y z → (refusal ≡ None → z ≡ y) → Obeys line answer names refusal x z
-obeys {C = C} line answer names refusal x y z t c silent = record {
+pub obeys : {C : Type 0} (line : Refusal C → List ℕ) (answer : Files → Answer C) (named : List NamedInput) (refusal : Option (Refusal C)) (x y z : HostState) → Attempts answer named refusal x y → WritesComplaint (line_of line refusal) y z → (refusal ≡ None → z ≡ y) → Obeys line answer named refusal x z
+obeys {C = C} line answer named refusal x y z t c silent = record {
   report = t.report;
   complaint = c.complaint;
   outputs = t.outputs;
@@ -212,6 +227,7 @@ obeys {C = C} line answer names refusal x y z t c silent = record {
     refused = t.causes.refused;
     report_last = t.causes.report_last;
   };
+  read = λ files told. in_order_same _ _ _ _ _ x y z (t.read files told) (λ settled. settled) (λ prepared. prepared) (opened_kept y z c.wrote.others.inputs);
   complains = record {
     part = c.complains.part;
     all = λ calm. c.complains.all (subst (λ (n : ℕ). Rose n z.faults.notes → ⊥) (sym t.notes) calm);
@@ -228,7 +244,7 @@ obeys {C = C} line answer names refusal x y z t c silent = record {
     no_write none write = absurd (cc)
 
     inputs : z.faults.inputs ≡ y.faults.inputs
-    inputs = c.wrote.others.inputs
+    inputs = faults_kept y z c.wrote.others.inputs
 
     same : (a : Answer C) → EndsAs a refusal t.report t.outputs t.ended x y → EndsAs a refusal t.report t.outputs t.ended x z
     same a d = record {
@@ -254,20 +270,20 @@ obeys {C = C} line answer names refusal x y z t c silent = record {
 pub carried_out : {P C : Type 0} (makes : P → Delivery) (plan : P) (x y : HostState) (outcome : Result (Unit {0}) Failed) → Delivers (makes plan).outputs (makes plan).report x y outcome → CarriesOut {C = C} makes (Ok plan) x y (delivery_refusal outcome)
 carried_out makes plan x y outcome d = record { ok = (outcome, refl, d); err = tt }
 
-pub attempts_no_usage : {P C : Type 0} (makes : P → Delivery) (answer : Files → Answer C) (x y z : HostState) (prepared : Result P (Refusal C)) (carried refusal : Option (Refusal C))
-    → Prepares makes answer x y prepared → CarriesOut makes prepared y z carried → carried ≡ refusal → refusal ≡ Some Usage → ⊥
-attempts_no_usage {P = P} {C = C} makes answer x y z (Ok plan) carried refusal p c same is = not_fault c.ok.0 (sym c.ok.1 ∙ same ∙ is)
+pub attempts_no_usage : {P C : Type 0} {inputs : List NamedInput} (makes : P → Delivery) (answer : Files → Answer C) (x y z : HostState) (prepared : Result P (Refusal C)) (carried refusal : Option (Refusal C))
+    → Prepares makes answer inputs x y prepared → CarriesOut makes prepared y z carried → carried ≡ refusal → refusal ≡ Some Usage → ⊥
+attempts_no_usage {P = P} {C = C} {inputs = inputs} makes answer x y z (Ok plan) carried refusal p c same is = not_fault c.ok.0 (sym c.ok.1 ∙ same ∙ is)
   where
     not_fault : (outcome : Result (Unit {0}) Failed) → delivery_refusal {C = C} outcome ≡ Some Usage → ⊥
     not_fault (Ok t) wrong = cc
     not_fault (Err e) wrong = cc
-attempts_no_usage {P = P} {C = C} makes answer x y z (Err why) carried refusal p c same is = p.no_usage (ap (λ (r : Refusal C). Err r) (inside why (sym c.err.0 ∙ same ∙ is)))
+attempts_no_usage {P = P} {C = C} {inputs = inputs} makes answer x y z (Err why) carried refusal p c same is = p.no_usage (ap (λ (r : Refusal C). Err r) (inside why (sym c.err.0 ∙ same ∙ is)))
   where
     inside : (r : Refusal C) → Some r ≡ Some Usage → r ≡ Usage
     inside r h = cc
 
 -- words that say no command
-pub attempts_usage : {C : Type 0} (x : HostState) → Attempts {C = C} (λ (files : Files). refused Usage) false (Some Usage) x x
+pub attempts_usage : {C : Type 0} (x : HostState) → Attempts {C = C} (λ (files : Files). refused Usage) [] (Some Usage) x x
 attempts_usage x = record {
   report = [];
   outputs = [];
@@ -281,6 +297,7 @@ attempts_usage x = record {
     refused = λ some not_write. (refl, refl, refl);
     report_last = λ some. absurd (some refl);
   };
+  read = λ files told. in_order_nothing _ _ x;
   notes = refl;
   note_room = λ rooms told. (rooms, told, refl);
   answered = λ files told. record {

@@ -1,9 +1,9 @@
 -- Commands that read no input.
-use Rattle.std.proofs.Common.{◌≡◌, ◌⊎◌, sym, ◌∙◌, refl, inl, inr, rules, Some, false}
+use Rattle.std.proofs.Common.{◌≡◌, ◌⊎◌, refl, inl, inr, rules, []}
 use Rattle.std.specs.Prelude.{Option, Result, Ok, Err}
 use Rattle.snd_host.specs.Host.{HostState, Files}
-use Rattle.snd_host.specs.declared.host.Failed.{Failed}
-use Rattle.command_frame.specs.Answer.{Answer, refused, delivery_refusal}
+use Rattle.snd_host.proofs.OpenedInputs.{in_order_nothing}
+use Rattle.command_frame.specs.Answer.{Answer, refused}
 use Rattle.command_frame.specs.Conduct.{Delivery, Plans, Prepares, CarriesOut, Attempts}
 use Rattle.command_frame.specs.declared.refusals.Refusal.{Refusal}
 use Rattle.command_frame.specs.declared.refusals.Refusal.TheVariants.{ReadFault, OutOfMemory}
@@ -15,9 +15,10 @@ module _ {P C : Type 0} (makes : P → Delivery) (answer : Answer C) where
   answered why (inr is) = inr (inr is)
 
   -- a plan that stands on no input
-  prepares : (x : HostState) (prepared : Result P (Refusal C)) → Plans makes answer prepared → Prepares makes (λ (files : Files). answer) x x prepared
+  prepares : (x : HostState) (prepared : Result P (Refusal C)) → Plans makes answer prepared → Prepares makes (λ (files : Files). answer) [] x x prepared
   prepares x (Ok plan) p = record {
     others = record { holds = refl; given = refl; ended = refl; notes = refl; outputs = refl; rooms = λ rooms told. told };
+    opened = λ files told. in_order_nothing _ _ x;
     read = λ wrong. absurd (cc);
     calm = λ other. refl;
     no_usage = p.no_usage;
@@ -28,6 +29,7 @@ module _ {P C : Type 0} (makes : P → Delivery) (answer : Answer C) where
   }
   prepares x (Err why) p = record {
     others = record { holds = refl; given = refl; ended = refl; notes = refl; outputs = refl; rooms = λ rooms told. told };
+    opened = λ files told. in_order_nothing _ _ x;
     read = λ is. absurd (p.no_read is);
     calm = λ other. refl;
     no_usage = p.no_usage;
@@ -37,32 +39,7 @@ module _ {P C : Type 0} (makes : P → Delivery) (answer : Answer C) where
     steady = λ is. absurd (p.no_read is);
   }
 
-  delivered : (outcome : Result (Unit {0}) Failed) → delivery_refusal {C = C} outcome ≡ Some ReadFault → ⊥
-  delivered (Ok t) is = absurd (cc)
-  delivered (Err e) is = absurd (cc)
-
-  no_read : (x z : HostState) (prepared : Result P (Refusal C)) (refusal : Option (Refusal C)) → Plans makes answer prepared → CarriesOut makes prepared x z refusal → refusal ≡ Some ReadFault → ⊥
-  no_read x z (Ok plan) refusal p c is = delivered c.ok.0 (sym c.ok.1 ∙ is)
-  no_read x z (Err why) refusal p c is = p.no_read (search rules)
-
   pub attempts_unread : (x z : HostState) (prepared : Result P (Refusal C)) (carried refusal : Option (Refusal C)) → Plans makes answer prepared → CarriesOut makes prepared x z carried → carried ≡ refusal
-      → Attempts (λ (files : Files). answer) false refusal x z
+      → Attempts (λ (files : Files). answer) [] refusal x z
   attempts_unread x z prepared carried refusal p c same =
-      let t = attempts makes (λ (files : Files). answer) x x z prepared carried refusal (prepares x prepared p) c same in
-      record {
-        report = t.report;
-        outputs = t.outputs;
-        ended = t.ended;
-        made = t.made;
-        causes = record {
-          calm_inputs = t.causes.calm_inputs;
-          calm_outputs = t.causes.calm_outputs;
-          read = λ is. absurd (no_read x z prepared carried p c (same ∙ is));
-          write = t.causes.write;
-          refused = t.causes.refused;
-          report_last = t.causes.report_last;
-        };
-        notes = t.notes;
-        note_room = t.note_room;
-        answered = t.answered;
-      }
+      attempts makes (λ (files : Files). answer) x x z prepared carried refusal (prepares x prepared p) c same

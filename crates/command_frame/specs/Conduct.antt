@@ -1,6 +1,7 @@
 -- How a command may end, and what it leaves on the host. `answer` is what it answers, by what the names of its inputs hold.
-use Rattle.std.specs.Prelude.{◌≡◌, ◌≢◌, ℕ, ◌+◌, ◌≤◌, ◌⊎◌, Bool, List, [], length, Option, Some, None, Result, Err, IfOk, IfErr, IsSome, IsTrue, slice_index}
+use Rattle.std.specs.Prelude.{◌≡◌, ◌≢◌, ℕ, ◌+◌, ◌≤◌, ◌⊎◌, Bool, true, false, List, [], ◌∷◌, length, Option, Some, None, Result, Ok, Err, IfOk, IfErr, IsSome, IsTrue, slice_index}
 use Rattle.snd_host.specs.Host.{HostState, Files, Output, IfTold, Rose, IsPrefix, ChangesInputs, Writes}
+use Rattle.snd_host.specs.OpenedInputs.{NamedInput, whole_inputs, OpensInOrder}
 use Rattle.snd_host.specs.declared.host.Failed.{Failed}
 use Rattle.command_frame.specs.Delivery.{Gains, IsBegun, EndedAreWhole, HaveRooms, Delivers, all_ended}
 use Rattle.command_frame.specs.Answer.{Answer, done, refused, refusal_of, outputs_of, report_of, line_of, delivery_refusal}
@@ -43,13 +44,32 @@ pub record HasCauses {C : Type 0} (names_input : Bool) (refusal : Option (Refusa
   -- The report comes last: where some of it was written, all outputs that were created are ended.
   pub report_last : report ≢ [] → ended ≡ all_ended outputs
 
--- What a command did before its complaint.
-pub record Attempts {C : Type 0} (answer : Files → Answer C) (names_input : Bool) (refusal : Option (Refusal C)) (old new : HostState) : Type 0 where
+-- The end tells of no failed reading and no want of memory: the inputs that were opened are read as far as they are to be.
+abbrev pub IsSettled : {C : Type 0} → Option (Refusal C) → Type 0
+IsSettled refusal = (refusal ≢ Some ReadFault) × (refusal ≢ Some OutOfMemory)
+
+-- The end is that of a delivery: all inputs were read.
+abbrev pub IsOfDelivery : {C : Type 0} → Option (Refusal C) → Type 0
+IsOfDelivery refusal = (refusal ≡ None) ⊎ (refusal ≡ Some WriteFault)
+
+-- These inputs, and no others, were opened and read, each once and in this order, as far as the command came; told over a host that tells
+-- what it holds and what was opened.
+abbrev pub ReadsInOrder : {C : Type 0} → (inputs : List NamedInput) → (refusal : Option (Refusal C)) → (old new : HostState) → Type 0
+ReadsInOrder inputs refusal old new = IfTold old.holds (λ files. OpensInOrder (whole_inputs files inputs) (IsSettled refusal) (IsOfDelivery refusal) old new)
+
+-- There is an input.
+abbrev pub are_some : List NamedInput → Bool
+are_some [] = false
+are_some (input ∷ inputs) = true
+
+-- What a command of these inputs did before its complaint.
+pub record Attempts {C : Type 0} (answer : Files → Answer C) (inputs : List NamedInput) (refusal : Option (Refusal C)) (old new : HostState) : Type 0 where
   pub report : List ℕ
   pub outputs : List Output
   pub ended : List Bool
   pub made : Gains report [] outputs ended old new
-  pub causes : HasCauses names_input refusal report outputs ended old new
+  pub causes : HasCauses (are_some inputs) refusal report outputs ended old new
+  pub read : ReadsInOrder inputs refusal old new
   pub notes : new.faults.notes ≡ old.faults.notes
   pub note_room : IfTold old.steady (λ rooms. (after : List ℕ) × (new.steady ≡ Some after) × (slice_index after 1 ≡ slice_index rooms 1))
   -- where it is told what names hold
@@ -68,15 +88,16 @@ pub record WritesComplaint (line : List ℕ) (old new : HostState) : Type 0 wher
   pub wrote : Writes 1 complaint old new
   pub outputs : new.faults.outputs ≡ old.faults.outputs
 
--- What a command did, its complaint included. `line` is the line of a refusal.
-pub record Obeys {C : Type 0} (line : Refusal C → List ℕ) (answer : Files → Answer C) (names_input : Bool) (refusal : Option (Refusal C))
+-- What a command of these inputs did, its complaint included. `line` is the line of a refusal.
+pub record Obeys {C : Type 0} (line : Refusal C → List ℕ) (answer : Files → Answer C) (inputs : List NamedInput) (refusal : Option (Refusal C))
     (old new : HostState) : Type 0 where
   pub report : List ℕ
   pub complaint : List ℕ
   pub outputs : List Output
   pub ended : List Bool
   pub made : Gains report complaint outputs ended old new
-  pub causes : HasCauses names_input refusal report outputs ended old new
+  pub causes : HasCauses (are_some inputs) refusal report outputs ended old new
+  pub read : ReadsInOrder inputs refusal old new
   pub ok : refusal ≡ None → new.faults ≡ old.faults
   pub complains : HasComplaint (line_of line refusal) complaint old new
   -- where it is told what names hold
@@ -96,10 +117,16 @@ pub record Plans {P C : Type 0} (makes : P → Delivery) (answer : Answer C) (re
   pub no_read : result ≡ Err ReadFault → ⊥
   pub no_write : result ≡ Err WriteFault → ⊥
 
+-- the refusal in place of a plan
+abbrev pub refusal_in : {P C : Type 0} → Result P (Refusal C) → Option (Refusal C)
+refusal_in (Ok plan) = None
+refusal_in (Err refusal) = Some refusal
+
 -- Inputs were read and a plan was made by them, or it is told why there is none; nothing was written.
-pub record Prepares {P C : Type 0} (makes : P → Delivery) (answer : Files → Answer C) (old new : HostState) (result : Result P (Refusal C)) : Type 0 where
+pub record Prepares {P C : Type 0} (makes : P → Delivery) (answer : Files → Answer C) (inputs : List NamedInput) (old new : HostState) (result : Result P (Refusal C)) : Type 0 where
   pub others : ChangesInputs old new
-  pub read : result ≡ Err ReadFault → Rose old.faults.inputs new.faults.inputs
+  pub opened : ReadsInOrder inputs (refusal_in result) old new
+  pub read : result ≡ Err ReadFault → Rose old.faults.inputs new.faults.inputs × IsTrue (are_some inputs)
   pub calm : (result ≡ Err ReadFault → ⊥) → new.faults.inputs ≡ old.faults.inputs
   pub no_usage : result ≡ Err Usage → ⊥
   pub no_write : result ≡ Err WriteFault → ⊥

@@ -1,6 +1,6 @@
 -- What a delivery makes on a host: outputs that are created, written and ended, and then the report.
 use Rattle.std.specs.Prelude.{◌≡◌, ◌≢◌, ℕ, ◌+◌, ◌-◌, ◌≤◌, ◌<◌, Bool, true, List, [], ◌∷◌, ◌++◌, length, map, Some, Result, IsOk, OnOk, OnErr, slice_index}
-use Rattle.snd_host.specs.Host.{HostState, Given, Output, IfTold, Rose, IsPrefix, most_outputs, longest_name}
+use Rattle.snd_host.specs.Host.{HostState, Given, Output, IfTold, Rose, IsPrefix, asked_of, most_outputs, longest_name}
 
 -- Two outputs more have numbers below 2 ^ 32.
 abbrev pub CanDeliver : HostState → Type 0
@@ -67,7 +67,7 @@ pub record Delivers {T E : Type 0} (outputs : List Output) (report : List ℕ) (
   pub ended_whole : EndedAreWhole begun ended outputs
   -- The report comes last: where some of it was written, all outputs are whole and ended.
   pub report_last : reported ≢ [] → (begun ≡ outputs) × (ended ≡ all_ended outputs)
-  pub inputs : new.faults.inputs ≡ old.faults.inputs
+  pub inputs : asked_of new ≡ asked_of old
   pub notes : new.faults.notes ≡ old.faults.notes
   pub cause : CountsFaults old.faults.outputs new.faults.outputs result
   -- A steady host with rooms for all of it fails no call,

@@ -1,6 +1,6 @@
 -- Two outputs that are written at once.
 use Rattle.std.specs.Prelude.{◌≡◌, ℕ, zero, suc, ◌+◌, ◌-◌, Bool, true, false, List, [], ◌∷◌, ◌++◌, length, Option, Some, None, Result, Ok, Err, IfOk, IfErr, OnOk, OnErr, slice_index, slice_get, ◌≤◌, ◌<◌}
-use Rattle.snd_host.specs.Host.{HostState, Given, Output, IfTold, IsPrefix}
+use Rattle.snd_host.specs.Host.{HostState, Given, Output, IfTold, IsPrefix, asked_of}
 use Rattle.snd_host.specs.declared.host.Failed.{Failed}
 use Rattle.snd_host.specs.declared.host.OutFile.{OutFile}
 use Rattle.command_frame.specs.declared.streaming.Targets.{Targets}
@@ -29,7 +29,7 @@ pub record Stands (outputs : List Output) (flags : List Bool) (report : List ℕ
   pub made : Gains report [] outputs flags a c
   pub tells_each : (given : Given) → a.given ≡ Some given → length given.created ≡ length a.ended
   pub even : length flags ≡ length outputs
-  pub inputs : c.faults.inputs ≡ a.faults.inputs
+  pub inputs : asked_of c ≡ asked_of a
   pub notes : c.faults.notes ≡ a.faults.notes
   pub faults : c.faults.outputs ≡ a.faults.outputs
   pub rooms : (rooms : List ℕ) → a.steady ≡ Some rooms → (after : List ℕ) × (c.steady ≡ Some after) × RoomsAfter (length a.ended + 2) outputs report rooms after
@@ -48,7 +48,7 @@ pub record KeepsRooms (next : ℕ) (rooms after : List ℕ) : Type 0 where
 -- Since the state a these outputs were created, written and ended, and no call failed.
 pub record AreDone (outputs : List Output) (a c : HostState) : Type 0 where
   pub made : Gains [] [] outputs (all_ended outputs) a c
-  pub inputs : c.faults.inputs ≡ a.faults.inputs
+  pub inputs : asked_of c ≡ asked_of a
   pub notes : c.faults.notes ≡ a.faults.notes
   pub faults : c.faults.outputs ≡ a.faults.outputs
   pub rooms : IfTold a.steady (λ rooms. (after : List ℕ) × (c.steady ≡ Some after) × KeepsRooms (length c.ended + 2) rooms after)

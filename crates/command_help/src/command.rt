@@ -1,5 +1,5 @@
 // The commands `help` and `version`: texts that need no input.
-ghost use Rattle.std.specs.Prelude.{◌≡◌, [], false};
+ghost use Rattle.std.specs.Prelude.{◌≡◌, []};
 ghost use Rattle.snd_host.specs.Host.{HostState, Files};
 ghost use Rattle.command_frame.specs.Conduct.{Plans, Attempts};
 ghost use Rattle.command_frame.specs.Delivery.{CanDeliver};
@@ -53,7 +53,7 @@ fn plan<'a>(alloc: Global, text: &[u8]) -> Result<Plan<'a>, Refusal<Cause>>
 pub fn help<H: Host>(alloc: Global, host: &mut H) -> Option<Refusal<Cause>>
     requires { CanDeliver (H.state host.old) }
     ensures attempts { let answer = λ (files : Files). help_answer in
-        Attempts answer false result (H.state host.old) (H.state host.new) }
+        Attempts answer [] result (H.state host.old) (H.state host.new) }
     ensures not_usage { result ≡ Some Refusal.Usage → ⊥ }
 {
     let prepared = plan(alloc, HELP);
@@ -64,7 +64,7 @@ pub fn help<H: Host>(alloc: Global, host: &mut H) -> Option<Refusal<Cause>>
 pub fn version<H: Host>(alloc: Global, host: &mut H) -> Option<Refusal<Cause>>
     requires { CanDeliver (H.state host.old) }
     ensures attempts { let answer = λ (files : Files). version_answer in
-        Attempts answer false result (H.state host.old) (H.state host.new) }
+        Attempts answer [] result (H.state host.old) (H.state host.new) }
     ensures not_usage { result ≡ Some Refusal.Usage → ⊥ }
 {
     let prepared = plan(alloc, VERSION);

@@ -1,9 +1,11 @@
 // The command `render`: the sound of an SPC file over a table of weights, and its trace where it is wanted.
-ghost use Rattle.std.specs.Prelude.{◌≡◌, ◌≤◌, ◌++◌, IfOk, true, is_some, unwrap_or};
+ghost use Rattle.std.specs.Prelude.{◌≡◌, ◌≤◌, ◌++◌, IfOk, is_some, unwrap_or, [], ◌∷◌};
 ghost use Rattle.wav_form.specs.Wave.{header_of, stereo_wave};
 ghost use Rattle.render_core.specs.Fade.{faded_frames};
 ghost use Rattle.dsp_core.specs.DspChip.{dsp_chip};
 ghost use Rattle.snd_host.specs.Host.{HostState, Files};
+ghost use Rattle.snd_host.specs.OpenedInputs.{inputs_up_to};
+ghost use Rattle.input_files.specs.Reading.{input_limit};
 ghost use Rattle.command_frame.specs.Conduct.{Plans, Prepares, Attempts};
 ghost use Rattle.command_frame.specs.Delivery.{CanDeliver};
 ghost use Rattle.command_frame.specs.Plan.{stream_makes};
@@ -121,7 +123,8 @@ fn prepare_with<'a, H: Host>(
 ) -> Result<StreamedPlan<'a, RenderFiles<Dsp>>, Refusal<Cause>>
     requires { SamplesWithinHour options.samples }
     ensures { let answer = λ (files : Files). file_answer wave.now (options_of options.entry) (files table.now) file.now in
-        Prepares (stream_makes (to_come_of dsp_chip) (report_of dsp_chip)) answer (H.state host.old) (H.state host.new) result }
+        Prepares (stream_makes (to_come_of dsp_chip) (report_of dsp_chip)) answer
+        (inputs_up_to input_limit (table.now ∷ [])) (H.state host.old) (H.state host.new) result }
 {
     let table = read_table(alloc, host, table)?;
     plan(alloc, file, table, wave, options)
@@ -138,7 +141,8 @@ fn prepare<'a, H: Host>(
 ) -> Result<StreamedPlan<'a, RenderFiles<Dsp>>, Refusal<Cause>>
     requires { SamplesWithinHour options.samples }
     ensures { let answer = λ (files : Files). render_answer wave.now (options_of options.entry) (files file.now) (files table.now) in
-        Prepares (stream_makes (to_come_of dsp_chip) (report_of dsp_chip)) answer (H.state host.old) (H.state host.new) result }
+        Prepares (stream_makes (to_come_of dsp_chip) (report_of dsp_chip)) answer
+        (inputs_up_to input_limit (file.now ∷ table.now ∷ [])) (H.state host.old) (H.state host.new) result }
 {
     let file = read_file(alloc, host, file)?;
     prepare_with(alloc, host, &file, table, wave, options)
@@ -156,7 +160,7 @@ pub fn render<H: Host>(
     requires outputs { CanDeliver (H.state host.old) }
     requires within_hour { SamplesWithinHour options.samples }
     ensures attempts { let answer = λ (files : Files). render_answer wave.now (options_of options.entry) (files file.now) (files table.now) in
-        Attempts answer true result (H.state host.old) (H.state host.new) }
+        Attempts answer (inputs_up_to input_limit (file.now ∷ table.now ∷ [])) result (H.state host.old) (H.state host.new) }
     ensures not_usage { result ≡ Some Refusal.Usage → ⊥ }
 {
     let prepared = prepare(alloc, host, file, table, wave, options);

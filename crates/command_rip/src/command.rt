@@ -1,9 +1,11 @@
 // The command `rip`: samples of a tune as sound files.
-ghost use Rattle.std.specs.Prelude.{◌≡◌, ◌+◌, ◌<◌, ◌≤◌, ◌++◌, map, length, codes, string_bytes, IfOk, true};
+ghost use Rattle.std.specs.Prelude.{◌≡◌, ◌+◌, ◌<◌, ◌≤◌, ◌++◌, map, length, codes, string_bytes, IfOk, [], ◌∷◌};
 ghost use Rattle.spc_form.specs.Layout.{dsp_of};
 ghost use Rattle.sample_rip.specs.Entries.{most_entries};
 ghost use Rattle.spc_form.specs.Opening.{opening_memory};
 ghost use Rattle.snd_host.specs.Host.{HostState, Files};
+ghost use Rattle.snd_host.specs.OpenedInputs.{inputs_up_to};
+ghost use Rattle.input_files.specs.Reading.{input_limit};
 ghost use Rattle.command_frame.specs.Answer.{done};
 ghost use Rattle.command_frame.specs.Conduct.{Plans, Attempts};
 ghost use Rattle.command_frame.specs.Delivery.{CanDeliverAll};
@@ -137,7 +139,7 @@ pub fn rip<H: Host>(
 ) -> Option<Refusal<Cause>>
     requires { CanDeliverAll most_entries (H.state host.old) }
     ensures attempts { let answer = λ (files : Files). rip_answer prefix.now range (files input.now) in
-        Attempts answer true result (H.state host.old) (H.state host.new) }
+        Attempts answer (inputs_up_to input_limit (input.now ∷ [])) result (H.state host.old) (H.state host.new) }
     ensures not_usage { result ≡ Some Refusal.Usage → ⊥ }
 {
     let file = match read_file(alloc, host, input) {

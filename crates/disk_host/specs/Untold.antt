@@ -7,6 +7,7 @@ abbrev pub untold_state : (current : Option ℕ) → (ended : List Bool) → (in
 untold_state current ended inputs notes outputs = record {
   holds = None;
   left = None;
+  opened = None;
   given = None;
   current = current;
   ended = ended;

@@ -121,6 +121,7 @@ fn end_created<F: Write>(created: &mut Vec<Created<F>>, place: usize) -> Result<
 
 impl<'r, R: Files, O: Write + Drop, E: Write + Drop> Host for DiskHost<'r, R, O, E> {
     ghost use Rattle.std.specs.Prelude.{Some, IsSome, IsOk, take, slice_index};
+    ghost use Rattle.snd_host.specs.OpenedInputs.{Opens, ReadsMore};
     ghost use Rattle.snd_host.specs.Host.{IfTold, HasCause, CountsWrite, IsOpen, ChangesInputs, Writes};
     ghost use Rattle.disk_host.specs.Held.{disk_state, ReadsOn, WritesOn};
 
@@ -150,6 +151,8 @@ impl<'r, R: Files, O: Write + Drop, E: Write + Drop> Host for DiskHost<'r, R, O,
         ensures available { IfOk result (λ count. IfTold (disk_state self.old).left (λ rest. count ≤ length rest)) }
         ensures end { result ≡ Ok 0 → 0 < length buf.old → IfTold (disk_state self.old).left (λ rest. rest ≡ []) }
         ensures unread { OnErr result ((disk_state self.new).left ≡ (disk_state self.old).left) }
+        ensures counted_bytes { IfOk result (λ count. ReadsMore count (disk_state self.old) (disk_state self.new)) }
+        ensures no_bytes { OnErr result (Opens [] (disk_state self.old) (disk_state self.new)) }
         ensures current { (disk_state self.new).current ≡ (disk_state self.old).current }
         ensures others { ChangesInputs (disk_state self.old) (disk_state self.new) }
         ensures cause { HasCause (disk_state self.old).faults.inputs (disk_state self.new).faults.inputs result }

@@ -1,11 +1,13 @@
 -- What is read of an input, and what commands prepare after it.
-use Rattle.std.proofs.Common.{◌≡◌, ◌⊎◌, inl, inr, ap, sym, subst, ◌∙◌, refl, rules, ℕ, ◌<◌, length, Bool, List, Option, Some, None, Result, Ok, Err, IsSome}
+use Rattle.std.proofs.Common.{◌≡◌, ◌⊎◌, inl, inr, ap, sym, subst, ◌∙◌, refl, rules, ℕ, ◌<◌, length, Bool, List, [], ◌∷◌, Option, Some, None, Result, Ok, Err, IsSome}
 use Rattle.std.specs.Prelude.{IfOk, IfErr, IsSomeAnd, if◌then◌else◌}
 use Rattle.std.proofs.lemmas.Bool.{lt-ltb}
 use Rattle.snd_host.specs.Host.{HostState, Files, IfTold, Rose, KeepsRooms}
+use Rattle.snd_host.specs.OpenedInputs.{NamedInput, whole_input, whole_inputs}
 use Rattle.snd_host.proofs.WholeInput.{inputs_then}
+use Rattle.snd_host.proofs.OpenedInputs.{in_order_nothing, in_order_same, in_order_then, in_order_ends}
 use Rattle.command_frame.specs.Answer.{Answer, done, refused}
-use Rattle.command_frame.specs.Conduct.{Delivery, Plans, Prepares}
+use Rattle.command_frame.specs.Conduct.{Delivery, IsOfDelivery, Plans, Prepares}
 use Rattle.command_frame.specs.declared.refusals.Refusal.{Refusal}
 use Rattle.command_frame.specs.declared.refusals.Refusal.TheVariants.{Usage, ReadFault, WriteFault, OutOfMemory, Input}
 use Rattle.input_files.specs.Reading.{bytes_in, value_from, refused_by, answer_from, Declines, Accepts, Reads}
@@ -30,11 +32,12 @@ plans_declined {P = P} makes given next why d = record {
 }
 
 -- an input was refused
-pub reads_declined : {T P C : Type 0} (makes : P → Delivery) (given : Files → Result T (Refusal C)) (next : Files → T → Answer C) (x y : HostState) (why : Refusal C) →
-    Reads given x y (Err why) → Prepares makes (λ files. answer_from (given files) (next files)) x y (Err why)
-reads_declined {P = P} {C = C} makes given next x y why r = record {
+pub reads_declined : {T P C : Type 0} {input : NamedInput} {inputs : List NamedInput} (makes : P → Delivery) (given : Files → Result T (Refusal C)) (next : Files → T → Answer C) (x y : HostState) (why : Refusal C) →
+    Reads input given x y (Err why) → Prepares makes (λ files. answer_from (given files) (next files)) (input ∷ inputs) x y (Err why)
+reads_declined {P = P} {C = C} {input = input} {inputs = inputs} makes given next x y why r = record {
   others = r.others;
-  read = λ is. r.err.read (inside {T = P} why ReadFault is);
+  opened = λ files told. in_order_ends (whole_input files input) (whole_inputs files inputs) _ _ _ _ x y (r.opened files told) (λ settled. settled) (λ prepared. none_delivered prepared);
+  read = λ is. (r.err.read (inside {T = P} why ReadFault is), search rules);
   calm = λ other. r.err.calm (λ is. other (ap (λ (w : Refusal C). Err w) is));
   no_usage = λ is. r.err.no_usage (inside {T = P} why Usage is);
   no_write = λ is. r.err.no_write (inside {T = P} why WriteFault is);
@@ -43,6 +46,10 @@ reads_declined {P = P} {C = C} makes given next x y why r = record {
   steady = λ is steady files told. ap (λ g. answer_from g (next files)) (r.err.steady (inside {T = P} why ReadFault is) steady files told);
 }
   where
+    none_delivered : IsOfDelivery (Some why) → ⊥
+    none_delivered (inl wrong) = absurd (cc)
+    none_delivered (inr write) = r.err.no_write cc
+
     told_of : (files : Files) → (given files ≡ Err why) ⊎ ((why ≡ ReadFault) ⊎ (why ≡ OutOfMemory)) →
         (answer_from (given files) (next files) ≡ refused why) ⊎ ((why ≡ ReadFault) ⊎ (why ≡ OutOfMemory))
     told_of files (inl is) = inl (ap (λ g. answer_from g (next files)) is)
@@ -56,11 +63,12 @@ steady_still x y keeps steady = still x.steady refl steady
     still (Some rooms) is some = rw (keeps rooms is) some
 
 -- an input was read, and the rest was prepared by what it gives
-pub reads_then : {T P C : Type 0} (makes : P → Delivery) (given : Files → Result T (Refusal C)) (next : Files → T → Answer C) (x y z : HostState) (value : T) (result : Result P (Refusal C)) →
-    Reads given x y (Ok value) → Prepares makes (λ files. next files value) y z result → Prepares makes (λ files. answer_from (given files) (next files)) x z result
-reads_then {T = T} {P = P} {C = C} makes given next x y z value result r p = record {
+pub reads_then : {T P C : Type 0} {input : NamedInput} {inputs : List NamedInput} (makes : P → Delivery) (given : Files → Result T (Refusal C)) (next : Files → T → Answer C) (x y z : HostState) (value : T) (result : Result P (Refusal C)) →
+    Reads input given x y (Ok value) → Prepares makes (λ files. next files value) inputs y z result → Prepares makes (λ files. answer_from (given files) (next files)) (input ∷ inputs) x z result
+reads_then {T = T} {P = P} {C = C} {input = input} {inputs = inputs} makes given next x y z value result r p = record {
   others = inputs_then x y z r.others p.others;
-  read = λ is. subst (λ (n : ℕ). Rose n z.faults.inputs) r.calm (p.read is);
+  opened = λ files told. in_order_then (whole_input files input) (whole_inputs files inputs) _ _ _ _ x y z (r.opened files told) (inl refl) (p.opened files (r.others.holds ∙ told));
+  read = λ is. (subst (λ (n : ℕ). Rose n z.faults.inputs) r.calm (p.read is).0, search rules);
   calm = λ other. p.calm other ∙ r.calm;
   no_usage = p.no_usage;
   no_write = p.no_write;
@@ -88,9 +96,10 @@ reads_then {T = T} {P = P} {C = C} makes given next x y z value result r p = rec
     err_of (Err why) err = λ files told. either files why told (err files (r.others.holds ∙ told))
 
 -- nothing was read any more, and the plan is made
-pub prepares_plan : {P C : Type 0} (makes : P → Delivery) (answer : Answer C) (x : HostState) (result : Result P (Refusal C)) → Plans makes answer result → Prepares makes (λ files. answer) x x result
+pub prepares_plan : {P C : Type 0} (makes : P → Delivery) (answer : Answer C) (x : HostState) (result : Result P (Refusal C)) → Plans makes answer result → Prepares makes (λ files. answer) [] x x result
 prepares_plan {P = P} {C = C} makes answer x result p = record {
   others = record { holds = refl; given = refl; ended = refl; notes = refl; outputs = refl; rooms = λ rooms told. told };
+  opened = λ files told. in_order_nothing _ _ x;
   read = λ is. absurd (p.no_read is);
   calm = λ other. refl;
   no_usage = p.no_usage;
@@ -115,15 +124,16 @@ prepares_plan {P = P} {C = C} makes answer x result p = record {
     err_of (Err why) err = λ files told. either why err
 
 -- an input was read, and a plan was made by what it gives
-pub reads_plan : {T P C : Type 0} (makes : P → Delivery) (given : Files → Result T (Refusal C)) (next : T → Answer C) (x y : HostState) (value : T) (result : Result P (Refusal C)) →
-    Reads given x y (Ok value) → Plans makes (next value) result → Prepares makes (λ files. answer_from (given files) next) x y result
+pub reads_plan : {T P C : Type 0} {input : NamedInput} (makes : P → Delivery) (given : Files → Result T (Refusal C)) (next : T → Answer C) (x y : HostState) (value : T) (result : Result P (Refusal C)) →
+    Reads input given x y (Ok value) → Plans makes (next value) result → Prepares makes (λ files. answer_from (given files) next) (input ∷ []) x y result
 reads_plan {C = C} makes given next x y value result r p = reads_then makes given (λ (files : Files). next) x y y value result r (prepares_plan makes (next value) y result p)
 
 -- an input was refused, and what comes of it with it
-pub reads_refused : {T U C : Type 0} (given : Files → Result T (Refusal C)) (value : T → Result U (Refusal C)) (x y : HostState) (why : Refusal C) →
-    Reads given x y (Err why) → Reads (λ files. value_from (given files) value) x y (Err why)
+pub reads_refused : {T U C : Type 0} {input : NamedInput} (given : Files → Result T (Refusal C)) (value : T → Result U (Refusal C)) (x y : HostState) (why : Refusal C) →
+    Reads input given x y (Err why) → Reads input (λ files. value_from (given files) value) x y (Err why)
 reads_refused {T = T} {U = U} {C = C} given value x y why r = record {
   others = r.others;
+  opened = r.opened;
   calm = tt;
   ok = tt;
   err = record {
@@ -142,16 +152,18 @@ reads_refused {T = T} {U = U} {C = C} given value x y why r = record {
     told_of files (inr other) = inr other
 
 -- an input was read, and accepted or refused by what it gives
-pub reads_accepts : {T U C : Type 0} (given : Files → Result T (Refusal C)) (value : T → Result U (Refusal C)) (x y : HostState) (bytes : T) (result : Result U (Refusal C)) →
-    Reads given x y (Ok bytes) → Accepts (value bytes) result → Reads (λ files. value_from (given files) value) x y result
+pub reads_accepts : {T U C : Type 0} {input : NamedInput} (given : Files → Result T (Refusal C)) (value : T → Result U (Refusal C)) (x y : HostState) (bytes : T) (result : Result U (Refusal C)) →
+    Reads input given x y (Ok bytes) → Accepts (value bytes) result → Reads input (λ files. value_from (given files) value) x y result
 reads_accepts {T = T} {U = U} {C = C} given value x y bytes (Ok accepted) r a = record {
   others = r.others;
+  opened = r.opened;
   calm = r.calm;
   ok = λ files told. ap (λ g. value_from g value) (r.ok files told) ∙ a.ok;
   err = tt;
 }
 reads_accepts {T = T} {U = U} {C = C} given value x y bytes (Err why) r a = record {
   others = r.others;
+  opened = λ files told. in_order_same _ _ _ _ _ x y y (r.opened files told) (λ settled. (λ wrong. absurd (cc), λ wrong. absurd (cc))) (λ prepared. inl refl) refl;
   calm = tt;
   ok = tt;
   err = record {

@@ -1,8 +1,10 @@
 -- What the reading of an input gives, or why it is refused. `C` is why the bytes of an input are refused.
-use Rattle.std.specs.Prelude.{◌≡◌, ◌⊎◌, ℕ, List, length, Option, Some, None, Result, Ok, Err, IfOk, IfErr, IsSome, nat_lt, if◌then◌else◌}
+use Rattle.std.specs.Prelude.{◌≡◌, ◌⊎◌, ℕ, List, [], ◌∷◌, length, Option, Some, None, Result, Ok, Err, IfOk, IfErr, IsSome, nat_lt, if◌then◌else◌}
 use Rattle.snd_host.specs.Host.{HostState, Files, IfTold, Rose, ChangesInputs, greatest_limit}
 use Rattle.spc_form.specs.Accepted.{greatest_length}
+use Rattle.snd_host.specs.OpenedInputs.{NamedInput}
 use Rattle.command_frame.specs.Answer.{Answer, refused}
+use Rattle.command_frame.specs.Conduct.{ReadsInOrder, refusal_in}
 use Rattle.command_frame.specs.declared.refusals.Refusal.{Refusal}
 use Rattle.command_frame.specs.declared.refusals.Refusal.TheVariants.{Usage, ReadFault, WriteFault, OutOfMemory, Input}
 
@@ -12,6 +14,10 @@ input_limit = greatest_length
 
 abbrev pub wave_limit : ℕ
 wave_limit = greatest_limit
+
+-- an input of this name that may have so many bytes
+abbrev pub input_up_to : (limit : ℕ) → (name : List ℕ) → NamedInput
+input_up_to limit name = record { name = name; limit = limit }
 
 -- the bytes that an input holds, of which there may be this many; it may not be there
 abbrev pub bytes_in : {C : Type 0} → (limit : ℕ) → (too_long : C) → (held : Option (List ℕ)) → Result (List ℕ) (Refusal C)
@@ -54,9 +60,10 @@ pub record DeclinesInput {T C : Type 0} (given : Files → Result T (Refusal C))
   pub no_usage : refusal ≡ Usage → ⊥
   pub no_write : refusal ≡ WriteFault → ⊥
 
--- An input was read as what it gives, by what the names hold.
-pub record Reads {T C : Type 0} (given : Files → Result T (Refusal C)) (old new : HostState) (result : Result T (Refusal C)) : Type 0 where
+-- An input was opened once and read as what it gives, by what the names hold.
+pub record Reads {T C : Type 0} (input : NamedInput) (given : Files → Result T (Refusal C)) (old new : HostState) (result : Result T (Refusal C)) : Type 0 where
   pub others : ChangesInputs old new
+  pub opened : ReadsInOrder (input ∷ []) (refusal_in result) old new
   pub calm : IfOk result (λ value. new.faults.inputs ≡ old.faults.inputs)
   pub ok : IfOk result (λ value. IfTold old.holds (λ files. given files ≡ Ok value))
   pub err : IfErr result (λ refusal. DeclinesInput given old new refusal)

@@ -1,7 +1,7 @@
 // SPC files and tables of weights.
 ghost use Rattle.std.specs.Prelude.{◌≡◌};
 ghost use Rattle.snd_host.specs.Host.{HostState};
-ghost use Rattle.input_files.specs.Reading.{Accepts, Reads};
+ghost use Rattle.input_files.specs.Reading.{Accepts, Reads, input_limit, input_up_to};
 ghost use Rattle.input_files.specs.Inputs.{file_of, file_in, table_of, table_in};
 
 use crate::{INPUT_LIMIT, read_input};
@@ -30,18 +30,11 @@ pub fn read_file<H: Host>(
     host: &mut H,
     name: &str,
 ) -> Result<SpcFile, Refusal<Cause>>
-    ensures { Reads (λ files. file_in (files name.now)) (H.state host.old) (H.state host.new) result }
+    ensures { Reads (input_up_to input_limit name.now) (λ files. file_in (files name.now)) (H.state host.old) (H.state host.new) result }
 {
-    match read_input(
-        alloc,
-        host,
-        name,
-        INPUT_LIMIT,
-        Cause::SpcLength(INPUT_LIMIT + 1),
-    ) {
-        Ok(bytes) => accept_file(alloc, bytes.as_slice()),
-        Err(refusal) => Err(refusal),
-    }
+    let too_long = Cause::SpcLength(INPUT_LIMIT + 1);
+    let bytes = read_input(alloc, host, name, INPUT_LIMIT, too_long)?;
+    accept_file(alloc, bytes.as_slice())
 }
 
 /// The table of bytes that were read, or the cause for which they are refused.
@@ -61,10 +54,8 @@ pub fn read_table<H: Host>(
     host: &mut H,
     name: &str,
 ) -> Result<GaussTable, Refusal<Cause>>
-    ensures { Reads (λ files. table_in (files name.now)) (H.state host.old) (H.state host.new) result }
+    ensures { Reads (input_up_to input_limit name.now) (λ files. table_in (files name.now)) (H.state host.old) (H.state host.new) result }
 {
-    match read_input(alloc, host, name, INPUT_LIMIT, Cause::InputTooLong) {
-        Ok(bytes) => accept_table(alloc, bytes.as_slice()),
-        Err(refusal) => Err(refusal),
-    }
+    let bytes = read_input(alloc, host, name, INPUT_LIMIT, Cause::InputTooLong)?;
+    accept_table(alloc, bytes.as_slice())
 }

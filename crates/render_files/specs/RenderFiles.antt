@@ -5,6 +5,7 @@ use Rattle.num_fix.specs.declared.Frame.{Frame}
 use Rattle.num_fix.specs.Limits.{most_frames}
 use Rattle.wav_form.specs.Wave.{frame_bytes}
 use Rattle.trace_form.specs.declared.record.Record.{Record}
+use Rattle.trace_form.specs.declared.text.TheConstants.{LINE_SIZE}
 use Rattle.trace_form.specs.Line.{lines_of}
 use Rattle.trace_form.specs.Rooms.{frame_room, record_room}
 use Rattle.chip_form.specs.ChipMeaning.{ChipMeaning}
@@ -17,9 +18,9 @@ use Rattle.render_files.specs.RenderReport.{sound_report}
 abbrev pub most_bytes_of_frames : ℕ
 most_bytes_of_frames = 4 * frame_room
 
--- the bytes of the most lines that it has, each of at most 48
+-- the bytes of the most lines that it has
 abbrev pub most_bytes_of_lines : ℕ
-most_bytes_of_lines = 48 * record_room
+most_bytes_of_lines = LINE_SIZE * record_room
 
 pub record FilesState (S : Type 0) : Type 0 where
   pub render : RenderState S

@@ -3,6 +3,7 @@ ghost use Rattle.std.specs.Prelude.{◌≡◌, ◌+◌, ◌*◌, ◌<◌, ◌≤
 ghost use Rattle.std.specs.List.{flat_map};
 ghost use Rattle.wav_form.specs.Wave.{frame_bytes, header_of, stereo_wave};
 ghost use Rattle.trace_form.specs.Line.{lines_of};
+ghost use Rattle.trace_form.specs.declared.text.TheConstants.{LINE_SIZE};
 ghost use Rattle.render_core.specs.Fade.{faded_from, faded_frames};
 ghost use Rattle.render_core.specs.RenderState.{frames_to_come, records_to_come, counts_to_come};
 ghost use Rattle.render_files.specs.RenderReport.{sound_report};
@@ -85,7 +86,7 @@ fn put_faded_frames(wave: &mut ByteRoom, frames: &[Frame], at: u32, samples: u32
 
 /// Adds the lines of records.
 fn put_lines(trace: &mut ByteRoom, records: &[Record])
-    requires { length trace.old + 48 * length records.now ≤ room_size }
+    requires { length trace.old + LINE_SIZE * length records.now ≤ room_size }
     ensures { trace.new ≡ trace.old ++ lines_of records.now }
 {
     for record in records {

@@ -16,6 +16,11 @@ pub record Given : Type 0 where
   pub complaint : List ℕ
   pub created : List Output
 
+-- an input that was opened: its name, and how many bytes of it were read
+pub record OpenedInput : Type 0 where
+  pub name : List ℕ
+  pub read : ℕ
+
 -- how often each kind of call has failed
 pub record Faults : Type 0 where
   -- calls of `open_in` and `read`
@@ -25,11 +30,13 @@ pub record Faults : Type 0 where
   -- calls of `create` and `finish`, and every other write
   pub outputs : ℕ
 
--- A host at one moment. An implementation tells `holds`, `left`, `given` and `steady`, or it doesn't.
+-- A host at one moment. An implementation tells `holds`, `left`, `opened`, `given` and `steady`, or it doesn't.
 pub record HostState : Type 0 where
   pub holds : Option Files
   -- what is left of the current input
   pub left : Option (List ℕ)
+  -- the inputs that were opened, in the order of the calls; a failed `open_in` opens none
+  pub opened : Option (List OpenedInput)
   pub given : Option Given
   -- the number of the current input
   pub current : Option ℕ
@@ -99,7 +106,15 @@ IsOpen ended (suc (suc place)) = slice_get ended place ≡ Some false
 abbrev pub KeepsRooms : HostState → HostState → Type 0
 KeepsRooms old new = IfTold old.steady (λ rooms. new.steady ≡ Some rooms)
 
--- Nothing but the current input, what is left of it and the count of its calls has changed.
+-- what was asked of the inputs: how many calls failed, and which were opened
+pub record Asked : Type 0 where
+  pub faults : ℕ
+  pub opened : Option (List OpenedInput)
+
+abbrev pub asked_of : HostState → Asked
+asked_of state = record { faults = state.faults.inputs; opened = state.opened }
+
+-- Nothing but the inputs and the count of their calls has changed.
 pub record ChangesInputs (old new : HostState) : Type 0 where
   pub holds : new.holds ≡ old.holds
   pub given : new.given ≡ old.given
@@ -113,7 +128,7 @@ pub record ChangesOutputs (old new : HostState) : Type 0 where
   pub holds : new.holds ≡ old.holds
   pub left : new.left ≡ old.left
   pub current : new.current ≡ old.current
-  pub inputs : new.faults.inputs ≡ old.faults.inputs
+  pub inputs : asked_of new ≡ asked_of old
 
 -- the rooms after so many bytes were written to the output of this number
 abbrev pub rooms_less : List ℕ → ℕ → ℕ → List ℕ

@@ -7,7 +7,8 @@ use Rattle.std.proofs.lemmas.List.{length-map}
 use Rattle.snd_host.specs.Host.{HostState, IfTold, Output}
 use Rattle.snd_host.specs.Files.{File, bytes_at, content_of}
 use Rattle.snd_host.specs.declared.memory.MemHost.{MemHost}
-use Rattle.snd_host.specs.declared.memory.Reading.{Reading}
+use Rattle.snd_host.specs.Readings.{opened_of}
+use Rattle.snd_host.specs.declared.readings.Reading.{Reading}
 use Rattle.snd_host.specs.declared.memory.Slot.{Slot}
 
 abbrev pub left_of : List File → Option Reading → List ℕ
@@ -29,6 +30,7 @@ abbrev pub memory_state : MemHost → HostState
 memory_state host = record {
   holds = Some (content_of host.files.items);
   left = Some (left_of host.files.items host.current);
+  opened = opened_of host.files.items host.past host.current;
   given = Some (record { report = host.report.bytes.items; complaint = host.complaint.bytes.items; created = map output_of host.created.items });
   current = option_map (λ _. host.newest) host.current;
   ended = map (λ slot. slot.ended) host.created.items;
@@ -80,6 +82,7 @@ abbrev pub opening_state : List File → List ℕ → List ℕ → HostState
 opening_state files failing rooms = record {
   holds = Some (content_of files);
   left = Some [];
+  opened = Some [];
   given = Some (record { report = []; complaint = []; created = [] });
   current = None;
   ended = [];

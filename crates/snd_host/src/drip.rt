@@ -34,6 +34,7 @@ impl DripHost {
 // they move at most one byte.
 impl Host for DripHost {
     ghost use Rattle.std.specs.Prelude.{◌≢◌, ◌-◌, ◌+◌, ◌<◌, [], ◌∷◌, ◌++◌, false, true, length, take, drop, Some, None, IsSome, IsOk, IfOk, OnOk, OnErr, slice_get, slice_index, slice_set};
+    ghost use Rattle.snd_host.specs.OpenedInputs.{Opens, ReadsMore};
     ghost use Rattle.snd_host.specs.Host.{IfTold, HasCause, CountsWrite, IsOpen, ChangesInputs, ChangesOutputs, KeepsRooms, Writes, most_outputs, longest_name};
     ghost use Rattle.snd_host.specs.Memory.{tells_each_lem, CountsCall};
 
@@ -47,6 +48,8 @@ impl Host for DripHost {
         ensures none_current { OnErr result ((drip_state self.new).current ≡ None) }
         ensures there { OnOk result (IfTold (drip_state self.old).holds (λ files. IsSome (files name.now))) }
         ensures left { OnOk result (IfTold (drip_state self.old).holds (λ files. (drip_state self.new).left ≡ files name.now)) }
+        ensures opened { OnOk result (Opens (record { name = name.now; read = 0 } ∷ []) (drip_state self.old) (drip_state self.new)) }
+        ensures not_opened { OnErr result (Opens [] (drip_state self.old) (drip_state self.new)) }
         ensures others { ChangesInputs (drip_state self.old) (drip_state self.new) }
         ensures cause { HasCause (drip_state self.old).faults.inputs (drip_state self.new).faults.inputs result }
         ensures steady { IsSome (drip_state self.old).steady →
@@ -67,6 +70,8 @@ impl Host for DripHost {
         ensures available { IfOk result (λ count. IfTold (drip_state self.old).left (λ rest. count ≤ length rest)) }
         ensures end { result ≡ Ok 0 → 0 < length buf.old → IfTold (drip_state self.old).left (λ rest. rest ≡ []) }
         ensures unread { OnErr result ((drip_state self.new).left ≡ (drip_state self.old).left) }
+        ensures counted_bytes { IfOk result (λ count. ReadsMore count (drip_state self.old) (drip_state self.new)) }
+        ensures no_bytes { OnErr result (Opens [] (drip_state self.old) (drip_state self.new)) }
         ensures current { (drip_state self.new).current ≡ (drip_state self.old).current }
         ensures others { ChangesInputs (drip_state self.old) (drip_state self.new) }
         ensures cause { HasCause (drip_state self.old).faults.inputs (drip_state self.new).faults.inputs result }

@@ -1,5 +1,6 @@
 // The outside as the program sees it: inputs that are read by name, and outputs that are written in order.
 ghost use Rattle.std.specs.Prelude.{◌≡◌, ◌≢◌, ◌+◌, ◌-◌, ◌<◌, ◌≤◌, ℕ, List, [], ◌∷◌, ◌++◌, length, take, drop, true, false, Option, Some, IsSome, IsOk, IfOk, OnOk, OnErr, slice_get, slice_index, slice_set};
+ghost use Rattle.snd_host.specs.OpenedInputs.{Opens, ReadsMore};
 ghost use Rattle.snd_host.specs.Host.{HostState, Given, IfTold, HasCause, CountsWrite, IsOpen, ChangesInputs, ChangesOutputs, KeepsRooms, Writes, most_outputs, longest_name};
 
 /// A call of the host that failed.
@@ -31,6 +32,8 @@ pub trait Host {
         ensures none_current { OnErr result ((state self.new).current ≡ None) }
         ensures there { OnOk result (IfTold (state self.old).holds (λ files. IsSome (files name.now))) }
         ensures left { OnOk result (IfTold (state self.old).holds (λ files. (state self.new).left ≡ files name.now)) }
+        ensures opened { OnOk result (Opens (record { name = name.now; read = 0 } ∷ []) (state self.old) (state self.new)) }
+        ensures not_opened { OnErr result (Opens [] (state self.old) (state self.new)) }
         ensures others { ChangesInputs (state self.old) (state self.new) }
         ensures cause { HasCause (state self.old).faults.inputs (state self.new).faults.inputs result }
         // A steady host fails only at a name that is not there.
@@ -49,6 +52,8 @@ pub trait Host {
         ensures available { IfOk result (λ count. IfTold (state self.old).left (λ rest. count ≤ length rest)) }
         ensures end { result ≡ Ok 0 → 0 < length buf.old → IfTold (state self.old).left (λ rest. rest ≡ []) }
         ensures unread { OnErr result ((state self.new).left ≡ (state self.old).left) }
+        ensures counted_bytes { IfOk result (λ count. ReadsMore count (state self.old) (state self.new)) }
+        ensures no_bytes { OnErr result (Opens [] (state self.old) (state self.new)) }
         ensures current { (state self.new).current ≡ (state self.old).current }
         ensures others { ChangesInputs (state self.old) (state self.new) }
         ensures cause { HasCause (state self.old).faults.inputs (state self.new).faults.inputs result }

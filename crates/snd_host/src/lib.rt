@@ -6,6 +6,7 @@ mod drip;
 mod files;
 mod host;
 mod memory;
+mod readings;
 
 pub use calls::{ReadRefusal, read_whole, write_all};
 pub use drip::DripHost;

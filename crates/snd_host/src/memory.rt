@@ -4,16 +4,10 @@ ghost use Rattle.std.specs.VecDeque.{deque_len};
 ghost use Rattle.snd_host.specs.Host.{longest_name};
 
 use crate::files::{bytes_of, copy_front, count_call, find_file};
+use crate::readings::{Reading, with_reading};
 use crate::{Failed, Host, InFile, OutFile, OutOfMemory};
 use std::alloc::Global;
 use std::collections::VecDeque;
-
-/// The current input: the place of its file, and how far it was read.
-#[derive(Clone, Copy)]
-struct Reading {
-    index: usize,
-    at: usize,
-}
 
 /// Bytes that were written, and how many more there is room for.
 #[derive(Drop)]
@@ -60,6 +54,7 @@ pub struct MemHost {
     failing: Vec<u32>,
     calls: u32,
     newest: u32,
+    past: Option<Vec<Reading>>,
     current: Option<Reading>,
     report: Sink,
     complaint: Sink,
@@ -202,6 +197,7 @@ impl MemHost {
             failing,
             calls: 0,
             newest: 0,
+            past: Some(Vec::new(alloc)),
             current: None,
             report,
             complaint,
@@ -254,6 +250,7 @@ impl MemHost {
 // to the rooms.
 impl Host for MemHost {
     ghost use Rattle.std.specs.Prelude.{◌≢◌, ◌-◌, ◌<◌, ◌∷◌, ◌++◌, ◌||◌, not, true, false, nat_lt, length, take, drop, Option, Some, None, IsSome, is_err, IsOk, IfOk, OnOk, OnErr, slice_get, slice_index, slice_set};
+    ghost use Rattle.snd_host.specs.OpenedInputs.{Opens, ReadsMore};
     ghost use Rattle.snd_host.specs.Host.{IfTold, HasCause, CountsWrite, IsOpen, ChangesInputs, ChangesOutputs, KeepsRooms, Writes, rooms_less, most_outputs};
     ghost use Rattle.snd_host.specs.Memory.{memory_state, tells_each_lem, rooms_of, is_listed, CountsCall, has_input, is_full};
 
@@ -268,6 +265,8 @@ impl Host for MemHost {
         ensures there { OnOk result (IfTold (memory_state self.old).holds (λ files. IsSome (files name.now))) }
         ensures left { OnOk result (
             IfTold (memory_state self.old).holds (λ files. (memory_state self.new).left ≡ files name.now)) }
+        ensures opened { OnOk result (Opens (record { name = name.now; read = 0 } ∷ []) (memory_state self.old) (memory_state self.new)) }
+        ensures not_opened { OnErr result (Opens [] (memory_state self.old) (memory_state self.new)) }
         ensures others { ChangesInputs (memory_state self.old) (memory_state self.new) }
         ensures cause { HasCause (memory_state self.old).faults.inputs (memory_state self.new).faults.inputs result }
         ensures steady { IsSome (memory_state self.old).steady →
@@ -279,7 +278,7 @@ impl Host for MemHost {
     {
         let fails = count_call(&mut self.calls, self.failing.as_slice());
         let found = find_file(self.files.as_slice(), name);
-        self.current = None;
+        self.past = with_reading(self.past.take(), self.current.take());
         if fails {
             self.in_faults = self.in_faults.saturating_add(1);
             return Err(Failed);
@@ -304,6 +303,8 @@ impl Host for MemHost {
         ensures available { IfOk result (λ count. IfTold (memory_state self.old).left (λ rest. count ≤ length rest)) }
         ensures end { result ≡ Ok 0 → 0 < length buf.old → IfTold (memory_state self.old).left (λ rest. rest ≡ []) }
         ensures unread { OnErr result ((memory_state self.new).left ≡ (memory_state self.old).left) }
+        ensures counted_bytes { IfOk result (λ count. ReadsMore count (memory_state self.old) (memory_state self.new)) }
+        ensures no_bytes { OnErr result (Opens [] (memory_state self.old) (memory_state self.new)) }
         ensures current { (memory_state self.new).current ≡ (memory_state self.old).current }
         ensures others { ChangesInputs (memory_state self.old) (memory_state self.new) }
         ensures cause { HasCause (memory_state self.old).faults.inputs (memory_state self.new).faults.inputs result }
@@ -326,7 +327,7 @@ impl Host for MemHost {
         let count = copy_front(&bytes[at..], buf);
         self.current = Some(Reading {
             index: reading.index,
-            at: at + count,
+            at: reading.at + count,
         });
         Ok(count)
     }

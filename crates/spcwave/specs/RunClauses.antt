@@ -1,6 +1,7 @@
 -- What a run of the program does. The answer meant is that of the command, by what the names hold at the call.
 use Rattle.std.specs.Prelude.{ℕ, ◌≡◌, ◌≢◌, ◌↔◌, ◌+◌, ◌<◌, ◌≤◌, ◌⊎◌, length, IsTrue, IsSome, slice_index}
 use Rattle.snd_host.specs.Host.{HostState, IfTold, Rose}
+use Rattle.snd_host.specs.OpenedInputs.{whole_inputs, OpensInOrder}
 use Rattle.command_frame.specs.Answer.{outputs_of, report_of}
 use Rattle.command_frame.specs.Conduct.{NoneRose}
 use Rattle.command_frame.specs.Delivery.{HaveRooms}
@@ -8,7 +9,7 @@ use Rattle.command_frame.specs.Leaves.{LeavesNothing, LeavesAll, LeavesPart, Rep
 use Rattle.exit_status.specs.declared.status.Status.{Status}
 use Rattle.exit_status.specs.declared.status.Status.TheVariants as statuses
 use Rattle.command_line.specs.Command.{Command, usage, names_input}
-use Rattle.spcwave.specs.Answers.{answer_of}
+use Rattle.spcwave.specs.Answers.{answer_of, inputs_of}
 use Rattle.exit_status.specs.Statuses.{answer_status, plain_end}
 use Rattle.exit_status.specs.Lines.{end_line, status_line}
 
@@ -44,6 +45,12 @@ pub record WriteFault (command : Command) (old new : HostState) (status : Status
 pub record Memory (command : Command) (old new : HostState) (status : Status) : Type 0 where
   pub leaves : status ≡ statuses.OutOfMemory → LeavesNothing old new
   pub never_usage : status ≡ statuses.OutOfMemory → command ≢ usage
+
+-- Each input of the command is opened once, in the order of the words, before the next, and read to its end or to its limit and one byte; none
+-- but these is opened. Where one could not be read or memory was wanting, less of the last may have been read.
+abbrev pub ReadsInputs : Command → HostState → HostState → Status → Type 0
+ReadsInputs command old new status = IfTold old.holds (λ files. OpensInOrder (whole_inputs files (inputs_of command))
+    ((status ≢ statuses.ReadFault) × (status ≢ statuses.OutOfMemory)) ((status ≡ statuses.Ok) ⊎ (status ≡ statuses.WriteFault)) old new)
 
 -- Every status but those three is the answer's.
 abbrev pub IsTruthful : Command → HostState → Status → Type 0
@@ -97,6 +104,8 @@ pub record Untold (command : Command) (old new : HostState) (status : Status) : 
 pub record IsRun (command : Command) (old new : HostState) (status : Status) : Type 0 where
   -- what stands where the status is the answer's, and the line of complaint
   pub content : Content command old new status
+  -- which inputs are opened, and how far each is read
+  pub reading : ReadsInputs command old new status
   -- the three ends that are not the answer's, and what each leaves
   pub read_fault : ReadFault command old new status
   pub write_fault : WriteFault command old new status

@@ -4,10 +4,8 @@ use std::test::Fail;
 
 /// How many cuts a text lists, and how many frames they have.
 fn listed(alloc: Global, text: &[u8]) -> Result<(usize, u32), TextRefusal> {
-    match read_cuts(alloc, text) {
-        Ok(list) => Ok((list.as_slice().len(), list.samples())),
-        Err(refusal) => Err(refusal),
-    }
+    let list = read_cuts(alloc, text)?;
+    Ok((list.as_slice().len(), list.samples()))
 }
 
 #[test]

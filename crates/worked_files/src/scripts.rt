@@ -5,10 +5,8 @@ use std::test::Fail;
 
 /// How many lines a script has, and how many frames they play.
 fn read(alloc: Global, text: &[u8]) -> Result<(usize, u32), TextRefusal> {
-    match read_script(alloc, text) {
-        Ok(lines) => Ok((lines.len(), lines.samples())),
-        Err(refusal) => Err(refusal),
-    }
+    let lines = read_script(alloc, text)?;
+    Ok((lines.len(), lines.samples()))
 }
 
 #[test]

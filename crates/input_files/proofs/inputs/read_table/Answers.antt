@@ -3,15 +3,10 @@ use Rattle.snd_host.specs.Host.{Files}
 use Rattle.exit_status.specs.declared.cause.Cause.TheVariants.{InputTooLong}
 use Rattle.input_files.specs.Reading.{Accepts, input_limit, bytes_in}
 use Rattle.input_files.specs.Inputs.{table_of}
-use Rattle.input_files.proofs.Readings.{reads_refused, reads_accepts}
+use Rattle.input_files.proofs.Readings.{reads_accepts}
 use Rattle.input_files.proofs.inputs.read_table.Goals as goal
 
-pub returns-in-Ok : goal.returns-in-Ok
-returns-in-Ok g c =
+pub returns : goal.returns
+returns g c =
     reads_accepts (λ (files : Files). bytes_in input_limit (InputTooLong) (files c.args.name.now)) table_of (g.H.Host.state c.args.host.now) (g.H.Host.state c.read_input.new.host)
-    c.in-Ok.bytes c.accept_table.result c.in-Ok.ensures.reads (subst (λ (l : List ℕ). Accepts (table_of l) c.accept_table.result) c.as_slice.ensures c.accept_table.ensures)
-
-pub returns-in-Err : goal.returns-in-Err
-returns-in-Err g c =
-    reads_refused (λ (files : Files). bytes_in input_limit (InputTooLong) (files c.args.name.now)) table_of (g.H.Host.state c.args.host.now) (g.H.Host.state c.read_input.new.host)
-    c.in-Err.refusal c.in-Err.ensures.reads
+    c.in_ok-bytes.bytes c.accept_table.result c.in_ok-bytes.ensures.reads (subst (λ (l : List ℕ). Accepts (table_of l) c.accept_table.result) c.as_slice.ensures c.accept_table.ensures)

@@ -9,6 +9,7 @@ returns g c =
     let o = obeys refusal_line _ _ c.attempt-refusal.result _ _ _ attempt.attempts c.complain.ensures.complained c.complain.ensures.silent in
     record {
       content = clauses.content _ _ _ _ _ c.status_for.ensures o attempt.misread;
+      reading = clauses.reading _ _ _ _ _ c.status_for.ensures o attempt.misread;
       read_fault = clauses.read_fault _ _ _ _ _ c.status_for.ensures o attempt.misread;
       write_fault = clauses.write_fault _ _ _ _ _ c.status_for.ensures o attempt.misread;
       memory = clauses.memory _ _ _ _ _ c.status_for.ensures o attempt.misread;

@@ -1,8 +1,10 @@
-use Rattle.std.proofs.Common.{refl, ◌∙◌, ap, List, ℕ}
+use Rattle.std.proofs.Common.{refl, sym, ◌∙◌, ap, List, [], ◌∷◌, Some, ℕ}
 use Rattle.std.specs.Prelude.{◌==◌}
 use Rattle.std.specs.List.{list_any}
 use Rattle.snd_host.specs.Memory.{rooms_of}
 use Rattle.snd_host.proofs.Steady.{steady_of-same, no_failure_some}
+use Rattle.snd_host.specs.Files.{File, place_of}
+use Rattle.snd_host.proofs.KeptReadings.{opened_next, none_next, one_next, name_at-place_of}
 use Rattle.snd_host.proofs.memory.MemHostHost.open_in.Goals as goal
 
 pub returns-then-fails-clause-others : goal.returns-then-fails-clause-others
@@ -16,3 +18,20 @@ returns-clause-others c = record { holds = refl; given = refl; ended = refl; not
 
 pub returns-then-fails-clause-steady : goal.returns-then-fails-clause-steady
 returns-then-fails-clause-steady c = λ steady files told there. absurd (no_failure_some c.args.self.now.failing.items c.args.self.now.calls (rooms_of c.args.self.now) c.count_call-fails.result steady (c.count_call-fails.ensures.fails ∙ ap (λ (l : List ℕ). list_any (λ number. number == c.args.self.now.calls) l) c.as_slice.ensures.value) c.if-fails.true)
+
+pub returns-then-fails-clause-not_opened : goal.returns-then-fails-clause-not_opened
+returns-then-fails-clause-not_opened c =
+    opened_next c.args.self.now.files.items c.args.self.now.past c.take.result c.with_reading.result c.args.self.now.current c.take-2.result c.take-2.new.self [] c.take.ensures.value c.take-2.ensures.value c.with_reading.ensures
+    (none_next c.args.self.now.files.items c.take-2.new.self c.take-2.ensures.after)
+
+pub returns-in_default-clause-not_opened : goal.returns-in_default-clause-not_opened
+returns-in_default-clause-not_opened c =
+    opened_next c.args.self.now.files.items c.args.self.now.past c.take.result c.with_reading.result c.args.self.now.current c.take-2.result c.take-2.new.self [] c.take.ensures.value c.take-2.ensures.value c.with_reading.ensures
+    (none_next c.args.self.now.files.items c.take-2.new.self c.take-2.ensures.after)
+
+pub returns-clause-opened : goal.returns-clause-opened
+returns-clause-opened c =
+    let named = name_at-place_of c.args.self.now.files.items c.args.name.now c.in-Some.index
+    (sym (ap (λ (l : List File). place_of l c.args.name.now) c.as_slice-2.ensures.value) ∙ sym c.find_file-found.ensures ∙ c.in-Some.is) in
+    opened_next c.args.self.now.files.items c.args.self.now.past c.take.result c.with_reading.result c.args.self.now.current c.take-2.result (Some (record { index = c.in-Some.index; at = 0 })) (record { name = c.args.name.now; read = 0 } ∷ []) c.take.ensures.value c.take-2.ensures.value c.with_reading.ensures
+    (one_next c.args.self.now.files.items (record { index = c.in-Some.index; at = 0 }) (record { name = c.args.name.now; read = 0 }) (ap (λ (n : List ℕ). record { name = n; read = 0 }) named))

@@ -1,0 +1,13 @@
+use Rattle.snd_host.specs.Host.{Files}
+use Rattle.command_frame.specs.Plan.{stream_makes}
+use Rattle.dsp_core.specs.DspChip.{dsp_chip, dsp_saving}
+use Rattle.command_cuts.specs.Lists.{cuts_in}
+use Rattle.input_files.proofs.Readings.{reads_plan}
+use Rattle.cut_files.specs.CutFiles.{to_come_of, report_of}
+use Rattle.command_cuts.specs.Cuts.{list_answer}
+use Rattle.command_cuts.proofs.command.prepare_list.Goals as goal
+
+pub returns : goal.returns
+returns g c =
+    reads_plan (stream_makes (to_come_of dsp_chip dsp_saving) (report_of dsp_chip dsp_saving)) (λ (files : Files). cuts_in (files c.args.list.now)) (list_answer c.args.wave.now c.args.muted c.args.file.now c.args.table)
+    (g.H.Host.state c.args.host.now) (g.H.Host.state c.read_list.new.host) c.in_ok-cuts.cuts c.plan.result c.in_ok-cuts.ensures c.plan.ensures

@@ -1,0 +1,14 @@
+use Rattle.snd_host.specs.Host.{Files}
+use Rattle.command_frame.specs.Plan.{stream_makes}
+use Rattle.dsp_core.specs.DspChip.{dsp_chip}
+use Rattle.input_files.specs.Inputs.{table_in}
+use Rattle.input_files.proofs.Readings.{reads_plan}
+use Rattle.render_files.specs.RenderFiles.{to_come_of, report_of}
+use Rattle.render_options.specs.Options.{options_of}
+use Rattle.command_render.specs.Render.{rendering_answer}
+use Rattle.command_render.proofs.command.prepare_with.Goals as goal
+
+pub returns : goal.returns
+returns g c =
+    reads_plan (stream_makes (to_come_of dsp_chip) (report_of dsp_chip)) (λ (files : Files). table_in (files c.args.table.now)) (rendering_answer c.args.wave.now (options_of c.args.options) c.args.file.now)
+    (g.H.Host.state c.args.host.now) (g.H.Host.state c.read_table.new.host) c.in_ok-table.table c.plan.result c.in_ok-table.ensures c.plan.ensures

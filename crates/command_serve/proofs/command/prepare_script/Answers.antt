@@ -1,0 +1,13 @@
+use Rattle.snd_host.specs.Host.{Files}
+use Rattle.command_frame.specs.Plan.{stream_makes}
+use Rattle.dsp_core.specs.DspChip.{dsp_chip, dsp_saving}
+use Rattle.command_serve.specs.Scripts.{script_in}
+use Rattle.input_files.proofs.Readings.{reads_plan}
+use Rattle.session_files.specs.SessionFiles.{to_come_of, report_of}
+use Rattle.command_serve.specs.Serve.{script_answer}
+use Rattle.command_serve.proofs.command.prepare_script.Goals as goal
+
+pub returns : goal.returns
+returns g c =
+    reads_plan (stream_makes (to_come_of dsp_chip dsp_saving) (report_of dsp_chip dsp_saving)) (λ (files : Files). script_in (files c.args.script.now)) (script_answer c.args.wave.now c.args.options c.args.file.now c.args.table)
+    (g.H.Host.state c.args.host.now) (g.H.Host.state c.read_lines.new.host) c.in_ok-lines.lines c.plan.result c.in_ok-lines.ensures c.plan.ensures
