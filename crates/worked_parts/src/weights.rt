@@ -1,6 +1,6 @@
-//! The table of straight lines, and what is no table.
+//! The table of straight lines, what is no table, and products by factors of 16 bits.
 
-use gauss_table::{GaussTable, TableRefusal};
+use gauss_table::{GaussTable, TableRefusal, factor_of, product_by_factor};
 use std::test::Fail;
 
 #[test]
@@ -35,4 +35,21 @@ fn a_table_has_1024_bytes(rt: HostRuntime) -> Result<(), Fail> {
     let table = GaussTable::read(rt.alloc(), &bytes)?;
     assert!(rt; table.mix(0, 0, 0, 0, 2048) == -32768);
     Ok(())
+}
+
+#[test]
+fn a_weight_below_1_has_a_factor_of_16_bits(rt: HostRuntime) {
+    for (weight, sample, want) in [
+        (0, -1, 0),
+        (1, -1, -1),
+        (1, 2047, 0),
+        (1023, -32768, -16368),
+        (1024, -3, -2),
+        (1024, 32767, 16383),
+        (2047, 32767, 32751),
+        (2047, -32768, -32752),
+    ] {
+        let product = product_by_factor(factor_of(weight), sample);
+        assert!(rt; product == want, "{sample} under {weight}");
+    }
 }

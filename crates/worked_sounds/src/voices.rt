@@ -266,3 +266,69 @@ fn a_bent_voice_plays_a_batch_as_its_steps(rt: HostRuntime) -> Result<(), Fail> 
     }
     Ok(())
 }
+
+/// A table whose weights are these three, over and over.
+fn table_of(alloc: Global, weights: [i16; 3]) -> Result<GaussTable, Fail> {
+    let mut bytes = [0u8; 1024];
+    for i in 0..512usize {
+        let bits = weights[i % 3].cast_unsigned();
+        bytes[2 * i] = (bits % 0x100) as u8;
+        bytes[2 * i + 1] = (bits / 0x100) as u8;
+    }
+    Ok(GaussTable::read(alloc, &bytes)?)
+}
+
+#[test]
+fn a_stretch_sounds_as_its_steps_by_any_table(rt: HostRuntime) -> Result<(), Fail> {
+    let mut memory = memory_of_a_source(rt.alloc())?;
+    let loud = [0xc3, 0x7f, 0x80, 0x35, 0x9c, 0x12, 0xef, 0x48, 0xb6];
+    put_all(&mut memory, 0x0500, &loud);
+    put_all(&mut memory, 0x0600, &loud);
+    let rows = rows_with_a_key_on();
+    let mut regs = registers();
+    regs.pitch = 0x0b57;
+    // the first three tables have weights from 0 to 2,047 alone
+    for (which, weights) in [
+        [0, 1, 1023],
+        [2047, 2047, 2047],
+        [1024, 37, 1500],
+        [2048, 0, 900],
+        [-1, 700, 1300],
+        [-32768, 32767, 5],
+    ]
+    .into_iter()
+    .enumerate()
+    {
+        let table = table_of(rt.alloc(), weights)?;
+        let reads = VoiceReads {
+            regs,
+            seen: VoiceView {
+                voice: 3,
+                dir: 2,
+                pmon: 0,
+                non: 0,
+                koff: 0,
+                reset: false,
+            },
+            rows: &rows,
+            memory: &memory,
+            table: &table,
+            clock: RateClock::new().after_samples(1),
+        };
+        let mut work = Workspace::new(rt.alloc(), &table)?;
+        let mut made = unplayed();
+        let mut stretched = Voice::new();
+        stretched.play(64, &reads, &[0; 64], &mut work, &mut made);
+        let mut stepped = Voice::new();
+        let mut steps = OutRow::silent();
+        stepped.run(64, &reads, &OutRow::silent(), &mut steps);
+        for j in 0..64usize {
+            assert!(rt;
+                made.outs[j] == steps.items[j].out,
+                "sample {j} by table {which}"
+            );
+        }
+        assert!(rt; made.outs[20] != made.outs[21], "table {which}");
+    }
+    Ok(())
+}
