@@ -61,6 +61,7 @@ export function makeVoices(body) {
     meter.setAttribute('aria-label', `Level of voice ${voice}`);
     meter.setAttribute('aria-valuemin', 0);
     meter.setAttribute('aria-valuemax', 100);
+    meter.setAttribute('aria-valuenow', 0);
     level.append(meter);
     const [note, source] = [document.createElement('td'), document.createElement('td')];
     row.append(name, level, note, source);
