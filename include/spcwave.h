@@ -79,7 +79,7 @@ typedef struct spcwave_frame {
 
 /* What shows of a voice once a sample is made. */
 typedef struct spcwave_voice_shown {
-    uint16_t level;   /* of its envelope, 0 to 2,047: that at which its next sample sounds, where no key on comes */
+    uint16_t level;   /* of its envelope, 0 to 2,047: that at which its next sample sounds; right after a key on, that before it */
     uint16_t pitch;   /* of its registers, 0 to 16,383: at 4,096 its sample is played 32,000 of its samples a second */
     int16_t output;   /* the high byte of its output, -128 to 127, as the register OUTX has it */
     uint16_t source;  /* the number of its sample in the directory, 0 to 255 */
