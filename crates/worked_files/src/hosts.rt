@@ -1,5 +1,5 @@
 // What a host in memory does at each of its limits, and the two loops over it.
-ghost use Rattle.std.specs.Prelude.{◌≡◌, ◌<◌, [], ◌∷◌, length, true, None, is_err, IfOk};
+ghost use Rattle.std.specs.Prelude.{◌≡◌, ◌<◌, [], ◌∷◌, length, true, false, Some, None, is_err, slice_get, IfOk};
 ghost use Rattle.snd_host.specs.Memory.{memory_state, calls_of, failing_of};
 
 use snd_host::{DripHost, Failed, Host, MemHost, OutFile, ReadRefusal, read_whole, write_all};
@@ -53,20 +53,33 @@ fn an_input_is_read_up_to_its_limit(rt: HostRuntime) -> Result<(), Fail> {
     Ok(())
 }
 
+/// Writes twice to the report and twice to the complaint.
+fn write_notes(host: &mut MemHost) -> [Result<(), Failed>; 4]
+    ensures { (memory_state host.new).ended ≡ (memory_state host.old).ended }
+{
+    [
+        write_all(host, REPORT, b"abc"),
+        write_all(host, REPORT, b"d"),
+        write_all(host, COMPLAINT, b""),
+        write_all(host, COMPLAINT, b"d"),
+    ]
+}
+
+/// Writes to the first output, and ends it.
+fn write_and_end(host: &mut MemHost, bytes: &[u8]) -> [Result<(), Failed>; 2]
+    requires { slice_get (memory_state host.old).ended 0 ≡ Some false }
+    ensures { length (memory_state host.new).ended ≡ length (memory_state host.old).ended }
+{
+    [write_all(host, FIRST, bytes), host.finish(FIRST)]
+}
+
 #[test]
 fn outputs_take_what_they_have_room_for(rt: HostRuntime) -> Result<(), Fail> {
     let alloc = rt.alloc();
     let mut host = five_bytes(alloc, &[], &[3, 0, 2])?;
-    let notes = [
-        write_all(&mut host, REPORT, b"abc"),
-        write_all(&mut host, REPORT, b"d"),
-        write_all(&mut host, COMPLAINT, b""),
-        write_all(&mut host, COMPLAINT, b"d"),
-    ];
-    assert!(rt; notes == [Ok(()), Err(Failed), Ok(()), Err(Failed)]);
+    assert!(rt; write_notes(&mut host) == [Ok(()), Err(Failed), Ok(()), Err(Failed)]);
     assert!(rt; host.create("OUT") == Ok(FIRST));
-    let bytes = [write_all(&mut host, FIRST, b"xy"), host.finish(FIRST)];
-    assert!(rt; bytes == [Ok(()), Ok(())]);
+    assert!(rt; write_and_end(&mut host, b"xy") == [Ok(()), Ok(())]);
     assert!(rt; host.create("MORE") == Err(Failed));
     assert!(rt; host.output(REPORT) == b"abc".as_slice());
     assert!(rt; host.output(FIRST) == b"xy".as_slice());
