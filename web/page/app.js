@@ -185,13 +185,14 @@ function neighbour(step) {
   return tunes[place] ? place : -1;
 }
 
-/** At a tune's end: on to the next one, or stop once the last frame was heard. */
+/** At a tune's end: on to the next one, or stop once the last frame was heard. One that goes on for ever comes to its end after an hour, and begins again. */
 async function goOn() {
   const its = turn;
   const place = neighbour(1);
   await wait(1000 * (sound.context.outputLatency || 0));
   if (turn !== its) return;
-  if (place >= 0) await start(place);
+  if (id('endless').checked) seek(0);
+  else if (place >= 0) await start(place);
   else {
     await setPlays(false);
     seek(0);
@@ -281,10 +282,10 @@ const KEYS = {
   ArrowRight: () => seek(place() + STEP),
 };
 
-/** Keys belong to the page, unless something that takes them itself has the focus. */
+/** Keys belong to the page, unless something that takes them itself has the focus: space where something is pressed by it, arrows at the volume. */
 function onKey(event) {
-  const own = event.target.closest('button, a, label, input[type=checkbox], input[type=file]');
-  if (!KEYS[event.key] || event.ctrlKey || event.altKey || event.metaKey || (own && event.key === ' ') || event.target === id('volume')) return;
+  const own = event.key === ' ' ? event.target.closest('button, a, label, input[type=checkbox], input[type=file]') : event.target === id('volume');
+  if (!KEYS[event.key] || event.ctrlKey || event.altKey || event.metaKey || own) return;
   event.preventDefault();
   if (event.key !== ' ' || !event.repeat) KEYS[event.key]();
 }
