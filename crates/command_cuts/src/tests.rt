@@ -5,7 +5,7 @@ use std::alloc::Global;
 use std::process::Abort;
 use std::test::Fail;
 use test_support::{
-    ENDS_THE_BLOCK, FIVE, Frames, MEMORY, Outcome, Pieces, ROOM, TAGS, file_of, host_with,
+    DSP, ENDS_THE_BLOCK, FIVE, Frames, MEMORY, Outcome, Pieces, ROOM, TAGS, file_of, host_with,
     straight_table, wave_of,
 };
 
@@ -15,15 +15,15 @@ const CHANGES_241_PAGES: Pieces = &[(
     b"\x8f\x00\x00\x8f\x10\x01\x8d\x00\xf7\x00\xbc\xd7\x00\x3a\x02\xab\x01\xd0\xf5\x2f\xee",
 )];
 
-/// Renders the cuts of a list over these inputs.
-fn cut_over(alloc: Global, inputs: &[(&str, &[u8])]) -> Result<Outcome, Fail> {
+/// Renders the cuts of a list over these inputs, with these voices muted.
+fn cut_over(alloc: Global, inputs: &[(&str, &[u8])], muted: u8) -> Result<Outcome, Fail> {
     let mut host = host_with(alloc, inputs, &[], ROOM)?;
-    let refusal = cuts(alloc, &mut host, "SPC", "TABLE", "LIST", "OUT", 0);
+    let refusal = cuts(alloc, &mut host, "SPC", "TABLE", "LIST", "OUT", muted);
     Ok(Outcome::of(refusal, host))
 }
 
-/// Renders the cuts of a list, of file five with these pieces more.
-fn cut_from(alloc: Global, pieces: Pieces, list: &[u8]) -> Result<Outcome, Fail> {
+/// Renders the cuts of a list, of file five with these pieces more and these voices muted.
+fn cut_muted(alloc: Global, pieces: Pieces, list: &[u8], muted: u8) -> Result<Outcome, Fail> {
     let file = file_of(alloc, 66048, FIVE, pieces)?;
     let table = straight_table(alloc)?;
     let list = Vec::from_slice(alloc, list)?;
@@ -32,7 +32,12 @@ fn cut_from(alloc: Global, pieces: Pieces, list: &[u8]) -> Result<Outcome, Fail>
         ("TABLE", table.as_slice()),
         ("LIST", list.as_slice()),
     ];
-    cut_over(alloc, &inputs)
+    cut_over(alloc, &inputs, muted)
+}
+
+/// The same, with no voice muted.
+fn cut_from(alloc: Global, pieces: Pieces, list: &[u8]) -> Result<Outcome, Fail> {
+    cut_muted(alloc, pieces, list, 0)
 }
 
 /// Adds so many cuts without frames, each so many samples after the one before.
@@ -102,6 +107,32 @@ fn cuts_of_a_tune(rt: HostRuntime) -> Result<(), Fail> {
             has_cuts(rt.alloc(), *pieces, list, *frames, report)?,
             "{list}"
         );
+    }
+    Ok(())
+}
+
+/// Voice 1 plays as voice 0 does, at volume 64.
+const TWO_VOICES: Pieces = &[
+    (DSP + 0x10, b"\x40\x40\0\x10\0\0\0\x7f"),
+    (DSP + 0x4c, b"\x03"),
+];
+
+/// Muted voices, and the frames of the cuts. In traces of two files with one voice each the outputs are 4,064: 4,032 at volume 127 and
+/// 2,032 at 64. The main volumes, 127 too, make 6,016 of both, 2,016 of voice 1 and 4,000 of voice 0.
+const MUTED: &[(u8, Frames)] = &[
+    (0x00, &[(2, 6016), (6, 0), (2, 6016)]),
+    (0x01, &[(2, 2016), (6, 0), (2, 2016)]),
+    (0xfe, &[(2, 4000), (6, 0), (2, 4000)]),
+    (0x03, &[(10, 0)]),
+];
+
+#[test]
+fn cuts_with_muted_voices(rt: HostRuntime) -> Result<(), Fail> {
+    for (muted, frames) in MUTED {
+        let outcome = cut_muted(rt.alloc(), TWO_VOICES, b"6 2\n0 8", *muted)?;
+        let wave = wave_of(rt.alloc(), *frames)?;
+        let report = "cuts 2 samples 10 checkpoints 2 pages 256 made 16\n";
+        assert!(rt; outcome.is_done(wave.as_slice(), report), "{muted}");
     }
     Ok(())
 }

@@ -9,28 +9,36 @@ use render_options::SessionOptions;
 use std::alloc::Global;
 use std::test::Fail;
 use test_support::{
-    ENDS_THE_BLOCK, FIVE, MEMORY, Outcome, Pieces, ROOM, file_of, host_with, straight_table,
+    DSP, ENDS_THE_BLOCK, FIVE, MEMORY, Outcome, Pieces, ROOM, file_of, host_with, straight_table,
     wave_of,
 };
 
 /// A program that counts at 0700h, 224 times in 70 samples.
 const COUNTS: Pieces = &[(MEMORY + 0x0400, b"\xac\x00\x07\x2f\xfb")];
 
-/// Runs a script over these inputs, with so many pages.
-fn serve_over(alloc: Global, inputs: &[(&str, &[u8])], pages: u32) -> Result<Outcome, Fail>
-    requires enough { fewest_pages ≤ pages }
-    requires few { pages ≤ most_pages }
+/// Runs a script over these inputs, with these options.
+fn serve_over(
+    alloc: Global,
+    inputs: &[(&str, &[u8])],
+    options: SessionOptions,
+) -> Result<Outcome, Fail>
+    requires enough { fewest_pages ≤ options.pages }
+    requires few { options.pages ≤ most_pages }
 {
     let mut host = host_with(alloc, inputs, &[], ROOM)?;
-    let options = SessionOptions { pages, muted: 0 };
     let refusal = serve(alloc, &mut host, "SPC", "TABLE", "SCRIPT", "OUT", options);
     Ok(Outcome::of(refusal, host))
 }
 
-/// Runs a script over file five with these pieces more, with so many pages.
-fn served(alloc: Global, more: Pieces, script: &[u8], pages: u32) -> Result<Outcome, Fail>
-    requires enough { fewest_pages ≤ pages }
-    requires few { pages ≤ most_pages }
+/// Runs a script over file five with these pieces more, with these options.
+fn served_with(
+    alloc: Global,
+    more: Pieces,
+    script: &[u8],
+    options: SessionOptions,
+) -> Result<Outcome, Fail>
+    requires enough { fewest_pages ≤ options.pages }
+    requires few { options.pages ≤ most_pages }
 {
     let file = file_of(alloc, 66048, FIVE, more)?;
     let table = straight_table(alloc)?;
@@ -40,7 +48,15 @@ fn served(alloc: Global, more: Pieces, script: &[u8], pages: u32) -> Result<Outc
         ("TABLE", table.as_slice()),
         ("SCRIPT", script.as_slice()),
     ];
-    serve_over(alloc, &inputs, pages)
+    serve_over(alloc, &inputs, options)
+}
+
+/// The same, with so many pages and no voice muted.
+fn served(alloc: Global, more: Pieces, script: &[u8], pages: u32) -> Result<Outcome, Fail>
+    requires enough { fewest_pages ≤ pages }
+    requires few { pages ≤ most_pages }
+{
+    served_with(alloc, more, script, SessionOptions { pages, muted: 0 })
 }
 
 /// Whether all was done, with the sound file of these frames and this report.
@@ -102,6 +118,29 @@ fn sessions_with_few_pages(rt: HostRuntime) -> Result<(), Fail> {
         assert!(rt;
             plays(rt.alloc(), script, pages, report, counts)?,
             "{script}"
+        );
+    }
+    Ok(())
+}
+
+/// Voice 1 plays as voice 0 does, at volume 64.
+const TWO_VOICES: Pieces = &[
+    (DSP + 0x10, b"\x40\x40\0\x10\0\0\0\x7f"),
+    (DSP + 0x4c, b"\x03"),
+];
+
+/// In traces of two files with one voice each the outputs are 4,064: 4,032 at volume 127 and 2,032 at 64. The main volumes, 127 too, make
+/// 6,016 of both, 2,016 of voice 1 and 4,000 of voice 0. What goes back to a mark plays the same.
+#[test]
+fn sessions_with_muted_voices(rt: HostRuntime) -> Result<(), Fail> {
+    for (muted, side) in [(0x00, 6016i16), (0x01, 2016), (0xfe, 4000), (0x03, 0)] {
+        let options = SessionOptions { pages: 4096, muted };
+        let outcome = served_with(rt.alloc(), TWO_VOICES, b"play 8\nseek 0\nplay 9\n", options)?;
+        let frames = [(6, 0i16), (2, side), (6, 0), (3, side)];
+        let report = "played 8 at 8\nat 0\nplayed 9 at 9\n";
+        assert!(rt;
+            has_frames(rt.alloc(), &outcome, &frames, report)?,
+            "{muted}"
         );
     }
     Ok(())

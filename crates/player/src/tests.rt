@@ -4,7 +4,7 @@ use cut_form::Marked;
 use spc_form::Tag;
 use std::process::Abort;
 use std::test::Fail;
-use test_support::{FIVE, file_of, straight_table};
+use test_support::{DSP, FIVE, Pieces, file_of, straight_table};
 
 /// Tags that tell a title, a second, and a fade of a millisecond, 32 frames.
 const TOLD: &[(usize, &[u8])] = &[
@@ -82,5 +82,32 @@ fn a_made_file_is_played(rt: HostRuntime) -> Result<(), Fail> {
     look_at_the_voice(&rt, &player);
     look_at_a_mark(&rt, &mut player);
     look_at_the_fade(&rt, &mut player);
+    Ok(())
+}
+
+/// Voice 1 plays as voice 0 does, at volume 64.
+const TWO_VOICES: Pieces = &[
+    (DSP + 0x10, b"\x40\x40\0\x10\0\0\0\x7f"),
+    (DSP + 0x4c, b"\x03"),
+];
+
+/// In traces of two files with one voice each the outputs are 4,064: 4,032 at volume 127 and 2,032 at 64. The main volumes, 127 too, make
+/// 6,016 of both, 2,016 of voice 1 and 4,000 of voice 0.
+#[test]
+fn muted_voices_are_not_played(rt: HostRuntime) -> Result<(), Fail> {
+    let alloc = rt.alloc();
+    let image = file_of(alloc, 66048, FIVE, TWO_VOICES)?;
+    let table = straight_table(alloc)?;
+    for (muted, side) in [(0x00, 6016), (0x01, 2016), (0xfe, 4000), (0x03, 0)] {
+        let options = PlayerOptions { muted, ..OPTIONS };
+        let mut player = Player::open_bytes(alloc, &image, &table, options)?;
+        let mut frames = [even(1); 8];
+        player.play(&mut frames);
+        assert!(rt; frames.iter().take(6).all(|frame| *frame == even(0)));
+        assert!(rt;
+            frames.iter().skip(6).all(|frame| *frame == even(side)),
+            "{muted}"
+        );
+    }
     Ok(())
 }
