@@ -3,8 +3,8 @@ ghost use Rattle.std.specs.Prelude.{◌≡◌, ◌++◌, IfOk, [], ◌∷◌};
 ghost use Rattle.wav_form.specs.Wave.{header_of, stereo_wave};
 ghost use Rattle.dsp_core.specs.DspChip.{dsp_chip, dsp_saving};
 ghost use Rattle.snd_host.specs.Host.{HostState, Files};
-ghost use Rattle.snd_host.specs.OpenedInputs.{inputs_up_to};
-ghost use Rattle.input_files.specs.Reading.{input_limit};
+ghost use Rattle.input_files.specs.Reading.{input_limit, input_up_to};
+ghost use Rattle.input_files.specs.Inputs.{spc_input, table_input};
 ghost use Rattle.command_frame.specs.Conduct.{Plans, Prepares, Attempts};
 ghost use Rattle.command_frame.specs.Delivery.{CanDeliver};
 ghost use Rattle.command_frame.specs.Plan.{stream_makes};
@@ -84,7 +84,7 @@ fn prepare_list<'a, H: Host>(
 ) -> Result<StreamedPlan<'a, CutFiles<Dsp>>, Refusal<Cause>>
     ensures { let answer = λ (files : Files). table_answer wave.now muted (files list.now) file.now table in
         Prepares (stream_makes (to_come_of dsp_chip dsp_saving) (report_of dsp_chip dsp_saving)) answer
-        (inputs_up_to input_limit (list.now ∷ [])) (H.state host.old) (H.state host.new) result }
+        (input_up_to input_limit list.now ∷ []) (H.state host.old) (H.state host.new) result }
 {
     let cuts = read_list(alloc, host, list)?;
     plan(alloc, file, table, cuts, wave, muted)
@@ -102,7 +102,7 @@ fn prepare_table<'a, H: Host>(
 ) -> Result<StreamedPlan<'a, CutFiles<Dsp>>, Refusal<Cause>>
     ensures { let answer = λ (files : Files). file_answer wave.now muted (files table.now) (files list.now) file.now in
         Prepares (stream_makes (to_come_of dsp_chip dsp_saving) (report_of dsp_chip dsp_saving)) answer
-        (inputs_up_to input_limit (table.now ∷ list.now ∷ [])) (H.state host.old) (H.state host.new) result }
+        (table_input table.now ∷ input_up_to input_limit list.now ∷ []) (H.state host.old) (H.state host.new) result }
 {
     let table = read_table(alloc, host, table)?;
     prepare_list(alloc, host, file, table, list, wave, muted)
@@ -120,7 +120,7 @@ fn prepare<'a, H: Host>(
 ) -> Result<StreamedPlan<'a, CutFiles<Dsp>>, Refusal<Cause>>
     ensures { let answer = λ (files : Files). cuts_answer wave.now muted (files file.now) (files table.now) (files list.now) in
         Prepares (stream_makes (to_come_of dsp_chip dsp_saving) (report_of dsp_chip dsp_saving)) answer
-        (inputs_up_to input_limit (file.now ∷ table.now ∷ list.now ∷ [])) (H.state host.old) (H.state host.new) result }
+        (spc_input file.now ∷ table_input table.now ∷ input_up_to input_limit list.now ∷ []) (H.state host.old) (H.state host.new) result }
 {
     let file = read_file(alloc, host, file)?;
     prepare_table(alloc, host, &file, table, list, wave, muted)
@@ -139,7 +139,7 @@ pub fn cuts<H: Host>(
 ) -> Option<Refusal<Cause>>
     requires outputs { CanDeliver (H.state host.old) }
     ensures attempts { let answer = λ (files : Files). cuts_answer wave.now muted (files file.now) (files table.now) (files list.now) in
-        Attempts answer (inputs_up_to input_limit (file.now ∷ table.now ∷ list.now ∷ [])) result (H.state host.old) (H.state host.new) }
+        Attempts answer (spc_input file.now ∷ table_input table.now ∷ input_up_to input_limit list.now ∷ []) result (H.state host.old) (H.state host.new) }
     ensures not_usage { result ≡ Some Refusal.Usage → ⊥ }
 {
     let prepared = prepare(alloc, host, file, table, list, wave, muted);

@@ -1,7 +1,7 @@
 // The list of cuts of an input.
 ghost use Rattle.std.specs.Prelude.{◌≡◌};
 ghost use Rattle.snd_host.specs.Host.{HostState};
-ghost use Rattle.input_files.specs.Reading.{Accepts, Reads, input_limit, input_up_to};
+ghost use Rattle.input_files.specs.Reading.{Accepts, Reads, input_limit};
 ghost use Rattle.command_cuts.specs.Lists.{cuts_of, cuts_in};
 
 use command_frame::Refusal;
@@ -28,7 +28,7 @@ pub(crate) fn read_list<H: Host>(
     host: &mut H,
     name: &str,
 ) -> Result<CutList, Refusal<Cause>>
-    ensures { Reads (input_up_to input_limit name.now) (λ files. cuts_in (files name.now)) (H.state host.old) (H.state host.new) result }
+    ensures { Reads name.now input_limit (λ files. cuts_in (files name.now)) (H.state host.old) (H.state host.new) result }
 {
     let bytes = read_input(alloc, host, name, INPUT_LIMIT, Cause::InputTooLong)?;
     accept_list(alloc, bytes.as_slice())

@@ -1,8 +1,7 @@
 // The command `dis`: the listing of code.
 ghost use Rattle.std.specs.Prelude.{◌≡◌, IfOk, [], ◌∷◌};
 ghost use Rattle.snd_host.specs.Host.{HostState, Files};
-ghost use Rattle.snd_host.specs.OpenedInputs.{inputs_up_to};
-ghost use Rattle.input_files.specs.Reading.{input_limit};
+ghost use Rattle.input_files.specs.Reading.{input_limit, input_up_to};
 ghost use Rattle.command_frame.specs.Conduct.{Plans, Prepares, Attempts};
 ghost use Rattle.command_frame.specs.Delivery.{CanDeliver};
 ghost use Rattle.command_frame.specs.Plan.{plan_makes};
@@ -75,7 +74,7 @@ fn prepare<'a, H: Host>(
     output: &'a str,
 ) -> Result<Plan<'a>, Refusal<Cause>>
     ensures { let answer = λ (files : Files). dis_answer origin output.now (files input.now) in
-        Prepares plan_makes answer (inputs_up_to input_limit (input.now ∷ [])) (H.state host.old) (H.state host.new) result }
+        Prepares plan_makes answer (input_up_to input_limit input.now ∷ []) (H.state host.old) (H.state host.new) result }
 {
     let bytes = read_input(alloc, host, input, INPUT_LIMIT, Cause::InputTooLong)?;
     plan(alloc, bytes.as_slice(), origin, output)
@@ -91,7 +90,7 @@ pub fn dis<H: Host>(
 ) -> Option<Refusal<Cause>>
     requires { CanDeliver (H.state host.old) }
     ensures attempts { let answer = λ (files : Files). dis_answer origin output.now (files input.now) in
-        Attempts answer (inputs_up_to input_limit (input.now ∷ [])) result (H.state host.old) (H.state host.new) }
+        Attempts answer (input_up_to input_limit input.now ∷ []) result (H.state host.old) (H.state host.new) }
     ensures not_usage { result ≡ Some Refusal.Usage → ⊥ }
 {
     let prepared = prepare(alloc, host, input, origin, output);

@@ -1,8 +1,7 @@
 // The command `encode`: a sound file of one channel to blocks of BRR.
 ghost use Rattle.std.specs.Prelude.{◌≡◌, ◌++◌, OnOk, IfOk, [], ◌∷◌};
 ghost use Rattle.snd_host.specs.Host.{HostState, Files};
-ghost use Rattle.snd_host.specs.OpenedInputs.{inputs_up_to};
-ghost use Rattle.input_files.specs.Reading.{wave_limit};
+ghost use Rattle.input_files.specs.Reading.{wave_limit, input_up_to};
 ghost use Rattle.command_frame.specs.Conduct.{Plans, Prepares, Attempts};
 ghost use Rattle.command_frame.specs.Delivery.{CanDeliver};
 ghost use Rattle.command_frame.specs.Plan.{plan_makes};
@@ -123,7 +122,7 @@ fn prepare<'a, H: Host>(
 ) -> Result<Plan<'a>, Refusal<Cause>>
     requires { AreInRange options }
     ensures { let answer = λ (files : Files). encode_answer output.now options (files input.now) in
-        Prepares plan_makes answer (inputs_up_to wave_limit (input.now ∷ [])) (H.state host.old) (H.state host.new) result }
+        Prepares plan_makes answer (input_up_to wave_limit input.now ∷ []) (H.state host.old) (H.state host.new) result }
 {
     let bytes = read_input(alloc, host, input, WAVE_LIMIT, Cause::InputTooLong)?;
     plan(alloc, bytes.as_slice(), output, options)
@@ -142,7 +141,7 @@ pub fn encode<H: Host>(
     requires deliver { CanDeliver (H.state host.old) }
     requires in_range { AreInRange options }
     ensures attempts { let answer = λ (files : Files). encode_answer output.now options (files input.now) in
-        Attempts answer (inputs_up_to wave_limit (input.now ∷ [])) result (H.state host.old) (H.state host.new) }
+        Attempts answer (input_up_to wave_limit input.now ∷ []) result (H.state host.old) (H.state host.new) }
     ensures not_usage { result ≡ Some Refusal.Usage → ⊥ }
 {
     let prepared = prepare(alloc, host, input, output, options);

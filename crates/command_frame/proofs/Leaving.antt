@@ -20,6 +20,7 @@ complains line report complaint outputs flags x z gains has = record {
   given = λ before told. subst (λ (o : Option Given). IsSomeAnd o (λ now. now.complaint ≡ before.complaint ++ complaint)) (sym (gains.given before told)) refl;
   part = has.part;
   all = has.all;
+  once = has.once;
 }
 
 -- the report came last

@@ -1,15 +1,16 @@
 -- What a command did is what its answer says.
 use Rattle.std.proofs.Common.{◌≡◌, ◌⊎◌, inl, inr, Result, Ok, Err, IsOk, IsSome, ℕ, ◌+◌, ◌≤◌, Bool, List, [], ◌++◌, length, get_or, Option, Some, None, refl, sym, ◌∙◌, ap, subst, rules}
 use Rattle.std.proofs.lemmas.List.{append-nil}
-use Rattle.snd_host.specs.Host.{HostState, Files, Output, Asked, Rose, ChangesInputs, asked_of}
-use Rattle.snd_host.specs.OpenedInputs.{NamedInput}
+use Rattle.snd_host.specs.Host.{HostState, Files, Output, Asked, one_more, Rose, InputFailed, OutputFailed, ChangesInputs, asked_of}
 use Rattle.snd_host.proofs.OpenedInputs.{in_order_same, in_order_nothing}
+use Rattle.snd_host.proofs.Writes.{rose}
 use Rattle.snd_host.specs.declared.host.Failed.{Failed}
 use Rattle.command_frame.specs.declared.refusals.Refusal.{Refusal}
 use Rattle.command_frame.specs.declared.refusals.Refusal.TheVariants.{Usage, ReadFault, WriteFault, OutOfMemory}
+use Rattle.command_frame.specs.NamedInputs.{NamedInput}
 use Rattle.command_frame.specs.Delivery.{Gains, HaveRooms, Delivers, all_ended}
 use Rattle.command_frame.specs.Answer.{Answer, done, refused, refusal_of, outputs_of, report_of, line_of, delivery_refusal}
-use Rattle.command_frame.specs.Conduct.{Delivery, NoneRose, EndsAs, IsSettled, Attempts, WritesComplaint, Obeys, Prepares, CarriesOut}
+use Rattle.command_frame.specs.Conduct.{Delivery, NoneRose, EndsAs, IsSettled, IsOfDelivery, ReadsReached, Attempts, WritesComplaint, Obeys, Prepares, CarriesOut}
 use Rattle.command_frame.proofs.Delivering.{gains_nothing}
 
 -- reading changes nothing that was made
@@ -27,7 +28,15 @@ faults_kept a b same = ap (λ (asked : Asked). asked.faults) same
 opened_kept : (a b : HostState) → asked_of b ≡ asked_of a → b.opened ≡ a.opened
 opened_kept a b same = ap (λ (asked : Asked). asked.opened) same
 
-prepared_is_settled : {C : Type 0} → IsSettled {C = C} None
+-- nothing more was read
+pub reads_same : {C D : Type 0} (files : Files) {inputs : List NamedInput} {first : Option (Refusal C)} {second : Option (Refusal D)} (x y z : HostState) → ReadsReached files inputs first x y → (IsSettled second → IsSettled first) →
+    (IsOfDelivery second → IsOfDelivery first) → z.opened ≡ y.opened → ReadsReached files inputs second x z
+reads_same files x y z reads settles delivers same = record {
+  order = in_order_same _ _ _ x y z reads.order settles same;
+  all = λ delivered. reads.all (delivers delivered);
+}
+
+pub prepared_is_settled : {C : Type 0} → IsSettled {C = C} None
 prepared_is_settled = (λ wrong. absurd (cc), λ wrong. absurd (cc))
 
 -- all was delivered
@@ -129,7 +138,7 @@ module _ {P C : Type 0} {inputs : List NamedInput} (makes : P → Delivery) (ans
       refused = λ some not_write. absurd (some refl);
       report_last = λ some. let last = d.report_last some in last.1 ∙ ap all_ended (sym last.0);
     };
-    read = λ files told. in_order_same _ _ _ _ _ x y z (p.opened files told) (λ settled. settled) (λ prepared. prepared) (opened_kept y z d.inputs);
+    read = λ files told. reads_same files x y z (p.opened files told) (λ settled. settled) (λ delivered. delivered) (opened_kept y z d.inputs);
     notes = d.notes ∙ p.others.notes;
     note_room = note_room_kept (makes plan).outputs (makes plan).report x y z (Ok t) p.others d;
     answered = λ files told. subst (λ (a : Answer C). EndsAs a None d.reported d.begun d.ended x z) (sym (p.ok files told)) (all_done (makes plan).outputs (makes plan).report x y z t p.others calm d);
@@ -146,11 +155,11 @@ module _ {P C : Type 0} {inputs : List NamedInput} (makes : P → Delivery) (ans
       calm_inputs = λ _. faults_kept y z d.inputs ∙ calm;
       calm_outputs = λ other. absurd (other refl);
       read = λ wrong. absurd (cc);
-      write = λ _. subst (λ (n : ℕ). Rose n z.faults.outputs) p.others.outputs d.cause.failed;
+      write = λ _. record { once = d.cause.failed.once ∙ ap one_more p.others.outputs; last = d.cause.failed.last };
       refused = λ some not_write. absurd (not_write refl);
       report_last = λ some. let last = d.report_last some in last.1 ∙ ap all_ended (sym last.0);
     };
-    read = λ files told. in_order_same _ _ _ _ _ x y z (p.opened files told) (λ settled. prepared_is_settled {C = C}) (λ prepared. inl refl) (opened_kept y z d.inputs);
+    read = λ files told. reads_same files x y z (p.opened files told) (λ settled. prepared_is_settled {C = C}) (λ delivered. inl refl) (opened_kept y z d.inputs);
     notes = d.notes ∙ p.others.notes;
     note_room = note_room_kept (makes plan).outputs (makes plan).report x y z (Err e) p.others d;
     answered = λ files told. subst (λ (a : Answer C). EndsAs a (Some WriteFault) d.reported d.begun d.ended x z) (sym (p.ok files told)) (part_done (makes plan).outputs (makes plan).report x y z e p.others calm d);
@@ -222,15 +231,16 @@ obeys {C = C} line answer named refusal x y z t c silent = record {
   causes = record {
     calm_inputs = λ other. inputs ∙ t.causes.calm_inputs other;
     calm_outputs = λ other. c.outputs ∙ t.causes.calm_outputs other;
-    read = λ is. let r = t.causes.read is in (subst (λ (n : ℕ). Rose x.faults.inputs n) (sym inputs) r.0, r.1);
-    write = λ is. subst (λ (n : ℕ). Rose x.faults.outputs n) (sym c.outputs) (t.causes.write is);
+    read = λ is. let r = t.causes.read is in (record { once = inputs ∙ r.0.once; last = c.last ∙ r.0.last }, r.1);
+    write = λ is. let w = t.causes.write is in record { once = c.outputs ∙ w.once; last = c.last ∙ w.last };
     refused = t.causes.refused;
     report_last = t.causes.report_last;
   };
-  read = λ files told. in_order_same _ _ _ _ _ x y z (t.read files told) (λ settled. settled) (λ prepared. prepared) (opened_kept y z c.wrote.others.inputs);
+  read = λ files told. reads_same files x y z (t.read files told) (λ settled. settled) (λ delivered. delivered) (opened_kept y z c.wrote.others.inputs);
   complains = record {
     part = c.complains.part;
     all = λ calm. c.complains.all (subst (λ (n : ℕ). Rose n z.faults.notes → ⊥) (sym t.notes) calm);
+    once = subst (λ (n : ℕ). (z.faults.notes ≡ n) ⊎ (z.faults.notes ≡ one_more n)) t.notes c.complains.once;
     steady = λ rooms told fits. let after = t.note_room rooms told in c.complains.steady after.0 after.1 (subst (λ (n : ℕ). length (line_of line refusal) ≤ n) (sym after.2) fits) ∙ t.notes;
   };
   answered = λ files told. same (answer files) (t.answered files told);
@@ -260,8 +270,8 @@ obeys {C = C} line answer named refusal x y z t c silent = record {
 
     by_cause : (a : Answer C) → NoneRose x z → (refusal ≡ refusal_of a) ⊎ ((refusal ≡ Some ReadFault) ⊎ ((refusal ≡ Some WriteFault) ⊎ (refusal ≡ Some OutOfMemory))) → (refusal ≡ refusal_of a) ⊎ (refusal ≡ Some OutOfMemory)
     by_cause a calm (inl is) = inl is
-    by_cause a calm (inr (inl is)) = absurd (calm.inputs (subst (λ (n : ℕ). Rose x.faults.inputs n) (sym inputs) (t.causes.read is).0))
-    by_cause a calm (inr (inr (inl is))) = absurd (calm.outputs (subst (λ (n : ℕ). Rose x.faults.outputs n) (sym c.outputs) (t.causes.write is)))
+    by_cause a calm (inr (inl is)) = absurd (calm.inputs (rose x.faults.inputs z.faults.inputs (inputs ∙ (t.causes.read is).0.once)))
+    by_cause a calm (inr (inr (inl is))) = absurd (calm.outputs (rose x.faults.outputs z.faults.outputs (c.outputs ∙ (t.causes.write is).once)))
     by_cause a calm (inr (inr (inr is))) = inr is
 
     complete : (a : Answer C) → EndsAs a refusal t.report t.outputs t.ended x y → NoneRose x z → (refusal ≡ refusal_of a) ⊎ (refusal ≡ Some OutOfMemory)
@@ -297,7 +307,7 @@ attempts_usage x = record {
     refused = λ some not_write. (refl, refl, refl);
     report_last = λ some. absurd (some refl);
   };
-  read = λ files told. in_order_nothing _ _ x;
+  read = λ files told. record { order = in_order_nothing _ x; all = λ delivered. refl };
   notes = refl;
   note_room = λ rooms told. (rooms, told, refl);
   answered = λ files told. record {

@@ -1,6 +1,6 @@
 -- The steps of a stream.
 use Rattle.std.proofs.Common.{◌≡◌, Result, Ok, Err, IsOk, IsSome, ℕ, ◌+◌, ◌-◌, ◌≤◌, ◌<◌, Bool, true, false, List, [], ◌∷◌, ◌++◌, length, set, map, Option, Some, None, OnOk, OnErr, refl, sym, ◌∙◌, ap, subst, arith, rules, append_assoc}
-use Rattle.std.specs.Prelude.{slice_get}
+use Rattle.std.specs.Prelude.{slice_get, is_err}
 use Rattle.std.proofs.lemmas.List.{append-nil}
 use Rattle.snd_host.specs.Host.{HostState, Given, HasCause, ChangesOutputs, KeepsRooms, WritesAll, IsPrefix}
 use Rattle.snd_host.specs.declared.host.Failed.{Failed}
@@ -147,16 +147,21 @@ pumps_done targets all left old new wave trace p =
     let ys : p.ys ≡ all.trace = sym (append-nil p.ys) ∙ ap (λ (l : List ℕ). p.ys ++ l) (sym trace) ∙ p.trace_split in
     subst (λ (l : List ℕ). Puts targets l all.trace old new (Ok (tt {0}))) xs (subst (λ (l : List ℕ). Puts targets p.xs l old new (Ok (tt {0}))) ys p.puts)
 
+-- what the last call tells of its failure
+pub failed_by : {T E : Type 0} {last : Bool} (r : Result T E) → last ≡ is_err r → OnErr r (last ≡ true)
+failed_by (Ok x) is = tt
+failed_by (Err e) is = is
+
 -- the first output could not be created
 pub begin_failed : (first : List ℕ) (second : Option (List ℕ)) (a b : HostState) (e : Failed) → ((given : Given) → a.given ≡ Some given → length given.created ≡ length a.ended) →
-    b.given ≡ a.given → b.ended ≡ a.ended → ChangesOutputs a b → b.faults.notes ≡ a.faults.notes → HasCause {T = OutFile} {E = Failed} a.faults.outputs b.faults.outputs (Err e) → KeepsRooms a b →
+    b.given ≡ a.given → b.ended ≡ a.ended → ChangesOutputs a b → b.faults.notes ≡ a.faults.notes → HasCause {T = OutFile} {E = Failed} a.faults.outputs b.faults.outputs (Err e) → b.failed_last ≡ true → KeepsRooms a b →
     ((rooms : List ℕ) → a.steady ≡ Some rooms → length a.ended + 2 < length rooms → length first ≤ 200 → IsOk {T = OutFile} {E = Failed} (Err e)) → Begins first second a b (Err e)
-begin_failed first second a b e tells given ended others notes cause keeps steady = record { ok = tt; err = stops second }
+begin_failed first second a b e tells given ended others notes cause last keeps steady = record { ok = tt; err = stops second }
   where
     stops : (second : Option (List ℕ)) (xs ys report : List ℕ) → Stops (pair first second xs ys) report a b
-    stops None xs ys report = stops_unwritten {T = OutFile} {E = Failed} [] [] a a b e (pair first None xs ys) report (stands_at_first a tells) given ended others notes cause keeps tt tt
+    stops None xs ys report = stops_unwritten {T = OutFile} {E = Failed} [] [] a a b e (pair first None xs ys) report (stands_at_first a tells) given ended others notes cause last keeps tt tt
         (λ rooms after told still same have. steady rooms told have.0 have.2)
-    stops (Some name) xs ys report = stops_unwritten {T = OutFile} {E = Failed} [] [] a a b e (pair first (Some name) xs ys) report (stands_at_first a tells) given ended others notes cause keeps tt tt
+    stops (Some name) xs ys report = stops_unwritten {T = OutFile} {E = Failed} [] [] a a b e (pair first (Some name) xs ys) report (stands_at_first a tells) given ended others notes cause last keeps tt tt
         (λ rooms after told still same have. steady rooms told have.0 have.2)
 
 pub begun_first : (first : List ℕ) (a b : HostState) → ((given : Given) → a.given ≡ Some given → length given.created ≡ length a.ended) → b.ended ≡ a.ended ++ false ∷ [] →
@@ -166,11 +171,11 @@ begun_first first a b tells ended created others notes faults keeps = stands_cre
 
 -- the second output could not be created
 pub begin_failed_second : (first name : List ℕ) (a b d : HostState) (e : Failed) → Stands (pair first None [] []) (flags_of None false) [] a b →
-    d.given ≡ b.given → d.ended ≡ b.ended → ChangesOutputs b d → d.faults.notes ≡ b.faults.notes → HasCause {T = OutFile} {E = Failed} b.faults.outputs d.faults.outputs (Err e) → KeepsRooms b d →
+    d.given ≡ b.given → d.ended ≡ b.ended → ChangesOutputs b d → d.faults.notes ≡ b.faults.notes → HasCause {T = OutFile} {E = Failed} b.faults.outputs d.faults.outputs (Err e) → d.failed_last ≡ true → KeepsRooms b d →
     ((rooms : List ℕ) → b.steady ≡ Some rooms → length b.ended + 2 < length rooms → length name ≤ 200 → IsOk {T = OutFile} {E = Failed} (Err e)) → Begins first (Some name) a d (Err e)
-begin_failed_second first name a b d e s given ended others notes cause keeps steady = record {
+begin_failed_second first name a b d e s given ended others notes cause last keeps steady = record {
   ok = tt;
-  err = λ xs ys report. stops_unwritten {T = OutFile} {E = Failed} (pair first None [] []) (flags_of None false) a b d e (pair first (Some name) xs ys) report s given ended others notes cause keeps (refl, record { rest = xs; split = refl }, tt) (none_ended (pair first None [] []) (flags_of None false) (pair first (Some name) xs ys) (refl, tt))
+  err = λ xs ys report. stops_unwritten {T = OutFile} {E = Failed} (pair first None [] []) (flags_of None false) a b d e (pair first (Some name) xs ys) report s given ended others notes cause last keeps (refl, record { rest = xs; split = refl }, tt) (none_ended (pair first None [] []) (flags_of None false) (pair first (Some name) xs ys) (refl, tt))
       (λ rooms after told still same have.
       let many = next_number (pair first None [] []) (flags_of None false) a b (length b.ended + 2) s refl in
       steady after still (let place = have.3.0 in omega arith) have.3.2);
@@ -195,10 +200,10 @@ is_steady c after told = subst (λ (o : Option (List ℕ)). IsSome o) (sym told)
 
 -- the first output could not be ended
 pub end_failed : (targets : Targets) (old new : HostState) (e : Failed) → new.given ≡ old.given → new.ended ≡ old.ended → ChangesOutputs old new → new.faults.notes ≡ old.faults.notes →
-    HasCause {T = Unit {0}} {E = Failed} old.faults.outputs new.faults.outputs (Err e) → KeepsRooms old new → (IsSome old.steady → IsOk {T = Unit {0}} {E = Failed} (Err e)) → Ends targets old new (Err e)
-end_failed targets old new e given ended others notes cause keeps steady = record {
+    HasCause {T = Unit {0}} {E = Failed} old.faults.outputs new.faults.outputs (Err e) → new.failed_last ≡ true → KeepsRooms old new → (IsSome old.steady → IsOk {T = Unit {0}} {E = Failed} (Err e)) → Ends targets old new (Err e)
+end_failed targets old new e given ended others notes cause last keeps steady = record {
   ok = tt;
-  err = λ first second xs ys report a are s. stops_unwritten {T = Unit {0}} {E = Failed} (pair first second xs ys) (flags_of second false) a old new e (pair first second xs ys) report s given ended others notes cause keeps (begun_all (pair first second xs ys)) (ended_are_whole (pair first second xs ys) (flags_of second false))
+  err = λ first second xs ys report a are s. stops_unwritten {T = Unit {0}} {E = Failed} (pair first second xs ys) (flags_of second false) a old new e (pair first second xs ys) report s given ended others notes cause last keeps (begun_all (pair first second xs ys)) (ended_are_whole (pair first second xs ys) (flags_of second false))
       (λ rooms after told still same have. steady (is_steady old after still));
 }
 
@@ -225,17 +230,17 @@ module _ (targets : Targets) (file : OutFile) (old mid new : HostState) (x : Uni
   half_ended first name xs ys a are s = stands_ended (pair first (Some name) xs ys) (flags_of (Some name) false) a old s targets.first.0 0 (first_place (Some name) a targets are) {T = Unit {0}} {E = Failed} mid x given ended others notes cause keeps
 
   pub ends_second : (r : Result (Unit {0}) Failed) → new.given ≡ mid.given → OnOk r (new.ended ≡ set mid.ended (file.0 - 2) true) → OnErr r (new.ended ≡ mid.ended) → ChangesOutputs mid new → new.faults.notes ≡ mid.faults.notes →
-      HasCause mid.faults.outputs new.faults.outputs r → KeepsRooms mid new → (IsSome mid.steady → IsOk r) → Ends targets old new r
-  ends_second (Ok y) given2 ended2 kept2 others2 notes2 cause2 keeps2 steady2 = record { ok = all; err = tt }
+      HasCause mid.faults.outputs new.faults.outputs r → OnErr r (new.failed_last ≡ true) → KeepsRooms mid new → (IsSome mid.steady → IsOk r) → Ends targets old new r
+  ends_second (Ok y) given2 ended2 kept2 others2 notes2 cause2 last2 keeps2 steady2 = record { ok = all; err = tt }
     where
       all : (first : List ℕ) (second : Option (List ℕ)) (xs ys : List ℕ) (a : HostState) → AreTargets second a targets → Stands (pair first second xs ys) (flags_of second false) [] a old → Stands (pair first second xs ys) (flags_of second true) [] a new
       all first None xs ys a are s = absurd (subst (λ (f : Option OutFile). IsSecond None f (length a.ended + 2)) is are.second_number)
       all first (Some name) xs ys a are s = stands_ended (pair first (Some name) xs ys) (true ∷ false ∷ []) a mid (half_ended first name xs ys a are s) file.0 1 (second_place targets file name a is are) {T = Unit {0}} {E = Failed} new y given2 ended2 others2 notes2 cause2 keeps2
-  ends_second (Err e) given2 ended2 kept2 others2 notes2 cause2 keeps2 steady2 = record { ok = tt; err = failed }
+  ends_second (Err e) given2 ended2 kept2 others2 notes2 cause2 last2 keeps2 steady2 = record { ok = tt; err = failed }
     where
       failed : (first : List ℕ) (second : Option (List ℕ)) (xs ys report : List ℕ) (a : HostState) → AreTargets second a targets → Stands (pair first second xs ys) (flags_of second false) [] a old → Stops (pair first second xs ys) report a new
       failed first None xs ys report a are s = absurd (subst (λ (f : Option OutFile). IsSecond None f (length a.ended + 2)) is are.second_number)
-      failed first (Some name) xs ys report a are s = stops_unwritten {T = Unit {0}} {E = Failed} (pair first (Some name) xs ys) (true ∷ false ∷ []) a mid new e (pair first (Some name) xs ys) report (half_ended first name xs ys a are s) given2 kept2 others2 notes2 cause2 keeps2 (begun_all (pair first (Some name) xs ys)) (ended_are_whole (pair first (Some name) xs ys) (true ∷ false ∷ []))
+      failed first (Some name) xs ys report a are s = stops_unwritten {T = Unit {0}} {E = Failed} (pair first (Some name) xs ys) (true ∷ false ∷ []) a mid new e (pair first (Some name) xs ys) report (half_ended first name xs ys a are s) given2 kept2 others2 notes2 cause2 last2 keeps2 (begun_all (pair first (Some name) xs ys)) (ended_are_whole (pair first (Some name) xs ys) (true ∷ false ∷ []))
           (λ rooms after told still same have. steady2 (is_steady mid after still))
 
 all_ended : (first : List ℕ) (second : Option (List ℕ)) (xs ys : List ℕ) → flags_of second true ≡ map (λ _. true) (pair first second xs ys)

@@ -18,7 +18,7 @@ module _ {P C : Type 0} (makes : P → Delivery) (answer : Answer C) where
   prepares : (x : HostState) (prepared : Result P (Refusal C)) → Plans makes answer prepared → Prepares makes (λ (files : Files). answer) [] x x prepared
   prepares x (Ok plan) p = record {
     others = record { holds = refl; given = refl; ended = refl; notes = refl; outputs = refl; rooms = λ rooms told. told };
-    opened = λ files told. in_order_nothing _ _ x;
+    opened = λ files told. record { order = in_order_nothing _ x; all = λ delivered. refl };
     read = λ wrong. absurd (cc);
     calm = λ other. refl;
     no_usage = p.no_usage;
@@ -29,7 +29,7 @@ module _ {P C : Type 0} (makes : P → Delivery) (answer : Answer C) where
   }
   prepares x (Err why) p = record {
     others = record { holds = refl; given = refl; ended = refl; notes = refl; outputs = refl; rooms = λ rooms told. told };
-    opened = λ files told. in_order_nothing _ _ x;
+    opened = λ files told. record { order = in_order_nothing _ x; all = λ delivered. refl };
     read = λ is. absurd (p.no_read is);
     calm = λ other. refl;
     no_usage = p.no_usage;

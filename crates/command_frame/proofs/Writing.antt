@@ -1,8 +1,8 @@
 -- Pieces that are written to one output, one after another.
-use Rattle.std.proofs.Common.{Result, Ok, Err, ℕ, List, [], ◌++◌, length, refl, sym, ◌∙◌, ap, subst, arith, rules, append_assoc, length-append}
+use Rattle.std.proofs.Common.{inl, inr, Result, Ok, Err, ℕ, List, [], ◌++◌, length, refl, sym, ◌∙◌, ap, subst, arith, rules, append_assoc, length-append}
 use Rattle.std.proofs.lemmas.List.{append-nil}
 use Rattle.snd_host.specs.Host.{HostState, Faults, HasCause, CountsWrite, WritesAll, IsPrefix, rooms_less}
-use Rattle.snd_host.proofs.Writes.{wrote_then, wrote_nothing, counts_ok, index-rooms_less}
+use Rattle.snd_host.proofs.Writes.{wrote_then, wrote_nothing, counts_ok, index-rooms_less, rose}
 use Rattle.command_frame.specs.Conduct.{WritesComplaint}
 use Rattle.command_frame.proofs.Places.{prefix_after}
 
@@ -16,6 +16,8 @@ failed_first file xs ys a b e w = record {
   wrote = tt;
   part = record { part = w.part.part; prefix = front_prefix w.part.part xs ys w.part.prefix; wrote = w.part.wrote };
   cause = w.cause;
+  last = w.last;
+  last_kept = w.last_kept;
   steady = λ rooms told fits. w.steady rooms told (omega (arith, length-append xs ys));
 }
 
@@ -35,37 +37,45 @@ then_second {T = T} {T' = T'} {E = E} file xs ys a b c x (Ok y) first second = r
   wrote = wrote_then file xs ys a b c first.wrote second.wrote;
   part = tt;
   cause = counts_then {T = T} {T' = T'} {E = E} file a.faults b.faults c.faults x (Ok y) first.cause second.cause;
+  last = λ output. tt;
+  last_kept = λ note. second.last_kept note ∙ first.last_kept note;
   steady = λ rooms told fits. search rules;
 }
 then_second {T = T} {T' = T'} {E = E} file xs ys a b c x (Err e) first second = record {
   wrote = tt;
   part = record { part = xs ++ second.part.part; prefix = prefix_after xs second.part.part ys second.part.prefix; wrote = wrote_then file xs second.part.part a b c first.wrote second.part.wrote };
   cause = counts_then {T = T} {T' = T'} {E = E} file a.faults b.faults c.faults x (Err e) first.cause second.cause;
+  last = second.last;
+  last_kept = λ note. second.last_kept note ∙ first.last_kept note;
   steady = λ rooms told fits. second.steady (rooms_less rooms file (length xs)) (first.wrote.rooms rooms told) (omega (arith, index-rooms_less rooms file (length xs), length-append xs ys));
 }
 
 pub complained : {T E : Type 0} (line : List ℕ) (a b : HostState) (r : Result T E) → WritesAll 1 line a b r → WritesComplaint line a b
 complained line a b (Ok x) w = record {
   complaint = line;
-  complains = record { part = record { rest = []; split = append-nil line }; all = λ calm. refl; steady = λ rooms told fits. (w.cause.notes refl).same };
+  complains = record { part = record { rest = []; split = append-nil line }; all = λ calm. refl; once = inl (w.cause.notes refl).same; steady = λ rooms told fits. (w.cause.notes refl).same };
   wrote = w.wrote;
   outputs = w.cause.outputs_kept refl;
+  last = w.last_kept refl;
 }
 complained line a b (Err e) w = record {
   complaint = w.part.part;
   complains = record {
     part = w.part.prefix;
-    all = λ calm. absurd (calm (w.cause.notes refl).failed);
+    all = λ calm. absurd (calm (rose a.faults.notes b.faults.notes (w.cause.notes refl).failed));
+    once = inr (w.cause.notes refl).failed;
     steady = λ rooms told fits. let ok = w.steady rooms told fits in absurd (search rules);
   };
   wrote = w.part.wrote;
   outputs = w.cause.outputs_kept refl;
+  last = w.last_kept refl;
 }
 
 pub silent : (a : HostState) → WritesComplaint [] a a
 silent a = record {
   complaint = [];
-  complains = record { part = record { rest = []; split = refl }; all = λ calm. refl; steady = λ rooms told fits. refl };
+  complains = record { part = record { rest = []; split = refl }; all = λ calm. refl; once = inl refl; steady = λ rooms told fits. refl };
   wrote = wrote_nothing 1 a;
   outputs = refl;
+  last = refl;
 }

@@ -1,9 +1,10 @@
 -- How a command may end, and what it leaves on the host. `answer` is what it answers, by what the names of its inputs hold.
 use Rattle.std.specs.Prelude.{◌≡◌, ◌≢◌, ℕ, ◌+◌, ◌≤◌, ◌⊎◌, Bool, true, false, List, [], ◌∷◌, length, Option, Some, None, Result, Ok, Err, IfOk, IfErr, IsSome, IsTrue, slice_index}
-use Rattle.snd_host.specs.Host.{HostState, Files, Output, IfTold, Rose, IsPrefix, ChangesInputs, Writes}
-use Rattle.snd_host.specs.OpenedInputs.{NamedInput, whole_inputs, OpensInOrder}
+use Rattle.snd_host.specs.Host.{HostState, Files, Output, IfTold, one_more, Rose, InputFailed, OutputFailed, IsPrefix, ChangesInputs, Writes}
+use Rattle.snd_host.specs.OpenedInputs.{OpensInOrder}
 use Rattle.snd_host.specs.declared.host.Failed.{Failed}
 use Rattle.command_frame.specs.Delivery.{Gains, IsBegun, EndedAreWhole, HaveRooms, Delivers, all_ended}
+use Rattle.command_frame.specs.NamedInputs.{NamedInput, are_some, inputs_read, inputs_reached}
 use Rattle.command_frame.specs.Answer.{Answer, done, refused, refusal_of, outputs_of, report_of, line_of, delivery_refusal}
 use Rattle.command_frame.specs.declared.refusals.Refusal.{Refusal}
 use Rattle.command_frame.specs.declared.refusals.Refusal.TheVariants.{Usage, ReadFault, WriteFault, OutOfMemory}
@@ -33,13 +34,14 @@ pub record EndsAs {C : Type 0} (a : Answer C) (refusal : Option (Refusal C)) (re
   pub enough : IfTold old.steady (λ rooms. HaveRooms (outputs_of a) rooms (length old.ended + 2) → length (report_of a) ≤ slice_index rooms 0 →
       ((refusal ≡ refusal_of a) ⊎ (refusal ≡ Some OutOfMemory)) × (new.faults.outputs ≡ old.faults.outputs))
 
--- Whatever is told: a fault comes only where its count rose, and the counts stay where none came. What was refused left nothing.
+-- Whatever is told: a fault comes only where one call failed and none came after it, and the counts stay where none came. What was refused left
+-- nothing.
 pub record HasCauses {C : Type 0} (names_input : Bool) (refusal : Option (Refusal C)) (report : List ℕ) (outputs : List Output) (ended : List Bool)
     (old new : HostState) : Type 0 where
   pub calm_inputs : (refusal ≡ Some ReadFault → ⊥) → new.faults.inputs ≡ old.faults.inputs
   pub calm_outputs : (refusal ≡ Some WriteFault → ⊥) → new.faults.outputs ≡ old.faults.outputs
-  pub read : refusal ≡ Some ReadFault → Rose old.faults.inputs new.faults.inputs × IsTrue names_input
-  pub write : refusal ≡ Some WriteFault → Rose old.faults.outputs new.faults.outputs
+  pub read : refusal ≡ Some ReadFault → InputFailed old new × IsTrue names_input
+  pub write : refusal ≡ Some WriteFault → OutputFailed old new
   pub refused : refusal ≢ None → refusal ≢ Some WriteFault → (report ≡ []) × (outputs ≡ []) × (ended ≡ [])
   -- The report comes last: where some of it was written, all outputs that were created are ended.
   pub report_last : report ≢ [] → ended ≡ all_ended outputs
@@ -52,15 +54,14 @@ IsSettled refusal = (refusal ≢ Some ReadFault) × (refusal ≢ Some OutOfMemor
 abbrev pub IsOfDelivery : {C : Type 0} → Option (Refusal C) → Type 0
 IsOfDelivery refusal = (refusal ≡ None) ⊎ (refusal ≡ Some WriteFault)
 
--- These inputs, and no others, were opened and read, each once and in this order, as far as the command came; told over a host that tells
--- what it holds and what was opened.
-abbrev pub ReadsInOrder : {C : Type 0} → (inputs : List NamedInput) → (refusal : Option (Refusal C)) → (old new : HostState) → Type 0
-ReadsInOrder inputs refusal old new = IfTold old.holds (λ files. OpensInOrder (whole_inputs files inputs) (IsSettled refusal) (IsOfDelivery refusal) old new)
+-- Those of these inputs that are reached, and no others, were opened and read, each once and in this order, by what the names hold.
+pub record ReadsReached {C : Type 0} (files : Files) (inputs : List NamedInput) (refusal : Option (Refusal C)) (old new : HostState) : Type 0 where
+  pub order : OpensInOrder (inputs_reached files inputs) (IsSettled refusal) old new
+  pub all : IsOfDelivery refusal → inputs_reached files inputs ≡ inputs_read files inputs
 
--- There is an input.
-abbrev pub are_some : List NamedInput → Bool
-are_some [] = false
-are_some (input ∷ inputs) = true
+-- The same over a host that tells what it holds.
+abbrev pub ReadsInOrder : {C : Type 0} → (inputs : List NamedInput) → (refusal : Option (Refusal C)) → (old new : HostState) → Type 0
+ReadsInOrder inputs refusal old new = IfTold old.holds (λ files. ReadsReached files inputs refusal old new)
 
 -- What a command of these inputs did before its complaint.
 pub record Attempts {C : Type 0} (answer : Files → Answer C) (inputs : List NamedInput) (refusal : Option (Refusal C)) (old new : HostState) : Type 0 where
@@ -75,10 +76,12 @@ pub record Attempts {C : Type 0} (answer : Files → Answer C) (inputs : List Na
   -- where it is told what names hold
   pub answered : IfTold old.holds (λ files. EndsAs (answer files) refusal report outputs ended old new)
 
--- The complaint grew by a prefix of its line, and by all of it where no write to it failed. A steady host with room for it fails none.
+-- The complaint grew by a prefix of its line, and by all of it where no write to it failed; at most one failed. A steady host with room for it
+-- fails none.
 pub record HasComplaint (line : List ℕ) (complaint : List ℕ) (old new : HostState) : Type 0 where
   pub part : IsPrefix complaint line
   pub all : (Rose old.faults.notes new.faults.notes → ⊥) → complaint ≡ line
+  pub once : (new.faults.notes ≡ old.faults.notes) ⊎ (new.faults.notes ≡ one_more old.faults.notes)
   pub steady : IfTold old.steady (λ rooms. length line ≤ slice_index rooms 1 → new.faults.notes ≡ old.faults.notes)
 
 -- A line of complaint was written, or a prefix of it.
@@ -87,6 +90,7 @@ pub record WritesComplaint (line : List ℕ) (old new : HostState) : Type 0 wher
   pub complains : HasComplaint line complaint old new
   pub wrote : Writes 1 complaint old new
   pub outputs : new.faults.outputs ≡ old.faults.outputs
+  pub last : new.failed_last ≡ old.failed_last
 
 -- What a command of these inputs did, its complaint included. `line` is the line of a refusal.
 pub record Obeys {C : Type 0} (line : Refusal C → List ℕ) (answer : Files → Answer C) (inputs : List NamedInput) (refusal : Option (Refusal C))
@@ -123,10 +127,11 @@ refusal_in (Ok plan) = None
 refusal_in (Err refusal) = Some refusal
 
 -- Inputs were read and a plan was made by them, or it is told why there is none; nothing was written.
-pub record Prepares {P C : Type 0} (makes : P → Delivery) (answer : Files → Answer C) (inputs : List NamedInput) (old new : HostState) (result : Result P (Refusal C)) : Type 0 where
+pub record Prepares {P C : Type 0} (makes : P → Delivery) (answer : Files → Answer C) (inputs : List NamedInput) (old new : HostState)
+    (result : Result P (Refusal C)) : Type 0 where
   pub others : ChangesInputs old new
   pub opened : ReadsInOrder inputs (refusal_in result) old new
-  pub read : result ≡ Err ReadFault → Rose old.faults.inputs new.faults.inputs × IsTrue (are_some inputs)
+  pub read : result ≡ Err ReadFault → InputFailed old new × IsTrue (are_some inputs)
   pub calm : (result ≡ Err ReadFault → ⊥) → new.faults.inputs ≡ old.faults.inputs
   pub no_usage : result ≡ Err Usage → ⊥
   pub no_write : result ≡ Err WriteFault → ⊥

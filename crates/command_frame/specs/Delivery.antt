@@ -1,6 +1,6 @@
 -- What a delivery makes on a host: outputs that are created, written and ended, and then the report.
 use Rattle.std.specs.Prelude.{◌≡◌, ◌≢◌, ℕ, ◌+◌, ◌-◌, ◌≤◌, ◌<◌, Bool, true, List, [], ◌∷◌, ◌++◌, length, map, Some, Result, IsOk, OnOk, OnErr, slice_index}
-use Rattle.snd_host.specs.Host.{HostState, Given, Output, IfTold, Rose, IsPrefix, asked_of, most_outputs, longest_name}
+use Rattle.snd_host.specs.Host.{HostState, Given, Output, IfTold, OutputFailed, IsPrefix, asked_of, most_outputs, longest_name}
 
 -- Two outputs more have numbers below 2 ^ 32.
 abbrev pub CanDeliver : HostState → Type 0
@@ -44,11 +44,11 @@ HaveRooms (output ∷ outputs) rooms n =
 abbrev pub all_ended : List Output → List Bool
 all_ended outputs = map (λ _. true) outputs
 
--- A count of faults rose where a call failed, and stayed where none did.
-pub record CountsFaults {T E : Type 0} (before now : ℕ) (result : Result T E) : Type 0 where
-  pub later : before ≤ now
-  pub failed : OnErr result (Rose before now)
-  pub same : OnOk result (now ≡ before)
+-- One call failed, and none came after it, or none failed.
+pub record CountsFaults {T E : Type 0} (old new : HostState) (result : Result T E) : Type 0 where
+  pub later : old.faults.outputs ≤ new.faults.outputs
+  pub failed : OnErr result (OutputFailed old new)
+  pub same : OnOk result (new.faults.outputs ≡ old.faults.outputs)
 
 -- A host is still steady: the report's room is less by what was reported, and the complaint's is what it was.
 abbrev pub LeavesRooms : (reported rooms : List ℕ) → (new : HostState) → Type 0
@@ -69,7 +69,7 @@ pub record Delivers {T E : Type 0} (outputs : List Output) (report : List ℕ) (
   pub report_last : reported ≢ [] → (begun ≡ outputs) × (ended ≡ all_ended outputs)
   pub inputs : asked_of new ≡ asked_of old
   pub notes : new.faults.notes ≡ old.faults.notes
-  pub cause : CountsFaults old.faults.outputs new.faults.outputs result
+  pub cause : CountsFaults old new result
   -- A steady host with rooms for all of it fails no call,
   pub enough : IfTold old.steady (λ rooms. HaveRooms outputs rooms (length old.ended + 2) → length report ≤ slice_index rooms 0 → IsOk result)
   -- and the complaint keeps its room.

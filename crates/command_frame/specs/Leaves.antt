@@ -1,6 +1,6 @@
 -- What a command leaves on a host that tells it.
-use Rattle.std.specs.Prelude.{◌≡◌, ◌≢◌, ℕ, Bool, List, [], ◌++◌, IsSomeAnd}
-use Rattle.snd_host.specs.Host.{HostState, Output, IfTold, Rose, IsPrefix}
+use Rattle.std.specs.Prelude.{◌≡◌, ◌≢◌, ◌⊎◌, ℕ, Bool, List, [], ◌++◌, IsSomeAnd}
+use Rattle.snd_host.specs.Host.{HostState, Output, IfTold, one_more, Rose, IsPrefix}
 use Rattle.command_frame.specs.Answer.{Answer, outputs_of, report_of}
 use Rattle.command_frame.specs.Delivery.{IsBegun, EndedAreWhole, all_ended}
 
@@ -38,9 +38,10 @@ abbrev pub ReportsAfterEnded : HostState → HostState → Type 0
 ReportsAfterEnded old new = IfTold old.given (λ before. IfTold new.given (λ now. now.report ≢ before.report →
     (outputs : List Output) × (now.created ≡ before.created ++ outputs) × (new.ended ≡ old.ended ++ all_ended outputs)))
 
--- The complaint grew by a prefix of this line, and by all of it where the count of notes didn't rise.
+-- The complaint grew by a prefix of this line, and by all of it where the count of notes didn't rise; at most one write to it failed.
 pub record Complains (line : List ℕ) (old new : HostState) : Type 0 where
   pub complaint : List ℕ
   pub given : IfTold old.given (λ before. IsSomeAnd new.given (λ now. now.complaint ≡ before.complaint ++ complaint))
   pub part : IsPrefix complaint line
   pub all : (Rose old.faults.notes new.faults.notes → ⊥) → complaint ≡ line
+  pub once : (new.faults.notes ≡ old.faults.notes) ⊎ (new.faults.notes ≡ one_more old.faults.notes)

@@ -8,6 +8,8 @@ pub mod Delivery
 pub mod Listed
 -- what a run leaves on a host that tells it
 pub mod Leaves
+-- the inputs that a command names, and how far it comes with them
+pub mod NamedInputs
 -- what a plan makes
 pub mod Plan
 -- two outputs that are written at once, in pieces

@@ -1,8 +1,7 @@
 // The command `info`: the fields of an SPC file.
 ghost use Rattle.std.specs.Prelude.{◌≡◌, ◌++◌, OnOk, IfOk, length, codes, [], ◌∷◌};
 ghost use Rattle.snd_host.specs.Host.{HostState, Files};
-ghost use Rattle.snd_host.specs.OpenedInputs.{inputs_up_to};
-ghost use Rattle.input_files.specs.Reading.{input_limit};
+ghost use Rattle.input_files.specs.Inputs.{spc_input};
 ghost use Rattle.command_frame.specs.Conduct.{Plans, Prepares, Attempts};
 ghost use Rattle.command_frame.specs.Delivery.{CanDeliver};
 ghost use Rattle.command_frame.specs.Plan.{plan_makes};
@@ -148,7 +147,7 @@ fn prepare<H: Host>(
     input: &str,
 ) -> Result<Plan<'static>, Refusal<Cause>>
     ensures { let answer = λ (files : Files). info_answer (files input.now) in
-        Prepares plan_makes answer (inputs_up_to input_limit (input.now ∷ [])) (H.state host.old) (H.state host.new) result }
+        Prepares plan_makes answer (spc_input input.now ∷ []) (H.state host.old) (H.state host.new) result }
 {
     let bytes = read_input(
         alloc,
@@ -164,7 +163,7 @@ fn prepare<H: Host>(
 pub fn info<H: Host>(alloc: Global, host: &mut H, input: &str) -> Option<Refusal<Cause>>
     requires { CanDeliver (H.state host.old) }
     ensures attempts { let answer = λ (files : Files). info_answer (files input.now) in
-        Attempts answer (inputs_up_to input_limit (input.now ∷ [])) result (H.state host.old) (H.state host.new) }
+        Attempts answer (spc_input input.now ∷ []) result (H.state host.old) (H.state host.new) }
     ensures not_usage { result ≡ Some Refusal.Usage → ⊥ }
 {
     let prepared = prepare(alloc, host, input);

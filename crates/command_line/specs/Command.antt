@@ -174,20 +174,3 @@ command_of (name ∷ words) =
     else if bytes_eq name (codes "cuts") then cuts_command words
     else if bytes_eq name (codes "serve") then serve_command words
     else usage
-
--- whether a command names an input
-abbrev pub names_input : Command → Bool
-names_input usage = false
-names_input help = false
-names_input version = false
-names_input (brr input output) = true
-names_input (info input) = true
-names_input (encode input output options) = true
-names_input (render file table wave options) = true
-names_input (demo number output) = false
-names_input (check number) = false
-names_input (asm input origin output) = true
-names_input (dis input origin output) = true
-names_input (rip file prefix range) = true
-names_input (cuts file table list wave muted) = true
-names_input (serve file table script wave options) = true

@@ -4,8 +4,7 @@ ghost use Rattle.wav_form.specs.Wave.{header_of, stereo_wave};
 ghost use Rattle.render_core.specs.Fade.{faded_frames};
 ghost use Rattle.dsp_core.specs.DspChip.{dsp_chip};
 ghost use Rattle.snd_host.specs.Host.{HostState, Files};
-ghost use Rattle.snd_host.specs.OpenedInputs.{inputs_up_to};
-ghost use Rattle.input_files.specs.Reading.{input_limit};
+ghost use Rattle.input_files.specs.Inputs.{spc_input, table_input};
 ghost use Rattle.command_frame.specs.Conduct.{Plans, Prepares, Attempts};
 ghost use Rattle.command_frame.specs.Delivery.{CanDeliver};
 ghost use Rattle.command_frame.specs.Plan.{stream_makes};
@@ -124,7 +123,7 @@ fn prepare_with<'a, H: Host>(
     requires { SamplesWithinHour options.samples }
     ensures { let answer = λ (files : Files). file_answer wave.now (options_of options.entry) (files table.now) file.now in
         Prepares (stream_makes (to_come_of dsp_chip) (report_of dsp_chip)) answer
-        (inputs_up_to input_limit (table.now ∷ [])) (H.state host.old) (H.state host.new) result }
+        (table_input table.now ∷ []) (H.state host.old) (H.state host.new) result }
 {
     let table = read_table(alloc, host, table)?;
     plan(alloc, file, table, wave, options)
@@ -142,7 +141,7 @@ fn prepare<'a, H: Host>(
     requires { SamplesWithinHour options.samples }
     ensures { let answer = λ (files : Files). render_answer wave.now (options_of options.entry) (files file.now) (files table.now) in
         Prepares (stream_makes (to_come_of dsp_chip) (report_of dsp_chip)) answer
-        (inputs_up_to input_limit (file.now ∷ table.now ∷ [])) (H.state host.old) (H.state host.new) result }
+        (spc_input file.now ∷ table_input table.now ∷ []) (H.state host.old) (H.state host.new) result }
 {
     let file = read_file(alloc, host, file)?;
     prepare_with(alloc, host, &file, table, wave, options)
@@ -160,7 +159,7 @@ pub fn render<H: Host>(
     requires outputs { CanDeliver (H.state host.old) }
     requires within_hour { SamplesWithinHour options.samples }
     ensures attempts { let answer = λ (files : Files). render_answer wave.now (options_of options.entry) (files file.now) (files table.now) in
-        Attempts answer (inputs_up_to input_limit (file.now ∷ table.now ∷ [])) result (H.state host.old) (H.state host.new) }
+        Attempts answer (spc_input file.now ∷ table_input table.now ∷ []) result (H.state host.old) (H.state host.new) }
     ensures not_usage { result ≡ Some Refusal.Usage → ⊥ }
 {
     let prepared = prepare(alloc, host, file, table, wave, options);

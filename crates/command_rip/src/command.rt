@@ -4,8 +4,7 @@ ghost use Rattle.spc_form.specs.Layout.{dsp_of};
 ghost use Rattle.sample_rip.specs.Entries.{most_entries};
 ghost use Rattle.spc_form.specs.Opening.{opening_memory};
 ghost use Rattle.snd_host.specs.Host.{HostState, Files};
-ghost use Rattle.snd_host.specs.OpenedInputs.{inputs_up_to};
-ghost use Rattle.input_files.specs.Reading.{input_limit};
+ghost use Rattle.input_files.specs.Inputs.{spc_input};
 ghost use Rattle.command_frame.specs.Answer.{done};
 ghost use Rattle.command_frame.specs.Conduct.{Plans, Attempts};
 ghost use Rattle.command_frame.specs.Delivery.{CanDeliverAll};
@@ -139,7 +138,7 @@ pub fn rip<H: Host>(
 ) -> Option<Refusal<Cause>>
     requires { CanDeliverAll most_entries (H.state host.old) }
     ensures attempts { let answer = λ (files : Files). rip_answer prefix.now range (files input.now) in
-        Attempts answer (inputs_up_to input_limit (input.now ∷ [])) result (H.state host.old) (H.state host.new) }
+        Attempts answer (spc_input input.now ∷ []) result (H.state host.old) (H.state host.new) }
     ensures not_usage { result ≡ Some Refusal.Usage → ⊥ }
 {
     let file = match read_file(alloc, host, input) {

@@ -5,8 +5,8 @@ ghost use Rattle.dsp_core.specs.DspChip.{dsp_chip, dsp_saving};
 ghost use Rattle.page_pool.specs.Pool.{most_pages};
 ghost use Rattle.cut_form.specs.Checkpoints.{fewest_pages};
 ghost use Rattle.snd_host.specs.Host.{HostState, Files};
-ghost use Rattle.snd_host.specs.OpenedInputs.{inputs_up_to};
-ghost use Rattle.input_files.specs.Reading.{input_limit};
+ghost use Rattle.input_files.specs.Reading.{input_limit, input_up_to};
+ghost use Rattle.input_files.specs.Inputs.{spc_input, table_input};
 ghost use Rattle.command_frame.specs.Conduct.{Plans, Prepares, Attempts};
 ghost use Rattle.command_frame.specs.Delivery.{CanDeliver};
 ghost use Rattle.command_frame.specs.Plan.{stream_makes};
@@ -94,7 +94,7 @@ fn prepare_script<'a, H: Host>(
     requires few { options.pages ≤ most_pages }
     ensures { let answer = λ (files : Files). table_answer wave.now options (files script.now) file.now table in
         Prepares (stream_makes (to_come_of dsp_chip dsp_saving) (report_of dsp_chip dsp_saving)) answer
-        (inputs_up_to input_limit (script.now ∷ [])) (H.state host.old) (H.state host.new) result }
+        (input_up_to input_limit script.now ∷ []) (H.state host.old) (H.state host.new) result }
 {
     let lines = read_lines(alloc, host, script)?;
     plan(alloc, file, table, lines, wave, options)
@@ -114,7 +114,7 @@ fn prepare_table<'a, H: Host>(
     requires few { options.pages ≤ most_pages }
     ensures { let answer = λ (files : Files). file_answer wave.now options (files table.now) (files script.now) file.now in
         Prepares (stream_makes (to_come_of dsp_chip dsp_saving) (report_of dsp_chip dsp_saving)) answer
-        (inputs_up_to input_limit (table.now ∷ script.now ∷ [])) (H.state host.old) (H.state host.new) result }
+        (table_input table.now ∷ input_up_to input_limit script.now ∷ []) (H.state host.old) (H.state host.new) result }
 {
     let table = read_table(alloc, host, table)?;
     prepare_script(alloc, host, file, table, script, wave, options)
@@ -134,7 +134,7 @@ fn prepare<'a, H: Host>(
     requires few { options.pages ≤ most_pages }
     ensures { let answer = λ (files : Files). serve_answer wave.now options (files file.now) (files table.now) (files script.now) in
         Prepares (stream_makes (to_come_of dsp_chip dsp_saving) (report_of dsp_chip dsp_saving)) answer
-        (inputs_up_to input_limit (file.now ∷ table.now ∷ script.now ∷ [])) (H.state host.old) (H.state host.new) result }
+        (spc_input file.now ∷ table_input table.now ∷ input_up_to input_limit script.now ∷ []) (H.state host.old) (H.state host.new) result }
 {
     let file = read_file(alloc, host, file)?;
     prepare_table(alloc, host, &file, table, script, wave, options)
@@ -155,7 +155,7 @@ pub fn serve<H: Host>(
     requires enough { fewest_pages ≤ options.pages }
     requires few { options.pages ≤ most_pages }
     ensures attempts { let answer = λ (files : Files). serve_answer wave.now options (files file.now) (files table.now) (files script.now) in
-        Attempts answer (inputs_up_to input_limit (file.now ∷ table.now ∷ script.now ∷ [])) result (H.state host.old) (H.state host.new) }
+        Attempts answer (spc_input file.now ∷ table_input table.now ∷ input_up_to input_limit script.now ∷ []) result (H.state host.old) (H.state host.new) }
     ensures not_usage { result ≡ Some Refusal.Usage → ⊥ }
 {
     let prepared = prepare(alloc, host, file, table, script, wave, options);

@@ -1,7 +1,7 @@
 // The script of an input.
 ghost use Rattle.std.specs.Prelude.{◌≡◌};
 ghost use Rattle.snd_host.specs.Host.{HostState};
-ghost use Rattle.input_files.specs.Reading.{Accepts, Reads, input_limit, input_up_to};
+ghost use Rattle.input_files.specs.Reading.{Accepts, Reads, input_limit};
 ghost use Rattle.command_serve.specs.Scripts.{script_of, script_in};
 
 use command_frame::Refusal;
@@ -28,7 +28,7 @@ pub(crate) fn read_lines<H: Host>(
     host: &mut H,
     name: &str,
 ) -> Result<ScriptLines, Refusal<Cause>>
-    ensures { Reads (input_up_to input_limit name.now) (λ files. script_in (files name.now)) (H.state host.old) (H.state host.new) result }
+    ensures { Reads name.now input_limit (λ files. script_in (files name.now)) (H.state host.old) (H.state host.new) result }
 {
     let bytes = read_input(alloc, host, name, INPUT_LIMIT, Cause::InputTooLong)?;
     accept_script(alloc, bytes.as_slice())

@@ -8,9 +8,11 @@ use Rattle.disk_host.specs.Created.{flags_of}
 use Rattle.disk_host.specs.declared.disk.Created.{Created}
 use Rattle.disk_host.specs.declared.disk.DiskHost.{DiskHost}
 
--- the host at a moment: its current input, which created outputs have ended, and its counts of faults; it tells no bytes and no rooms
+-- the host at a moment: its current input, which created outputs have ended, its counts of faults, and whether its last call failed; it tells no
+-- bytes and no rooms
 abbrev pub disk_state : {R O E F D : Type 0} → DiskHost R O E F D → HostState
-disk_state host = untold_state (option_map (λ _. host.newest) host.input) (flags_of host.created.items) host.in_faults host.note_faults host.out_faults
+disk_state host =
+    untold_state (option_map (λ _. host.newest) host.input) (flags_of host.created.items) host.in_faults host.note_faults host.out_faults host.failed_last
 
 -- how a file tells the bytes that it holds, or those that it has left, where it knows them
 abbrev pub Tells : Type 0 → Type 0

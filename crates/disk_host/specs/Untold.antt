@@ -2,9 +2,9 @@
 use Rattle.std.specs.Prelude.{ℕ, List, Bool, Option, None}
 use Rattle.snd_host.specs.Host.{HostState}
 
--- Only which input is current, what was created and ended, and the counts are told.
-abbrev pub untold_state : (current : Option ℕ) → (ended : List Bool) → (inputs notes outputs : ℕ) → HostState
-untold_state current ended inputs notes outputs = record {
+-- Only which input is current, what was created and ended, the counts and whether the last call failed are told.
+abbrev pub untold_state : (current : Option ℕ) → (ended : List Bool) → (inputs notes outputs : ℕ) → (failed_last : Bool) → HostState
+untold_state current ended inputs notes outputs failed_last = record {
   holds = None;
   left = None;
   opened = None;
@@ -12,5 +12,6 @@ untold_state current ended inputs notes outputs = record {
   current = current;
   ended = ended;
   faults = record { inputs = inputs; notes = notes; outputs = outputs };
+  failed_last = failed_last;
   steady = None;
 }

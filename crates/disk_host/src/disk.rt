@@ -1,5 +1,5 @@
 // The host of real files. It is the trusted edge: it tells no contents, and passes on what a file knows of its bytes.
-ghost use Rattle.std.specs.Prelude.{◌≡◌, ◌≢◌, ◌<◌, ℕ, ◌≤◌, length, IfOk, drop, None, [], OnOk, OnErr, true, slice_set};
+ghost use Rattle.std.specs.Prelude.{◌≡◌, ◌≢◌, ◌<◌, ℕ, ◌≤◌, length, IfOk, drop, None, [], OnOk, OnErr, true, false, slice_set};
 ghost use Rattle.disk_host.specs.Untold.{untold_state};
 ghost use Rattle.disk_host.specs.Created.{flags_of};
 ghost use Rattle.disk_host.specs.Held.{told_at, held_by};
@@ -30,12 +30,13 @@ pub struct DiskHost<'r, R: Files, O: Write + Drop, E: Write + Drop> {
     in_faults: u64,
     note_faults: u64,
     out_faults: u64,
+    failed_last: bool,
 }
 
 impl<'r, R: Files, O: Write + Drop, E: Write + Drop> DiskHost<'r, R, O, E> {
     /// A host without inputs, outputs or faults.
     pub fn new(alloc: Global, files: &'r R, report: O, complaint: E) -> Self
-        ensures state { ⟦<DiskHost<'r, R, O, E> as Host>⟧.state result ≡ untold_state None [] 0 0 0 }
+        ensures state { ⟦<DiskHost<'r, R, O, E> as Host>⟧.state result ≡ untold_state None [] 0 0 0 false }
         ensures report { held_by R.File.contents O.contents E.contents result 0 ≡ O.contents report }
         ensures complaint { held_by R.File.contents O.contents E.contents result 1 ≡ E.contents complaint }
     {
@@ -49,6 +50,7 @@ impl<'r, R: Files, O: Write + Drop, E: Write + Drop> DiskHost<'r, R, O, E> {
             in_faults: 0,
             note_faults: 0,
             out_faults: 0,
+            failed_last: false,
         }
     }
 }
@@ -120,9 +122,9 @@ fn end_created<F: Write>(created: &mut Vec<Created<F>>, place: usize) -> Result<
 }
 
 impl<'r, R: Files, O: Write + Drop, E: Write + Drop> Host for DiskHost<'r, R, O, E> {
-    ghost use Rattle.std.specs.Prelude.{Some, IsSome, IsOk, take, slice_index};
-    ghost use Rattle.snd_host.specs.OpenedInputs.{Opens, ReadsMore};
-    ghost use Rattle.snd_host.specs.Host.{IfTold, HasCause, CountsWrite, IsOpen, ChangesInputs, Writes};
+    ghost use Rattle.std.specs.Prelude.{Some, IsSome, IsOk, is_err, take, slice_index};
+    ghost use Rattle.snd_host.specs.OpenedInputs.{ReadsMore};
+    ghost use Rattle.snd_host.specs.Host.{IfTold, HasCause, CountsWrite, EndsByWrite, IsOpen, ChangesInputs, Writes};
     ghost use Rattle.disk_host.specs.Held.{disk_state, ReadsOn, WritesOn};
 
     ghost state = { disk_state };
@@ -133,10 +135,12 @@ impl<'r, R: Files, O: Write + Drop, E: Write + Drop> Host for DiskHost<'r, R, O,
         self.input = None;
         let Ok(file) = fs::open(self.files, name) else {
             self.in_faults = self.in_faults.saturating_add(1);
+            self.failed_last = true;
             return Err(Failed);
         };
         self.newest = self.newest.wrapping_add(1);
         self.input = Some(file);
+        self.failed_last = false;
         Ok(InFile(self.newest))
     }
 
@@ -152,20 +156,23 @@ impl<'r, R: Files, O: Write + Drop, E: Write + Drop> Host for DiskHost<'r, R, O,
         ensures end { result ≡ Ok 0 → 0 < length buf.old → IfTold (disk_state self.old).left (λ rest. rest ≡ []) }
         ensures unread { OnErr result ((disk_state self.new).left ≡ (disk_state self.old).left) }
         ensures counted_bytes { IfOk result (λ count. ReadsMore count (disk_state self.old) (disk_state self.new)) }
-        ensures no_bytes { OnErr result (Opens [] (disk_state self.old) (disk_state self.new)) }
+        ensures no_bytes { OnErr result ((disk_state self.new).opened ≡ (disk_state self.old).opened) }
         ensures current { (disk_state self.new).current ≡ (disk_state self.old).current }
         ensures others { ChangesInputs (disk_state self.old) (disk_state self.new) }
         ensures cause { HasCause (disk_state self.old).faults.inputs (disk_state self.new).faults.inputs result }
+        ensures last { (disk_state self.new).failed_last ≡ is_err result }
         ensures steady { IsSome (disk_state self.old).steady → IsOk result }
         // Where the file knows its bytes, these are the next ones, and none come only at its end.
         ensures bytes { ReadsOn R.File.remaining buf.new self.old self.new result }
     {
         if let Some(file) = &mut self.input {
             if let Ok(count) = read_some(file, buf) {
+                self.failed_last = false;
                 return Ok(count);
             }
         }
         self.in_faults = self.in_faults.saturating_add(1);
+        self.failed_last = true;
         Err(Failed)
     }
 
@@ -175,11 +182,13 @@ impl<'r, R: Files, O: Write + Drop, E: Write + Drop> Host for DiskHost<'r, R, O,
         if self.created.reserve(1).is_ok() {
             if let Ok(file) = fs::create(self.files, name) {
                 if self.created.push(Created { file, ended: false }).is_ok() {
+                    self.failed_last = false;
                     return Ok(OutFile(number));
                 }
             }
         }
         self.out_faults = self.out_faults.saturating_add(1);
+        self.failed_last = true;
         Err(Failed)
     }
 
@@ -190,6 +199,7 @@ impl<'r, R: Files, O: Write + Drop, E: Write + Drop> Host for DiskHost<'r, R, O,
         ensures wrote { IfOk result (λ count. Writes file.0 (take count piece.now) (disk_state self.old) (disk_state self.new)) }
         ensures unwritten { OnErr result (Writes file.0 [] (disk_state self.old) (disk_state self.new)) }
         ensures cause { CountsWrite file.0 (disk_state self.old).faults (disk_state self.new).faults result }
+        ensures last { EndsByWrite file.0 (disk_state self.old) (disk_state self.new) result }
         ensures steady { IfTold (disk_state self.old).steady (λ rooms. length piece.now ≤ slice_index rooms file.0 → IsOk result) }
         // Where the output knows its bytes, those taken come after them, and no other output changes.
         ensures bytes { WritesOn R.File.contents O.contents E.contents file.0 piece.now self.old self.new result }
@@ -203,20 +213,25 @@ impl<'r, R: Files, O: Write + Drop, E: Write + Drop> Host for DiskHost<'r, R, O,
         }
         if file.0 == 0 {
             if let Ok(count) = write_some(&mut self.report, piece) {
+                self.failed_last = false;
                 return Ok(count);
             }
         } else if let Ok(count) = write_created(&mut self.created, (file.0 - 2) as usize, piece) {
+            self.failed_last = false;
             return Ok(count);
         }
         self.out_faults = self.out_faults.saturating_add(1);
+        self.failed_last = true;
         Err(Failed)
     }
 
     fn finish(&mut self, file: OutFile) -> Result<(), Failed> {
         if end_created(&mut self.created, (file.0 - 2) as usize).is_ok() {
+            self.failed_last = false;
             return Ok(());
         }
         self.out_faults = self.out_faults.saturating_add(1);
+        self.failed_last = true;
         Err(Failed)
     }
 }

@@ -1,15 +1,17 @@
 -- What is read of an input, and what commands prepare after it.
 use Rattle.std.proofs.Common.{◌≡◌, ◌⊎◌, inl, inr, ap, sym, subst, ◌∙◌, refl, rules, ℕ, ◌<◌, length, Bool, List, [], ◌∷◌, Option, Some, None, Result, Ok, Err, IsSome}
-use Rattle.std.specs.Prelude.{IfOk, IfErr, IsSomeAnd, if◌then◌else◌}
+use Rattle.std.specs.Prelude.{true, false, is_ok, IfOk, IfErr, IsSomeAnd, if◌then◌else◌}
 use Rattle.std.proofs.lemmas.Bool.{lt-ltb}
-use Rattle.snd_host.specs.Host.{HostState, Files, IfTold, Rose, KeepsRooms}
-use Rattle.snd_host.specs.OpenedInputs.{NamedInput, whole_input, whole_inputs}
+use Rattle.snd_host.specs.Host.{HostState, Files, IfTold, OpenedInput, one_more, KeepsRooms}
+use Rattle.snd_host.specs.OpenedInputs.{OpensInOrder}
 use Rattle.snd_host.proofs.WholeInput.{inputs_then}
 use Rattle.snd_host.proofs.OpenedInputs.{in_order_nothing, in_order_same, in_order_then, in_order_ends}
+use Rattle.command_frame.specs.NamedInputs.{NamedInput, input_read, inputs_reached}
 use Rattle.command_frame.specs.Answer.{Answer, done, refused}
-use Rattle.command_frame.specs.Conduct.{Delivery, IsOfDelivery, Plans, Prepares}
+use Rattle.command_frame.specs.Conduct.{Delivery, IsSettled, IsOfDelivery, Plans, Prepares, refusal_in}
 use Rattle.command_frame.specs.declared.refusals.Refusal.{Refusal}
 use Rattle.command_frame.specs.declared.refusals.Refusal.TheVariants.{Usage, ReadFault, WriteFault, OutOfMemory, Input}
+use Rattle.command_frame.proofs.Obeying.{prepared_is_settled}
 use Rattle.input_files.specs.Reading.{bytes_in, value_from, refused_by, answer_from, Declines, Accepts, Reads}
 
 -- what was refused by itself is refused for the command
@@ -31,12 +33,34 @@ plans_declined {P = P} makes given next why d = record {
   no_write = λ is. d.no_write (inside {T = P} why WriteFault is);
 }
 
--- an input was refused
-pub reads_declined : {T P C : Type 0} {input : NamedInput} {inputs : List NamedInput} (makes : P → Delivery) (given : Files → Result T (Refusal C)) (next : Files → T → Answer C) (x y : HostState) (why : Refusal C) →
-    Reads input given x y (Err why) → Prepares makes (λ files. answer_from (given files) (next files)) (input ∷ inputs) x y (Err why)
-reads_declined {P = P} {C = C} {input = input} {inputs = inputs} makes given next x y why r = record {
+abbrev nothing : List OpenedInput
+nothing = []
+
+-- after the last input none is reached
+none_after : (accepted : Bool) → (if accepted then nothing else nothing) ≡ nothing
+none_after true = refl
+none_after false = refl
+
+-- it is accepted, or it is refused
+module _ {T C : Type 0} (input : NamedInput) (given : Files → Result T (Refusal C)) (accepts : (files : Files) → input.accepts (files input.name) ≡ is_ok (given files)) (files : Files) (inputs : List NamedInput) where
+  reached_next : (value : T) → given files ≡ Ok value → inputs_reached files (input ∷ inputs) ≡ input_read files input ∷ inputs_reached files inputs
+  reached_next value is = ap (λ (b : Bool). input_read files input ∷ (if b then inputs_reached files inputs else [])) (accepts files ∙ ap (λ (r : Result T (Refusal C)). is_ok r) is)
+
+  reached_last : (why : Refusal C) → (given files ≡ Err why) ⊎ ((why ≡ ReadFault) ⊎ (why ≡ OutOfMemory)) → IsSettled (Some why) → (if input.accepts (files input.name) then inputs_reached files inputs else []) ≡ []
+  reached_last why (inl is) settled = ap (λ (b : Bool). if b then inputs_reached files inputs else []) (accepts files ∙ ap (λ (r : Result T (Refusal C)). is_ok r) is)
+  reached_last why (inr (inl is)) settled = absurd (settled.0 (ap (λ (w : Refusal C). Some w) is))
+  reached_last why (inr (inr is)) settled = absurd (settled.1 (ap (λ (w : Refusal C). Some w) is))
+
+-- an input was refused, and none was read after it
+declined_at : {T P C : Type 0} {input : NamedInput} {inputs : List NamedInput} (makes : P → Delivery) (given : Files → Result T (Refusal C)) (next : Files → T → Answer C) (x y : HostState) (why : Refusal C) →
+    ((files : Files) → x.holds ≡ Some files → IsSettled (Some why) → (if input.accepts (files input.name) then inputs_reached files inputs else []) ≡ []) →
+    Reads input.name input.limit given x y (Err why) → Prepares makes (λ files. answer_from (given files) (next files)) (input ∷ inputs) x y (Err why)
+declined_at {P = P} {C = C} {input = input} {inputs = inputs} makes given next x y why last r = record {
   others = r.others;
-  opened = λ files told. in_order_ends (whole_input files input) (whole_inputs files inputs) _ _ _ _ x y (r.opened files told) (λ settled. settled) (λ prepared. none_delivered prepared);
+  opened = λ files told. record {
+    order = in_order_ends (input_read files input) _ _ _ x y (r.opened files told) (λ settled. settled) (last files told);
+    all = λ delivered. absurd (none_delivered delivered);
+  };
   read = λ is. (r.err.read (inside {T = P} why ReadFault is), search rules);
   calm = λ other. r.err.calm (λ is. other (ap (λ (w : Refusal C). Err w) is));
   no_usage = λ is. r.err.no_usage (inside {T = P} why Usage is);
@@ -55,6 +79,18 @@ reads_declined {P = P} {C = C} {input = input} {inputs = inputs} makes given nex
     told_of files (inl is) = inl (ap (λ g. answer_from g (next files)) is)
     told_of files (inr other) = inr other
 
+-- the last input was refused
+pub reads_declined : {T P C : Type 0} {input : NamedInput} (makes : P → Delivery) (given : Files → Result T (Refusal C)) (next : Files → T → Answer C) (x y : HostState) (why : Refusal C) →
+    Reads input.name input.limit given x y (Err why) → Prepares makes (λ files. answer_from (given files) (next files)) (input ∷ []) x y (Err why)
+reads_declined {input = input} makes given next x y why r = declined_at makes given next x y why (λ files told settled. none_after (input.accepts (files input.name))) r
+
+-- an input was refused that others come after
+pub reads_declined_before : {T P C : Type 0} {input : NamedInput} {inputs : List NamedInput} (makes : P → Delivery) (given : Files → Result T (Refusal C)) (next : Files → T → Answer C) (x y : HostState) (why : Refusal C) →
+    ((files : Files) → input.accepts (files input.name) ≡ is_ok (given files)) →
+    Reads input.name input.limit given x y (Err why) → Prepares makes (λ files. answer_from (given files) (next files)) (input ∷ inputs) x y (Err why)
+reads_declined_before {input = input} {inputs = inputs} makes given next x y why accepts r =
+    declined_at makes given next x y why (λ files told. reached_last input given accepts files inputs why (r.err.told files told)) r
+
 steady_still : (x y : HostState) → KeepsRooms x y → IsSome x.steady → IsSome y.steady
 steady_still x y keeps steady = still x.steady refl steady
   where
@@ -63,12 +99,19 @@ steady_still x y keeps steady = still x.steady refl steady
     still (Some rooms) is some = rw (keeps rooms is) some
 
 -- an input was read, and the rest was prepared by what it gives
-pub reads_then : {T P C : Type 0} {input : NamedInput} {inputs : List NamedInput} (makes : P → Delivery) (given : Files → Result T (Refusal C)) (next : Files → T → Answer C) (x y z : HostState) (value : T) (result : Result P (Refusal C)) →
-    Reads input given x y (Ok value) → Prepares makes (λ files. next files value) inputs y z result → Prepares makes (λ files. answer_from (given files) (next files)) (input ∷ inputs) x z result
-reads_then {T = T} {P = P} {C = C} {input = input} {inputs = inputs} makes given next x y z value result r p = record {
+accepted_at : {T P C : Type 0} {input : NamedInput} {inputs : List NamedInput} (makes : P → Delivery) (given : Files → Result T (Refusal C)) (next : Files → T → Answer C) (x y z : HostState) (value : T) (result : Result P (Refusal C)) →
+    ((files : Files) → x.holds ≡ Some files → inputs_reached files (input ∷ inputs) ≡ input_read files input ∷ inputs_reached files inputs) →
+    Reads input.name input.limit given x y (Ok value) → Prepares makes (λ files. next files value) inputs y z result → Prepares makes (λ files. answer_from (given files) (next files)) (input ∷ inputs) x z result
+accepted_at {T = T} {P = P} {C = C} {input = input} {inputs = inputs} makes given next x y z value result reached r p = record {
   others = inputs_then x y z r.others p.others;
-  opened = λ files told. in_order_then (whole_input files input) (whole_inputs files inputs) _ _ _ _ x y z (r.opened files told) (inl refl) (p.opened files (r.others.holds ∙ told));
-  read = λ is. (subst (λ (n : ℕ). Rose n z.faults.inputs) r.calm (p.read is).0, search rules);
+  opened = λ files told.
+      let rest = p.opened files (r.others.holds ∙ told) in
+      record {
+        order = subst (λ (l : List OpenedInput). OpensInOrder l (IsSettled (refusal_in result)) x z) (sym (reached files told))
+            (in_order_then (input_read files input) (inputs_reached files inputs) _ _ x y z (r.opened files told) (prepared_is_settled {C = C}) rest.order);
+        all = λ delivered. reached files told ∙ ap (λ (l : List OpenedInput). input_read files input ∷ l) (rest.all delivered);
+      };
+  read = λ is. let failed = p.read is in (record { once = failed.0.once ∙ ap one_more r.calm; last = failed.0.last }, search rules);
   calm = λ other. p.calm other ∙ r.calm;
   no_usage = p.no_usage;
   no_write = p.no_write;
@@ -95,11 +138,18 @@ reads_then {T = T} {P = P} {C = C} {input = input} {inputs = inputs} makes given
     err_of (Ok plan) err = tt
     err_of (Err why) err = λ files told. either files why told (err files (r.others.holds ∙ told))
 
+-- it was accepted, and others come after it
+pub reads_then : {T P C : Type 0} {input : NamedInput} {inputs : List NamedInput} (makes : P → Delivery) (given : Files → Result T (Refusal C)) (next : Files → T → Answer C) (x y z : HostState) (value : T) (result : Result P (Refusal C)) →
+    ((files : Files) → input.accepts (files input.name) ≡ is_ok (given files)) →
+    Reads input.name input.limit given x y (Ok value) → Prepares makes (λ files. next files value) inputs y z result → Prepares makes (λ files. answer_from (given files) (next files)) (input ∷ inputs) x z result
+reads_then {input = input} {inputs = inputs} makes given next x y z value result accepts r p =
+    accepted_at makes given next x y z value result (λ files told. reached_next input given accepts files inputs value (r.ok files told)) r p
+
 -- nothing was read any more, and the plan is made
 pub prepares_plan : {P C : Type 0} (makes : P → Delivery) (answer : Answer C) (x : HostState) (result : Result P (Refusal C)) → Plans makes answer result → Prepares makes (λ files. answer) [] x x result
 prepares_plan {P = P} {C = C} makes answer x result p = record {
   others = record { holds = refl; given = refl; ended = refl; notes = refl; outputs = refl; rooms = λ rooms told. told };
-  opened = λ files told. in_order_nothing _ _ x;
+  opened = λ files told. record { order = in_order_nothing _ x; all = λ delivered. refl };
   read = λ is. absurd (p.no_read is);
   calm = λ other. refl;
   no_usage = p.no_usage;
@@ -125,12 +175,13 @@ prepares_plan {P = P} {C = C} makes answer x result p = record {
 
 -- an input was read, and a plan was made by what it gives
 pub reads_plan : {T P C : Type 0} {input : NamedInput} (makes : P → Delivery) (given : Files → Result T (Refusal C)) (next : T → Answer C) (x y : HostState) (value : T) (result : Result P (Refusal C)) →
-    Reads input given x y (Ok value) → Plans makes (next value) result → Prepares makes (λ files. answer_from (given files) next) (input ∷ []) x y result
-reads_plan {C = C} makes given next x y value result r p = reads_then makes given (λ (files : Files). next) x y y value result r (prepares_plan makes (next value) y result p)
+    Reads input.name input.limit given x y (Ok value) → Plans makes (next value) result → Prepares makes (λ files. answer_from (given files) next) (input ∷ []) x y result
+reads_plan {input = input} makes given next x y value result r p =
+    accepted_at makes given (λ (files : Files). next) x y y value result (λ files told. ap (λ (l : List OpenedInput). input_read files input ∷ l) (none_after (input.accepts (files input.name)))) r (prepares_plan makes (next value) y result p)
 
 -- an input was refused, and what comes of it with it
-pub reads_refused : {T U C : Type 0} {input : NamedInput} (given : Files → Result T (Refusal C)) (value : T → Result U (Refusal C)) (x y : HostState) (why : Refusal C) →
-    Reads input given x y (Err why) → Reads input (λ files. value_from (given files) value) x y (Err why)
+pub reads_refused : {T U C : Type 0} {name : List ℕ} {limit : ℕ} (given : Files → Result T (Refusal C)) (value : T → Result U (Refusal C)) (x y : HostState) (why : Refusal C) →
+    Reads name limit given x y (Err why) → Reads name limit (λ files. value_from (given files) value) x y (Err why)
 reads_refused {T = T} {U = U} {C = C} given value x y why r = record {
   others = r.others;
   opened = r.opened;
@@ -152,8 +203,8 @@ reads_refused {T = T} {U = U} {C = C} given value x y why r = record {
     told_of files (inr other) = inr other
 
 -- an input was read, and accepted or refused by what it gives
-pub reads_accepts : {T U C : Type 0} {input : NamedInput} (given : Files → Result T (Refusal C)) (value : T → Result U (Refusal C)) (x y : HostState) (bytes : T) (result : Result U (Refusal C)) →
-    Reads input given x y (Ok bytes) → Accepts (value bytes) result → Reads input (λ files. value_from (given files) value) x y result
+pub reads_accepts : {T U C : Type 0} {name : List ℕ} {limit : ℕ} (given : Files → Result T (Refusal C)) (value : T → Result U (Refusal C)) (x y : HostState) (bytes : T) (result : Result U (Refusal C)) →
+    Reads name limit given x y (Ok bytes) → Accepts (value bytes) result → Reads name limit (λ files. value_from (given files) value) x y result
 reads_accepts {T = T} {U = U} {C = C} given value x y bytes (Ok accepted) r a = record {
   others = r.others;
   opened = r.opened;
@@ -163,7 +214,7 @@ reads_accepts {T = T} {U = U} {C = C} given value x y bytes (Ok accepted) r a = 
 }
 reads_accepts {T = T} {U = U} {C = C} given value x y bytes (Err why) r a = record {
   others = r.others;
-  opened = λ files told. in_order_same _ _ _ _ _ x y y (r.opened files told) (λ settled. (λ wrong. absurd (cc), λ wrong. absurd (cc))) (λ prepared. inl refl) refl;
+  opened = λ files told. in_order_same _ _ _ x y y (r.opened files told) (λ settled. prepared_is_settled {C = C}) refl;
   calm = tt;
   ok = tt;
   err = record {

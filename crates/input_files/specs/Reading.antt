@@ -1,10 +1,11 @@
 -- What the reading of an input gives, or why it is refused. `C` is why the bytes of an input are refused.
-use Rattle.std.specs.Prelude.{◌≡◌, ◌⊎◌, ℕ, List, [], ◌∷◌, length, Option, Some, None, Result, Ok, Err, IfOk, IfErr, IsSome, nat_lt, if◌then◌else◌}
-use Rattle.snd_host.specs.Host.{HostState, Files, IfTold, Rose, ChangesInputs, greatest_limit}
+use Rattle.std.specs.Prelude.{◌≡◌, ◌⊎◌, ℕ, List, [], ◌∷◌, length, Option, Some, None, Result, Ok, Err, IfOk, IfErr, IsSome, is_ok, nat_lt, if◌then◌else◌}
+use Rattle.snd_host.specs.Host.{HostState, Files, IfTold, InputFailed, ChangesInputs, greatest_limit}
 use Rattle.spc_form.specs.Accepted.{greatest_length}
-use Rattle.snd_host.specs.OpenedInputs.{NamedInput}
+use Rattle.snd_host.specs.OpenedInputs.{whole_input, OpensInOrder}
+use Rattle.command_frame.specs.NamedInputs.{NamedInput}
 use Rattle.command_frame.specs.Answer.{Answer, refused}
-use Rattle.command_frame.specs.Conduct.{ReadsInOrder, refusal_in}
+use Rattle.command_frame.specs.Conduct.{IsSettled, refusal_in}
 use Rattle.command_frame.specs.declared.refusals.Refusal.{Refusal}
 use Rattle.command_frame.specs.declared.refusals.Refusal.TheVariants.{Usage, ReadFault, WriteFault, OutOfMemory, Input}
 
@@ -15,14 +16,14 @@ input_limit = greatest_length
 abbrev pub wave_limit : ℕ
 wave_limit = greatest_limit
 
--- an input of this name that may have so many bytes
-abbrev pub input_up_to : (limit : ℕ) → (name : List ℕ) → NamedInput
-input_up_to limit name = record { name = name; limit = limit }
-
 -- the bytes that an input holds, of which there may be this many; it may not be there
 abbrev pub bytes_in : {C : Type 0} → (limit : ℕ) → (too_long : C) → (held : Option (List ℕ)) → Result (List ℕ) (Refusal C)
 bytes_in limit too_long None = Err ReadFault
 bytes_in limit too_long (Some bytes) = if nat_lt limit (length bytes) then Err (Input too_long) else Ok bytes
+
+-- an input of this name that may have so many bytes
+abbrev pub input_up_to : (limit : ℕ) → (name : List ℕ) → NamedInput
+input_up_to limit name = record { name = name; limit = limit; accepts = λ held. is_ok (bytes_in limit (tt {0}) held) }
 
 -- what comes of a value, or the refusal in its place
 abbrev pub value_from : {T U C : Type 0} → Result T (Refusal C) → (T → Result U (Refusal C)) → Result U (Refusal C)
@@ -54,16 +55,17 @@ pub record Accepts {T C : Type 0} (given : Result T (Refusal C)) (result : Resul
 -- An input was read and refused as it is to be, or it could not be read, or there was no memory.
 pub record DeclinesInput {T C : Type 0} (given : Files → Result T (Refusal C)) (old new : HostState) (refusal : Refusal C) : Type 0 where
   pub told : IfTold old.holds (λ files. (given files ≡ Err refusal) ⊎ (refusal ≡ ReadFault) ⊎ (refusal ≡ OutOfMemory))
-  pub read : refusal ≡ ReadFault → Rose old.faults.inputs new.faults.inputs
+  pub read : refusal ≡ ReadFault → InputFailed old new
   pub calm : (refusal ≡ ReadFault → ⊥) → new.faults.inputs ≡ old.faults.inputs
   pub steady : refusal ≡ ReadFault → IsSome old.steady → IfTold old.holds (λ files. given files ≡ Err ReadFault)
   pub no_usage : refusal ≡ Usage → ⊥
   pub no_write : refusal ≡ WriteFault → ⊥
 
--- An input was opened once and read as what it gives, by what the names hold.
-pub record Reads {T C : Type 0} (input : NamedInput) (given : Files → Result T (Refusal C)) (old new : HostState) (result : Result T (Refusal C)) : Type 0 where
+-- An input of this name, which may have so many bytes, was opened once and read as what it gives, by what the names hold.
+pub record Reads {T C : Type 0} (name : List ℕ) (limit : ℕ) (given : Files → Result T (Refusal C)) (old new : HostState)
+    (result : Result T (Refusal C)) : Type 0 where
   pub others : ChangesInputs old new
-  pub opened : ReadsInOrder (input ∷ []) (refusal_in result) old new
+  pub opened : IfTold old.holds (λ files. OpensInOrder (whole_input files name limit ∷ []) (IsSettled (refusal_in result)) old new)
   pub calm : IfOk result (λ value. new.faults.inputs ≡ old.faults.inputs)
   pub ok : IfOk result (λ value. IfTold old.holds (λ files. given files ≡ Ok value))
   pub err : IfErr result (λ refusal. DeclinesInput given old new refusal)

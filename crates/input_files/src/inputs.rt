@@ -1,7 +1,7 @@
 // SPC files and tables of weights.
 ghost use Rattle.std.specs.Prelude.{◌≡◌};
 ghost use Rattle.snd_host.specs.Host.{HostState};
-ghost use Rattle.input_files.specs.Reading.{Accepts, Reads, input_limit, input_up_to};
+ghost use Rattle.input_files.specs.Reading.{Accepts, Reads, input_limit};
 ghost use Rattle.input_files.specs.Inputs.{file_of, file_in, table_of, table_in};
 
 use crate::{INPUT_LIMIT, read_input};
@@ -30,7 +30,7 @@ pub fn read_file<H: Host>(
     host: &mut H,
     name: &str,
 ) -> Result<SpcFile, Refusal<Cause>>
-    ensures { Reads (input_up_to input_limit name.now) (λ files. file_in (files name.now)) (H.state host.old) (H.state host.new) result }
+    ensures { Reads name.now input_limit (λ files. file_in (files name.now)) (H.state host.old) (H.state host.new) result }
 {
     let too_long = Cause::SpcLength(INPUT_LIMIT + 1);
     let bytes = read_input(alloc, host, name, INPUT_LIMIT, too_long)?;
@@ -54,7 +54,7 @@ pub fn read_table<H: Host>(
     host: &mut H,
     name: &str,
 ) -> Result<GaussTable, Refusal<Cause>>
-    ensures { Reads (input_up_to input_limit name.now) (λ files. table_in (files name.now)) (H.state host.old) (H.state host.new) result }
+    ensures { Reads name.now input_limit (λ files. table_in (files name.now)) (H.state host.old) (H.state host.new) result }
 {
     let bytes = read_input(alloc, host, name, INPUT_LIMIT, Cause::InputTooLong)?;
     accept_table(alloc, bytes.as_slice())

@@ -1,7 +1,7 @@
 // The bytes of an input.
 ghost use Rattle.std.specs.Prelude.{◌≡◌, ◌≤◌, length, IfOk};
 ghost use Rattle.snd_host.specs.Host.{HostState};
-ghost use Rattle.input_files.specs.Reading.{bytes_in, input_up_to, Reads, input_limit, wave_limit};
+ghost use Rattle.input_files.specs.Reading.{bytes_in, Reads, input_limit, wave_limit};
 
 use command_frame::Refusal;
 use snd_host::{Host, ReadRefusal, read_whole};
@@ -47,7 +47,7 @@ pub fn read_input<H: Host, C: Drop>(
     too_long: C,
 ) -> Result<InputBytes, Refusal<C>>
     requires { limit ≤ wave_limit }
-    ensures reads { Reads (input_up_to limit name.now) (λ files. bytes_in limit too_long (files name.now)) (H.state host.old) (H.state host.new) result }
+    ensures reads { Reads name.now limit (λ files. bytes_in limit too_long (files name.now)) (H.state host.old) (H.state host.new) result }
     ensures bounded { IfOk result (λ bytes. length bytes ≤ limit) }
 {
     match read_whole(alloc, host, name, limit) {

@@ -1,39 +1,65 @@
 -- The readings of a host in memory.
-use Rattle.std.proofs.Common.{◌≡◌, ℕ, ◌+◌, List, [], ◌∷◌, ◌++◌, map, get_or, Option, Some, None, refl, sym, ◌∙◌, ap, rules}
-use Rattle.std.specs.Prelude.{Vec, IsSomeAnd, string_bytes}
-use Rattle.std.specs.Option.{option_map_or}
+use Rattle.std.proofs.Common.{◌≡◌, ℕ, ◌+◌, ◌≤◌, List, [], ◌∷◌, ◌++◌, length, map, get_or, Option, Some, None, IsSome, refl, sym, ◌∙◌, ap, subst, arith, rules}
+use Rattle.std.specs.Prelude.{IsSomeAnd, string_bytes}
+use Rattle.std.specs.Option.{option_map, option_map_or}
 use Rattle.std.specs.Str.{bytes_eq}
-use Rattle.std.specs.declared.alloc.Global.{Global}
-use Rattle.std.proofs.lemmas.List.{append-nil, map-append}
+use Rattle.std.proofs.lemmas.List.{append-nil, map-append, length-map}
 use Rattle.std.proofs.lemmas.List.Quantifiers.{position-Some}
 use Rattle.std.proofs.lemmas.Option.{slice_get-get_or}
 use Rattle.std.proofs.lemmas.Slice.Eq.{bytes_eq-Decides}
-use Rattle.snd_host.specs.Host.{OpenedInput, IfTold}
+use Rattle.snd_host.specs.Host.{HostState, OpenedInput, IfTold}
 use Rattle.snd_host.specs.Files.{File, name_at, place_of}
-use Rattle.snd_host.specs.OpenedInputs.{read_more}
+use Rattle.snd_host.specs.OpenedInputs.{most_told, read_more, Opens}
 use Rattle.snd_host.specs.Readings.{opened_input, readings_of, opened_of}
 use Rattle.snd_host.specs.declared.readings.Reading.{Reading}
+use Rattle.snd_host.specs.declared.readings.Readings.{Readings}
 use Rattle.snd_host.proofs.OpenedInputs.{read_more-last}
 
 inside : (xs ys : List OpenedInput) → Some xs ≡ Some ys → ys ≡ xs
 inside xs ys is = cc
 
 -- the readings were kept, and after them comes the next one, if there is one
-pub opened_next : (files : List File) (past taken later : Option (Vec Reading Global)) (current took next : Option Reading) (inputs : List OpenedInput) → taken ≡ past → took ≡ current →
-    IfTold later (λ after. IsSomeAnd taken (λ before. after.items ≡ readings_of before.items took)) →
-    ((readings : List Reading) → map (opened_input files) (readings_of readings next) ≡ map (opened_input files) readings ++ inputs) →
-    (after : List OpenedInput) → opened_of files later next ≡ Some after → (before : List OpenedInput) × (opened_of files past current ≡ Some before) × (after ≡ before ++ inputs)
-opened_next files past taken None current took next inputs same_past same kept more after told = absurd (cc)
-opened_next files past taken (Some later) current took next inputs same_past same kept more after told = by taken same_past (kept later refl)
-  where
-    by : (taken : Option (Vec Reading Global)) → taken ≡ past → IsSomeAnd taken (λ before. later.items ≡ readings_of before.items took) →
-        (before : List OpenedInput) × (opened_of files past current ≡ Some before) × (after ≡ before ++ inputs)
-    by None is some = absurd (search rules)
-    by (Some before) is some = (
-      map (opened_input files) (readings_of before.items current),
-      ap (λ o. opened_of files o current) (sym is),
-      inside _ _ told ∙ more later.items ∙ ap (λ (l : List Reading). map (opened_input files) l ++ inputs) (some ∙ ap (readings_of before.items) same),
-    )
+module _ (files : List File) (past taken later : Option Readings) (current took next : Option Reading) (same_past : taken ≡ past) (same : took ≡ current) where
+  opened_next : (inputs : List OpenedInput) → IfTold later (λ after. IsSomeAnd taken (λ before. after.list.items ≡ readings_of before.list.items took)) →
+      ((readings : List Reading) → map (opened_input files) (readings_of readings next) ≡ map (opened_input files) readings ++ inputs) →
+      (after : List OpenedInput) → opened_of files later next ≡ Some after → (before : List OpenedInput) × (opened_of files past current ≡ Some before) × (after ≡ before ++ inputs)
+  opened_next inputs kept more after told = by later refl told
+    where
+      of_past : (last : Readings) → map (opened_input files) (readings_of last.list.items next) ≡ after → (taken : Option Readings) → taken ≡ past → IsSomeAnd taken (λ before. last.list.items ≡ readings_of before.list.items took) →
+          (before : List OpenedInput) × (opened_of files past current ≡ Some before) × (after ≡ before ++ inputs)
+      of_past last is None was some = absurd (search rules)
+      of_past last is (Some before) was some = (
+        map (opened_input files) (readings_of before.list.items current),
+        ap (λ o. opened_of files o current) (sym was),
+        sym is ∙ more last.list.items ∙ ap (λ (l : List Reading). map (opened_input files) l ++ inputs) (some ∙ ap (readings_of before.list.items) same),
+      )
+
+      by : (last : Option Readings) → later ≡ last → opened_of files last next ≡ Some after → (before : List OpenedInput) × (opened_of files past current ≡ Some before) × (after ≡ before ++ inputs)
+      by None was told = absurd (cc)
+      by (Some last) was told = of_past last (sym (inside _ _ told)) taken same_past (kept last was)
+
+  told_next : IfTold taken (λ before. length (readings_of before.list.items took) ≤ most_told → IsSome later) → (before : List OpenedInput) → opened_of files past current ≡ Some before → length before ≤ most_told → IsSome (opened_of files later next)
+  told_next told before is few = by past refl is
+    where
+      still : (last : Option Readings) → IsSome last → IsSome (opened_of files last next)
+      still None some = absurd (search rules)
+      still (Some last) some = refl
+
+      by : (first : Option Readings) → past ≡ first → opened_of files first current ≡ Some before → IsSome (opened_of files later next)
+      by None was is = absurd (cc)
+      by (Some first) was is =
+          let many : length before ≡ length (readings_of first.list.items took) =
+          ap (length {A = OpenedInput}) (inside _ _ is) ∙ length-map (readings_of first.list.items current) (opened_input files) ∙ ap (λ (o : Option Reading). length (readings_of first.list.items o)) (sym same) in
+          still later (told first (same_past ∙ was) (omega arith))
+
+  pub opens_next : (inputs : List OpenedInput) (a b : HostState) → a.opened ≡ opened_of files past current → b.opened ≡ opened_of files later next →
+      IfTold later (λ after. IsSomeAnd taken (λ before. after.list.items ≡ readings_of before.list.items took)) →
+      IfTold taken (λ before. length (readings_of before.list.items took) ≤ most_told → IsSome later) →
+      ((readings : List Reading) → map (opened_input files) (readings_of readings next) ≡ map (opened_input files) readings ++ inputs) → Opens inputs a b
+  opens_next inputs a b a_tells b_tells kept told more = record {
+    added = λ after is. let was = opened_next inputs kept more after (sym b_tells ∙ is) in (was.0, a_tells ∙ was.1, was.2);
+    told = λ before is few. subst (λ (o : Option (List OpenedInput)). IsSome o) (sym b_tells) (told_next told before (sym a_tells ∙ is) (omega arith));
+  }
 
 -- no reading comes next
 pub none_next : (files : List File) (next : Option Reading) → next ≡ None → (readings : List Reading) → map (opened_input files) (readings_of readings next) ≡ map (opened_input files) readings ++ []
@@ -45,16 +71,13 @@ pub one_next : (files : List File) (reading : Reading) (input : OpenedInput) →
 one_next files reading input is readings = map-append (opened_input files) readings (reading ∷ []) ∙ ap (λ (o : OpenedInput). map (opened_input files) readings ++ o ∷ []) is
 
 -- so many bytes more were read of the current input
-pub reads_on : (files : List File) (past : Option (Vec Reading Global)) (current : Option Reading) (reading next : Reading) (count : ℕ) → current ≡ Some reading →
-    opened_input files next ≡ record (opened_input files reading) { read = reading.at + count } → (after : List OpenedInput) → opened_of files past (Some next) ≡ Some after →
-    (before : List OpenedInput) × (opened_of files past current ≡ Some before) × (after ≡ read_more before count)
-reads_on files None current reading next count is more after told = absurd (cc)
-reads_on files (Some past) current reading next count is more after told = (
-  map (opened_input files) (readings_of past.items current),
-  refl,
-  inside _ _ told ∙ one_next files next _ more past.items ∙ sym (read_more-last (map (opened_input files) past.items) (opened_input files reading) count)
-      ∙ ap (λ (l : List OpenedInput). read_more l count) (sym (one_next files reading (opened_input files reading) refl past.items)) ∙ ap (λ o. read_more (map (opened_input files) (readings_of past.items o)) count) (sym is),
-)
+pub reads_on : (files : List File) (past : Option Readings) (current : Option Reading) (reading next : Reading) (count : ℕ) → current ≡ Some reading →
+    opened_input files next ≡ record (opened_input files reading) { read = reading.at + count } → opened_of files past (Some next) ≡ option_map (λ inputs. read_more inputs count) (opened_of files past current)
+reads_on files None current reading next count is more = refl
+reads_on files (Some past) current reading next count is more =
+    ap (λ (l : List OpenedInput). Some l)
+    (one_next files next _ more past.list.items ∙ sym (read_more-last (map (opened_input files) past.list.items) (opened_input files reading) count)
+    ∙ ap (λ (l : List OpenedInput). read_more l count) (sym (one_next files reading (opened_input files reading) refl past.list.items)) ∙ ap (λ o. read_more (map (opened_input files) (readings_of past.list.items o)) count) (sym is))
 
 -- the name of the file that was found by it
 pub name_at-place_of : (files : List File) (name : List ℕ) (place : ℕ) → place_of files name ≡ Some place → name_at files place ≡ name

@@ -1,5 +1,5 @@
 -- The outside of a program as contracts see it: what its inputs hold, what its outputs were given, and how often its calls failed.
-use Rattle.std.specs.Prelude.{◌≡◌, ◌≢◌, ℕ, zero, suc, ◌+◌, ◌-◌, ◌^◌, ◌≤◌, min, Bool, false, List, [], ◌∷◌, ◌++◌, length, Option, Some, Result, IsOk, OnOk, OnErr, slice_get, slice_index, slice_set}
+use Rattle.std.specs.Prelude.{◌≡◌, ◌≢◌, ℕ, zero, suc, ◌+◌, ◌-◌, ◌^◌, ◌≤◌, min, Bool, true, false, List, [], ◌∷◌, ◌++◌, length, Option, Some, Result, IsOk, OnOk, OnErr, is_err, slice_get, slice_index, slice_set}
 
 -- What names hold: no bytes, some, or the name is not there.
 abbrev pub Files : Type 0
@@ -43,6 +43,8 @@ pub record HostState : Type 0 where
   -- for each created output, whether it was ended: so its length is how many were created
   pub ended : List Bool
   pub faults : Faults
+  -- The last call failed, of all but the writes to the complaint.
+  pub failed_last : Bool
   -- Of a steady host, how many bytes more each output takes, by its number. Those after the created ones are not yet taken.
   pub steady : Option (List ℕ)
 
@@ -66,16 +68,19 @@ longest_name = 200
 abbrev pub greatest_limit : ℕ
 greatest_limit = 16777216
 
+-- a count and one more; it stays at its greatest value
+abbrev pub one_more : ℕ → ℕ
+one_more before = min (before + 1) greatest_count
+
 -- A count rose: it is greater than before, or it stands at its greatest value.
 abbrev pub Rose : ℕ → ℕ → Type 0
-Rose before now = min (before + 1) greatest_count ≤ now
+Rose before now = one_more before ≤ now
 
--- A count never falls, it rises where the call failed, it stays where it didn't, and it stays at its greatest value.
+-- A call that failed is counted once, and no other is. A count never falls.
 pub record HasCause {T E : Type 0} (before now : ℕ) (result : Result T E) : Type 0 where
   pub later : before ≤ now
-  pub failed : OnErr result (Rose before now)
+  pub failed : OnErr result (now ≡ one_more before)
   pub same : OnOk result (now ≡ before)
-  pub full : before ≡ greatest_count → now ≡ before
 
 -- A write to the output of this number counts its failure: 1 is the complaint, whose count is `notes`.
 pub record CountsWrite {T E : Type 0} (file : ℕ) (old new : Faults) (result : Result T E) : Type 0 where
@@ -83,6 +88,21 @@ pub record CountsWrite {T E : Type 0} (file : ℕ) (old new : Faults) (result : 
   pub notes_kept : file ≢ 1 → new.notes ≡ old.notes
   pub outputs : file ≢ 1 → HasCause old.outputs new.outputs result
   pub outputs_kept : file ≡ 1 → new.outputs ≡ old.outputs
+
+-- The last call is a write to the output of this number, or it was before where that is the complaint.
+pub record EndsByWrite {T E : Type 0} (file : ℕ) (old new : HostState) (result : Result T E) : Type 0 where
+  pub output : file ≢ 1 → new.failed_last ≡ is_err result
+  pub note : file ≡ 1 → new.failed_last ≡ old.failed_last
+
+-- One call on an input failed, and none but writes to the complaint came after it.
+pub record InputFailed (old new : HostState) : Type 0 where
+  pub once : new.faults.inputs ≡ one_more old.faults.inputs
+  pub last : new.failed_last ≡ true
+
+-- The same of a call on the report or on a created output, its creation and its end included.
+pub record OutputFailed (old new : HostState) : Type 0 where
+  pub once : new.faults.outputs ≡ one_more old.faults.outputs
+  pub last : new.failed_last ≡ true
 
 -- the created outputs, with these bytes after those of the output at this place
 abbrev pub outputs_with : List Output → ℕ → List ℕ → List Output
@@ -157,4 +177,7 @@ pub record WritesAll {T E : Type 0} (file : ℕ) (bytes : List ℕ) (old new : H
   pub wrote : OnOk result (Writes file bytes old new)
   pub part : OnErr result (WritesPart file bytes old new)
   pub cause : CountsWrite file old.faults new.faults result
+  -- A write that failed is the last one.
+  pub last : file ≢ 1 → OnErr result (new.failed_last ≡ true)
+  pub last_kept : file ≡ 1 → new.failed_last ≡ old.failed_last
   pub steady : IfTold old.steady (λ rooms. length bytes ≤ slice_index rooms file → IsOk result)

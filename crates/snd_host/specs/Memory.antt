@@ -1,5 +1,5 @@
 -- What contracts see of a host in memory.
-use Rattle.std.specs.Prelude.{◌≡◌, ◌==◌, ◌+◌, min, length, ℕ, zero, suc, slice_get, slice_index, List, [], ◌∷◌, ◌++◌, Bool, Option, Some, None, is_some, map, drop, nat_le, if◌then◌else◌, string_bytes}
+use Rattle.std.specs.Prelude.{◌≡◌, ◌==◌, ◌+◌, min, length, ℕ, zero, suc, slice_get, slice_index, List, [], ◌∷◌, ◌++◌, Bool, false, Option, Some, None, is_some, map, drop, nat_le, if◌then◌else◌, string_bytes}
 use Rattle.std.specs.List.{list_any}
 use Rattle.std.specs.Option.{option_map, option_map_or}
 use Rattle.std.proofs.Common.{sym, ap, ◌∙◌}
@@ -35,6 +35,7 @@ memory_state host = record {
   current = option_map (λ _. host.newest) host.current;
   ended = map (λ slot. slot.ended) host.created.items;
   faults = record { inputs = host.in_faults; notes = host.note_faults; outputs = host.out_faults };
+  failed_last = host.failed_last;
   steady = if fails_later host.failing.items host.calls then None else Some (rooms_of host);
 }
 
@@ -87,6 +88,7 @@ opening_state files failing rooms = record {
   current = None;
   ended = [];
   faults = record { inputs = 0; notes = 0; outputs = 0 };
+  failed_last = false;
   steady = if fails_later failing 0 then None else Some (opening_rooms rooms);
 }
 

@@ -1,10 +1,10 @@
 -- Which inputs of a host in memory were opened.
-use Rattle.std.specs.Prelude.{List, [], ◌∷◌, ◌++◌, Option, Some, None, Vec, map}
+use Rattle.std.specs.Prelude.{List, [], ◌∷◌, ◌++◌, Option, Some, None, map}
 use Rattle.std.specs.Option.{option_map}
-use Rattle.std.specs.declared.alloc.Global.{Global}
 use Rattle.snd_host.specs.Host.{OpenedInput}
 use Rattle.snd_host.specs.Files.{File, name_at}
 use Rattle.snd_host.specs.declared.readings.Reading.{Reading}
+use Rattle.snd_host.specs.declared.readings.Readings.{Readings}
 
 -- the input of a reading, and how far it was read
 abbrev pub opened_input : List File → Reading → OpenedInput
@@ -16,5 +16,5 @@ readings_of past None = past
 readings_of past (Some reading) = past ++ reading ∷ []
 
 -- the inputs that were opened, where there was memory to keep them all
-abbrev pub opened_of : List File → Option (Vec Reading Global) → Option Reading → Option (List OpenedInput)
-opened_of files past current = option_map (λ readings. map (opened_input files) (readings_of readings.items current)) past
+abbrev pub opened_of : List File → Option Readings → Option Reading → Option (List OpenedInput)
+opened_of files past current = option_map (λ readings. map (opened_input files) (readings_of readings.list.items current)) past

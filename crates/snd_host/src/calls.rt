@@ -1,7 +1,7 @@
 // The two loops over a host: a whole piece is written, and a whole input is read.
 ghost use Rattle.std.specs.Prelude.{◌≡◌, ◌≢◌, ◌+◌, ◌<◌, ◌≤◌, ℕ, List, [], ◌∷◌, length, drop, Option, Some, IsSome, IsOk, IsErrOf, IsSomeAnd, IfOk, OnOk, OnErr, slice_index, vec_len};
-ghost use Rattle.snd_host.specs.Host.{HostState, IfTold, IsOpen, ChangesInputs, WritesAll, Rose, greatest_limit};
-ghost use Rattle.snd_host.specs.OpenedInputs.{NamedInput, whole_input, OpensInOrder};
+ghost use Rattle.snd_host.specs.Host.{HostState, IfTold, IsOpen, ChangesInputs, InputFailed, WritesAll, greatest_limit};
+ghost use Rattle.snd_host.specs.OpenedInputs.{whole_input, OpensInOrder};
 ghost use Rattle.snd_host.specs.WholeReads.{IsRead};
 ghost use Rattle.snd_host.specs.declared.calls.ReadRefusal.TheVariants.{Failed as Fault, OutOfMemory as NoMemory};
 
@@ -67,12 +67,11 @@ pub fn read_whole<H: Host>(
         IfTold (files name.now) (λ bytes. (H.state host.new).left ≡ Some (drop (limit + 1) bytes))) }
 
     // It is opened once, and that is all that is opened.
-    ensures opened { IfTold (H.state host.old).holds (λ files. let input : NamedInput = record { name = name.now; limit = limit } in
-        OpensInOrder (whole_input files input ∷ []) (IsRead result) (IsRead result) (H.state host.old) (H.state host.new)) }
+    ensures opened { IfTold (H.state host.old).holds (λ files.
+        OpensInOrder (whole_input files name.now limit ∷ []) (IsRead result) (H.state host.old) (H.state host.new)) }
 
-    // The count of faults rises at `Failed` alone, and nothing but the inputs has changed.
-    ensures failed { IsErrOf result ReadRefusal.Failed →
-        Rose (H.state host.old).faults.inputs (H.state host.new).faults.inputs }
+    // A call fails at `Failed` alone, it is the last one, and nothing but the inputs has changed.
+    ensures failed { IsErrOf result ReadRefusal.Failed → InputFailed (H.state host.old) (H.state host.new) }
     ensures same { (IsErrOf result ReadRefusal.Failed → ⊥) →
         (H.state host.new).faults.inputs ≡ (H.state host.old).faults.inputs }
     ensures later { (H.state host.old).faults.inputs ≤ (H.state host.new).faults.inputs }

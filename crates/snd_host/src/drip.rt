@@ -33,9 +33,9 @@ impl DripHost {
 // The clauses of each call are the trait's, and then that the host inside counts it as one call; of `read` and `write`, that
 // they move at most one byte.
 impl Host for DripHost {
-    ghost use Rattle.std.specs.Prelude.{◌≢◌, ◌-◌, ◌+◌, ◌<◌, [], ◌∷◌, ◌++◌, false, true, length, take, drop, Some, None, IsSome, IsOk, IfOk, OnOk, OnErr, slice_get, slice_index, slice_set};
+    ghost use Rattle.std.specs.Prelude.{◌≢◌, ◌-◌, ◌+◌, ◌<◌, [], ◌∷◌, ◌++◌, false, true, length, take, drop, Some, None, IsSome, IsOk, IfOk, OnOk, OnErr, is_err, slice_get, slice_index, slice_set};
     ghost use Rattle.snd_host.specs.OpenedInputs.{Opens, ReadsMore};
-    ghost use Rattle.snd_host.specs.Host.{IfTold, HasCause, CountsWrite, IsOpen, ChangesInputs, ChangesOutputs, KeepsRooms, Writes, most_outputs, longest_name};
+    ghost use Rattle.snd_host.specs.Host.{IfTold, HasCause, CountsWrite, EndsByWrite, IsOpen, ChangesInputs, ChangesOutputs, KeepsRooms, Writes, most_outputs, longest_name};
     ghost use Rattle.snd_host.specs.Memory.{tells_each_lem, CountsCall};
 
     ghost state = { drip_state };
@@ -52,6 +52,7 @@ impl Host for DripHost {
         ensures not_opened { OnErr result (Opens [] (drip_state self.old) (drip_state self.new)) }
         ensures others { ChangesInputs (drip_state self.old) (drip_state self.new) }
         ensures cause { HasCause (drip_state self.old).faults.inputs (drip_state self.new).faults.inputs result }
+        ensures last { (drip_state self.new).failed_last ≡ is_err result }
         ensures steady { IsSome (drip_state self.old).steady →
             IfTold (drip_state self.old).holds (λ files. IsSome (files name.now) → IsOk result) }
         ensures counted { CountsCall (inside self.old) (inside self.new) }
@@ -71,10 +72,11 @@ impl Host for DripHost {
         ensures end { result ≡ Ok 0 → 0 < length buf.old → IfTold (drip_state self.old).left (λ rest. rest ≡ []) }
         ensures unread { OnErr result ((drip_state self.new).left ≡ (drip_state self.old).left) }
         ensures counted_bytes { IfOk result (λ count. ReadsMore count (drip_state self.old) (drip_state self.new)) }
-        ensures no_bytes { OnErr result (Opens [] (drip_state self.old) (drip_state self.new)) }
+        ensures no_bytes { OnErr result ((drip_state self.new).opened ≡ (drip_state self.old).opened) }
         ensures current { (drip_state self.new).current ≡ (drip_state self.old).current }
         ensures others { ChangesInputs (drip_state self.old) (drip_state self.new) }
         ensures cause { HasCause (drip_state self.old).faults.inputs (drip_state self.new).faults.inputs result }
+        ensures last { (drip_state self.new).failed_last ≡ is_err result }
         ensures steady { IsSome (drip_state self.old).steady → IsOk result }
         ensures at_most_one { IfOk result (λ count. count ≤ 1) }
         ensures counted { CountsCall (inside self.old) (inside self.new) }
@@ -94,6 +96,7 @@ impl Host for DripHost {
         ensures others { ChangesOutputs (drip_state self.old) (drip_state self.new) }
         ensures notes { (drip_state self.new).faults.notes ≡ (drip_state self.old).faults.notes }
         ensures cause { HasCause (drip_state self.old).faults.outputs (drip_state self.new).faults.outputs result }
+        ensures last { (drip_state self.new).failed_last ≡ is_err result }
         ensures steady { IfTold (drip_state self.old).steady (λ rooms.
             length (drip_state self.old).ended + 2 < length rooms → length name.now ≤ longest_name → IsOk result) }
         ensures rooms { KeepsRooms (drip_state self.old) (drip_state self.new) }
@@ -109,6 +112,7 @@ impl Host for DripHost {
         ensures wrote { IfOk result (λ count. Writes file.0 (take count piece.now) (drip_state self.old) (drip_state self.new)) }
         ensures unwritten { OnErr result (Writes file.0 [] (drip_state self.old) (drip_state self.new)) }
         ensures cause { CountsWrite file.0 (drip_state self.old).faults (drip_state self.new).faults result }
+        ensures last { EndsByWrite file.0 (drip_state self.old) (drip_state self.new) result }
         ensures steady { IfTold (drip_state self.old).steady (λ rooms. length piece.now ≤ slice_index rooms file.0 → IsOk result) }
         ensures at_most_one { IfOk result (λ count. count ≤ 1) }
         ensures counted { CountsCall (inside self.old) (inside self.new) }
@@ -126,6 +130,7 @@ impl Host for DripHost {
         ensures others { ChangesOutputs (drip_state self.old) (drip_state self.new) }
         ensures notes { (drip_state self.new).faults.notes ≡ (drip_state self.old).faults.notes }
         ensures cause { HasCause (drip_state self.old).faults.outputs (drip_state self.new).faults.outputs result }
+        ensures last { (drip_state self.new).failed_last ≡ is_err result }
         ensures steady { IsSome (drip_state self.old).steady → IsOk result }
         ensures rooms { KeepsRooms (drip_state self.old) (drip_state self.new) }
         ensures counted { CountsCall (inside self.old) (inside self.new) }

@@ -1,7 +1,7 @@
 // The outside as the program sees it: inputs that are read by name, and outputs that are written in order.
-ghost use Rattle.std.specs.Prelude.{◌≡◌, ◌≢◌, ◌+◌, ◌-◌, ◌<◌, ◌≤◌, ℕ, List, [], ◌∷◌, ◌++◌, length, take, drop, true, false, Option, Some, IsSome, IsOk, IfOk, OnOk, OnErr, slice_get, slice_index, slice_set};
+ghost use Rattle.std.specs.Prelude.{◌≡◌, ◌≢◌, ◌+◌, ◌-◌, ◌<◌, ◌≤◌, ℕ, List, [], ◌∷◌, ◌++◌, length, take, drop, true, false, Option, Some, IsSome, IsOk, IfOk, OnOk, OnErr, is_err, slice_get, slice_index, slice_set};
 ghost use Rattle.snd_host.specs.OpenedInputs.{Opens, ReadsMore};
-ghost use Rattle.snd_host.specs.Host.{HostState, Given, IfTold, HasCause, CountsWrite, IsOpen, ChangesInputs, ChangesOutputs, KeepsRooms, Writes, most_outputs, longest_name};
+ghost use Rattle.snd_host.specs.Host.{HostState, Given, IfTold, HasCause, CountsWrite, EndsByWrite, IsOpen, ChangesInputs, ChangesOutputs, KeepsRooms, Writes, most_outputs, longest_name};
 
 /// A call of the host that failed.
 #[derive(Clone, Copy, Debug, PartialEq, Eq)]
@@ -17,7 +17,7 @@ pub struct OutFile(pub u32);
 
 /// Where a program reads its inputs and writes its outputs.
 ///
-/// A call answers `Failed` only where the count of its kind rises. After a failed `open_in` no input is current, and what
+/// A call that answers `Failed` is counted once, among those of its kind, and no other is. After a failed `open_in` no input is current, and what
 /// is left to be read is not told. Every other failed call changes, of what is told, its count alone; what a failed `read`
 /// leaves in the buffer is not told.
 pub trait Host {
@@ -36,6 +36,7 @@ pub trait Host {
         ensures not_opened { OnErr result (Opens [] (state self.old) (state self.new)) }
         ensures others { ChangesInputs (state self.old) (state self.new) }
         ensures cause { HasCause (state self.old).faults.inputs (state self.new).faults.inputs result }
+        ensures last { (state self.new).failed_last ≡ is_err result }
         // A steady host fails only at a name that is not there.
         ensures steady { IsSome (state self.old).steady →
             IfTold (state self.old).holds (λ files. IsSome (files name.now) → IsOk result) };
@@ -53,10 +54,11 @@ pub trait Host {
         ensures end { result ≡ Ok 0 → 0 < length buf.old → IfTold (state self.old).left (λ rest. rest ≡ []) }
         ensures unread { OnErr result ((state self.new).left ≡ (state self.old).left) }
         ensures counted_bytes { IfOk result (λ count. ReadsMore count (state self.old) (state self.new)) }
-        ensures no_bytes { OnErr result (Opens [] (state self.old) (state self.new)) }
+        ensures no_bytes { OnErr result ((state self.new).opened ≡ (state self.old).opened) }
         ensures current { (state self.new).current ≡ (state self.old).current }
         ensures others { ChangesInputs (state self.old) (state self.new) }
         ensures cause { HasCause (state self.old).faults.inputs (state self.new).faults.inputs result }
+        ensures last { (state self.new).failed_last ≡ is_err result }
         ensures steady { IsSome (state self.old).steady → IsOk result };
 
     /// Empties or makes the named file, and adds an output of this name, without bytes and not ended.
@@ -71,6 +73,7 @@ pub trait Host {
         ensures others { ChangesOutputs (state self.old) (state self.new) }
         ensures notes { (state self.new).faults.notes ≡ (state self.old).faults.notes }
         ensures cause { HasCause (state self.old).faults.outputs (state self.new).faults.outputs result }
+        ensures last { (state self.new).failed_last ≡ is_err result }
         // A steady host fails only past its rooms or at a name that is longer than the longest.
         ensures steady { IfTold (state self.old).steady (λ rooms.
             length (state self.old).ended + 2 < length rooms → length name.now ≤ longest_name → IsOk result) }
@@ -84,6 +87,7 @@ pub trait Host {
         ensures wrote { IfOk result (λ count. Writes file.0 (take count piece.now) (state self.old) (state self.new)) }
         ensures unwritten { OnErr result (Writes file.0 [] (state self.old) (state self.new)) }
         ensures cause { CountsWrite file.0 (state self.old).faults (state self.new).faults result }
+        ensures last { EndsByWrite file.0 (state self.old) (state self.new) result }
         // A steady host fails only at a piece that is longer than the room.
         ensures steady { IfTold (state self.old).steady (λ rooms. length piece.now ≤ slice_index rooms file.0 → IsOk result) };
 
@@ -97,6 +101,7 @@ pub trait Host {
         ensures others { ChangesOutputs (state self.old) (state self.new) }
         ensures notes { (state self.new).faults.notes ≡ (state self.old).faults.notes }
         ensures cause { HasCause (state self.old).faults.outputs (state self.new).faults.outputs result }
+        ensures last { (state self.new).failed_last ≡ is_err result }
         ensures steady { IsSome (state self.old).steady → IsOk result }
         ensures rooms { KeepsRooms (state self.old) (state self.new) };
 

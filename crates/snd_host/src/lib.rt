@@ -5,6 +5,7 @@ mod calls;
 mod drip;
 mod files;
 mod host;
+mod keeping;
 mod memory;
 mod readings;
 

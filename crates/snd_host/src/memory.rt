@@ -4,7 +4,8 @@ ghost use Rattle.std.specs.VecDeque.{deque_len};
 ghost use Rattle.snd_host.specs.Host.{longest_name};
 
 use crate::files::{bytes_of, copy_front, count_call, find_file};
-use crate::readings::{Reading, with_reading};
+use crate::keeping::with_reading;
+use crate::readings::{Reading, Readings};
 use crate::{Failed, Host, InFile, OutFile, OutOfMemory};
 use std::alloc::Global;
 use std::collections::VecDeque;
@@ -54,7 +55,7 @@ pub struct MemHost {
     failing: Vec<u32>,
     calls: u32,
     newest: u32,
-    past: Option<Vec<Reading>>,
+    past: Option<Readings>,
     current: Option<Reading>,
     report: Sink,
     complaint: Sink,
@@ -63,6 +64,7 @@ pub struct MemHost {
     in_faults: u64,
     note_faults: u64,
     out_faults: u64,
+    failed_last: bool,
     ghost created_reserved: { vec_len created + deque_len spare ≤ vec_capacity created },
 }
 
@@ -192,12 +194,13 @@ impl MemHost {
             created,
             spare,
         } = Places::reserve(alloc, rooms.as_slice())?;
+        let past = Readings::reserve(alloc)?;
         Ok(MemHost {
             files,
             failing,
             calls: 0,
             newest: 0,
-            past: Some(Vec::new(alloc)),
+            past: Some(past),
             current: None,
             report,
             complaint,
@@ -206,6 +209,7 @@ impl MemHost {
             in_faults: 0,
             note_faults: 0,
             out_faults: 0,
+            failed_last: false,
         })
     }
 
@@ -251,7 +255,7 @@ impl MemHost {
 impl Host for MemHost {
     ghost use Rattle.std.specs.Prelude.{◌≢◌, ◌-◌, ◌<◌, ◌∷◌, ◌++◌, ◌||◌, not, true, false, nat_lt, length, take, drop, Option, Some, None, IsSome, is_err, IsOk, IfOk, OnOk, OnErr, slice_get, slice_index, slice_set};
     ghost use Rattle.snd_host.specs.OpenedInputs.{Opens, ReadsMore};
-    ghost use Rattle.snd_host.specs.Host.{IfTold, HasCause, CountsWrite, IsOpen, ChangesInputs, ChangesOutputs, KeepsRooms, Writes, rooms_less, most_outputs};
+    ghost use Rattle.snd_host.specs.Host.{IfTold, HasCause, CountsWrite, EndsByWrite, IsOpen, ChangesInputs, ChangesOutputs, KeepsRooms, Writes, rooms_less, most_outputs};
     ghost use Rattle.snd_host.specs.Memory.{memory_state, tells_each_lem, rooms_of, is_listed, CountsCall, has_input, is_full};
 
     ghost state = { memory_state };
@@ -269,6 +273,7 @@ impl Host for MemHost {
         ensures not_opened { OnErr result (Opens [] (memory_state self.old) (memory_state self.new)) }
         ensures others { ChangesInputs (memory_state self.old) (memory_state self.new) }
         ensures cause { HasCause (memory_state self.old).faults.inputs (memory_state self.new).faults.inputs result }
+        ensures last { (memory_state self.new).failed_last ≡ is_err result }
         ensures steady { IsSome (memory_state self.old).steady →
             IfTold (memory_state self.old).holds (λ files. IsSome (files name.now) → IsOk result) }
         // It fails exactly where its number is listed or no input has the name.
@@ -281,14 +286,17 @@ impl Host for MemHost {
         self.past = with_reading(self.past.take(), self.current.take());
         if fails {
             self.in_faults = self.in_faults.saturating_add(1);
+            self.failed_last = true;
             return Err(Failed);
         }
         let Some(index) = found else {
             self.in_faults = self.in_faults.saturating_add(1);
+            self.failed_last = true;
             return Err(Failed);
         };
         self.newest = self.newest.wrapping_add(1);
         self.current = Some(Reading { index, at: 0 });
+        self.failed_last = false;
         Ok(InFile(self.newest))
     }
 
@@ -304,10 +312,11 @@ impl Host for MemHost {
         ensures end { result ≡ Ok 0 → 0 < length buf.old → IfTold (memory_state self.old).left (λ rest. rest ≡ []) }
         ensures unread { OnErr result ((memory_state self.new).left ≡ (memory_state self.old).left) }
         ensures counted_bytes { IfOk result (λ count. ReadsMore count (memory_state self.old) (memory_state self.new)) }
-        ensures no_bytes { OnErr result (Opens [] (memory_state self.old) (memory_state self.new)) }
+        ensures no_bytes { OnErr result ((memory_state self.new).opened ≡ (memory_state self.old).opened) }
         ensures current { (memory_state self.new).current ≡ (memory_state self.old).current }
         ensures others { ChangesInputs (memory_state self.old) (memory_state self.new) }
         ensures cause { HasCause (memory_state self.old).faults.inputs (memory_state self.new).faults.inputs result }
+        ensures last { (memory_state self.new).failed_last ≡ is_err result }
         ensures steady { IsSome (memory_state self.old).steady → IsOk result }
         // It fails exactly where its number is listed.
         ensures fails { is_err result ≡ is_listed self.old }
@@ -318,6 +327,7 @@ impl Host for MemHost {
         let Some(reading) = self.current else {
             unreachable!()
         };
+        self.failed_last = fails;
         if fails {
             self.in_faults = self.in_faults.saturating_add(1);
             return Err(Failed);
@@ -345,6 +355,7 @@ impl Host for MemHost {
         ensures others { ChangesOutputs (memory_state self.old) (memory_state self.new) }
         ensures notes { (memory_state self.new).faults.notes ≡ (memory_state self.old).faults.notes }
         ensures cause { HasCause (memory_state self.old).faults.outputs (memory_state self.new).faults.outputs result }
+        ensures last { (memory_state self.new).failed_last ≡ is_err result }
         ensures steady { IfTold (memory_state self.old).steady (λ rooms.
             length (memory_state self.old).ended + 2 < length rooms → length name.now ≤ longest_name → IsOk result) }
         ensures rooms { KeepsRooms (memory_state self.old) (memory_state self.new) }
@@ -356,11 +367,13 @@ impl Host for MemHost {
         let fails = count_call(&mut self.calls, self.failing.as_slice());
         if fails || name.len() > 200 || self.spare.is_empty() {
             self.out_faults = self.out_faults.saturating_add(1);
+            self.failed_last = true;
             return Err(Failed);
         }
         let spare = self.spare.pop_front().unwrap();
         let number = self.created.len() as u32 + 2;
         self.created.push(spare.into_slot(name)).unwrap();
+        self.failed_last = false;
         Ok(OutFile(number))
     }
 
@@ -372,6 +385,7 @@ impl Host for MemHost {
             Writes file.0 (take count piece.now) (memory_state self.old) (memory_state self.new)) }
         ensures unwritten { OnErr result (Writes file.0 [] (memory_state self.old) (memory_state self.new)) }
         ensures cause { CountsWrite file.0 (memory_state self.old).faults (memory_state self.new).faults result }
+        ensures last { EndsByWrite file.0 (memory_state self.old) (memory_state self.new) result }
         ensures steady { IfTold (memory_state self.old).steady (λ rooms.
             length piece.now ≤ slice_index rooms file.0 → IsOk result) }
         // It fails exactly where its number is listed or the piece is longer than the room.
@@ -388,15 +402,20 @@ impl Host for MemHost {
                 self.note_faults = self.note_faults.saturating_add(1);
             } else {
                 self.out_faults = self.out_faults.saturating_add(1);
+                self.failed_last = true;
             }
             return Err(Failed);
         }
         match file.0 {
-            0 => self.report.put(piece),
+            0 => {
+                self.report.put(piece);
+                self.failed_last = false;
+            }
             1 => self.complaint.put(piece),
             number => {
                 let slot = &mut self.created[(number - 2) as usize];
                 slot.sink.put(piece);
+                self.failed_last = false;
             }
         }
         Ok(piece.len())
@@ -411,6 +430,7 @@ impl Host for MemHost {
         ensures others { ChangesOutputs (memory_state self.old) (memory_state self.new) }
         ensures notes { (memory_state self.new).faults.notes ≡ (memory_state self.old).faults.notes }
         ensures cause { HasCause (memory_state self.old).faults.outputs (memory_state self.new).faults.outputs result }
+        ensures last { (memory_state self.new).failed_last ≡ is_err result }
         ensures steady { IsSome (memory_state self.old).steady → IsOk result }
         ensures rooms { KeepsRooms (memory_state self.old) (memory_state self.new) }
         // It fails exactly where its number is listed.
@@ -419,6 +439,7 @@ impl Host for MemHost {
         ensures rooms_kept { rooms_of self.new ≡ rooms_of self.old }
     {
         let fails = count_call(&mut self.calls, self.failing.as_slice());
+        self.failed_last = fails;
         if fails {
             self.out_faults = self.out_faults.saturating_add(1);
             return Err(Failed);

@@ -1,7 +1,9 @@
 // The readings of a host in memory.
-ghost use Rattle.std.specs.Prelude.{◌≡◌, IsSomeAnd};
-ghost use Rattle.snd_host.specs.Host.{IfTold};
-ghost use Rattle.snd_host.specs.Readings.{readings_of};
+ghost use Rattle.std.specs.Prelude.{◌≡◌, ◌≤◌, [], vec_capacity, IfOk};
+ghost use Rattle.snd_host.specs.OpenedInputs.{most_told};
+
+use crate::OutOfMemory;
+use std::alloc::Global;
 
 /// A file that was opened, by its place, and how far it was read.
 #[derive(Clone, Copy)]
@@ -10,18 +12,19 @@ pub(crate) struct Reading {
     pub(crate) at: usize,
 }
 
-/// The readings with the current one, if there is one; nothing where there is no memory to keep them all.
-pub(crate) fn with_reading(
-    past: Option<Vec<Reading>>,
-    current: Option<Reading>,
-) -> Option<Vec<Reading>>
-    ensures { IfTold result (λ after. IsSomeAnd past (λ before. after.items ≡ readings_of before.items current)) }
-{
-    let mut readings = past?;
-    if let Some(reading) = current {
-        if readings.push(reading).is_err() {
-            return None;
-        }
+/// The readings before the current one, in a list that has room for as many as a host is sure to tell.
+#[derive(Drop)]
+pub(crate) struct Readings {
+    pub(crate) list: Vec<Reading>,
+    ghost reserved: { most_told ≤ vec_capacity list },
+}
+
+impl Readings {
+    /// None yet.
+    pub(crate) fn reserve(alloc: Global) -> Result<Readings, OutOfMemory>
+        ensures { IfOk result (λ readings. readings.list.items ≡ []) }
+    {
+        let list = Vec::with_capacity(alloc, 16)?;
+        Ok(Readings { list })
     }
-    Some(readings)
 }

@@ -1,10 +1,10 @@
 -- The clauses of a run, from what its command did.
 use Rattle.std.proofs.Common.{◌≡◌, ◌≢◌, ◌⊎◌, inl, inr, ℕ, ◌≤◌, List, length, Option, Some, None, Bool, [], refl, sym, ◌∙◌, ap, subst}
-use Rattle.std.specs.Prelude.{unwrap_or, slice_index, ◌↔◌, IsTrue}
+use Rattle.std.specs.Prelude.{unwrap_or, slice_index, ◌↔◌}
 use Rattle.snd_host.specs.Host.{HostState, Files, Output}
 use Rattle.snd_host.proofs.OpenedInputs.{in_order_same}
 use Rattle.command_frame.specs.Answer.{Answer, refusal_of, outputs_of, report_of}
-use Rattle.command_frame.specs.Conduct.{IsOfDelivery, are_some, Obeys}
+use Rattle.command_frame.specs.Conduct.{IsOfDelivery, Obeys}
 use Rattle.command_frame.specs.Delivery.{all_ended}
 use Rattle.command_frame.specs.Leaves.{Leaves, LeavesNothing, LeavesAll, Complains}
 use Rattle.command_frame.specs.declared.refusals.Refusal.{Refusal}
@@ -14,7 +14,7 @@ use Rattle.exit_status.specs.declared.cause.Cause.{Cause}
 use Rattle.exit_status.specs.declared.cause.Cause.TheVariants.{SpcLength, SpcSignature, TableLength, BrrLength, WavForm, EncodeSize, InputTooLong, AsmLine, CodeLength, CutList, Script}
 use Rattle.exit_status.specs.declared.status.Status.{Status}
 use Rattle.exit_status.specs.declared.status.Status.TheVariants as statuses
-use Rattle.command_line.specs.Command.{Command, usage, help, version, brr, info, encode, render, demo, check, asm, dis, rip, cuts, serve, names_input}
+use Rattle.command_line.specs.Command.{Command, usage}
 use Rattle.spcwave.specs.Answers.{answer_of, inputs_of}
 use Rattle.exit_status.specs.Statuses.{status_of, answer_status, plain_end}
 use Rattle.exit_status.specs.Lines.{end_line, refusal_line}
@@ -76,23 +76,6 @@ same_end r a (inr (inl is)) equal = is ∙ sym (plain_is (refusal_of a) (Some Re
 same_end r a (inr (inr (inl is))) equal = is ∙ sym (plain_is (refusal_of a) (Some WriteFault) (ap plain_end (sym equal ∙ ap status_of is)))
 same_end r a (inr (inr (inr is))) equal = is ∙ sym (plain_is (refusal_of a) (Some OutOfMemory) (ap plain_end (sym equal ∙ ap status_of is)))
 
--- A command has inputs exactly where it names one.
-names : (command : Command) → IsTrue (are_some (inputs_of command)) → IsTrue (names_input command)
-names usage some = some
-names help some = some
-names version some = some
-names (brr input output) some = some
-names (info input) some = some
-names (encode input output options) some = some
-names (render file table wave options) some = some
-names (demo number output) some = some
-names (check number) some = some
-names (asm input origin output) some = some
-names (dis input origin output) some = some
-names (rip file prefix range) some = some
-names (cuts file table list wave muted) some = some
-names (serve file table script wave options) some = some
-
 module _ (command : Command) (r : Option (Refusal Cause)) (x z : HostState) (status : Status) (is : status ≡ status_of r)
     (o : Obeys refusal_line (answer_of command) (inputs_of command) r x z) (misread : (r ≡ Some Usage) ↔ (command ≡ usage)) where
   end_of : (p : Option (Refusal Cause)) (s : Status) → plain_end s ≡ Some p → status ≡ s → r ≡ p
@@ -146,7 +129,10 @@ module _ (command : Command) (r : Option (Refusal Cause)) (x z : HostState) (sta
   }
 
   pub reading : clause.ReadsInputs command x z status
-  reading files told = in_order_same _ _ _ _ _ x z z (o.read files told) (λ settled. (λ same. settled.0 (status_is _ same), λ same. settled.1 (status_is _ same))) delivered refl
+  reading = record {
+    order = λ files told. in_order_same _ _ _ x z z (o.read files told).order (λ settled. (λ same. settled.0 (status_is _ same), λ same. settled.1 (status_is _ same))) refl;
+    all = λ files told ended. (o.read files told).all (delivered ended);
+  }
     where
       delivered : (status ≡ statuses.Ok) ⊎ (status ≡ statuses.WriteFault) → IsOfDelivery r
       delivered (inl same) = inl (end_of None statuses.Ok refl same)
@@ -155,7 +141,7 @@ module _ (command : Command) (r : Option (Refusal Cause)) (x z : HostState) (sta
   pub read_fault : clause.ReadFault command x z status
   read_fault = record {
     cause = λ same. (o.causes.read (end_of (Some ReadFault) statuses.ReadFault refl same)).0;
-    input = λ same. names command (o.causes.read (end_of (Some ReadFault) statuses.ReadFault refl same)).1;
+    input = λ same. (o.causes.read (end_of (Some ReadFault) statuses.ReadFault refl same)).1;
     leaves = λ same. refused_is ReadFault (end_of (Some ReadFault) statuses.ReadFault refl same) (λ wrong. absurd (cc));
   }
 

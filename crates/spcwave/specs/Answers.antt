@@ -1,8 +1,9 @@
 -- What the commands answer, and which inputs they read.
 use Rattle.std.specs.Prelude.{List, [], ◌∷◌}
 use Rattle.snd_host.specs.Host.{Files}
-use Rattle.snd_host.specs.OpenedInputs.{NamedInput, inputs_up_to}
-use Rattle.input_files.specs.Reading.{input_limit, wave_limit}
+use Rattle.command_frame.specs.NamedInputs.{NamedInput}
+use Rattle.input_files.specs.Reading.{input_limit, wave_limit, input_up_to}
+use Rattle.input_files.specs.Inputs.{spc_input, table_input}
 use Rattle.command_frame.specs.Answer.{Answer, refused}
 use Rattle.command_frame.specs.declared.refusals.Refusal.TheVariants.{Usage}
 use Rattle.exit_status.specs.declared.cause.Cause.{Cause}
@@ -20,22 +21,22 @@ use Rattle.command_cuts.specs.Cuts.{cuts_answer}
 use Rattle.command_serve.specs.Serve.{serve_answer}
 use Rattle.command_line.specs.Command.{Command, usage, help, version, brr, info, encode, render, demo, check, asm, dis, rip, cuts, serve}
 
--- the inputs that a command names, in the order of the words, and how many bytes each may have
+-- the inputs that a command names, in the order of the words, and what each is to hold
 abbrev pub inputs_of : Command → List NamedInput
 inputs_of usage = []
 inputs_of help = []
 inputs_of version = []
-inputs_of (brr input output) = inputs_up_to input_limit (input ∷ [])
-inputs_of (info input) = inputs_up_to input_limit (input ∷ [])
-inputs_of (encode input output options) = inputs_up_to wave_limit (input ∷ [])
-inputs_of (render file table wave options) = inputs_up_to input_limit (file ∷ table ∷ [])
+inputs_of (brr input output) = input_up_to input_limit input ∷ []
+inputs_of (info input) = spc_input input ∷ []
+inputs_of (encode input output options) = input_up_to wave_limit input ∷ []
+inputs_of (render file table wave options) = spc_input file ∷ table_input table ∷ []
 inputs_of (demo number output) = []
 inputs_of (check number) = []
-inputs_of (asm input origin output) = inputs_up_to input_limit (input ∷ [])
-inputs_of (dis input origin output) = inputs_up_to input_limit (input ∷ [])
-inputs_of (rip file prefix range) = inputs_up_to input_limit (file ∷ [])
-inputs_of (cuts file table list wave muted) = inputs_up_to input_limit (file ∷ table ∷ list ∷ [])
-inputs_of (serve file table script wave options) = inputs_up_to input_limit (file ∷ table ∷ script ∷ [])
+inputs_of (asm input origin output) = input_up_to input_limit input ∷ []
+inputs_of (dis input origin output) = input_up_to input_limit input ∷ []
+inputs_of (rip file prefix range) = spc_input file ∷ []
+inputs_of (cuts file table list wave muted) = spc_input file ∷ table_input table ∷ input_up_to input_limit list ∷ []
+inputs_of (serve file table script wave options) = spc_input file ∷ table_input table ∷ input_up_to input_limit script ∷ []
 
 -- what a command answers, by what the names hold
 abbrev pub answer_of : Command → Files → Answer Cause

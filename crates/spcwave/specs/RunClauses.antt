@@ -1,14 +1,15 @@
 -- What a run of the program does. The answer meant is that of the command, by what the names hold at the call.
 use Rattle.std.specs.Prelude.{ℕ, ◌≡◌, ◌≢◌, ◌↔◌, ◌+◌, ◌<◌, ◌≤◌, ◌⊎◌, length, IsTrue, IsSome, slice_index}
-use Rattle.snd_host.specs.Host.{HostState, IfTold, Rose}
-use Rattle.snd_host.specs.OpenedInputs.{whole_inputs, OpensInOrder}
+use Rattle.snd_host.specs.Host.{HostState, IfTold, InputFailed, OutputFailed}
+use Rattle.snd_host.specs.OpenedInputs.{OpensInOrder}
+use Rattle.command_frame.specs.NamedInputs.{are_some, inputs_read, inputs_reached}
 use Rattle.command_frame.specs.Answer.{outputs_of, report_of}
 use Rattle.command_frame.specs.Conduct.{NoneRose}
 use Rattle.command_frame.specs.Delivery.{HaveRooms}
 use Rattle.command_frame.specs.Leaves.{LeavesNothing, LeavesAll, LeavesPart, ReportsLast, ReportsAfterEnded, Complains}
 use Rattle.exit_status.specs.declared.status.Status.{Status}
 use Rattle.exit_status.specs.declared.status.Status.TheVariants as statuses
-use Rattle.command_line.specs.Command.{Command, usage, names_input}
+use Rattle.command_line.specs.Command.{Command, usage}
 use Rattle.spcwave.specs.Answers.{answer_of, inputs_of}
 use Rattle.exit_status.specs.Statuses.{answer_status, plain_end}
 use Rattle.exit_status.specs.Lines.{end_line, status_line}
@@ -29,15 +30,15 @@ pub record Content (command : Command) (old new : HostState) (status : Status) :
   pub ok : status ≡ statuses.Ok → new.faults ≡ old.faults
   pub complaint : IfTold old.holds (λ files. Complains (status_line status (answer_of command files)) old new)
 
--- An input could not be read.
+-- An input could not be read: one call for it failed, and none but those of the complaint came after it.
 pub record ReadFault (command : Command) (old new : HostState) (status : Status) : Type 0 where
-  pub cause : status ≡ statuses.ReadFault → Rose old.faults.inputs new.faults.inputs
-  pub input : status ≡ statuses.ReadFault → IsTrue (names_input command)
+  pub cause : status ≡ statuses.ReadFault → InputFailed old new
+  pub input : status ≡ statuses.ReadFault → IsTrue (are_some (inputs_of command))
   pub leaves : status ≡ statuses.ReadFault → LeavesNothing old new
 
--- An output or the report could not be written.
+-- An output or the report could not be written: one call for them failed, and none but those of the complaint came after it.
 pub record WriteFault (command : Command) (old new : HostState) (status : Status) : Type 0 where
-  pub cause : status ≡ statuses.WriteFault → Rose old.faults.outputs new.faults.outputs
+  pub cause : status ≡ statuses.WriteFault → OutputFailed old new
   pub accepted : status ≡ statuses.WriteFault → IfTold old.holds (λ files. answer_status (answer_of command files) ≡ statuses.Ok)
   pub leaves : status ≡ statuses.WriteFault → IfTold old.holds (λ files. LeavesPart (answer_of command files) old new)
 
@@ -46,11 +47,14 @@ pub record Memory (command : Command) (old new : HostState) (status : Status) : 
   pub leaves : status ≡ statuses.OutOfMemory → LeavesNothing old new
   pub never_usage : status ≡ statuses.OutOfMemory → command ≢ usage
 
--- Each input of the command is opened once, in the order of the words, before the next, and read to its end or to its limit and one byte; none
--- but these is opened. Where one could not be read or memory was wanting, less of the last may have been read.
-abbrev pub ReadsInputs : Command → HostState → HostState → Status → Type 0
-ReadsInputs command old new status = IfTold old.holds (λ files. OpensInOrder (whole_inputs files (inputs_of command))
-    ((status ≢ statuses.ReadFault) × (status ≢ statuses.OutOfMemory)) ((status ≡ statuses.Ok) ⊎ (status ≡ statuses.WriteFault)) old new)
+-- Each input of the command is opened once, in the order of the words, before the next, and read to its end or to its limit and one byte, up to
+-- the first that is refused; none but these is opened. Where one could not be read or memory was wanting, less of the last may have been read.
+pub record ReadsInputs (command : Command) (old new : HostState) (status : Status) : Type 0 where
+  pub order : IfTold old.holds (λ files. OpensInOrder (inputs_reached files (inputs_of command))
+      ((status ≢ statuses.ReadFault) × (status ≢ statuses.OutOfMemory)) old new)
+  -- Where outputs were to be written, all of them were reached.
+  pub all : IfTold old.holds (λ files.
+      (status ≡ statuses.Ok) ⊎ (status ≡ statuses.WriteFault) → inputs_reached files (inputs_of command) ≡ inputs_read files (inputs_of command))
 
 -- Every status but those three is the answer's.
 abbrev pub IsTruthful : Command → HostState → Status → Type 0

@@ -1,4 +1,4 @@
-use Rattle.std.proofs.Common.{List, ℤ, Err, ap, ◌∙◌}
+use Rattle.std.proofs.Common.{List, ℤ, Err, refl, ap, ◌∙◌}
 use Rattle.std.proofs.lemmas.Result.{err_from_is_err_and}
 use Rattle.snd_host.specs.Host.{Files}
 use Rattle.command_frame.specs.Plan.{stream_makes}
@@ -6,7 +6,7 @@ use Rattle.command_frame.specs.declared.refusals.Refusal.{Refusal}
 use Rattle.dsp_core.specs.DspChip.{dsp_chip, dsp_saving}
 use Rattle.exit_status.specs.declared.cause.Cause.{Cause}
 use Rattle.input_files.specs.Inputs.{table_in}
-use Rattle.input_files.proofs.Readings.{reads_then, reads_declined}
+use Rattle.input_files.proofs.Readings.{reads_then, reads_declined_before}
 use Rattle.cut_files.specs.CutFiles.{to_come_of, report_of}
 use Rattle.command_cuts.specs.Cuts.{table_answer}
 use Rattle.command_cuts.proofs.command.prepare_table.Goals as goal
@@ -16,12 +16,12 @@ returns g c =
     reads_then (stream_makes (to_come_of dsp_chip dsp_saving) (report_of dsp_chip dsp_saving)) (λ (files : Files). table_in (files c.args.table.now))
     (λ (files : Files) (table : List ℤ). table_answer c.args.wave.now c.args.muted (files c.args.list.now) c.args.file.now table)
     (g.H.Host.state c.args.host.now) (g.H.Host.state c.read_table.new.host) (g.H.Host.state c.prepare_list.new.host) c.in_ok-table.table c.prepare_list.result
-    c.in_ok-table.ensures c.prepare_list.ensures
+    (λ (files : Files). refl) c.in_ok-table.ensures c.prepare_list.ensures
 
 pub returns-in_err-table : goal.returns-in_err-table
 returns-in_err-table g c =
     let p = err_from_is_err_and c.from_residual.result c.from_residual.ensures.1 in
     rw (p.1 ∙ ap (λ (why : Refusal Cause). Err why) p.2)
-    (reads_declined (stream_makes (to_come_of dsp_chip dsp_saving) (report_of dsp_chip dsp_saving)) (λ (files : Files). table_in (files c.args.table.now))
+    (reads_declined_before (stream_makes (to_come_of dsp_chip dsp_saving) (report_of dsp_chip dsp_saving)) (λ (files : Files). table_in (files c.args.table.now))
     (λ (files : Files) (table : List ℤ). table_answer c.args.wave.now c.args.muted (files c.args.list.now) c.args.file.now table)
-    (g.H.Host.state c.args.host.now) (g.H.Host.state c.read_table.new.host) _ c.in_err-table.ensures)
+    (g.H.Host.state c.args.host.now) (g.H.Host.state c.read_table.new.host) _ (λ (files : Files). refl) c.in_err-table.ensures)

@@ -7,7 +7,7 @@ pub returns-in_err-first : goal.returns-in_err-first
 returns-in_err-first g c =
     let p = err_from_is_err_and c.from_residual.result c.from_residual.ensures.1 in
     let e = c.in_err-first.ensures in
-    rw (p.1) (begin_failed c.args.first.now _ (g.H.Host.state c.args.host.now) (g.H.Host.state c.create.new.self) _ (g.met.H.Host.tells_each c.args.host.now) e.not_created e.not_ended e.others e.notes e.cause e.rooms e.steady)
+    rw (p.1) (begin_failed c.args.first.now _ (g.H.Host.state c.args.host.now) (g.H.Host.state c.create.new.self) _ (g.met.H.Host.tells_each c.args.host.now) e.not_created e.not_ended e.others e.notes e.cause e.last e.rooms e.steady)
 
 pub returns-in_err-second-in-Some : goal.returns-in_err-second-in-Some
 returns-in_err-second-in-Some g c =
@@ -15,7 +15,7 @@ returns-in_err-second-in-Some g c =
     let o = c.in_ok-first.ensures in
     let e = c.in_err-second-in-Some.ensures in
     let s = begun_first c.args.first.now (g.H.Host.state c.args.host.now) (g.H.Host.state c.create.new.self) (g.met.H.Host.tells_each c.args.host.now) o.ended o.created o.others o.notes o.cause.same o.rooms in
-    rw (p.1, c.in-Some.is) (begin_failed_second c.args.first.now c.in-Some.name.now (g.H.Host.state c.args.host.now) (g.H.Host.state c.create.new.self) (g.H.Host.state c.create-in-Some.new.self) _ s e.not_created e.not_ended e.others e.notes e.cause e.rooms e.steady)
+    rw (p.1, c.in-Some.is) (begin_failed_second c.args.first.now c.in-Some.name.now (g.H.Host.state c.args.host.now) (g.H.Host.state c.create.new.self) (g.H.Host.state c.create-in-Some.new.self) _ s e.not_created e.not_ended e.others e.notes e.cause e.last e.rooms e.steady)
 
 pub returns-in_ok-second-in-Some : goal.returns-in_ok-second-in-Some
 returns-in_ok-second-in-Some g c =

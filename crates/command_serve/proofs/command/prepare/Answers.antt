@@ -1,4 +1,4 @@
-use Rattle.std.proofs.Common.{List, ℕ, Err, ap, ◌∙◌}
+use Rattle.std.proofs.Common.{List, ℕ, Err, refl, ap, ◌∙◌}
 use Rattle.std.proofs.lemmas.Result.{err_from_is_err_and}
 use Rattle.snd_host.specs.Host.{Files}
 use Rattle.command_frame.specs.Plan.{stream_makes}
@@ -6,7 +6,7 @@ use Rattle.command_frame.specs.declared.refusals.Refusal.{Refusal}
 use Rattle.dsp_core.specs.DspChip.{dsp_chip, dsp_saving}
 use Rattle.exit_status.specs.declared.cause.Cause.{Cause}
 use Rattle.input_files.specs.Inputs.{file_in}
-use Rattle.input_files.proofs.Readings.{reads_then, reads_declined}
+use Rattle.input_files.proofs.Readings.{reads_then, reads_declined_before}
 use Rattle.session_files.specs.SessionFiles.{to_come_of, report_of}
 use Rattle.command_serve.specs.Serve.{file_answer}
 use Rattle.command_serve.proofs.command.prepare.Goals as goal
@@ -16,12 +16,12 @@ returns g c =
     reads_then (stream_makes (to_come_of dsp_chip dsp_saving) (report_of dsp_chip dsp_saving)) (λ (files : Files). file_in (files c.args.file.now))
     (λ (files : Files) (file : List ℕ). file_answer c.args.wave.now c.args.options (files c.args.table.now) (files c.args.script.now) file)
     (g.H.Host.state c.args.host.now) (g.H.Host.state c.read_file.new.host) (g.H.Host.state c.prepare_table.new.host) c.in_ok-file.file c.prepare_table.result
-    c.in_ok-file.ensures c.prepare_table.ensures
+    (λ (files : Files). refl) c.in_ok-file.ensures c.prepare_table.ensures
 
 pub returns-in_err-file : goal.returns-in_err-file
 returns-in_err-file g c =
     let p = err_from_is_err_and c.from_residual.result c.from_residual.ensures.1 in
     rw (p.1 ∙ ap (λ (why : Refusal Cause). Err why) p.2)
-    (reads_declined (stream_makes (to_come_of dsp_chip dsp_saving) (report_of dsp_chip dsp_saving)) (λ (files : Files). file_in (files c.args.file.now))
+    (reads_declined_before (stream_makes (to_come_of dsp_chip dsp_saving) (report_of dsp_chip dsp_saving)) (λ (files : Files). file_in (files c.args.file.now))
     (λ (files : Files) (file : List ℕ). file_answer c.args.wave.now c.args.options (files c.args.table.now) (files c.args.script.now) file)
-    (g.H.Host.state c.args.host.now) (g.H.Host.state c.read_file.new.host) _ c.in_err-file.ensures)
+    (g.H.Host.state c.args.host.now) (g.H.Host.state c.read_file.new.host) _ (λ (files : Files). refl) c.in_err-file.ensures)

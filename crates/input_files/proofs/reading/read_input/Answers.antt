@@ -10,8 +10,8 @@ returns-in-Err-TooLong-clause-reads g c =
     let is = ap (λ (r : ReadRefusal). Err r) c.in-Err-TooLong.field-0-is in
     record {
       others = e.others;
-      opened = λ files told. in_order_same _ _ _ _ _ (g.H.Host.state c.args.host.now) (g.H.Host.state c.read_whole.new.host) (g.H.Host.state c.read_whole.new.host) (e.opened files told)
-          (λ settled. (λ wrong. absurd (cc), λ wrong. absurd (cc))) (λ prepared. (λ wrong. absurd (cc), λ wrong. absurd (cc))) refl;
+      opened = λ files told. in_order_same _ _ _ (g.H.Host.state c.args.host.now) (g.H.Host.state c.read_whole.new.host) (g.H.Host.state c.read_whole.new.host) (e.opened files told)
+          (λ settled. (λ wrong. absurd (cc), λ wrong. absurd (cc))) refl;
       calm = tt;
       ok = tt;
       err = record {

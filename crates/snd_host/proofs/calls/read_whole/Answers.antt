@@ -1,9 +1,16 @@
 use Rattle.std.proofs.Common.{rules, ◌≡◌, ◌+◌, ◌≤◌, ℕ, List, [], Some, Ok, length, take, drop, sym, ◌∙◌, ap, refl, arith, length-drop, length-take, vec_len}
 use Rattle.std.proofs.lemmas.List.{drop-drop, places}
 use Rattle.snd_host.proofs.WholeInput.{some_is, none_unless, front_is_whole, is_some_and, length_front, read_more, inputs_then}
-use Rattle.snd_host.proofs.OpenedInputs.{opens_read, opens_no_more, in_order_part, in_order_whole}
+use Rattle.snd_host.specs.Host.{one_more}
+use Rattle.snd_host.proofs.OpenedInputs.{opens_same, opens_read, in_order_part, in_order_whole}
 use Rattle.snd_host.proofs.WholeInput.{held_length}
 use Rattle.snd_host.proofs.calls.read_whole.Goals as goal
+
+pub returns-in_err-file-clause-failed : goal.returns-in_err-file-clause-failed
+returns-in_err-file-clause-failed g c = λ _. record { once = c.in_err-file.ensures.cause.failed; last = c.in_err-file.ensures.last }
+
+pub returns-in_err-count-clause-failed : goal.returns-in_err-count-clause-failed
+returns-in_err-count-clause-failed g c = λ _. record { once = c.in_err-count.ensures.cause.failed ∙ ap one_more c.reading.invariant.inputs; last = c.in_err-count.ensures.last }
 
 pub returns-in_err-file-clause-steady : goal.returns-in_err-file-clause-steady
 returns-in_err-file-clause-steady g c = λ _ steady files told.
@@ -61,9 +68,9 @@ returns-in_err-count-clause-opened g c = λ files told.
     let long = held_length (files c.args.name.now) whole.0 whole.1 in
     let within = c.reading.invariant.within in
     let available = c.reading.invariant.available files whole.0 told whole.1 in
-    in_order_part (record { name = c.args.name.now; read = vec_len c.reading.bytes }) _ _ _ (g.H.Host.state c.args.host.now) (g.H.Host.state c.read.new.self)
-    (opens_no_more _ (g.H.Host.state c.args.host.now) (g.H.Host.state c.reading.host) (g.H.Host.state c.read.new.self) c.reading.invariant.opened c.in_err-count.ensures.no_bytes)
-    refl (omega arith) (λ settled. settled.0 (search rules)) (λ prepared. prepared.0 (search rules))
+    in_order_part (record { name = c.args.name.now; read = vec_len c.reading.bytes }) _ _ (g.H.Host.state c.args.host.now) (g.H.Host.state c.read.new.self)
+    (opens_same _ (g.H.Host.state c.args.host.now) (g.H.Host.state c.reading.host) (g.H.Host.state c.read.new.self) c.reading.invariant.opened c.in_err-count.ensures.no_bytes)
+    refl (omega arith) (λ settled. settled.0 (search rules))
 
 pub returns-in_err-extend_from_slice-clause-opened : goal.returns-in_err-extend_from_slice-clause-opened
 returns-in_err-extend_from_slice-clause-opened g c = λ files told.
@@ -72,10 +79,10 @@ returns-in_err-extend_from_slice-clause-opened g c = λ files told.
     let within = c.reading.invariant.within in
     let before = c.reading.invariant.available files whole.0 told whole.1 in
     let available = c.in_ok-count.ensures.available _ (c.reading.invariant.left files whole.0 told whole.1) in
-    in_order_part (record { name = c.args.name.now; read = vec_len c.reading.bytes + c.in_ok-count.count }) _ _ _ (g.H.Host.state c.args.host.now) (g.H.Host.state c.read.new.self)
+    in_order_part (record { name = c.args.name.now; read = vec_len c.reading.bytes + c.in_ok-count.count }) _ _ (g.H.Host.state c.args.host.now) (g.H.Host.state c.read.new.self)
     (opens_read (record { name = c.args.name.now; read = vec_len c.reading.bytes }) c.in_ok-count.count _ (g.H.Host.state c.args.host.now) (g.H.Host.state c.reading.host) (g.H.Host.state c.read.new.self)
     refl c.reading.invariant.opened c.in_ok-count.ensures.counted_bytes)
-    refl (omega (arith, c.in_ok-count.ensures.within, length-take c.min-room.result c.reading.buffer, length-drop (vec_len c.reading.bytes) whole.0)) (λ settled. settled.1 (search rules)) (λ prepared. prepared.1 (search rules))
+    refl (omega (arith, c.in_ok-count.ensures.within, length-take c.min-room.result c.reading.buffer, length-drop (vec_len c.reading.bytes) whole.0)) (λ settled. settled.1 (search rules))
 
 pub returns-then-count-eq0-clause-opened : goal.returns-then-count-eq0-clause-opened
 returns-then-count-eq0-clause-opened g c = λ files told.
@@ -85,7 +92,7 @@ returns-then-count-eq0-clause-opened g c = λ files told.
     let none = ap (length {A = ℕ}) (c.in_ok-count.ensures.end (ap (λ (n : ℕ). Ok n) c.if-count-eq0.true) (search (rules, places)) _ left) in
     let within = c.reading.invariant.within in
     let available = c.reading.invariant.available files whole.0 told whole.1 in
-    in_order_whole (record { name = c.args.name.now; read = vec_len c.reading.bytes }) _ _ _ (g.H.Host.state c.args.host.now) (g.H.Host.state c.read.new.self)
+    in_order_whole (record { name = c.args.name.now; read = vec_len c.reading.bytes }) _ _ (g.H.Host.state c.args.host.now) (g.H.Host.state c.read.new.self)
     (opens_read (record { name = c.args.name.now; read = vec_len c.reading.bytes }) c.in_ok-count.count _ (g.H.Host.state c.args.host.now) (g.H.Host.state c.reading.host) (g.H.Host.state c.read.new.self)
     (omega (arith, c.if-count-eq0.true)) c.reading.invariant.opened c.in_ok-count.ensures.counted_bytes)
     (ap (λ (n : ℕ). record { name = c.args.name.now; read = n }) (omega (arith, none, length-drop (vec_len c.reading.bytes) whole.0)))
@@ -96,5 +103,5 @@ returns-clause-opened g c = λ files told.
     let long = held_length (files c.args.name.now) whole.0 whole.1 in
     let within = c.reading.invariant.within in
     let available = c.reading.invariant.available files whole.0 told whole.1 in
-    in_order_whole (record { name = c.args.name.now; read = vec_len c.reading.bytes }) _ _ _ (g.H.Host.state c.args.host.now) (g.H.Host.state c.reading.host) c.reading.invariant.opened
+    in_order_whole (record { name = c.args.name.now; read = vec_len c.reading.bytes }) _ _ (g.H.Host.state c.args.host.now) (g.H.Host.state c.reading.host) c.reading.invariant.opened
     (ap (λ (n : ℕ). record { name = c.args.name.now; read = n }) (omega arith))

@@ -6,7 +6,7 @@ use Rattle.snd_host.proofs.Writes.{wrote_nothing, wrote_then, take_then_slice, c
 use Rattle.snd_host.proofs.calls.write_all.Goals as goal
 
 pub loop-done-init : goal.loop-done-init
-loop-done-init g c = record { within = omega arith; wrote = wrote_nothing _ _; notes = refl; outputs = refl }
+loop-done-init g c = record { within = omega arith; wrote = wrote_nothing _ _; notes = refl; outputs = refl; last = λ note. refl }
 
 pub returns-in_err-done : goal.returns-in_err-done
 returns-in_err-done g c =
@@ -16,6 +16,8 @@ returns-in_err-done g c =
       wrote = tt;
       part = part_so_far _ _ _ _ _ _ so_far.wrote c.in_err-done.ensures.unwritten;
       cause = counts_err c.args.out.0 (g.H.Host.state c.args.host.now).faults (g.H.Host.state c.loop-done.host).faults (g.H.Host.state c.write.new.self).faults _ so_far.notes so_far.outputs c.in_err-done.ensures.cause;
+      last = λ output. c.in_err-done.ensures.last.output output;
+      last_kept = λ note. c.in_err-done.ensures.last.note note ∙ so_far.last note;
       steady = λ rooms steady fits.
           let ok = c.in_err-done.ensures.steady _ (so_far.wrote.rooms rooms steady) (room_left rooms c.args.out.0 c.loop-done.done c.args.piece.now so_far.within fits) in
           absurd (search rules);
@@ -29,6 +31,8 @@ returns g c =
       wrote = subst (λ (l : List ℕ). Writes c.args.out.0 l (g.H.Host.state c.args.host.now) (g.H.Host.state c.loop-done.host)) whole so_far.wrote;
       part = tt;
       cause = counts_same c.args.out.0 (g.H.Host.state c.args.host.now).faults (g.H.Host.state c.loop-done.host).faults _ so_far.notes so_far.outputs;
+      last = λ output. tt;
+      last_kept = so_far.last;
       steady = λ rooms steady fits. search rules;
     }
 
@@ -40,4 +44,5 @@ loop-done-preserved g c =
       wrote = rw (take_then_slice c.args.piece.now c.loop-done.done c.in_ok-done.field-0) (wrote_then _ _ _ _ _ _ c.loop-done.invariant.wrote c.in_ok-done.ensures.wrote);
       notes = counts.0 ∙ c.loop-done.invariant.notes;
       outputs = counts.1 ∙ c.loop-done.invariant.outputs;
+      last = λ note. c.in_ok-done.ensures.last.note note ∙ c.loop-done.invariant.last note;
     }

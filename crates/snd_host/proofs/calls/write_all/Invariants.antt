@@ -9,6 +9,7 @@ invariant-loop-done g l = record {
   wrote : Writes l.out.0 (take l.done l.piece) (g.H.Host.state l.fn.host) (g.H.Host.state l.host);
   notes : (g.H.Host.state l.host).faults.notes ≡ (g.H.Host.state l.fn.host).faults.notes;
   outputs : (g.H.Host.state l.host).faults.outputs ≡ (g.H.Host.state l.fn.host).faults.outputs;
+  last : l.out.0 ≡ 1 → (g.H.Host.state l.host).failed_last ≡ (g.H.Host.state l.fn.host).failed_last;
 }
 
 abbrev pub decreases-loop-done : goal.decreases-loop-done
