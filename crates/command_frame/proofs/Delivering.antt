@@ -1,7 +1,7 @@
 -- The report after the outputs.
 use Rattle.std.proofs.Common.{◌≡◌, Result, Ok, Err, ℕ, ◌-◌, List, [], ◌∷◌, ◌++◌, length, get_or, Some, refl, sym, ◌∙◌, ap, subst, arith, rules, append_assoc}
 use Rattle.std.proofs.lemmas.List.{append-nil}
-use Rattle.snd_host.specs.Host.{HostState, Output, one_more, Writes, WritesAll, rooms_less}
+use Rattle.snd_host.specs.Host.{HostState, Output, next_count, Writes, WritesAll, rooms_less}
 use Rattle.snd_host.proofs.Writes.{index-rooms_less}
 use Rattle.command_frame.proofs.Places.{index-rooms_less_other, ended_are_whole_as}
 use Rattle.command_frame.proofs.Standing.{delivered}
@@ -68,7 +68,7 @@ then_report {T = T} {U = U} {E = E} outputs report a b c x (Err e) d w =
       report_last = λ some. (d.ok.1, d.ok.2);
       inputs = w.part.wrote.others.inputs ∙ d.inputs;
       notes = w.cause.notes_kept (λ is. absurd (cc)) ∙ d.notes;
-      cause = record { later = omega (arith, cause.later, d.cause.same); failed = record { once = cause.failed ∙ ap one_more d.cause.same; last = w.last (λ is. absurd (cc)) }; same = tt };
+      cause = record { later = omega (arith, cause.later, d.cause.same); failed = record { once = cause.failed ∙ ap next_count d.cause.same; last = w.last (λ is. absurd (cc)) }; same = tt };
       enough = λ rooms told have fits.
           let mid = d.rooms rooms told in
           let ok = w.steady mid.0 mid.1 (omega (arith, fits, mid.2, ap (length {A = ℕ}) d.ok.0)) in absurd (search rules);

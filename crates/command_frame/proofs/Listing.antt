@@ -1,7 +1,7 @@
 -- Outputs that are written one after another.
 use Rattle.std.proofs.Common.{◌≡◌, ℕ, suc, ◌+◌, Bool, true, List, [], ◌∷◌, ◌++◌, length, get_or, Some, refl, sym, ◌∙◌, ap, subst, arith, append_assoc, length-append}
 use Rattle.std.proofs.lemmas.List.{append-nil}
-use Rattle.snd_host.specs.Host.{HostState, Output, one_more, IsPrefix}
+use Rattle.snd_host.specs.Host.{HostState, Output, next_count, IsPrefix}
 use Rattle.command_frame.specs.Delivery.{Gains, IsBegun, EndedAreWhole, HaveRooms, all_ended}
 use Rattle.command_frame.specs.Stream.{AreDone, Stops}
 
@@ -103,7 +103,7 @@ stops_then xs ys more a b c report one two e =
       report_last = λ some. absurd (some refl);
       inputs = d.inputs ∙ one.inputs;
       notes = d.notes ∙ one.notes;
-      cause = record { later = omega (arith, d.cause.later, one.faults); failed = record { once = d.cause.failed.once ∙ ap one_more one.faults; last = d.cause.failed.last }; same = tt };
+      cause = record { later = omega (arith, d.cause.later, one.faults); failed = record { once = d.cause.failed.once ∙ ap next_count one.faults; last = d.cause.failed.last }; same = tt };
       enough = λ rooms told have fits.
           let mid = one.rooms rooms told in
           let many = many_since xs a b one in

@@ -1,7 +1,7 @@
 -- What a command did is what its answer says.
 use Rattle.std.proofs.Common.{◌≡◌, ◌⊎◌, inl, inr, Result, Ok, Err, IsOk, IsSome, ℕ, ◌+◌, ◌≤◌, Bool, List, [], ◌++◌, length, get_or, Option, Some, None, refl, sym, ◌∙◌, ap, subst, rules}
 use Rattle.std.proofs.lemmas.List.{append-nil}
-use Rattle.snd_host.specs.Host.{HostState, Files, Output, Asked, one_more, Rose, InputFailed, OutputFailed, ChangesInputs, asked_of}
+use Rattle.snd_host.specs.Host.{HostState, Files, Output, Asked, next_count, Rose, InputFailed, OutputFailed, ChangesInputs, asked_of}
 use Rattle.snd_host.proofs.OpenedInputs.{in_order_same, in_order_nothing}
 use Rattle.snd_host.proofs.Writes.{rose}
 use Rattle.snd_host.specs.declared.host.Failed.{Failed}
@@ -155,7 +155,7 @@ module _ {P C : Type 0} {inputs : List NamedInput} (makes : P → Delivery) (ans
       calm_inputs = λ _. faults_kept y z d.inputs ∙ calm;
       calm_outputs = λ other. absurd (other refl);
       read = λ wrong. absurd (cc);
-      write = λ _. record { once = d.cause.failed.once ∙ ap one_more p.others.outputs; last = d.cause.failed.last };
+      write = λ _. record { once = d.cause.failed.once ∙ ap next_count p.others.outputs; last = d.cause.failed.last };
       refused = λ some not_write. absurd (not_write refl);
       report_last = λ some. let last = d.report_last some in last.1 ∙ ap all_ended (sym last.0);
     };
@@ -240,7 +240,7 @@ obeys {C = C} line answer named refusal x y z t c silent = record {
   complains = record {
     part = c.complains.part;
     all = λ calm. c.complains.all (subst (λ (n : ℕ). Rose n z.faults.notes → ⊥) (sym t.notes) calm);
-    once = subst (λ (n : ℕ). (z.faults.notes ≡ n) ⊎ (z.faults.notes ≡ one_more n)) t.notes c.complains.once;
+    once = subst (λ (n : ℕ). (z.faults.notes ≡ n) ⊎ (z.faults.notes ≡ next_count n)) t.notes c.complains.once;
     steady = λ rooms told fits. let after = t.note_room rooms told in c.complains.steady after.0 after.1 (subst (λ (n : ℕ). length (line_of line refusal) ≤ n) (sym after.2) fits) ∙ t.notes;
   };
   answered = λ files told. same (answer files) (t.answered files told);

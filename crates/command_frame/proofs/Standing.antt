@@ -1,7 +1,7 @@
 -- A state in which outputs stand that were created since another state: each call goes from one such state to the next, or it fails and a part stands.
 use Rattle.std.proofs.Common.{◌≡◌, ◌≢◌, Ok, Err, IsOk, ℕ, ◌+◌, ◌-◌, ◌≤◌, ◌<◌, Bool, true, false, List, [], ◌∷◌, ◌++◌, length, get_or, set, map, Some, refl, sym, ◌∙◌, ap, subst, arith, rules, append_assoc, length-append}
 use Rattle.std.proofs.lemmas.List.{append-nil, length-set}
-use Rattle.snd_host.specs.Host.{HostState, Given, Output, HasCause, one_more, ChangesOutputs, KeepsRooms, Writes, WritesAll, outputs_with, rooms_less}
+use Rattle.snd_host.specs.Host.{HostState, Given, Output, HasCause, next_count, ChangesOutputs, KeepsRooms, Writes, WritesAll, outputs_with, rooms_less}
 use Rattle.command_frame.specs.Delivery.{Gains, IsBegun, EndedAreWhole, HaveRooms, Delivers, all_ended}
 use Rattle.command_frame.specs.Stream.{bytes_of, RoomsAfter, Stands, Stops, AreDone}
 use Rattle.command_frame.proofs.Places.{grown_since, ended_since, length-outputs_with, bytes_of-end, bytes_of-past, rooms_lowered, begun_at, have_at, begun_less, prefix_short, bytes_of-given_with, ended_are_whole, NoneEnded, none_ended}
@@ -103,7 +103,7 @@ module _ (outputs : List Output) (flags : List Bool) (a c : HostState) (s : Stan
         report_last = λ some. absurd (some refl);
         inputs = w.part.wrote.others.inputs ∙ s.inputs;
         notes = w.cause.notes_kept not_complaint ∙ s.notes;
-        cause = record { later = omega (arith, cause.later, s.faults); failed = record { once = cause.failed ∙ ap one_more s.faults; last = w.last not_complaint }; same = tt };
+        cause = record { later = omega (arith, cause.later, s.faults); failed = record { once = cause.failed ∙ ap next_count s.faults; last = w.last not_complaint }; same = tt };
         enough = λ rooms told have fits.
             let before = s.rooms rooms told in
             let at = begun_at (outputs_with outputs i bytes) total i begun (rw (length-outputs_with outputs i bytes) below) in
@@ -144,7 +144,7 @@ stops_unwritten outputs flags a c d e total report s given ended others notes ca
   report_last = λ some. absurd (some refl);
   inputs = others.inputs ∙ s.inputs;
   notes = notes ∙ s.notes;
-  cause = record { later = omega (arith, cause.later, s.faults); failed = record { once = cause.failed ∙ ap one_more s.faults; last = last }; same = tt };
+  cause = record { later = omega (arith, cause.later, s.faults); failed = record { once = cause.failed ∙ ap next_count s.faults; last = last }; same = tt };
   enough = λ rooms told have fits. let before = s.rooms rooms told in let ok = steady rooms before.0 told before.1 before.2.count have in absurd (search rules);
   rooms = λ rooms told. let before = s.rooms rooms told in (before.0, keeps before.0 before.1, before.2.report_room, before.2.complaint_room);
 }

@@ -1,6 +1,6 @@
 -- How a command may end, and what it leaves on the host. `answer` is what it answers, by what the names of its inputs hold.
 use Rattle.std.specs.Prelude.{◌≡◌, ◌≢◌, ℕ, ◌+◌, ◌≤◌, ◌⊎◌, Bool, true, false, List, [], ◌∷◌, length, Option, Some, None, Result, Ok, Err, IfOk, IfErr, IsSome, IsTrue, slice_index}
-use Rattle.snd_host.specs.Host.{HostState, Files, Output, IfTold, one_more, Rose, InputFailed, OutputFailed, IsPrefix, ChangesInputs, Writes}
+use Rattle.snd_host.specs.Host.{HostState, Files, Output, IfTold, next_count, Rose, InputFailed, OutputFailed, IsPrefix, ChangesInputs, Writes}
 use Rattle.snd_host.specs.OpenedInputs.{OpensInOrder}
 use Rattle.snd_host.specs.declared.host.Failed.{Failed}
 use Rattle.command_frame.specs.Delivery.{Gains, IsBegun, EndedAreWhole, HaveRooms, Delivers, all_ended}
@@ -81,7 +81,7 @@ pub record Attempts {C : Type 0} (answer : Files → Answer C) (inputs : List Na
 pub record HasComplaint (line : List ℕ) (complaint : List ℕ) (old new : HostState) : Type 0 where
   pub part : IsPrefix complaint line
   pub all : (Rose old.faults.notes new.faults.notes → ⊥) → complaint ≡ line
-  pub once : (new.faults.notes ≡ old.faults.notes) ⊎ (new.faults.notes ≡ one_more old.faults.notes)
+  pub once : (new.faults.notes ≡ old.faults.notes) ⊎ (new.faults.notes ≡ next_count old.faults.notes)
   pub steady : IfTold old.steady (λ rooms. length line ≤ slice_index rooms 1 → new.faults.notes ≡ old.faults.notes)
 
 -- A line of complaint was written, or a prefix of it.

@@ -1,6 +1,6 @@
 -- What a command leaves on a host that tells it.
 use Rattle.std.specs.Prelude.{◌≡◌, ◌≢◌, ◌⊎◌, ℕ, Bool, List, [], ◌++◌, IsSomeAnd}
-use Rattle.snd_host.specs.Host.{HostState, Output, IfTold, one_more, Rose, IsPrefix}
+use Rattle.snd_host.specs.Host.{HostState, Output, IfTold, next_count, Rose, IsPrefix}
 use Rattle.command_frame.specs.Answer.{Answer, outputs_of, report_of}
 use Rattle.command_frame.specs.Delivery.{IsBegun, EndedAreWhole, all_ended}
 
@@ -44,4 +44,4 @@ pub record Complains (line : List ℕ) (old new : HostState) : Type 0 where
   pub given : IfTold old.given (λ before. IsSomeAnd new.given (λ now. now.complaint ≡ before.complaint ++ complaint))
   pub part : IsPrefix complaint line
   pub all : (Rose old.faults.notes new.faults.notes → ⊥) → complaint ≡ line
-  pub once : (new.faults.notes ≡ old.faults.notes) ⊎ (new.faults.notes ≡ one_more old.faults.notes)
+  pub once : (new.faults.notes ≡ old.faults.notes) ⊎ (new.faults.notes ≡ next_count old.faults.notes)

@@ -2,7 +2,7 @@
 use Rattle.std.proofs.Common.{◌≡◌, ◌⊎◌, inl, inr, ap, sym, subst, ◌∙◌, refl, rules, ℕ, ◌<◌, length, Bool, List, [], ◌∷◌, Option, Some, None, Result, Ok, Err, IsSome}
 use Rattle.std.specs.Prelude.{true, false, is_ok, IfOk, IfErr, IsSomeAnd, if◌then◌else◌}
 use Rattle.std.proofs.lemmas.Bool.{lt-ltb}
-use Rattle.snd_host.specs.Host.{HostState, Files, IfTold, OpenedInput, one_more, KeepsRooms}
+use Rattle.snd_host.specs.Host.{HostState, Files, IfTold, OpenedInput, next_count, KeepsRooms}
 use Rattle.snd_host.specs.OpenedInputs.{OpensInOrder}
 use Rattle.snd_host.proofs.WholeInput.{inputs_then}
 use Rattle.snd_host.proofs.OpenedInputs.{in_order_nothing, in_order_same, in_order_then, in_order_ends}
@@ -111,7 +111,7 @@ accepted_at {T = T} {P = P} {C = C} {input = input} {inputs = inputs} makes give
             (in_order_then (input_read files input) (inputs_reached files inputs) _ _ x y z (r.opened files told) (prepared_is_settled {C = C}) rest.order);
         all = λ delivered. reached files told ∙ ap (λ (l : List OpenedInput). input_read files input ∷ l) (rest.all delivered);
       };
-  read = λ is. let failed = p.read is in (record { once = failed.0.once ∙ ap one_more r.calm; last = failed.0.last }, search rules);
+  read = λ is. let failed = p.read is in (record { once = failed.0.once ∙ ap next_count r.calm; last = failed.0.last }, search rules);
   calm = λ other. p.calm other ∙ r.calm;
   no_usage = p.no_usage;
   no_write = p.no_write;

@@ -3,7 +3,7 @@ use Rattle.std.proofs.Common.{◌≡◌, inl, inr, Ok, Err, ℕ, zero, suc, ◌+
 use Rattle.std.proofs.lemmas.List.{append-nil, take-append-drop, length-take, take_rest}
 use Rattle.std.proofs.lemmas.Bool.{cases_eq}
 use Rattle.std.proofs.Math.Seq.{take-add}
-use Rattle.snd_host.specs.Host.{HostState, Given, Output, Faults, CountsWrite, ChangesOutputs, Writes, WritesPart, one_more, Rose, given_with, outputs_with, rooms_less}
+use Rattle.snd_host.specs.Host.{HostState, Given, Output, Faults, CountsWrite, ChangesOutputs, Writes, WritesPart, next_count, Rose, given_with, outputs_with, rooms_less}
 
 pub outputs_with-outputs_with : (outputs : List Output) (place : ℕ) (xs ys : List ℕ) → outputs_with (outputs_with outputs place xs) place ys ≡ outputs_with outputs place (xs ++ ys)
 outputs_with-outputs_with [] place xs ys = refl
@@ -103,15 +103,15 @@ counts_same file old new x notes outputs = record {
 -- a write that fails after writes that didn't
 pub counts_err : {T U E : Type 0} (file : ℕ) (a b c : Faults) (e : E) → b.notes ≡ a.notes → b.outputs ≡ a.outputs → CountsWrite {T = T} {E = E} file b c (Err e) → CountsWrite {T = U} {E = E} file a c (Err e)
 counts_err file a b c e notes outputs counts = record {
-  notes = λ is. let n = counts.notes is in record { later = omega (arith, n.later); failed = n.failed ∙ ap one_more notes; same = tt };
+  notes = λ is. let n = counts.notes is in record { later = omega (arith, n.later); failed = n.failed ∙ ap next_count notes; same = tt };
   notes_kept = λ other. counts.notes_kept other ∙ notes;
-  outputs = λ other. let n = counts.outputs other in record { later = omega (arith, n.later); failed = n.failed ∙ ap one_more outputs; same = tt };
+  outputs = λ other. let n = counts.outputs other in record { later = omega (arith, n.later); failed = n.failed ∙ ap next_count outputs; same = tt };
   outputs_kept = λ is. counts.outputs_kept is ∙ outputs;
 }
 
 -- a count that has one more rose
-pub rose : (before now : ℕ) → now ≡ one_more before → Rose before now
-rose before now is = subst (λ (n : ℕ). one_more before ≤ n) (sym is) (at_most (one_more before))
+pub rose : (before now : ℕ) → now ≡ next_count before → Rose before now
+rose before now is = subst (λ (n : ℕ). next_count before ≤ n) (sym is) (at_most (next_count before))
   where
     at_most : (n : ℕ) → n ≤ n
     at_most n = omega arith

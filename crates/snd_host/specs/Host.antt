@@ -68,18 +68,18 @@ longest_name = 200
 abbrev pub greatest_limit : ℕ
 greatest_limit = 16777216
 
--- a count and one more; it stays at its greatest value
-abbrev pub one_more : ℕ → ℕ
-one_more before = min (before + 1) greatest_count
+-- a count with one more, which stands still at its greatest value
+abbrev pub next_count : ℕ → ℕ
+next_count before = min (before + 1) greatest_count
 
 -- A count rose: it is greater than before, or it stands at its greatest value.
 abbrev pub Rose : ℕ → ℕ → Type 0
-Rose before now = one_more before ≤ now
+Rose before now = next_count before ≤ now
 
 -- A call that failed is counted once, and no other is. A count never falls.
 pub record HasCause {T E : Type 0} (before now : ℕ) (result : Result T E) : Type 0 where
   pub later : before ≤ now
-  pub failed : OnErr result (now ≡ one_more before)
+  pub failed : OnErr result (now ≡ next_count before)
   pub same : OnOk result (now ≡ before)
 
 -- A write to the output of this number counts its failure: 1 is the complaint, whose count is `notes`.
@@ -96,12 +96,12 @@ pub record EndsByWrite {T E : Type 0} (file : ℕ) (old new : HostState) (result
 
 -- One call on an input failed, and none but writes to the complaint came after it.
 pub record InputFailed (old new : HostState) : Type 0 where
-  pub once : new.faults.inputs ≡ one_more old.faults.inputs
+  pub once : new.faults.inputs ≡ next_count old.faults.inputs
   pub last : new.failed_last ≡ true
 
 -- The same of a call on the report or on a created output, its creation and its end included.
 pub record OutputFailed (old new : HostState) : Type 0 where
-  pub once : new.faults.outputs ≡ one_more old.faults.outputs
+  pub once : new.faults.outputs ≡ next_count old.faults.outputs
   pub last : new.failed_last ≡ true
 
 -- the created outputs, with these bytes after those of the output at this place

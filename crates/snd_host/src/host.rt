@@ -17,9 +17,10 @@ pub struct OutFile(pub u32);
 
 /// Where a program reads its inputs and writes its outputs.
 ///
-/// A call that answers `Failed` is counted once, among those of its kind, and no other is. After a failed `open_in` no input is current, and what
-/// is left to be read is not told. Every other failed call changes, of what is told, its count alone; what a failed `read`
-/// leaves in the buffer is not told.
+/// A call that answers `Failed` is counted once, among those of its kind, and no other is; and a host tells whether its last
+/// call failed, of all but the writes to the complaint. After a failed `open_in` no input is current, and what is left to be
+/// read is not told. Every other failed call changes, of what is told, these two alone; what a failed `read` leaves in the
+/// buffer is not told.
 pub trait Host {
     /// What contracts see of a host at one moment.
     ghost state: { Self → HostState };

@@ -1,7 +1,7 @@
 use Rattle.std.proofs.Common.{rules, ◌≡◌, ◌+◌, ◌≤◌, ℕ, List, [], Some, Ok, length, take, drop, sym, ◌∙◌, ap, refl, arith, length-drop, length-take, vec_len}
 use Rattle.std.proofs.lemmas.List.{drop-drop, places}
 use Rattle.snd_host.proofs.WholeInput.{some_is, none_unless, front_is_whole, is_some_and, length_front, read_more, inputs_then}
-use Rattle.snd_host.specs.Host.{one_more}
+use Rattle.snd_host.specs.Host.{next_count}
 use Rattle.snd_host.proofs.OpenedInputs.{opens_same, opens_read, in_order_part, in_order_whole}
 use Rattle.snd_host.proofs.WholeInput.{held_length}
 use Rattle.snd_host.proofs.calls.read_whole.Goals as goal
@@ -10,7 +10,7 @@ pub returns-in_err-file-clause-failed : goal.returns-in_err-file-clause-failed
 returns-in_err-file-clause-failed g c = λ _. record { once = c.in_err-file.ensures.cause.failed; last = c.in_err-file.ensures.last }
 
 pub returns-in_err-count-clause-failed : goal.returns-in_err-count-clause-failed
-returns-in_err-count-clause-failed g c = λ _. record { once = c.in_err-count.ensures.cause.failed ∙ ap one_more c.reading.invariant.inputs; last = c.in_err-count.ensures.last }
+returns-in_err-count-clause-failed g c = λ _. record { once = c.in_err-count.ensures.cause.failed ∙ ap next_count c.reading.invariant.inputs; last = c.in_err-count.ensures.last }
 
 pub returns-in_err-file-clause-steady : goal.returns-in_err-file-clause-steady
 returns-in_err-file-clause-steady g c = λ _ steady files told.
