@@ -5,7 +5,7 @@ use Rattle.std.proofs.lemmas.Bool.Decides.{nat_tests}
 use Rattle.std.proofs.lemmas.List.{get_or-take, get_or-drop, get_or_past, length-take, length-drop}
 use Rattle.std.proofs.lemmas.Grind.{same_number_lists}
 use Rattle.num_fix.specs.Arithmetic.{has_bit}
-use Rattle.spc_form.specs.Layout.{part_of, memory_of, dsp_of, extra_of}
+use Rattle.spc_form.specs.Layout.{part_of, memory_of, dsp_of, extra_of, dsp_place}
 use Rattle.dsp_state.specs.declared.registers.TheConstants.{KON}
 use Rattle.dsp_state.specs.Outside.{opened_state}
 use Rattle.dsp_state.specs.declared.state.ChipState.{ChipState}
@@ -18,7 +18,7 @@ use Rattle.render_core.specs.Items.{records_before}
 use Rattle.tune_opening.specs.Tune.{opened_tune}
 use Rattle.mute_laws.specs.MutedVolumes.{is_muted_volume}
 use Rattle.muted_runs.specs.Watching.{Watched, watched, begun_watching}
-use Rattle.muted_runs.specs.MutedFiles.{dsp_place, holds_muted_volume, DifferInMutedVolumes, reads_muted_volume, SoundAlike}
+use Rattle.muted_runs.specs.MutedFiles.{holds_muted_volume, DifferInMutedVolumes, reads_muted_volume, SoundAlike}
 use Rattle.muted_runs.proofs.BlindRuns.{run_seen, run_beside, with_chip}
 use Rattle.muted_runs.proofs.AlikeChips.{AreAlikeMuted, dsp_is_blind}
 

@@ -1,17 +1,14 @@
 -- Files that differ in volumes of muted voices alone, and runs of them.
 use Rattle.std.specs.Prelude.{◌≡◌, ℕ, ℤ, ◌+◌, ◌-◌, List, length, slice_index, Bool, false, ◌&&◌, nat_le, nat_lt}
+use Rattle.spc_form.specs.Layout.{dsp_place, dsp_size}
 use Rattle.mute_laws.specs.MutedVolumes.{is_muted_volume}
 use Rattle.dsp_core.specs.DspChip.{dsp_chip}
 use Rattle.tune_opening.specs.Tune.{opened_tune, tune_frames, tune_records}
 use Rattle.muted_runs.specs.Watching.{reads_in_run}
 
--- where the registers of the S-DSP begin in a file, and how many there are (SPC file format text v0.30)
-abbrev pub dsp_place : ℕ
-dsp_place = 0x10100
-
 -- the byte at a place of a file is VOLL or VOLR of a muted voice
 abbrev pub holds_muted_volume : (muted place : ℕ) → Bool
-holds_muted_volume muted place = nat_le dsp_place place && nat_lt place (dsp_place + 0x80) && is_muted_volume muted (place - dsp_place)
+holds_muted_volume muted place = nat_le dsp_place place && nat_lt place (dsp_place + dsp_size) && is_muted_volume muted (place - dsp_place)
 
 -- two files that differ there alone
 pub record DifferInMutedVolumes (muted : ℕ) (file other : List ℕ) : Type 0 where

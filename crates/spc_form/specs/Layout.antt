@@ -1,5 +1,24 @@
 -- The places of an SPC file of 66,048 bytes (SPC file format text v0.30).
 use Rattle.std.specs.Prelude.{ℕ, ◌+◌, ◌*◌, List, slice_index, take, drop}
+use Rattle.aram_core.specs.declared.aram.TheConstants.{MEMORY_SIZE}
+
+-- where the memory begins
+abbrev pub memory_place : ℕ
+memory_place = 0x100
+
+-- where the registers of the S-DSP begin, and how many there are
+abbrev pub dsp_place : ℕ
+dsp_place = 0x10100
+
+abbrev pub dsp_size : ℕ
+dsp_size = 128
+
+-- where the extra bytes begin, and how many there are: as many as the boot ROM has
+abbrev pub extra_place : ℕ
+extra_place = 0x101C0
+
+abbrev pub rom_size : ℕ
+rom_size = 64
 
 -- the word at a place, low byte first
 abbrev pub word_of : (file : List ℕ) → (place : ℕ) → ℕ
@@ -12,14 +31,14 @@ pc_of file = word_of file 0x25
 unfoldable pub part_of : (bytes : List ℕ) → (place count : ℕ) → List ℕ
 part_of bytes place count = take count (drop place bytes)
 
--- the memory, 65,536 bytes
+-- the memory
 abbrev pub memory_of : (file : List ℕ) → List ℕ
-memory_of file = part_of file 0x100 0x10000
+memory_of file = part_of file memory_place MEMORY_SIZE
 
--- the registers of the S-DSP, 128 bytes
+-- the registers of the S-DSP
 abbrev pub dsp_of : (file : List ℕ) → List ℕ
-dsp_of file = part_of file 0x10100 128
+dsp_of file = part_of file dsp_place dsp_size
 
--- the extra bytes, 64: the memory beneath the boot ROM
+-- the extra bytes: the memory beneath the boot ROM
 abbrev pub extra_of : (file : List ℕ) → List ℕ
-extra_of file = part_of file 0x101C0 64
+extra_of file = part_of file extra_place rom_size

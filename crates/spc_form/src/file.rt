@@ -1,10 +1,11 @@
 // A file and its fields.
 ghost use Rattle.std.specs.Prelude.{◌≡◌, None, length, slice_index};
-ghost use Rattle.spc_form.specs.Layout.{pc_of, memory_of, dsp_of, extra_of};
+ghost use Rattle.spc_form.specs.Layout.{pc_of, memory_of, dsp_of, extra_of, dsp_size, rom_size};
 ghost use Rattle.spc_form.specs.Tags.{text_of};
 ghost use Rattle.spc_form.specs.Accepted.{signature, first_difference, kept_length};
 
-use crate::parts::part;
+use crate::parts::{DSP_PLACE, DSP_SIZE, EXTRA_PLACE, MEMORY_PLACE, ROM_SIZE, part};
+use aram_core::MEMORY_SIZE;
 use byteorder::{ByteOrder, LittleEndian};
 use std::marker::Model;
 
@@ -94,24 +95,24 @@ impl SpcFile {
     /// The memory, 65,536 bytes.
     pub fn memory(&self) -> &[u8]
         ensures memory { result.now ≡ memory_of self.now }
-        ensures len { length result.now ≡ 0x10000 }
+        ensures len { length result.now ≡ MEMORY_SIZE }
     {
-        part(self.as_slice(), 0x100, 0x10000)
+        part(self.as_slice(), MEMORY_PLACE, MEMORY_SIZE)
     }
 
     /// The registers of the S-DSP, 128 bytes.
     pub fn dsp(&self) -> &[u8]
         ensures dsp { result.now ≡ dsp_of self.now }
-        ensures len { length result.now ≡ 128 }
+        ensures len { length result.now ≡ dsp_size }
     {
-        part(self.as_slice(), 0x10100, 128)
+        part(self.as_slice(), DSP_PLACE, DSP_SIZE)
     }
 
     /// The extra bytes, 64: the memory beneath the boot ROM.
     pub fn extra(&self) -> &[u8]
         ensures extra { result.now ≡ extra_of self.now }
-        ensures len { length result.now ≡ 64 }
+        ensures len { length result.now ≡ rom_size }
     {
-        part(self.as_slice(), 0x101C0, 64)
+        part(self.as_slice(), EXTRA_PLACE, ROM_SIZE)
     }
 }

@@ -1,6 +1,21 @@
-// Parts of a list of bytes.
+// Parts of a list of bytes, and where those of a file stand.
 ghost use Rattle.std.specs.Prelude.{◌≡◌, ◌+◌, ◌≤◌, length};
 ghost use Rattle.spc_form.specs.Layout.{part_of};
+
+/// Where the memory begins.
+pub const MEMORY_PLACE: usize = 0x100;
+
+/// Where the registers of the S-DSP begin.
+pub const DSP_PLACE: usize = 0x10100;
+
+/// How many registers the S-DSP has.
+pub const DSP_SIZE: usize = 128;
+
+/// Where the extra bytes begin.
+pub const EXTRA_PLACE: usize = 0x101C0;
+
+/// How many bytes the boot ROM has.
+pub const ROM_SIZE: usize = 64;
 
 /// Some bytes from a place on.
 #[tactic(auto, unfolding(crate::specs::Layout::part_of))]

@@ -10,6 +10,12 @@ use thiserror::Error;
 /// The greatest length of a file in bytes: 1 MB.
 pub const GREATEST_LENGTH: usize = 1048576;
 
+/// The least length: that of a file whose last 128 bytes are missing.
+const LEAST_LENGTH: usize = 65920;
+
+/// How many bytes are kept of a file.
+const KEPT_LENGTH: usize = 66048;
+
 /// What a file begins with.
 const SIGNATURE: [u8; 27] = *b"SNES-SPC700 Sound File Data";
 
@@ -67,13 +73,13 @@ pub fn read_spc(alloc: Global, bytes: &[u8]) -> Result<SpcFile, SpcRefusal>
     ensures refused { IfErr (spc_file bytes.now) (λ refusal. result ≡ Err refusal) }
     ensures causes { IfErr result (λ refusal. (spc_file bytes.now ≡ Err refusal) ⊎ (refusal ≡ SpcRefusal.OutOfMemory)) }
 {
-    if bytes.len() < 65920 || bytes.len() > GREATEST_LENGTH {
+    if bytes.len() < LEAST_LENGTH || bytes.len() > GREATEST_LENGTH {
         return Err(SpcRefusal::Length(bytes.len()));
     }
     if let Some(at) = first_difference(bytes) {
         return Err(SpcRefusal::Signature(at));
     }
-    let bytes = padded_to(alloc, bytes, 66048)?;
+    let bytes = padded_to(alloc, bytes, KEPT_LENGTH)?;
     Ok(SpcFile { bytes })
 }
 

@@ -3,25 +3,34 @@ ghost use Rattle.std.specs.Prelude.{◌≡◌, ◌+◌, ◌≤◌, ◌++◌, len
 ghost use Rattle.spc_form.specs.Layout.{part_of, dsp_of};
 ghost use Rattle.spc_form.specs.Opening.{shows_rom_of, opening_memory, opening_rom, opening_cells};
 
-use crate::parts::{array_at, part};
+use crate::parts::{DSP_PLACE, DSP_SIZE, ROM_SIZE, array_at, part};
 use crate::{OutOfMemory, SpcFile};
-use aram_core::Aram;
+use aram_core::{Aram, MEMORY_SIZE};
 use num_fix::has_bit;
 use std::alloc::Global;
+
+/// Where the boot ROM begins in memory.
+const ROM_PLACE: usize = 0xFFC0;
+
+/// Where the cells of ports and timers begin in memory.
+const CELLS_PLACE: usize = 0xF0;
+
+/// How many they are.
+const CELL_COUNT: usize = 16;
 
 /// What the machine begins with: the memory, the cells F0h to FFh, the boot ROM, and the registers of the S-DSP.
 #[derive(Drop)]
 pub struct OpenState {
     pub memory: Aram,
-    pub cells: [u8; 16],
-    pub rom: [u8; 64],
-    pub dsp: [u8; 128],
+    pub cells: [u8; CELL_COUNT],
+    pub rom: [u8; ROM_SIZE],
+    pub dsp: [u8; DSP_SIZE],
 }
 
 /// A memory whose end, from a place on, is another one.
 fn with_end(alloc: Global, memory: &[u8], place: usize, end: &[u8]) -> Result<Aram, OutOfMemory>
     requires place { place ≤ length memory.now }
-    requires end { place + length end.now ≡ 0x10000 }
+    requires end { place + length end.now ≡ MEMORY_SIZE }
     ensures { IfOk result (λ whole. whole ≡ part_of memory.now 0 place ++ end.now) }
 {
     let mut image = Vec::from_slice(alloc, part(memory, 0, place))?;
@@ -39,19 +48,19 @@ pub fn opening(alloc: Global, file: &SpcFile) -> Result<OpenState, OutOfMemory>
     let image = file.memory();
     let shows_rom = has_bit(image[0xF1], 7);
     let memory = if shows_rom {
-        with_end(alloc, image, 0xFFC0, file.extra())?
+        with_end(alloc, image, ROM_PLACE, file.extra())?
     } else {
         Aram::from_image(alloc, image)?
     };
     let rom = if shows_rom {
-        array_at::<64>(image, 0xFFC0)
+        array_at::<ROM_SIZE>(image, ROM_PLACE)
     } else {
-        [0; 64]
+        [0; ROM_SIZE]
     };
     Ok(OpenState {
         memory,
-        cells: array_at::<16>(image, 0xF0),
+        cells: array_at::<CELL_COUNT>(image, CELLS_PLACE),
         rom,
-        dsp: array_at::<128>(file.as_slice(), 0x10100),
+        dsp: array_at::<DSP_SIZE>(file.as_slice(), DSP_PLACE),
     })
 }
