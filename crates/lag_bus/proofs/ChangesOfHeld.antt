@@ -20,8 +20,8 @@ use Rattle.lock_step.specs.SampleNumbers.{sample_number}
 use Rattle.lag_bus.specs.Ready.{is_before_sample, ready_frames, waiting_frames, ready_records, waiting_records, NoneIsReady}
 use Rattle.lag_bus.specs.Book.{may_be_read, may_be_written}
 use Rattle.lag_bus.specs.Late.{late_with_sample}
-use Rattle.lag_bus.specs.Held.{Held, IsHeld, IsTaken, pending_samples, late_of}
-use Rattle.lag_bus.specs.declared.taken.TakenReach.{TakenReach}
+use Rattle.lag_bus.specs.Held.{Held, IsHeld, IsKnown, pending_samples, late_of}
+use Rattle.lag_bus.specs.declared.known.KnownReach.{KnownReach}
 use Rattle.chip_form.specs.declared.pages.ReachPages.{ReachPages}
 use Rattle.lag_bus.proofs.MergedRecords.{Each-append, Each-map, Each-filter, Each-merge, merge_voices, merge_event, merge_nothing, length-merge, number_before, later_before, event_after, voice_before, voice_after, voice_number, filter_all, filter_none}
 use Rattle.chip_form.proofs.LawfulSamples.{frame_count_of_samples, is_valid-samples, voices_of_mask}
@@ -138,12 +138,12 @@ module _ {S : Type 0} {chip : ChipMeaning S} (laws : IsLawfulChip chip) where
         }
 
     -- What was asked of the reach stays so over a byte that is put where they don't read, and so does what tells nothing.
-    pub taken_put : (at value : ℕ) (taken : TakenReach) → IsTaken (chip.reach h.state h.memory) taken
-        → (may_be_read (chip.reach h.state h.memory) at ≡ true → (reach : ReachPages) → IsTaken reach taken)
-        → IsTaken (chip.reach h.state (with_byte h.memory at value)) taken
-    taken_put at value taken is_taken any = elim (cases_Bool (may_be_read (chip.reach h.state h.memory) at)) [
+    pub known_put : (at value : ℕ) (known : KnownReach) → IsKnown (chip.reach h.state h.memory) known
+        → (may_be_read (chip.reach h.state h.memory) at ≡ true → (reach : ReachPages) → IsKnown reach known)
+        → IsKnown (chip.reach h.state (with_byte h.memory at value)) known
+    known_put at value known is_known any = elim (cases_Bool (may_be_read (chip.reach h.state h.memory) at)) [
       | inl read ↦ any read (chip.reach h.state (with_byte h.memory at value))
-      | inr unread ↦ subst (λ (reach : ReachPages). IsTaken reach taken) (sym (untouched h.state h.memory at value is.is_valid unread)) is_taken
+      | inr unread ↦ subst (λ (reach : ReachPages). IsKnown reach known) (sym (untouched h.state h.memory at value is.is_valid unread)) is_known
     ]
 
     -- one sample more that is pending

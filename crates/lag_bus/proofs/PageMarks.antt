@@ -3,8 +3,8 @@ use Rattle.std.proofs.Common.{◌≡◌, ℕ, inl, inr, false, None, replicate, 
 use Rattle.std.proofs.lemmas.Bool.{cases_lt}
 use Rattle.std.proofs.lemmas.List.{get_or-replicate, get_or_past, length-replicate}
 use Rattle.chip_form.specs.declared.pages.ReachPages.{ReachPages}
-use Rattle.lag_bus.specs.Held.{AreMarks, IsTaken}
-use Rattle.lag_bus.specs.declared.taken.TakenReach.{TakenReach}
+use Rattle.lag_bus.specs.Held.{AreMarks, IsKnown}
+use Rattle.lag_bus.specs.declared.known.KnownReach.{KnownReach}
 
 -- at first each mark is 0
 unmarked : (page : ℕ) → ◌≡◌ {A = ℕ} (slice_index_or (replicate 256 0) page 0) 0
@@ -18,12 +18,12 @@ pub are_marks : (IsOfKind : ℕ → Type 0) → AreMarks IsOfKind (replicate 256
 are_marks IsOfKind page some = let none = unmarked page in absurd (omega arith)
 
 -- so nothing is told of any reach
-pub none_taken : (reach : ReachPages) → IsTaken reach record { is_any = false; entangled = None; unwritten = replicate 256 0; unread = replicate 256 0 }
-none_taken reach = record { entangled = tt; unwritten = are_marks _; unread = are_marks _; none = λ _. (refl, are_marks _, are_marks _) }
+pub none_known : (reach : ReachPages) → IsKnown reach record { is_any = false; entangled = None; unwritten = replicate 256 0; unread = replicate 256 0 }
+none_known reach = record { entangled = tt; unwritten = are_marks _; unread = are_marks _; none = λ _. (refl, are_marks _, are_marks _) }
 
 -- where nothing was kept, what there is is so of every reach
-pub taken_of_any : (before after : ReachPages) (taken : TakenReach) → taken.is_any ≡ false → IsTaken before taken → IsTaken after taken
-taken_of_any before after taken off is =
+pub known_of_any : (before after : ReachPages) (known : KnownReach) → known.is_any ≡ false → IsKnown before known → IsKnown after known
+known_of_any before after known off is =
     let none = is.none off in
     record {
       entangled = rw none.0 tt;

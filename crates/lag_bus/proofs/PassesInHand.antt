@@ -4,7 +4,7 @@ use Rattle.std.proofs.lemmas.Bool.Decides.{nat_tests}
 use Rattle.ports_timers.specs.declared.io.Io.{Io}
 use Rattle.ports_timers.specs.Io.{is_within, read_answer, after_read, after_write, after_ticks_of}
 use Rattle.chip_form.specs.ChipMeaning.{ChipMeaning}
-use Rattle.lag_bus.specs.Held.{IsPlain}
+use Rattle.lag_bus.specs.Held.{IsMemoryAlone}
 use Rattle.lag_bus.specs.Lagging.{Lagging, lagging, with_book, MatchesBook}
 use Rattle.lag_bus.specs.Waiting.{with_due}
 use Rattle.lag_bus.specs.Running.{due_at, caught_up, IsBehind}
@@ -12,7 +12,7 @@ use Rattle.lag_bus.proofs.LateTicks.{no_ticks, ticks_to_come}
 use Rattle.lag_bus.proofs.SamplesDue.{with_due-none, pass-with_due}
 use Rattle.spc700_exec.specs.declared.bus.TheConstants.{CYCLES_PER_SAMPLE}
 
--- of plain memory neither a port nor a timer nor the ROM is asked or told
+-- where memory alone is neither a port nor a timer nor the ROM is asked or told
 pub record IsApart (io : Io) (at : ℕ) : Type 0 where
   pub register : (at == 0xF3) ≡ false
   pub port : is_within 0xF4 0xF7 at ≡ false
@@ -20,10 +20,10 @@ pub record IsApart (io : Io) (at : ℕ) : Type 0 where
   pub read : after_read io at ≡ io
   pub write : (value : ℕ) → after_write io at value ≡ io
 
-pub plain_apart : (io : Io) (at : ℕ) → IsPlain at → IsApart io at
-plain_apart io at plain =
-    let outside = plain.0 in
-    let below = plain.1 in
+pub alone_apart : (io : Io) (at : ℕ) → IsMemoryAlone at → IsApart io at
+alone_apart io at alone =
+    let outside = alone.0 in
+    let below = alone.1 in
     let f1 : (at == 0xF1) ≡ false = grind (arith, nat_tests) in
     let f2 : (at == 0xF2) ≡ false = grind (arith, nat_tests) in
     let f3 : (at == 0xF3) ≡ false = grind (arith, nat_tests) in

@@ -15,7 +15,7 @@ use Rattle.lag_bus.specs.Merge.{merge}
 use Rattle.lock_step.specs.SampleNumbers.{sample_number}
 use Rattle.lag_bus.specs.Ready.{is_before_sample}
 use Rattle.lag_bus.specs.Late.{Late}
-use Rattle.lag_bus.specs.declared.taken.TakenReach.{TakenReach}
+use Rattle.lag_bus.specs.declared.known.KnownReach.{KnownReach}
 
 pub record Held (S : Type 0) : Type 0 where
   -- the chip's state, the number of its next sample, and the batches and samples that it made in all
@@ -66,24 +66,24 @@ pub record IsHeld {S : Type 0} (chip : ChipMeaning S) (h : Held S) : Type 0 wher
   pub frames_fit : length h.frames + h.pending ≤ frame_room
   pub records_fit : length h.records + length h.ring + 8 * h.pending ≤ record_room
 
--- where a page's plain memory ends: before the ports of page 0, or before the ROM
-abbrev pub plain_end : (page : ℕ) → ℕ
-plain_end page = if page == 0 then 0xF0 else 0xFFC0
+-- where memory alone ends on a page: before the ports of page 0, or before the ROM
+abbrev pub memory_end : (page : ℕ) → ℕ
+memory_end page = if page == 0 then 0xF0 else 0xFFC0
 
--- A page of a kind is marked by where its plain memory ends, or by an address before that. The mark 0 says nothing of its page.
+-- A page of a kind is marked by where memory alone ends on it, or by an address before that. The mark 0 says nothing of its page.
 abbrev pub AreMarks : (IsOfKind : (page : ℕ) → Type 0) → (marks : List ℕ) → Type 0
-AreMarks IsOfKind marks = (page : ℕ) → 0 < slice_index_or marks page 0 → IsOfKind page × (slice_index_or marks page 0 ≤ plain_end page)
+AreMarks IsOfKind marks = (page : ℕ) → 0 < slice_index_or marks page 0 → IsOfKind page × (slice_index_or marks page 0 ≤ memory_end page)
 
 -- what was asked of a reach, and not dropped, is so
-pub record IsTaken (reach : ReachPages) (taken : TakenReach) : Type 0 where
-  pub entangled : IfSome taken.entangled (λ is_entangled. is_entangled ≡ reach.entangled)
+pub record IsKnown (reach : ReachPages) (known : KnownReach) : Type 0 where
+  pub entangled : IfSome known.entangled (λ is_entangled. is_entangled ≡ reach.entangled)
   -- samples to come don't write a page that is marked as unwritten
-  pub unwritten : AreMarks (λ page. set.contains reach.write_pages page ≡ false) taken.unwritten
+  pub unwritten : AreMarks (λ page. set.contains reach.write_pages page ≡ false) known.unwritten
   -- and they don't read one that is marked as unread, so that a write to it is nothing to them
-  pub unread : AreMarks (λ page. (reach.entangled || set.contains reach.read_pages page) ≡ false) taken.unread
+  pub unread : AreMarks (λ page. (reach.entangled || set.contains reach.read_pages page) ≡ false) known.unread
   -- where nothing was kept there is no mark
-  pub none : taken.is_any ≡ false → (taken.entangled ≡ None) × AreMarks (λ page. ⊥) taken.unwritten × AreMarks (λ page. ⊥) taken.unread
+  pub none : known.is_any ≡ false → (known.entangled ≡ None) × AreMarks (λ page. ⊥) known.unwritten × AreMarks (λ page. ⊥) known.unread
 
 -- memory alone is at an address
-abbrev pub IsPlain : (at : ℕ) → Type 0
-IsPlain at = (is_within 0xF0 0xFF at ≡ false) × (at < 0xFFC0)
+abbrev pub IsMemoryAlone : (at : ℕ) → Type 0
+IsMemoryAlone at = (is_within 0xF0 0xFF at ≡ false) × (at < 0xFFC0)

@@ -43,7 +43,8 @@ module _ {S : Type 0} (chip : ChipMeaning S) where
   pass_next bus cycles true crosses = rw crosses refl
   pass_next bus cycles false crosses = rw crosses refl
 
-  pub next_book : (cause : Option Cause) (m n : Machine S) (book : Book) → m.chip ≡ n.chip → m.memory ≡ n.memory → after_cause chip cause m book ≡ after_cause chip cause n book
+  pub next_book : (cause : Option Cause) (m n : Machine S) (book : Book) → m.chip ≡ n.chip → m.memory ≡ n.memory
+      → after_cause chip cause m book ≡ after_cause chip cause n book
   next_book None m n book same_chip same_memory = refl
   next_book (Some cause) m n book same_chip same_memory = rw (same_chip, same_memory) refl
 
@@ -53,10 +54,13 @@ module _ {S : Type 0} (chip : ChipMeaning S) where
       let same = next_book cause (after_bus_read bus.machine at) (after_bus_read (drained_machine bus.machine) at) bus.book refl refl in
       λ i. with_book (drained_machine (after_bus_read bus.machine at)) (same i)
 
-  write_next : (bus : Lagging S) (at value : ℕ) → without_items ((lagging chip).write bus at value) ≡ without_items ((lagging chip).write (without_items bus) at value)
+  write_next : (bus : Lagging S) (at value : ℕ)
+      → without_items ((lagging chip).write bus at value) ≡ without_items ((lagging chip).write (without_items bus) at value)
   write_next bus at value =
       let cause = cause_of_write bus.book.reach bus.machine.io.dsp_address at bus.book.pending bus.book.events in
-      let same = next_book cause (after_bus_write chip bus.machine at value) (after_bus_write chip (drained_machine bus.machine) at value) (with_event cause at bus.book) refl refl in
+      let after = after_bus_write chip bus.machine at value in
+      let drained = after_bus_write chip (drained_machine bus.machine) at value in
+      let same = next_book cause after drained (with_event cause at bus.book) refl refl in
       λ i. with_book (drained_machine (after_bus_write chip bus.machine at value)) (same i)
 
   pub emits_frames : IsEmitting (lagging chip) without_items (λ bus. bus.machine.frames)
@@ -124,7 +128,10 @@ module _ {S : Type 0} (chip : ChipMeaning S) where
   one_more is counts = let first = counts.rises in record { rises = omega arith; counted = λ fits. let second = counts.counted fits in omega arith }
 
   counts-pass : (bus : Lagging S) (cycles : ℕ) (m : Machine S) (b : Bool) → crosses_sample bus.machine.clock cycles ≡ b → cycles ≤ CYCLES_PER_SAMPLE
-      → (let new = if b then with_sample chip m bus.book else bus.book in CountsOn (bus.machine.clock / CYCLES_PER_SAMPLE) bus.book.pending bus.book.total ((bus.machine.clock + cycles) / CYCLES_PER_SAMPLE) new.pending new.total)
+      → (let new = if b then with_sample chip m bus.book else bus.book in
+      let made = bus.machine.clock / CYCLES_PER_SAMPLE in
+      let next = (bus.machine.clock + cycles) / CYCLES_PER_SAMPLE in
+      CountsOn made bus.book.pending bus.book.total next new.pending new.total)
   counts-pass bus cycles m true is few =
       let next : (bus.machine.clock + cycles) / CYCLES_PER_SAMPLE ≡ bus.machine.clock / CYCLES_PER_SAMPLE + 1 = grind (arith, nat_tests) in
       one_more next (counts-full (bus.machine.clock / CYCLES_PER_SAMPLE) m (record bus.book { pending = bus.book.pending + 1 }) _)
@@ -134,7 +141,9 @@ module _ {S : Type 0} (chip : ChipMeaning S) where
 
   pub counting : IsCounting (lagging chip) (lag_emits chip)
   counting = record {
-    read_counts = λ bus at. counts-cause (bus.machine.clock / CYCLES_PER_SAMPLE) (cause_of_read chip bus.book.reach bus.machine.io.dsp_address at) (after_bus_read bus.machine at) bus.book;
+    read_counts = λ bus at.
+        let cause = cause_of_read chip bus.book.reach bus.machine.io.dsp_address at in
+        counts-cause (bus.machine.clock / CYCLES_PER_SAMPLE) cause (after_bus_read bus.machine at) bus.book;
     write_counts = λ bus at value.
         let cause = cause_of_write bus.book.reach bus.machine.io.dsp_address at bus.book.pending bus.book.events in
         counts-write (bus.machine.clock / CYCLES_PER_SAMPLE) cause (after_bus_write chip bus.machine at value) at bus.book;

@@ -6,7 +6,7 @@ ghost use Rattle.spc700_exec.specs.Bus.{most_calls, most_calls_before_step};
 ghost use Rattle.spc700_exec.specs.Instruction.{step_outcome};
 ghost use Rattle.lock_step.specs.LockStep.{samples_made};
 ghost use Rattle.lag_bus.specs.Book.{may_be_read, may_be_written};
-ghost use Rattle.lag_bus.specs.Held.{IsPlain};
+ghost use Rattle.lag_bus.specs.Held.{IsMemoryAlone};
 ghost use Rattle.lag_bus.specs.Lagging.{Lagging, lagging, MatchesBook};
 ghost use Rattle.lag_bus.specs.Waiting.{without_calls};
 ghost use Rattle.lag_bus.specs.Running.{caught_up, IsBehind, IsDrained, WritesWithin, ReadsWithin};
@@ -24,14 +24,14 @@ pub trait BehindBus {
     ghost shows: { Self → Lagging Self.C.State };
 
     /// Whether a mark tells that memory alone is at an address and that no sample to come writes it.
-    fn is_plain(&self, addr: u16) -> bool
+    fn is_unwritten_memory(&self, addr: u16) -> bool
         ensures unwritten { result ≡ true → may_be_written (shows self.now).book.reach addr ≡ false }
-        ensures plain { result ≡ true → IsPlain addr };
+        ensures alone { result ≡ true → IsMemoryAlone addr };
 
     /// Whether a mark tells that memory alone is at an address and that no sample to come reads it.
-    fn is_unread(&self, addr: u16) -> bool
+    fn is_unread_memory(&self, addr: u16) -> bool
         ensures unread { result ≡ true → may_be_read (shows self.now).book.reach addr ≡ false }
-        ensures plain { result ≡ true → IsPlain addr };
+        ensures alone { result ≡ true → IsMemoryAlone addr };
 
     /// The byte of memory at an address. Samples to come don't write it.
     fn byte(&self, addr: u16) -> u8

@@ -2,16 +2,16 @@
 ghost use Rattle.std.specs.Prelude.{◌≡◌, ◌/◌, true, false};
 ghost use Rattle.chip_form.specs.declared.pages.ReachPages.{ReachPages};
 ghost use Rattle.lag_bus.specs.Book.{may_be_read, may_be_written};
-ghost use Rattle.lag_bus.specs.Held.{plain_end, IsPlain, IsTaken};
+ghost use Rattle.lag_bus.specs.Held.{memory_end, IsMemoryAlone, IsKnown};
 
 use aram_core::{Aram, page_of};
 use chip_form::Chip;
 
 /// What was asked of a chip's reach since it was dropped: whether it is entangled, and marks of the pages that no sample writes by
-/// it, and of those that none reads. The mark of a page is the end of its plain memory, so that one comparison tells most
+/// it, and of those that none reads. The mark of a page is where memory alone ends on it, so that one comparison tells most
 /// addresses; 0 is no mark.
 #[derive(Drop)]
-pub struct TakenReach {
+pub struct KnownReach {
     /// Whether anything of it was kept.
     is_any: bool,
     entangled: Option<bool>,
@@ -19,19 +19,19 @@ pub struct TakenReach {
     unread: [u16; 256],
 }
 
-/// Where the plain memory of the page of an address ends.
-fn plain_end(at: u16) -> u16
-    ensures { result ≡ plain_end (at / 0x100) }
+/// Where memory alone ends on the page of an address.
+fn memory_end(at: u16) -> u16
+    ensures { result ≡ memory_end (at / 0x100) }
 {
     if at < 0x100 { 0xF0 } else { 0xFFC0 }
 }
 
-impl TakenReach {
+impl KnownReach {
     /// Nothing was asked.
     pub fn none() -> Self
-        ensures { (reach : ReachPages) → IsTaken reach result }
+        ensures { (reach : ReachPages) → IsKnown reach result }
     {
-        TakenReach {
+        KnownReach {
             is_any: false,
             entangled: None,
             unwritten: [0; 256],
@@ -43,7 +43,7 @@ impl TakenReach {
     // In line with writes and batches: where nothing was asked it is one test.
     #[inline]
     pub fn forget(&mut self)
-        ensures { (before after : ReachPages) → IsTaken before self.old → IsTaken after self.new }
+        ensures { (before after : ReachPages) → IsKnown before self.old → IsKnown after self.new }
     {
         if self.is_any {
             self.is_any = false;
@@ -55,9 +55,9 @@ impl TakenReach {
 
     /// Whether a mark tells that memory alone is at an address, which no sample writes.
     #[inline(always)]
-    pub fn is_plain(&self, at: u16) -> bool
-        ensures unwritten { (reach : ReachPages) → IsTaken reach self.now → result ≡ true → may_be_written reach at ≡ false }
-        ensures plain { (reach : ReachPages) → IsTaken reach self.now → result ≡ true → IsPlain at }
+    pub fn is_unwritten_memory(&self, at: u16) -> bool
+        ensures unwritten { (reach : ReachPages) → IsKnown reach self.now → result ≡ true → may_be_written reach at ≡ false }
+        ensures alone { (reach : ReachPages) → IsKnown reach self.now → result ≡ true → IsMemoryAlone at }
     {
         at < self.unwritten[usize::from(page_of(at))]
     }
@@ -65,16 +65,16 @@ impl TakenReach {
     /// Whether the page of an address is marked as one that no sample writes.
     #[inline]
     pub fn is_unwritten(&self, at: u16) -> bool
-        ensures { (reach : ReachPages) → IsTaken reach self.now → result ≡ true → may_be_written reach at ≡ false }
+        ensures { (reach : ReachPages) → IsKnown reach self.now → result ≡ true → may_be_written reach at ≡ false }
     {
         0 < self.unwritten[usize::from(page_of(at))]
     }
 
     /// Whether a mark tells that memory alone is at an address, which no sample reads.
     #[inline(always)]
-    pub fn is_unread(&self, at: u16) -> bool
-        ensures unread { (reach : ReachPages) → IsTaken reach self.now → result ≡ true → may_be_read reach at ≡ false }
-        ensures plain { (reach : ReachPages) → IsTaken reach self.now → result ≡ true → IsPlain at }
+    pub fn is_unread_memory(&self, at: u16) -> bool
+        ensures unread { (reach : ReachPages) → IsKnown reach self.now → result ≡ true → may_be_read reach at ≡ false }
+        ensures alone { (reach : ReachPages) → IsKnown reach self.now → result ≡ true → IsMemoryAlone at }
     {
         at < self.unread[usize::from(page_of(at))]
     }
@@ -82,16 +82,16 @@ impl TakenReach {
     /// Whether the page of an address is marked as one that no sample reads.
     #[inline]
     fn is_marked_unread(&self, at: u16) -> bool
-        ensures { (reach : ReachPages) → IsTaken reach self.now → result ≡ true → may_be_read reach at ≡ false }
+        ensures { (reach : ReachPages) → IsKnown reach self.now → result ≡ true → may_be_read reach at ≡ false }
     {
         0 < self.unread[usize::from(page_of(at))]
     }
 
     /// Whether the reach of a chip is entangled. It is asked once.
     fn is_entangled<C: Chip>(&mut self, chip: &C, memory: &Aram) -> bool
-        requires { IsTaken (C.meaning.reach (C.state chip.now) memory.now) self.old }
+        requires { IsKnown (C.meaning.reach (C.state chip.now) memory.now) self.old }
         ensures answer { result ≡ (C.meaning.reach (C.state chip.now) memory.now).entangled }
-        ensures taken { IsTaken (C.meaning.reach (C.state chip.now) memory.now) self.new }
+        ensures known { IsKnown (C.meaning.reach (C.state chip.now) memory.now) self.new }
     {
         match self.entangled {
             Some(entangled) => entangled,
@@ -106,9 +106,9 @@ impl TakenReach {
 
     /// Whether samples may read the byte at an address. A page that they don't read is marked.
     pub fn may_be_read<C: Chip>(&mut self, chip: &C, memory: &Aram, at: u16) -> bool
-        requires { IsTaken (C.meaning.reach (C.state chip.now) memory.now) self.old }
+        requires { IsKnown (C.meaning.reach (C.state chip.now) memory.now) self.old }
         ensures answer { result ≡ may_be_read (C.meaning.reach (C.state chip.now) memory.now) at }
-        ensures taken { IsTaken (C.meaning.reach (C.state chip.now) memory.now) self.new }
+        ensures known { IsKnown (C.meaning.reach (C.state chip.now) memory.now) self.new }
     {
         if self.is_marked_unread(at) {
             return false;
@@ -117,30 +117,30 @@ impl TakenReach {
             return true;
         }
         self.is_any = true;
-        self.unread[usize::from(page_of(at))] = plain_end(at);
+        self.unread[usize::from(page_of(at))] = memory_end(at);
         false
     }
 
     /// Whether samples may write the byte at an address. A page that they don't write is marked.
     pub fn may_be_written<C: Chip>(&mut self, chip: &C, memory: &Aram, at: u16) -> bool
-        requires { IsTaken (C.meaning.reach (C.state chip.now) memory.now) self.old }
+        requires { IsKnown (C.meaning.reach (C.state chip.now) memory.now) self.old }
         ensures answer { result ≡ may_be_written (C.meaning.reach (C.state chip.now) memory.now) at }
-        ensures taken { IsTaken (C.meaning.reach (C.state chip.now) memory.now) self.new }
+        ensures known { IsKnown (C.meaning.reach (C.state chip.now) memory.now) self.new }
     {
         if chip.writes_page(memory, page_of(at)) {
             return true;
         }
         self.is_any = true;
-        self.unwritten[usize::from(page_of(at))] = plain_end(at);
+        self.unwritten[usize::from(page_of(at))] = memory_end(at);
         false
     }
 
     /// Makes ready for a write at an address while no sample is pending: what was kept goes where the write may make the reach another one.
     #[inline]
     pub fn before_write<C: Chip>(&mut self, chip: &C, memory: &Aram, at: u16)
-        requires { IsTaken (C.meaning.reach (C.state chip.now) memory.now) self.old }
-        ensures taken { IsTaken (C.meaning.reach (C.state chip.now) memory.now) self.new }
-        ensures any { may_be_read (C.meaning.reach (C.state chip.now) memory.now) at ≡ true → (reach : ReachPages) → IsTaken reach self.new }
+        requires { IsKnown (C.meaning.reach (C.state chip.now) memory.now) self.old }
+        ensures known { IsKnown (C.meaning.reach (C.state chip.now) memory.now) self.new }
+        ensures any { may_be_read (C.meaning.reach (C.state chip.now) memory.now) at ≡ true → (reach : ReachPages) → IsKnown reach self.new }
     {
         if self.is_any && self.may_be_read(chip, memory, at) {
             self.forget();

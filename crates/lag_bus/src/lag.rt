@@ -16,7 +16,7 @@ ghost use Rattle.lag_bus.specs.LagEmits.{lag_emits, after_drain};
 ghost use Rattle.lag_bus.specs.LagLaws.{lagging-lawful, emits_frames, emits_records, frame_each, counting, beside};
 ghost use Rattle.ports_timers.specs.Zeros.{zeros_stay, AreTimers};
 ghost use Rattle.lag_bus.specs.Waiting.{byte_seen, samples_in};
-ghost use Rattle.lag_bus.specs.Held.{IsPlain};
+ghost use Rattle.lag_bus.specs.Held.{IsMemoryAlone};
 
 use crate::OutOfMemory;
 use crate::behind::BehindBus;
@@ -213,7 +213,7 @@ impl<C: Chip> LagBus<C> {
     /// A read of an address of which no mark tells anything.
     // Out of line, as what is rarer than an access of memory alone.
     #[inline(never)]
-    #[tactic(auto, using(crate::proofs::PassesInHand::plain_apart))]
+    #[tactic(auto, using(crate::proofs::PassesInHand::alone_apart))]
     fn read_unmarked(&mut self, addr: u16) -> u8
         requires { self.old.machine.calls < most_calls }
         ensures answer { result ≡ ((lagging C.meaning).read self.old addr).0 }
@@ -226,12 +226,28 @@ impl<C: Chip> LagBus<C> {
         if self.late.pending_may_write(addr) {
             settle_for(&mut self.late, &mut self.counts, Cause::Echo);
         }
-        if is_plain(addr) {
+        if is_memory_alone(addr) {
             return self.late.get(addr);
         }
         let address = self.time.dsp_address();
         let told = self.time.read(addr);
         answer_of(&self.late, address, told, addr)
+    }
+
+    /// A read that is first looked at as one of memory alone while nothing is pending. Where each sample is a batch, as with an echo that
+    /// writes page 0, most are.
+    #[inline(always)]
+    #[tactic(auto, using(crate::proofs::PassesInHand::alone_apart))]
+    fn read_memory_first(&mut self, addr: u16) -> u8
+        requires { self.old.machine.calls < most_calls }
+        ensures answer { result ≡ ((lagging C.meaning).read self.old addr).0 }
+        ensures next { self.new ≡ ((lagging C.meaning).read self.old addr).1 }
+    {
+        if self.late.pending() == 0 && is_memory_alone(addr) {
+            self.time.count();
+            return self.late.get(addr);
+        }
+        self.read(addr)
     }
 
     /// Cycles for which it can be waited before the end of a run to so many samples.
@@ -276,8 +292,8 @@ impl<C: Chip> LagBus<C> {
 }
 
 /// Whether memory alone is at an address: no port, no timer, no register and no ROM.
-fn is_plain(addr: u16) -> bool
-    ensures { result ≡ true → IsPlain addr }
+fn is_memory_alone(addr: u16) -> bool
+    ensures { result ≡ true → IsMemoryAlone addr }
 {
     match addr {
         0xF0..=0xFF | 0xFFC0.. => false,
@@ -361,7 +377,8 @@ fn write_beside_pending<C: Chip>(late: &mut LateChip<C>, at: u16, value: u8, sam
 impl<C: Chip> Bus for LagBus<C> {
     ghost means = { lagging C.meaning };
 
-    // Mostly the address is a port, in page 0, which no sample writes.
+    // Mostly the address is a port, in page 0, which no sample writes. Out of line, as what is rarer than an access of memory alone.
+    #[inline(never)]
     fn read(&mut self, addr: u16) -> u8 {
         if addr >= 0x100 || addr == 0xF3 || !self.late.is_unwritten(addr) {
             return self.read_unmarked(addr);
@@ -410,13 +427,13 @@ impl<C: Chip> BehindBus for LagBus<C> {
     ghost shows = { λ bus. bus };
 
     #[inline(always)]
-    fn is_plain(&self, addr: u16) -> bool {
-        self.late.is_plain(addr)
+    fn is_unwritten_memory(&self, addr: u16) -> bool {
+        self.late.is_unwritten_memory(addr)
     }
 
     #[inline(always)]
-    fn is_unread(&self, addr: u16) -> bool {
-        self.late.is_unread(addr)
+    fn is_unread_memory(&self, addr: u16) -> bool {
+        self.late.is_unread_memory(addr)
     }
 
     #[inline(always)]
@@ -466,7 +483,7 @@ impl<C: Chip> BehindBus for LagBus<C> {
     #[inline(never)]
     fn read_later(&mut self, clock: u64, calls: u8, addr: u16) -> u8 {
         self.catch_up(clock, calls);
-        self.read(addr)
+        self.read_memory_first(addr)
     }
 
     #[cold]
@@ -498,7 +515,7 @@ impl<C: Chip> Looks for LagBus<C> {
 
     fn see(&self, addr: u16) -> Option<u8> {
         // Mostly a mark tells that memory alone is there, and then no timer is asked.
-        if self.late.is_plain(addr) {
+        if self.late.is_unwritten_memory(addr) {
             return Some(self.late.get(addr));
         }
         if addr == 0xF3 || self.late.is_written(addr) {

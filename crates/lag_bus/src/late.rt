@@ -3,7 +3,7 @@ ghost use Rattle.std.specs.Prelude.{ℕ, ◌≡◌, ◌&&◌, ◌+◌, ◌-◌, 
 ghost use Rattle.aram_core.specs.Memory.{byte_at, with_byte};
 ghost use Rattle.chip_form.specs.Samples.{samples, AddsSamples, next_count, count_after};
 ghost use Rattle.lag_bus.specs.Book.{may_be_read, may_be_written, cause_of_read, cause_of_write};
-ghost use Rattle.lag_bus.specs.Held.{IsPlain};
+ghost use Rattle.lag_bus.specs.Held.{IsMemoryAlone};
 ghost use Rattle.lag_bus.specs.Late.{late_with_sample, AreWritesWithin, AreReadsWithin};
 ghost use Rattle.trace_form.specs.Rooms.{frame_room, record_room, event_room};
 ghost use Rattle.chip_form.specs.Limits.{most_samples_of_batch, most_samples_of_chip};
@@ -11,8 +11,8 @@ ghost use Rattle.lock_step.specs.SampleNumbers.{sample_number};
 ghost use Rattle.lag_bus.specs.Ready.{is_before_sample, ready_frames, waiting_frames, ready_records, waiting_records, NoneIsReady};
 
 use crate::cause::{self, Cause};
+use crate::known::KnownReach;
 use crate::merging::merge_into;
-use crate::taken::TakenReach;
 use aram_core::{Aram, page_of};
 use chip_form::Chip;
 use lock_step::{writes_port, writes_register};
@@ -30,7 +30,7 @@ pub struct LateChip<C: Chip> {
     memory: Aram,
     mask: u8,
     pending: u8,
-    taken: TakenReach,
+    known: KnownReach,
     frames: Frames,
     records: Records,
     voices: Records,
@@ -39,7 +39,7 @@ pub struct LateChip<C: Chip> {
 
 impl<C: Chip> Model for LateChip<C> {
     ghost use Rattle.lag_bus.specs.Late.{Late};
-    ghost use Rattle.lag_bus.specs.Held.{late_of, IsHeld, IsTaken};
+    ghost use Rattle.lag_bus.specs.Held.{late_of, IsHeld, IsKnown};
     ghost use Rattle.std.specs.Coded.{codes};
     ghost use Rattle.aram_core.specs.contracts.page_set.PageSet as page_set;
 
@@ -71,7 +71,7 @@ impl<C: Chip> Model for LateChip<C> {
       ring = b.ring;
       mask = b.mask;
       pending = b.pending;
-    }) × IsTaken (C.meaning.reach (C.state b.chip) b.memory) b.taken };
+    }) × IsKnown (C.meaning.reach (C.state b.chip) b.memory) b.known };
 }
 
 /// Clears a list and moves another one into it. Mostly that one is empty.
@@ -156,7 +156,7 @@ impl<C: Chip> LateChip<C> {
         ensures answer { result ≡ may_be_read self.old.reach at }
         ensures rest { self.new ≡ self.old }
     {
-        self.taken.may_be_read(&self.chip, &self.memory, at)
+        self.known.may_be_read(&self.chip, &self.memory, at)
     }
 
     /// Whether the pending samples may write the byte at an address. A page that they don't write is marked.
@@ -166,25 +166,25 @@ impl<C: Chip> LateChip<C> {
         ensures answer { result ≡ may_be_written self.old.reach at }
         ensures rest { self.new ≡ self.old }
     {
-        self.taken.may_be_written(&self.chip, &self.memory, at)
+        self.known.may_be_written(&self.chip, &self.memory, at)
     }
 
     /// Whether a mark tells that memory alone is at an address and that no pending sample writes it.
     #[inline(always)]
-    pub fn is_plain(&self, at: u16) -> bool
+    pub fn is_unwritten_memory(&self, at: u16) -> bool
         ensures unwritten { result ≡ true → may_be_written self.now.reach at ≡ false }
-        ensures plain { result ≡ true → IsPlain at }
+        ensures alone { result ≡ true → IsMemoryAlone at }
     {
-        self.taken.is_plain(at)
+        self.known.is_unwritten_memory(at)
     }
 
     /// Whether a mark tells that memory alone is at an address and that no pending sample reads it.
     #[inline(always)]
-    pub fn is_unread(&self, at: u16) -> bool
+    pub fn is_unread_memory(&self, at: u16) -> bool
         ensures unread { result ≡ true → may_be_read self.now.reach at ≡ false }
-        ensures plain { result ≡ true → IsPlain at }
+        ensures alone { result ≡ true → IsMemoryAlone at }
     {
-        self.taken.is_unread(at)
+        self.known.is_unread_memory(at)
     }
 
     /// Whether a mark tells that no pending sample writes the byte at an address.
@@ -192,7 +192,7 @@ impl<C: Chip> LateChip<C> {
     pub fn is_unwritten(&self, at: u16) -> bool
         ensures { result ≡ true → may_be_written self.now.reach at ≡ false }
     {
-        self.taken.is_unwritten(at)
+        self.known.is_unwritten(at)
     }
 
     /// Whether samples are pending that may write the byte at an address. Mostly a mark tells that they don't.
@@ -202,7 +202,7 @@ impl<C: Chip> LateChip<C> {
         ensures rest { self.new ≡ self.old }
         ensures reach { self.old.pending ≡ 0 → self.old.reach ≡ C.meaning.reach self.old.chip self.old.memory }
     {
-        if self.pending == 0 || self.taken.is_unwritten(at) {
+        if self.pending == 0 || self.known.is_unwritten(at) {
             return false;
         }
         self.may_be_written(at)
@@ -260,7 +260,7 @@ impl<C: Chip> LateChip<C> {
         ensures same_reach { may_be_read self.old.reach at ≡ false → self.new.reach ≡ self.old.reach }
     {
         if self.pending == 0 {
-            self.taken.before_write(&self.chip, &self.memory, at);
+            self.known.before_write(&self.chip, &self.memory, at);
             self.memory.put(at, value);
         } else {
             self.memory.put(at, value);
@@ -284,7 +284,7 @@ impl<C: Chip> LateChip<C> {
             self.new ≡ record self.old { chip = written; reach = C.meaning.reach written self.old.memory } }
     {
         self.chip.reg_write(address, value);
-        self.taken.forget();
+        self.known.forget();
     }
 
     /// Emits the record of a write. While samples are pending it waits for them.
@@ -372,7 +372,7 @@ impl<C: Chip> LateChip<C> {
         );
         merge_into(&self.voices, &mut self.ring, &mut self.records);
         self.pending = 0;
-        self.taken.forget();
+        self.known.forget();
     }
 
     /// Clears two lists and moves into them what was emitted before the first pending sample.
@@ -428,7 +428,7 @@ impl<C: Chip> LateChip<C> {
     {
         self.chip.load(saved);
         self.memory.copy_from(memory);
-        self.taken = TakenReach::none();
+        self.known = KnownReach::none();
     }
 
     /// The samples that the chip made in all, those before a load too.
@@ -482,7 +482,7 @@ impl<C: Chip> LateChip<C> {
             memory,
             mask,
             pending: 0,
-            taken: TakenReach::none(),
+            known: KnownReach::none(),
             frames,
             records,
             voices,

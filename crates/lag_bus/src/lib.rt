@@ -5,13 +5,13 @@ mod behind;
 mod cause;
 mod clocked;
 mod counting;
+mod known;
 mod lag;
 mod late;
 mod laws;
 mod merging;
 mod running;
 mod saved;
-mod taken;
 mod waiting;
 
 pub use lag::LagBus;

@@ -252,7 +252,7 @@ impl<'a, B: BehindBus> Bus for RunningBus<'a, B> {
     fn read(&mut self, addr: u16) -> u8 {
         let calls = self.calls;
         self.calls += 1;
-        if self.bus.is_plain(addr) {
+        if self.bus.is_unwritten_memory(addr) {
             return self.bus.byte(addr);
         }
         self.bus.read_later(self.until - self.left, calls, addr)
@@ -262,7 +262,7 @@ impl<'a, B: BehindBus> Bus for RunningBus<'a, B> {
     fn write(&mut self, addr: u16, value: u8) {
         let calls = self.calls;
         self.calls += 1;
-        if self.bus.is_unread(addr) {
+        if self.bus.is_unread_memory(addr) {
             return self.bus.put_unread(addr, value);
         }
         self.bus

@@ -1,5 +1,5 @@
-use Rattle.lag_bus.proofs.PageMarks.{none_taken}
-use Rattle.lag_bus.proofs.taken.TakenReach.none.Goals as goal
+use Rattle.lag_bus.proofs.PageMarks.{none_known}
+use Rattle.lag_bus.proofs.known.KnownReach.none.Goals as goal
 
 pub returns : goal.returns
-returns c = none_taken
+returns c = none_known

@@ -1,11 +1,11 @@
-use Rattle.lag_bus.proofs.ChangesOfHeld.{late_put, late_put_reach, held_put, taken_put}
+use Rattle.lag_bus.proofs.ChangesOfHeld.{late_put, late_put_reach, held_put, known_put}
 use Rattle.lag_bus.proofs.late.LateChip.put.Goals as goal
 
 pub invariant_of-self : goal.invariant_of-self
 invariant_of-self g c = (
   held_put g.met.C.Chip.lawful c.self.invariant.0 c.put.new.self,
   rw c.put.ensures
-      (taken_put g.met.C.Chip.lawful c.self.invariant.0 c.args.at c.args.value c.before_write.new.self c.before_write.ensures.taken c.before_write.ensures.any),
+      (known_put g.met.C.Chip.lawful c.self.invariant.0 c.args.at c.args.value c.before_write.new.self c.before_write.ensures.known c.before_write.ensures.any),
 )
 
 pub returns-then-self-eq0-clause-memory : goal.returns-then-self-eq0-clause-memory
