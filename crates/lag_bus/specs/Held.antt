@@ -81,6 +81,8 @@ pub record IsKnown (reach : ReachPages) (known : KnownReach) : Type 0 where
   pub unwritten : AreMarks (λ page. set.contains reach.write_pages page ≡ false) known.unwritten
   -- and they don't read one that is marked as unread, so that a write to it is nothing to them
   pub unread : AreMarks (λ page. (reach.entangled || set.contains reach.read_pages page) ≡ false) known.unread
+  -- where no more was kept than the mark of one page as unwritten, there is no other
+  pub single : known.is_single ≡ true → (known.entangled ≡ None) × AreMarks (λ page. page ≡ known.page) known.unwritten × AreMarks (λ page. ⊥) known.unread
   -- where nothing was kept there is no mark
   pub none : known.is_any ≡ false → (known.entangled ≡ None) × AreMarks (λ page. ⊥) known.unwritten × AreMarks (λ page. ⊥) known.unread
 

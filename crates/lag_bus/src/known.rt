@@ -1,5 +1,6 @@
 // What was asked of a chip's reach, and what was found by it. The tests of marks are inlined into each access of the bus.
 ghost use Rattle.std.specs.Prelude.{◌≡◌, ◌/◌, true, false};
+ghost use Rattle.std.specs.FinSet as set;
 ghost use Rattle.chip_form.specs.declared.pages.ReachPages.{ReachPages};
 ghost use Rattle.lag_bus.specs.Book.{may_be_read, may_be_written};
 ghost use Rattle.lag_bus.specs.Held.{memory_end, IsMemoryAlone, IsKnown};
@@ -14,16 +15,20 @@ use chip_form::Chip;
 pub struct KnownReach {
     /// Whether anything of it was kept.
     is_any: bool,
+    /// Whether no more was kept than the mark of one page as unwritten.
+    is_single: bool,
+    /// The page that was marked last as unwritten.
+    page: u8,
     entangled: Option<bool>,
     unwritten: [u16; 256],
     unread: [u16; 256],
 }
 
-/// Where memory alone ends on the page of an address.
-fn memory_end(at: u16) -> u16
-    ensures { result ≡ memory_end (at / 0x100) }
+/// Where memory alone ends on a page.
+fn memory_end(page: u8) -> u16
+    ensures { result ≡ memory_end page }
 {
-    if at < 0x100 { 0xF0 } else { 0xFFC0 }
+    if page == 0 { 0xF0 } else { 0xFFC0 }
 }
 
 impl KnownReach {
@@ -33,6 +38,8 @@ impl KnownReach {
     {
         KnownReach {
             is_any: false,
+            is_single: true,
+            page: 0,
             entangled: None,
             unwritten: [0; 256],
             unread: [0; 256],
@@ -47,10 +54,24 @@ impl KnownReach {
     {
         if self.is_any {
             self.is_any = false;
-            self.entangled = None;
-            self.unwritten = [0; 256];
-            self.unread = [0; 256];
+            if self.is_single {
+                self.unwritten[usize::from(self.page)] = 0;
+            } else {
+                self.is_single = true;
+                self.entangled = None;
+                self.unwritten = [0; 256];
+                self.unread = [0; 256];
+            }
         }
+    }
+
+    /// Asks of the page that was marked last as unwritten: mostly it is read next.
+    pub fn mark_last<C: Chip>(&mut self, chip: &C, memory: &Aram)
+        requires { IsKnown (C.meaning.reach (C.state chip.now) memory.now) self.old }
+        ensures { IsKnown (C.meaning.reach (C.state chip.now) memory.now) self.new }
+    {
+        let page = self.page;
+        self.ask_written(chip, memory, page);
     }
 
     /// Whether a mark tells that memory alone is at an address, which no sample writes.
@@ -98,6 +119,7 @@ impl KnownReach {
             None => {
                 let entangled = chip.is_entangled(memory);
                 self.is_any = true;
+                self.is_single = false;
                 self.entangled = Some(entangled);
                 entangled
             }
@@ -117,7 +139,8 @@ impl KnownReach {
             return true;
         }
         self.is_any = true;
-        self.unread[usize::from(page_of(at))] = memory_end(at);
+        self.is_single = false;
+        self.unread[usize::from(page_of(at))] = memory_end(page_of(at));
         false
     }
 
@@ -127,22 +150,36 @@ impl KnownReach {
         ensures answer { result ≡ may_be_written (C.meaning.reach (C.state chip.now) memory.now) at }
         ensures known { IsKnown (C.meaning.reach (C.state chip.now) memory.now) self.new }
     {
-        if chip.writes_page(memory, page_of(at)) {
+        self.ask_written(chip, memory, page_of(at))
+    }
+
+    /// Whether samples may write bytes of a page. A page that they don't write is marked.
+    fn ask_written<C: Chip>(&mut self, chip: &C, memory: &Aram, page: u8) -> bool
+        requires { IsKnown (C.meaning.reach (C.state chip.now) memory.now) self.old }
+        ensures answer { result ≡ set.contains (C.meaning.reach (C.state chip.now) memory.now).write_pages page }
+        ensures known { IsKnown (C.meaning.reach (C.state chip.now) memory.now) self.new }
+    {
+        if chip.writes_page(memory, page) {
             return true;
         }
+        self.is_single = self.is_single && (!self.is_any || self.page == page);
         self.is_any = true;
-        self.unwritten[usize::from(page_of(at))] = memory_end(at);
+        self.page = page;
+        self.unwritten[usize::from(page)] = memory_end(page);
         false
     }
 
     /// Makes ready for a write at an address while no sample is pending: what was kept goes where the write may make the reach another one.
+    /// The mark of one page goes without asking.
     #[inline]
     pub fn before_write<C: Chip>(&mut self, chip: &C, memory: &Aram, at: u16)
         requires { IsKnown (C.meaning.reach (C.state chip.now) memory.now) self.old }
         ensures known { IsKnown (C.meaning.reach (C.state chip.now) memory.now) self.new }
         ensures any { may_be_read (C.meaning.reach (C.state chip.now) memory.now) at ≡ true → (reach : ReachPages) → IsKnown reach self.new }
     {
-        if self.is_any && self.may_be_read(chip, memory, at) {
+        if self.is_single {
+            self.forget();
+        } else if self.may_be_read(chip, memory, at) {
             self.forget();
         }
     }

@@ -373,6 +373,7 @@ impl<C: Chip> LateChip<C> {
         merge_into(&self.voices, &mut self.ring, &mut self.records);
         self.pending = 0;
         self.known.forget();
+        self.known.mark_last(&self.chip, &self.memory);
     }
 
     /// Clears two lists and moves into them what was emitted before the first pending sample.
