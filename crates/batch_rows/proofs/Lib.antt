@@ -9,6 +9,7 @@
 -- PlayedLane: a voice over the rows of a batch makes the steps of its lane.
 -- VoiceMore: one voice more of a batch, over any row of its outputs.
 -- Remains: the voices of a batch, one more of them played.
+-- AllSent: where all voices are sent to the echo at their own volumes, the main sums are those of what they send.
 -- Shares: shares at volume 0, at volumes that a factor of 16 bits has, and at those from 64 on.
 -- Keyed: the voices that a sample keys are those whose key-ons its poll took.
 -- EchoOver: the echo's run over rows that agree, and one step more of ENDX.
@@ -26,6 +27,7 @@ pub mod IdleKeys
 pub mod PlayedLane
 pub mod VoiceMore
 pub mod Remains
+pub mod AllSent
 pub mod Shares
 pub mod Keyed
 pub mod EchoOver

@@ -7,6 +7,7 @@
 -- Reads: what the voices of a batch read.
 -- PlayedLane: what a voice leaves of a batch.
 -- SumRows: rows of sums with the shares of a voice.
+-- Sent: voices that are sent to the echo at their own volumes.
 -- PlayedBatch: what the voices leave of a batch.
 -- Recorded: a batch whose voices give their answers of every sample.
 -- Laws: the laws of batches by rows.
@@ -19,6 +20,7 @@ pub mod KeyRows
 pub mod Reads
 pub mod PlayedLane
 pub mod SumRows
+pub mod Sent
 pub mod PlayedBatch
 pub mod Recorded
 pub mod Laws

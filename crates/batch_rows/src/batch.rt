@@ -16,7 +16,8 @@ use dsp_state::{ChipState, Settings, put_all_levels};
 use trace_form::Frames;
 use voice_unit::Workspace;
 
-/// Plays a batch by rows: the keys and the noise, each voice over the whole batch, the echo over the rows of sums, and the registers' results.
+/// Plays a batch by rows: the keys and the noise, each voice over the whole batch, the echo over the rows of sums, and the registers' results. What stands
+/// in the places for what is made is of no account.
 #[tactic(auto, unfolding(crate::specs::Rows::by_rows))]
 pub fn play_batch(
     state: &mut ChipState,
@@ -24,6 +25,7 @@ pub fn play_batch(
     settings: &Settings,
     memory: &mut Aram,
     work: &mut Workspace,
+    made: &mut PlayedBatch,
     frames: &mut Frames,
 )
     requires batch { IsBatch samples.now }
@@ -41,7 +43,6 @@ pub fn play_batch(
         settings.noise_rate,
         &samples.clock,
     );
-    let mut made = PlayedBatch::new();
     let reads = BatchReads {
         registers: &state.registers,
         rows: &rows,
@@ -55,7 +56,7 @@ pub fn play_batch(
         &reads,
         &settings.volumes,
         work,
-        &mut made,
+        made,
     );
     play_echo(
         &mut state.hidden.echo,

@@ -1,6 +1,6 @@
 //! ENDX over a batch.
 
-ghost use Rattle.std.specs.Prelude.{◌≡◌, ◌≤◌, ◌<◌, ℕ, List, false, get_or, slice_index, if◌then◌else◌};
+ghost use Rattle.std.specs.Prelude.{◌≡◌, ◌≤◌, ◌<◌, ℕ, List, true, false, get_or, slice_index, if◌then◌else◌};
 ghost use Rattle.voice_unit.specs.declared.interface.VoiceOut.{VoiceOut};
 ghost use Rattle.chip_form.specs.Limits.{most_samples_of_batch};
 ghost use Rattle.batch_rows.specs.Once.{endx_after, AreBits};
@@ -18,11 +18,38 @@ pub(crate) fn keyed_in(rows: &BatchRows, j: u8) -> u8
     if rows.poll[place] { rows.kon[place] } else { 0 }
 }
 
+/// Whether no key-on is taken in any sample of a batch.
+fn are_none_taken(kon: &[u8; BATCH_SIZE]) -> bool
+    ensures { result ≡ true → (j : ℕ) → j < BATCH_SIZE → slice_index kon.now j ≡ 0 }
+{
+    let mut greatest = 0;
+    for j in 0..BATCH_SIZE {
+        greatest = greatest.max(kon[j]);
+    }
+    greatest == 0
+}
+
+/// ENDX after n samples of a batch in which no voice is keyed: it gains the voices that looped.
+fn gained_endx(endx: u8, n: u8, rows: &BatchRows, loops: &[u8; BATCH_SIZE]) -> u8
+    requires few { n ≤ most_samples_of_batch }
+    requires unkeyed { (j : ℕ) → j < BATCH_SIZE → slice_index rows.now.kon j ≡ 0 }
+    ensures { (answers : ℕ → List VoiceOut) → AreBits n answers rows.now loops.now → result ≡ endx_after answers endx n }
+{
+    let mut now = endx;
+    for j in 0..n {
+        now = next_endx(now, loops[usize::from(j)], 0);
+    }
+    now
+}
+
 /// ENDX after n samples of a batch: in each it gains the voices that looped and then loses those that were keyed.
 pub fn endx_of_batch(endx: u8, n: u8, rows: &BatchRows, loops: &[u8; BATCH_SIZE]) -> u8
     requires few { n ≤ most_samples_of_batch }
     ensures { (answers : ℕ → List VoiceOut) → AreBits n answers rows.now loops.now → result ≡ endx_after answers endx n }
 {
+    if are_none_taken(&rows.kon) {
+        return gained_endx(endx, n, rows, loops);
+    }
     let mut now = endx;
     for j in 0..n {
         now = next_endx(now, loops[usize::from(j)], keyed_in(rows, j));

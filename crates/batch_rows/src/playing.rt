@@ -10,6 +10,7 @@ ghost use Rattle.batch_rows.specs.PlayedLane.{IsPlayedLane};
 ghost use Rattle.batch_rows.specs.Rows.{inputs};
 
 use crate::reads::BatchReads;
+use crate::sent::{all_unsent, are_all_sent, send_main};
 use crate::sums::{add_shares, clear_sums};
 use dsp_state::Volumes;
 use echo_unit::SumRows;
@@ -77,9 +78,8 @@ fn clear_loops(loops: &mut [u8; BATCH_SIZE])
     *loops = [0; BATCH_SIZE];
 }
 
-/// Plays all voices over a batch of n samples: what each gives in the last sample, the bits of the voices that loop in each sample, and the sums of each
-/// sample.
-pub fn play_voices(
+/// Plays all voices over a batch of n samples, and adds each to the main sums and to what is sent.
+fn play_each(
     voices: &mut [Voice; 8],
     n: u8,
     reads: &BatchReads,
@@ -108,4 +108,30 @@ pub fn play_voices(
         made.last[place] = answer;
         previous = made.rows.outs;
     }
+}
+
+/// Plays all voices over a batch of n samples: what each gives in the last sample, the bits of the voices that loop in each sample, and the sums of each
+/// sample. Where all are sent to the echo at their own volumes, the main sums are those of what they send.
+pub fn play_voices(
+    voices: &mut [Voice; 8],
+    n: u8,
+    reads: &BatchReads,
+    volumes: &[Volumes; 8],
+    work: &mut Workspace,
+    made: &mut PlayedBatch,
+)
+    requires some { 0 < n }
+    requires few { n ≤ most_samples_of_batch }
+    requires noise { (j : ℕ) → j < n → slice_index reads.now.rows.now.noise j < 0x8000 }
+    ensures played { (k : ℕ) (s : ChipState) → AreReadsOf k n s reads.now
+        → let shared = inputs k s reads.now.memory.now in
+        IsPlayedBatch shared n volumes.now voices.old voices.new made.new.last made.new.rows.loops made.new.sums }
+    ensures eight { length voices.old ≡ 8 }
+{
+    if !are_all_sent(volumes) {
+        return play_each(voices, n, reads, volumes, work, made);
+    }
+    let heard = all_unsent(volumes);
+    play_each(voices, n, reads, &heard, work, made);
+    send_main(&mut made.sums);
 }

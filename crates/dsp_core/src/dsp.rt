@@ -17,7 +17,9 @@ use crate::OutOfMemory;
 use crate::sample::make_sample;
 use crate::saved::DspState;
 use aram_core::Aram;
-use batch_rows::{BatchSamples, is_echo_apart, play_batch, play_recorded_batch, push_records};
+use batch_rows::{
+    BatchSamples, PlayedBatch, is_echo_apart, play_batch, play_recorded_batch, push_records,
+};
 use dsp_state::registers::{ENDX, KON};
 use dsp_state::{ChipState, Hidden, Settings, settings_of};
 use echo_unit::Echo;
@@ -28,8 +30,8 @@ use std::marker::Model;
 use trace_form::{Frames, Records};
 use voice_unit::{UNHEARD, Voice, VoiceOut, Workspace};
 
-/// The S-DSP. It runs once for each sample, 32,000 times a second of sound. Beside the chip's state it keeps what its voices work with, the groups that
-/// were decoded among it, of which views and saved states see nothing.
+/// The S-DSP. It runs once for each sample, 32,000 times a second of sound. Beside the chip's state it keeps what it works with, of which views and saved
+/// states see nothing: what it read of its registers, the places of its voices, and the blocks that were decoded.
 #[derive(Drop)]
 pub struct Dsp {
     state: ChipState,
@@ -37,7 +39,11 @@ pub struct Dsp {
     number: u32,
     batches: u64,
     total: u64,
+    settings: Settings,
+    /// The settings are those of the registers still.
+    fresh: bool,
     work: Workspace,
+    made: PlayedBatch,
 }
 
 impl Model for Dsp {
@@ -75,6 +81,7 @@ impl Dsp {
             voices: [Voice::new(); 8],
             echo: Echo::new(),
         };
+        let settings = settings_of(&own, muted);
         Ok(Dsp {
             state: ChipState {
                 registers: own,
@@ -86,7 +93,10 @@ impl Dsp {
             number: 0,
             batches: 0,
             total: 0,
+            settings,
+            fresh: true,
             work,
+            made: PlayedBatch::new(),
         })
     }
 
@@ -107,11 +117,24 @@ impl Dsp {
         if addr >= 0x80 {
             return;
         }
+        self.fresh = false;
         let place = usize::from(addr);
         self.state.registers[place] = if place == ENDX { 0 } else { value };
         if place == KON {
             self.state.hidden.waiting = value;
         }
+    }
+
+    /// What samples read of the registers. It is read again where a register was written or a state was put back.
+    fn read_settings(&mut self) -> Settings
+        ensures settings { result ≡ settings_of self.old.state.registers self.old.state.muted }
+        ensures chip { self.new ≡ self.old }
+    {
+        if !self.fresh {
+            self.settings = settings_of(&self.state.registers, self.state.muted);
+            self.fresh = true;
+        }
+        self.settings
     }
 
     /// Makes the next sample, with the answers of its voices.
@@ -192,6 +215,7 @@ impl Dsp {
             settings,
             memory,
             &mut self.work,
+            &mut self.made,
             frames,
         );
         self.clock = self.clock.after_samples(n);
@@ -272,8 +296,8 @@ impl Dsp {
         if n == 0 {
             return;
         }
-        let settings = settings_of(&self.state.registers, self.state.muted);
         self.batches = self.batches.saturating_add(1);
+        let settings = self.read_settings();
         if !self.goes_by_rows(n, memory) {
             return self.make_each(n, &settings, memory, mask, frames, records);
         }
@@ -306,6 +330,7 @@ impl Dsp {
         self.state.hidden = saved.hidden;
         self.clock = saved.clock;
         self.number = saved.number;
+        self.fresh = false;
     }
 
     /// The number of batches made, each by an `advance` of at least one sample. It stays at its type's end.

@@ -76,3 +76,10 @@ fraction-fits weight sample is fits =
     let small : unsigned_abs weight ≤ 2047 = omega (arith, ints, is.least, is.below) in
     let most : unsigned_abs (scaled weight sample 11) ≤ 32752 = scaled_at_most weight sample 11 2047 32768 32752 small (abs_fits_16 sample fits) (omega arith) in
     fits_signed_from_abs w16 (scaled weight sample 11) (omega (arith, most))
+
+-- the factor of a weight isn't negative below half a whole, and is from there on
+pub factor-low-sign : (n : ℕ) → n < 1024 → pos 0 ≤ℤ factor_of (pos n)
+factor-low-sign n small = omega (arith, ints, factor-low n small)
+
+pub factor-high-sign : (n : ℕ) → 1024 ≤ n → n < 2048 → factor_of (pos n) <ℤ pos 0
+factor-high-sign n half below = omega (arith, ints, factor-high n half below)

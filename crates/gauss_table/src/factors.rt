@@ -1,6 +1,6 @@
 //! The weights of a place as factors of 16 bits.
 
-ghost use Rattle.std.specs.Prelude.{◌≡◌, ◌<◌, ◌↔◌, ℕ, ℤ, Some, IsTrue, slice_get};
+ghost use Rattle.std.specs.Prelude.{◌≡◌, ◌<◌, ◌≤ℤ◌, ◌<ℤ◌, ◌↔◌, ℕ, ℤ, pos, Some, IsTrue, slice_get};
 ghost use Rattle.num_fix.specs.Arithmetic.{scaled};
 ghost use Rattle.gauss_table.specs.Factors.{AreFractions, IsFraction, factor_of, factors_at};
 
@@ -27,7 +27,23 @@ pub fn factor_of(weight: i16) -> i16
     wrap16(i32::from(weight) * 32)
 }
 
-/// What a sample gives under a weight from 0 to 2,047, by its factor: one multiplication of 16-bit numbers, and the sample itself where the factor wrapped.
+/// What a sample gives under a weight whose factor isn't negative: one multiplication of 16-bit numbers.
+pub fn product_by_low_factor(factor: i16, sample: i16) -> i16
+    ensures { (weight : ℤ) → IsFraction weight → factor ≡ factor_of weight → pos 0 ≤ℤ factor → result ≡ scaled weight sample 11 }
+{
+    scaled(sample, factor, 16) as i16
+}
+
+/// What a sample gives under a weight whose factor wrapped, and is negative: the same, and the sample itself.
+pub fn product_by_high_factor(factor: i16, sample: i16) -> i16
+    ensures { (weight : ℤ) → IsFraction weight → factor ≡ factor_of weight → factor <ℤ pos 0 → result ≡ scaled weight sample 11 }
+{
+    let high = scaled(sample, factor, 16) as i16;
+    high.wrapping_add(sample)
+}
+
+/// What a sample gives under a weight from 0 to 2,047, by its factor. The product is made before it is asked whether the factor wrapped, so that eight are
+/// made at once.
 pub fn product_by_factor(factor: i16, sample: i16) -> i16
     ensures { (weight : ℤ) → IsFraction weight → factor ≡ factor_of weight → result ≡ scaled weight sample 11 }
 {

@@ -8,7 +8,9 @@ mod short_taps;
 mod table;
 mod taps;
 
-pub use factors::{Factors, factor_of, product_by_factor};
+pub use factors::{
+    Factors, factor_of, product_by_factor, product_by_high_factor, product_by_low_factor,
+};
 pub use quad::Quad;
 pub use refusal::TableRefusal;
 pub use short_taps::{Products, ShortTaps};

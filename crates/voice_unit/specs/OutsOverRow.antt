@@ -2,7 +2,6 @@
 use Rattle.std.specs.Prelude.{◌≡◌, ℕ, ◌<◌, ◌*◌, Bool, List, ℤ, pos, Option, Some, None, slice_get, if◌then◌else◌}
 use Rattle.num_fix.specs.Arithmetic.{scaled, wrap16, clear_bit0}
 use Rattle.num_fix.specs.SignedWords.{number_at}
-use Rattle.num_fix.specs.declared.TheConstants.{BATCH_SIZE}
 use Rattle.gauss_table.specs.Factors.{factor_of}
 use Rattle.gauss_table.specs.Interpolation.{mix_of}
 use Rattle.gauss_table.specs.ShortTaps.{short_mix}
@@ -41,6 +40,6 @@ abbrev pub out_in_stretch : (noisy : Bool) → (noise : ℕ) → (table row : Li
 out_in_stretch noisy noise table row way level =
     if noisy then sounding_at level (wrap16 (pos (2 * noise))) else out_over_row table row way level
 
--- each number of a row is the factor of a level
+-- each of eight numbers is the factor of a level
 abbrev pub AreFactorsOfLevel : (level : ℕ) → List ℤ → Type 0
-AreFactorsOfLevel level factors = (i : ℕ) → i < BATCH_SIZE → number_at factors i ≡ factor_of (pos level)
+AreFactorsOfLevel level factors = (i : ℕ) → i < 8 → number_at factors i ≡ factor_of (pos level)

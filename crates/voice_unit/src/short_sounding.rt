@@ -1,8 +1,9 @@
 //! The outputs of a stretch of samples by products of 16 bits, eight at a time, where each weight of the table is from 0 to 2,047.
 
-ghost use Rattle.std.specs.Prelude.{◌≡◌, ◌≢◌, ◌<◌, ◌≤◌, ◌+◌, ◌*◌, ℕ, List, ℤ, slice_index};
+ghost use Rattle.std.specs.Prelude.{◌≡◌, ◌≢◌, ◌<◌, ◌≤◌, ◌+◌, ◌*◌, ℕ, List, ℤ, pos, nat_le, slice_index};
+ghost use Rattle.num_fix.specs.Arithmetic.{scaled};
 ghost use Rattle.num_fix.specs.SignedWords.{number_at};
-ghost use Rattle.gauss_table.specs.Factors.{AreFactors};
+ghost use Rattle.gauss_table.specs.Factors.{AreFactors, factor_of};
 ghost use Rattle.gauss_table.specs.Interpolation.{mix_of};
 ghost use Rattle.voice_unit.specs.Track.{IsTrack, way_at};
 ghost use Rattle.voice_unit.specs.Voice.{interpolation};
@@ -11,11 +12,16 @@ ghost use Rattle.voice_unit.specs.OutsOverRow.{AreFactorsOfLevel, short_mixed_at
 use crate::row::ROW_SIZE;
 use crate::sounding::WAY_END;
 use crate::track::{Track, WAYS};
-use gauss_table::{Factors, Products, ShortTaps, factor_of, product_by_factor};
+use gauss_table::{
+    Factors, Products, ShortTaps, factor_of, product_by_high_factor, product_by_low_factor,
+};
 use num_fix::{BATCH_SIZE, clear_bit0};
 
 /// The last sample of a batch that seven follow.
 pub(crate) const LAST_OF_EIGHT: u8 = BATCH_SIZE as u8 - 8;
+
+/// Half of 2,048, at which a level would be a whole.
+pub(crate) const HALF_LEVEL: u16 = 0x400;
 
 /// What four samples give at a place of a row of kept samples, on a way in 65,536ths of a sample.
 #[tactic(auto, unfolding(crate::specs::Voice::interpolation))]
@@ -38,25 +44,28 @@ fn put_products(taps: &mut [ShortTaps; BATCH_SIZE], j: usize, products: &Product
     taps[j].put(products);
 }
 
-/// Puts the taps of two samples, of which the second stands a step further on the way. Two have eight products, which are made at once.
+/// Puts the taps of two samples, which stand so far on the way. Two have eight products, which are made at once.
+/// Inlined, so that the loops over it keep their numbers in registers.
+#[inline(always)]
 fn put_two(
     taps: &mut [ShortTaps; BATCH_SIZE],
     j: usize,
     row: &[i16; ROW_SIZE],
     way: u32,
-    step: u32,
+    next: u32,
     factors: &[Factors; 256],
 )
     requires few { j + 2 ≤ BATCH_SIZE }
-    requires way { way + step < WAY_END }
+    requires way { way < WAY_END }
+    requires next { next < WAY_END }
     ensures first { (table : List ℤ) (place : ℕ) → AreFactors table factors.now → way ≡ 0x10 * place
         → short_mixed_at taps.new j ≡ interpolation table row.now place }
-    ensures second { (table : List ℤ) (place : ℕ) → AreFactors table factors.now → way + step ≡ 0x10 * place
+    ensures second { (table : List ℤ) (place : ℕ) → AreFactors table factors.now → next ≡ 0x10 * place
         → short_mixed_at taps.new (j + 1) ≡ interpolation table row.now place }
     ensures before { (i : ℕ) → i < j → short_mixed_at taps.new i ≡ short_mixed_at taps.old i }
 {
     let first = products_at(row, way, factors);
-    let second = products_at(row, way + step, factors);
+    let second = products_at(row, next, factors);
     put_products(taps, j, &first);
     put_products(taps, j + 1, &second);
 }
@@ -80,13 +89,20 @@ fn take_short_taps(
     let step = 0x10 * u32::from(pitch);
     let mut way = 0x10 * u32::from(position);
     for c in 0..(usize::from(n) + 3) / 4 {
-        put_two(taps, 4 * c, row, way, step, factors);
-        put_two(taps, 4 * c + 2, row, way + 2 * step, step, factors);
+        put_two(taps, 4 * c, row, way, way + step, factors);
+        put_two(
+            taps,
+            4 * c + 2,
+            row,
+            way + 2 * step,
+            way + 3 * step,
+            factors,
+        );
         way += 4 * step;
     }
 }
 
-/// The taps of n samples that stand so far in a row, each at its own place.
+/// The taps of n samples that stand so far in a row, each at its own place, two at a time: of an odd number the sample after the last has its own too.
 fn take_short_bent_taps(
     taps: &mut [ShortTaps; BATCH_SIZE],
     n: u8,
@@ -95,13 +111,13 @@ fn take_short_bent_taps(
     ways: &[u32; WAYS],
 )
     requires few { n ≤ BATCH_SIZE }
-    requires within { (j : ℕ) → j < n → 0x10 * slice_index ways.now j < WAY_END }
+    requires within { (j : ℕ) → j ≤ n → 0x10 * slice_index ways.now j < WAY_END }
     ensures { (table : List ℤ) → AreFactors table factors.now → (j : ℕ) → j < n
         → short_mixed_at taps.new j ≡ interpolation table row.now (slice_index ways.now j) }
 {
-    for j in 0..usize::from(n) {
-        let products = products_at(row, 0x10 * ways[j], factors);
-        put_products(taps, j, &products);
+    for c in 0..(usize::from(n) + 1) / 2 {
+        let j = 2 * c;
+        put_two(taps, j, row, 0x10 * ways[j], 0x10 * ways[j + 1], factors);
     }
 }
 
@@ -126,28 +142,40 @@ pub(crate) fn take_short_track_taps(
     take_short_taps(taps, n, row, factors, track.position, track.pitch);
 }
 
-/// The factor of a level as a row, so that 16-bit numbers meet 16-bit numbers.
-pub(crate) fn factors_of_level(level: u16) -> [i16; BATCH_SIZE]
+/// The factor of a level eight times, so that 16-bit numbers meet 16-bit numbers.
+pub(crate) fn factors_of_level(level: u16) -> [i16; 8]
     requires { level ≤ 0x7ff }
     ensures { AreFactorsOfLevel level result }
 {
     let factor = factor_of(level as i16);
-    [factor; BATCH_SIZE]
+    [factor; 8]
 }
 
-/// The outputs of eight samples from one on, at the level of a row of factors.
+/// A sample at a level by the level's factor. From half the greatest level on the factor has wrapped.
+fn product_at_level(factor: i16, loud: bool, sample: i16) -> i16
+    ensures { (level : ℕ) → level ≤ 0x7ff → factor ≡ factor_of (pos level) → loud ≡ nat_le 0x400 level → result ≡ scaled (pos level) sample 11 }
+{
+    if loud {
+        product_by_high_factor(factor, sample)
+    } else {
+        product_by_low_factor(factor, sample)
+    }
+}
+
+/// The outputs of eight samples from one on, at the level of eight factors.
 fn eight_at_level(
     taps: &[ShortTaps; BATCH_SIZE],
     from: usize,
-    factors: &[i16; BATCH_SIZE],
+    factors: &[i16; 8],
+    loud: bool,
 ) -> [i16; 8]
     requires { from + 8 ≤ BATCH_SIZE }
-    ensures { (level : ℕ) → level ≤ 0x7ff → AreFactorsOfLevel level factors.now → (k : ℕ) → k < 8
+    ensures { (level : ℕ) → level ≤ 0x7ff → AreFactorsOfLevel level factors.now → loud ≡ nat_le 0x400 level → (k : ℕ) → k < 8
         → number_at result k ≡ sounding_at level (short_mixed_at taps.now (from + k)) }
 {
     let mut eight = [0; 8];
     for k in 0..8usize {
-        let product = product_by_factor(factors[from + k], taps[from + k].mixed());
+        let product = product_at_level(factors[k], loud, taps[from + k].mixed());
         eight[k] = clear_bit0(product);
     }
     eight
@@ -164,7 +192,7 @@ fn put_eight(outs: &mut [i16; BATCH_SIZE], at: usize, eight: &[i16; 8])
     }
 }
 
-/// The outputs of n samples at the level of a row of factors, eight at a time: where fewer are left, some after them are written too, and where the row
+/// The outputs of n samples at the level of eight factors, eight at a time: where fewer are left, some after them are written too, and where the row
 /// ends, some of those before them are made again.
 #[inline(never)]
 pub(crate) fn put_short(
@@ -172,11 +200,12 @@ pub(crate) fn put_short(
     at: u8,
     n: u8,
     taps: &[ShortTaps; BATCH_SIZE],
-    factors: &[i16; BATCH_SIZE],
+    factors: &[i16; 8],
+    loud: bool,
 )
     requires few { at + n ≤ BATCH_SIZE }
     requires early { at ≤ LAST_OF_EIGHT }
-    ensures outs { (level : ℕ) → level ≤ 0x7ff → AreFactorsOfLevel level factors.now → (j : ℕ) → j < n
+    ensures outs { (level : ℕ) → level ≤ 0x7ff → AreFactorsOfLevel level factors.now → loud ≡ nat_le 0x400 level → (j : ℕ) → j < n
         → number_at outs.new (at + j) ≡ sounding_at level (short_mixed_at taps.now j) }
     ensures before { (i : ℕ) → i < at → number_at outs.new i ≡ number_at outs.old i }
 {
@@ -184,7 +213,7 @@ pub(crate) fn put_short(
     let last = usize::from(LAST_OF_EIGHT - at);
     for c in 0..(usize::from(n) + 7) / 8 {
         let from = (8 * c).min(last);
-        let eight = eight_at_level(taps, from, factors);
+        let eight = eight_at_level(taps, from, factors, loud);
         put_eight(outs, begin + from, &eight);
     }
 }

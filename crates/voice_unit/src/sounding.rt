@@ -14,7 +14,9 @@ use crate::batch::VoiceReads;
 use crate::course::Course;
 use crate::level::at_level;
 use crate::row::ROW_SIZE;
-use crate::short_sounding::{LAST_OF_EIGHT, factors_of_level, put_short, take_short_track_taps};
+use crate::short_sounding::{
+    HALF_LEVEL, LAST_OF_EIGHT, factors_of_level, put_short, take_short_track_taps,
+};
 use crate::track::{Track, WAYS};
 use crate::workspace::TapRows;
 use gauss_table::{GaussTable, Quad, Taps};
@@ -168,7 +170,8 @@ impl<'a> Course<'a> {
             Some(factors) if at <= LAST_OF_EIGHT => {
                 take_short_track_taps(&mut taps.short_taps, n, row, factors, &self.track);
                 let factors = factors_of_level(self.level);
-                put_short(outs, at, n, &taps.short_taps, &factors);
+                let loud = HALF_LEVEL <= self.level;
+                put_short(outs, at, n, &taps.short_taps, &factors, loud);
             }
             _ => {
                 take_track_taps(&mut taps.taps, n, row, reads.table, &self.track);

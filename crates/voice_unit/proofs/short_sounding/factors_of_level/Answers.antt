@@ -7,4 +7,4 @@ use Rattle.voice_unit.proofs.short_sounding.factors_of_level.Goals as goal
 pub returns : goal.returns
 returns c i below =
     let whole : to_z w16 (of_z w16 c.factor_of-factor.result) ≡ factor_of (pos c.args.level) = search rules in
-    get_or-replicate 64 i _ (pos 0) below ∙ whole
+    get_or-replicate 8 i _ (pos 0) below ∙ whole

@@ -10,16 +10,16 @@ loop-c-preserved c =
     let last : c.from-last.result ≡ 56 - at = c.from-last.ensures in
     let chosen : from ≡ min (8 * c.loop-c.c) (56 - at) = omega (arith, c.min-from.ensures) in
     record {
-      outs = λ level most are i below within. elim (cases_lt i from) [
+      outs = λ level most are heard i below within. elim (cases_lt i from) [
         | inl passed ↦ (
             let early : i < 8 * c.loop-c.c = omega arith in
             let lower : at + i < c.from-begin.result + from = omega arith in
-            c.put_eight.ensures.before (at + i) lower ∙ c.loop-c.invariant.outs level most are i early within)
+            c.put_eight.ensures.before (at + i) lower ∙ c.loop-c.invariant.outs level most are heard i early within)
         | inr new ↦ (
             let near : i - from < 8 = omega arith in
             let same : from + (i - from) ≡ i = omega arith in
             let there : c.from-begin.result + from + (i - from) ≡ at + i = omega arith in
-            rw (same, there) at (c.put_eight.ensures.outs (i - from) near ∙ c.eight_at_level-eight.ensures level most are (i - from) near))
+            rw (same, there) at (c.put_eight.ensures.outs (i - from) near ∙ c.eight_at_level-eight.ensures level most are heard (i - from) near))
       ];
       before = λ i before. c.put_eight.ensures.before i (omega arith) ∙ c.loop-c.invariant.before i before;
     }

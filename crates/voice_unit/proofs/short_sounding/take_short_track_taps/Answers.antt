@@ -7,4 +7,4 @@ pub take_short_bent_taps-requires-clause-within : goal.take_short_bent_taps-requ
 unfolding way_at
 take_short_bent_taps-requires-clause-within c j below =
     let moves : MoveOn (slice_index c.args.track.now.ways.now) c.args.n = rw c.if-track.true at c.requires.track.moves in
-    omega (arith, far (slice_index c.args.track.now.ways.now) c.args.n moves j (omega (arith, below)), c.requires.few, below)
+    omega (arith, far (slice_index c.args.track.now.ways.now) c.args.n moves j below, c.requires.few, below)

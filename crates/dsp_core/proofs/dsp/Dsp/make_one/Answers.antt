@@ -1,4 +1,5 @@
-use Rattle.std.proofs.Common.{rules}
+use Rattle.std.proofs.Common.{rules, sym, ◌∙◌}
+use Rattle.dsp_state.proofs.ReadOnce.{settings_of-sample}
 use Rattle.dsp_state.proofs.Valid.{is_valid-sample}
 use Rattle.dsp_core.proofs.dsp.Dsp.make_one.Goals as goal
 
@@ -6,4 +7,5 @@ pub invariant_of-self : goal.invariant_of-self
 invariant_of-self c = record {
   clock = search rules;
   valid = rw c.make_sample-frame.ensures.state (is_valid-sample c.self.inside.number c.self.inside.state c.args.memory.now c.self.invariant.valid);
+  settings = λ fresh. rw c.make_sample-frame.ensures.state (c.self.invariant.settings fresh ∙ sym (settings_of-sample c.self.inside.number c.self.inside.state c.args.memory.now));
 }

@@ -1,7 +1,7 @@
-use Rattle.std.proofs.Common.{◌≡◌, false, refl}
+use Rattle.std.proofs.Common.{◌≡◌, false, refl, sym, ◌∙◌}
 use Rattle.dsp_state.specs.Reach.{chip_reach}
 use Rattle.dsp_state.specs.declared.state.ChipState.{ChipState}
-use Rattle.dsp_core.proofs.Batches.{by_rows-samples, is_valid-samples}
+use Rattle.dsp_core.proofs.Batches.{by_rows-samples, is_valid-samples, settings_of-samples}
 use Rattle.dsp_core.proofs.dsp.Dsp.make_rows.Goals as goal
 
 pub invariant_of-self : goal.invariant_of-self
@@ -13,6 +13,7 @@ invariant_of-self c =
     record {
       clock = rw c.from.ensures (c.after_samples-self-inside.ensures.after c.self.inside.number c.self.invariant.clock);
       valid = rw (made, by) (is_valid-samples c.args.n c.self.inside.number s c.args.memory.now c.self.invariant.valid);
+      settings = λ fresh. rw (made, by) (c.self.invariant.settings fresh ∙ sym (settings_of-samples c.args.n c.self.inside.number s c.args.memory.now));
     }
 
 pub returns-clause-chip : goal.returns-clause-chip

@@ -3,7 +3,7 @@ use Rattle.dsp_state.specs.declared.state.ChipState.{ChipState}
 use Rattle.batch_rows.specs.Reads.{AreReadsOf}
 use Rattle.batch_rows.specs.Rows.{inputs}
 use Rattle.batch_rows.proofs.Remains.{Remains}
-use Rattle.batch_rows.proofs.playing.play_voices.Given as goal
+use Rattle.batch_rows.proofs.playing.play_each.Given as goal
 
 abbrev pub invariant-loop-v : goal.invariant-loop-v
 invariant-loop-v l = record {
