@@ -22,11 +22,11 @@ pub(crate) fn keyed_in(rows: &BatchRows, j: u8) -> u8
 fn are_none_taken(kon: &[u8; BATCH_SIZE]) -> bool
     ensures { result ≡ true → (j : ℕ) → j < BATCH_SIZE → slice_index kon.now j ≡ 0 }
 {
-    let mut greatest = 0;
+    let mut all = 0;
     for j in 0..BATCH_SIZE {
-        greatest = greatest.max(kon[j]);
+        all = all | kon[j];
     }
-    greatest == 0
+    all == 0
 }
 
 /// ENDX after n samples of a batch in which no voice is keyed: it gains the voices that looped.

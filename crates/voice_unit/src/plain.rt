@@ -22,11 +22,11 @@ fn is_ever_taken(kon: &[u8; BATCH_SIZE], voice: u8) -> bool
     requires { voice < 8 }
     ensures { result ≡ false → (j : ℕ) → j < BATCH_SIZE → has_bit (slice_index kon.now j) voice ≡ false }
 {
-    let mut taken = false;
+    let mut all = 0;
     for j in 0..BATCH_SIZE {
-        taken = taken | has_bit(kon[j], voice);
+        all = all | kon[j];
     }
-    taken
+    has_bit(all, voice)
 }
 
 /// The first sample of a batch in which a key on of a voice is taken; 64 if there is none.

@@ -1,6 +1,6 @@
-use Rattle.std.proofs.Common.{◌≡◌, ◌<◌, ℕ, false, slice_index}
-use Rattle.num_fix.specs.Arithmetic.{has_bit}
+use Rattle.std.proofs.Common.{◌<◌, ◌≤◌, ℕ, slice_index}
+use Rattle.std.specs.Int.{bit_at}
 use Rattle.voice_unit.proofs.plain.is_ever_taken.Given as goal
 
 abbrev pub invariant-loop-j : goal.invariant-loop-j
-invariant-loop-j l = l.taken ≡ false → (i : ℕ) → i < l.j → has_bit (slice_index l.kon i) l.voice ≡ false
+invariant-loop-j l = (i : ℕ) → i < l.j → bit_at (slice_index l.kon i) l.voice ≤ bit_at l.all l.voice
