@@ -3,7 +3,7 @@ use Rattle.snd_host.specs.Host.{Files}
 use Rattle.command_frame.specs.Listed.{list_makes}
 use Rattle.command_frame.specs.declared.refusals.Refusal.TheVariants.{OutOfMemory}
 use Rattle.command_frame.proofs.Obeying.{attempts, attempts_no_usage, carries_same}
-use Rattle.input_files.specs.Inputs.{file_in}
+use Rattle.input_files.specs.Inputs.{file_in, spc_input}
 use Rattle.input_files.proofs.Readings.{reads_declined, reads_plan}
 use Rattle.command_rip.specs.Pieces.{to_come_of}
 use Rattle.command_rip.specs.Rip.{file_answer, rip_answer}
@@ -39,5 +39,5 @@ returns-clause-not_usage g c = λ usage.
     let x = g.H.Host.state c.args.host.now in
     let y = g.H.Host.state c.read_file.new.host in
     attempts_no_usage (list_makes to_come_of) (λ (files : Files). rip_answer c.args.prefix.now c.args.range (files c.args.input.now)) x y (g.H.Host.state c.carry_all.new.host) c.plan_file-planned.result c.carry_all.result c.carry_all.result
-    (reads_plan (list_makes to_come_of) (λ (files : Files). file_in (files c.args.input.now)) (file_answer c.args.prefix.now c.args.range) x y c.in-Ok.file c.plan_file-planned.result c.in-Ok.ensures c.plan_file-planned.ensures.plans)
+    (reads_plan {input = spc_input c.args.input.now} (list_makes to_come_of) (λ (files : Files). file_in (files c.args.input.now)) (file_answer c.args.prefix.now c.args.range) x y c.in-Ok.file c.plan_file-planned.result c.in-Ok.ensures c.plan_file-planned.ensures.plans)
     (carries_same (list_makes to_come_of) c.plan_file-planned.result _ _ _ _ c.carry_all.ensures (search rules)) refl (search rules)
