@@ -1,8 +1,8 @@
 -- The machine in lock step, with a note whether its program read a register of the chip that is hidden.
-use Rattle.std.specs.Prelude.{◌≡◌, ℕ, ◌%◌, ◌==◌, Bool, false, ◌&&◌, ◌||◌}
+use Rattle.std.specs.Prelude.{◌≡◌, ℕ, ◌%◌, ◌==◌, List, [], ◌∷◌, Bool, true, false, ◌&&◌, ◌||◌}
 use Rattle.spc700_exec.specs.Bus.{BusMeaning}
 use Rattle.chip_form.specs.ChipMeaning.{ChipMeaning}
-use Rattle.lock_step.specs.Machine.{Machine}
+use Rattle.lock_step.specs.Machine.{Machine, opened_machine}
 use Rattle.lock_step.specs.LockStep.{lock_step}
 use Rattle.render_core.specs.MachineRun.{Whole, after_run}
 
@@ -44,3 +44,28 @@ WatchingChangesNothing {S} chip =
     (hidden : (address : ℕ) → Bool) (samples : ℕ) (w : Whole (Machine S))
     → after_run (lock_step chip) samples w
     ≡ (let seen = after_run (watched chip hidden) samples (begun_watching w) in (seen.0, seen.1.machine))
+
+-- no register is hidden
+abbrev pub nothing_hidden : (address : ℕ) → Bool
+nothing_hidden address = false
+
+-- A run notes nothing where nothing is hidden.
+abbrev pub NotesNothingShown : {S : Type 0} → ChipMeaning S → Type 0
+NotesNothingShown {S} chip = (samples : ℕ) (w : Whole (Machine S)) → reads_in_run chip nothing_hidden samples w ≡ false
+
+-- the machine before the last instruction of its first sample, which moves a byte of page 0 to A, with this DSP address
+abbrev pub reading_program : {S : Type 0} → (from dsp_address : ℕ) → (chip : S) → Whole (Machine S)
+reading_program from dsp_address chip = (
+  record { a = 0; x = 0; y = 0; sp = 0xEF; pc = 0; psw = 0; halted = false },
+  record (opened_machine (0xE4 ∷ from ∷ []) (0 ∷ 0 ∷ dsp_address ∷ []) [] chip 0) { clock = 29 },
+)
+
+-- the register 10h alone
+abbrev pub only_register_10 : (address : ℕ) → Bool
+only_register_10 address = address == 0x10
+
+-- Where register 10h is hidden, a program that reads it is noted, one that reads register 11h isn't, and one that reads a port isn't.
+pub record NotesReadsAlone {S : Type 0} (chip : ChipMeaning S) : Type 0 where
+  pub hidden : (state : S) → reads_in_run chip only_register_10 1 (reading_program 0xF3 0x10 state) ≡ true
+  pub shown : (state : S) → reads_in_run chip only_register_10 1 (reading_program 0xF3 0x11 state) ≡ false
+  pub port : (state : S) → reads_in_run chip only_register_10 1 (reading_program 0xF4 0x10 state) ≡ false

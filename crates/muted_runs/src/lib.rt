@@ -3,4 +3,7 @@
 
 mod laws;
 
-pub use laws::{volumes_of_muted_voices_are_not_heard, watching_changes_nothing};
+pub use laws::{
+    volumes_of_muted_voices_are_not_heard, watching_changes_nothing, what_is_hidden_is_noted_alone,
+    what_is_shown_is_not_noted,
+};
