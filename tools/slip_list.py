@@ -234,6 +234,8 @@ SLIPS = [
         (FLG, 'has_bit flg 6', 'has_bit flg 7'), (FLG_CODE, 'has_bit(flg, 6)', 'has_bit(flg, 7)')]),
     Slip('echo writes by bit 4 of FLG', ['echo_unit'], ['worked_sounds'], [
         (FLG, 'has_bit flg 5', 'has_bit flg 4'), (FLG_CODE, 'has_bit(flg, 5)', 'has_bit(flg, 4)')]),
+    Slip("a voice's volumes exchanged", ['dsp_state'], ['worked_sounds', 'worked_renders'], [
+        (REGISTERS, 'VOLL: usize = 0;', 'VOLL: usize = 1;'), (REGISTERS, 'VOLR: usize = 1;', 'VOLR: usize = 0;')]),
     Slip("the echo's volumes exchanged", ['dsp_state'], ['worked_sounds', 'worked_renders'], [
         (REGISTERS, 'EVOLL: usize = 0x2c', 'EVOLL: usize = 0x3c'), (REGISTERS, 'EVOLR: usize = 0x3c', 'EVOLR: usize = 0x2c')]),
     Slip('the main volumes exchanged', ['dsp_state'], ['worked_sounds', 'worked_renders'], [
@@ -259,9 +261,19 @@ SLIPS = [
     Slip('X and Y exchanged at the opening', ['render_core'], ['command_render', 'worked_renders'], [
         (OPENED, 'x = slice_index file 0x28', 'x = slice_index file 0x29'), (OPENED, 'y = slice_index file 0x29', 'y = slice_index file 0x28'),
         (OPENED_CODE, 'x: file.x()', 'x: file.y()'), (OPENED_CODE, 'y: file.y()', 'y: file.x()')]),
+    Slip('A and X exchanged at the opening', ['render_core'], ['command_render', 'worked_renders'], [
+        (OPENED, 'a = slice_index file 0x27', 'a = slice_index file 0x28'), (OPENED, 'x = slice_index file 0x28', 'x = slice_index file 0x27'),
+        (OPENED_CODE, 'a: file.a()', 'a: file.x()'), (OPENED_CODE, 'x: file.x()', 'x: file.a()')]),
+    Slip('the status and the stack pointer exchanged at the opening', ['render_core'], ['command_render', 'worked_renders'], [
+        (OPENED, 'sp = slice_index file 0x2B', 'sp = slice_index file 0x2A'), (OPENED, 'psw = slice_index file 0x2A', 'psw = slice_index file 0x2B'),
+        (OPENED_CODE, 'sp: file.sp()', 'sp: file.psw()'), (OPENED_CODE, 'psw: file.psw()', 'psw: file.sp()')]),
     Slip('the causes register and memory exchanged', ['render_files'], ['command_render'], [
         (BATCHES, 'decimal counts.register ++ codes " memory " ++ decimal counts.memory', 'decimal counts.memory ++ codes " memory " ++ decimal counts.register'),
         (BATCHES_CODE, 'b" register ", counts.register', 'b" register ", counts.memory'), (BATCHES_CODE, 'b" memory ", counts.memory', 'b" memory ", counts.register')]),
+    Slip('the causes full and end exchanged', ['render_files'], ['command_render'], [
+        (BATCHES, 'codes " full " ++ decimal counts.full', 'codes " full " ++ decimal counts.«end»'),
+        (BATCHES, '++ codes " end " ++ decimal counts.«end»', '++ codes " end " ++ decimal counts.full'),
+        (BATCHES_CODE, 'b" full ", counts.full', 'b" full ", counts.end'), (BATCHES_CODE, 'b" end ", counts.end', 'b" end ", counts.full')]),
     Slip('the causes echo and events exchanged', ['render_files'], ['command_render'], [
         (BATCHES, 'codes " echo " ++ decimal counts.echo', 'codes " echo " ++ decimal counts.events'),
         (BATCHES, 'codes " events " ++ decimal counts.events', 'codes " events " ++ decimal counts.echo'),
