@@ -6,7 +6,7 @@ use Rattle.brr_encode.specs.Encoding.{header_at}
 use Rattle.brr_encode.specs.Greedy.{nearest_digit}
 use Rattle.brr_search.specs.Ways.{gone_on, place_from, put, keep, keep_found, digit_below, digit_above, keep_digit, keep_nearest}
 use Rattle.brr_search.specs.Beam.{after_target, after_targets, opened, keep_all, best_ways}
-use Rattle.brr_search.specs.Links.{HasRoom}
+use Rattle.brr_search.specs.Links.{TakesFlags}
 use Rattle.brr_search.specs.declared.way.Way.{Way}
 
 all-put : (P : Way → Type 0) (most : ℕ) (place : Option ℕ) (way : Way) (ways : List Way) → P way → All P ways → All P (put most place way ways)
@@ -69,5 +69,5 @@ all-best Q most ways targets (suc count) each =
     (all-targets Q most _ targets _ (all-opened Q (header_at count) 0 ways (each count (omega arith))))
     (all-best Q most ways targets count (λ place h. each place (omega arith)))
 
-pub best_ways-have_room : (most : ℕ) (ways : List Way) (targets : List ℤ) (count : ℕ) → count ≤ 52 → All HasRoom (best_ways most ways targets count)
-best_ways-have_room most ways targets count few = all-best (λ header. header ≤ 0xcc) most ways targets count (λ place h. omega arith)
+pub best_ways-take_flags : (most : ℕ) (ways : List Way) (targets : List ℤ) (count : ℕ) → count ≤ 52 → All TakesFlags (best_ways most ways targets count)
+best_ways-take_flags most ways targets count few = all-best (λ header. header ≤ 0xcc) most ways targets count (λ place h. omega arith)

@@ -6,8 +6,8 @@ use Rattle.brr_search.specs.declared.links.Link.{Link}
 use Rattle.brr_search.specs.declared.links.Row.{Row}
 
 -- a header that leaves room for end and loop bits
-abbrev pub HasRoom : Way → Type 0
-HasRoom way = way.header ≤ 0xcc
+abbrev pub TakesFlags : Way → Type 0
+TakesFlags way = way.header ≤ 0xcc
 
 abbrev pub link_of : (flags : ℕ) → Way → Link
 link_of flags way = record { start = way.start; block = block_of_way flags way }

@@ -63,10 +63,7 @@ pub fn find_encoding(
     ensures refused { IfErr (found_samples ways loop_block samples.now looped) (λ refusal. result ≡ Err refusal) }
     ensures causes { IfErr result (λ refusal. (found_samples ways loop_block samples.now looped ≡ Err refusal) ⊎ (refusal ≡ EncodeRefusal.OutOfMemory)) }
 {
-    let plain = match encode_from(alloc, loop_block, samples, looped) {
-        Ok(plain) => plain,
-        Err(refusal) => return Err(refusal),
-    };
+    let plain = encode_from(alloc, loop_block, samples, looped)?;
     if ways <= 1 {
         return Ok(plain);
     }

@@ -1,6 +1,6 @@
 // The blocks of ways, each linked to the way that it goes on from.
 ghost use Rattle.std.specs.Prelude.{◌≡◌, ◌≤◌, ◌<◌, ◌++◌, All, [], map, reverse, slice_get, vec_len, MatchOption, IfSome, IfOk};
-ghost use Rattle.brr_search.specs.Links.{HasRoom, link_of, blocks_along};
+ghost use Rattle.brr_search.specs.Links.{TakesFlags, link_of, blocks_along};
 
 use crate::OutOfMemory;
 use crate::way::Way;
@@ -21,7 +21,7 @@ pub struct Row {
 
 /// The link of a way, whose header takes end and loop bits.
 fn link_of(way: &Way, flags: u8) -> Link
-    requires room { HasRoom way.now }
+    requires room { TakesFlags way.now }
     requires flags { flags ≤ 3 }
     ensures { result ≡ link_of flags way.now }
 {
@@ -34,7 +34,7 @@ fn link_of(way: &Way, flags: u8) -> Link
 
 /// The links of ways.
 pub fn row_of(alloc: Global, ways: &[Way], flags: u8) -> Result<Row, OutOfMemory>
-    requires room { All HasRoom ways.now }
+    requires room { All TakesFlags ways.now }
     requires flags { flags ≤ 3 }
     ensures { IfOk result (λ row. row.links.items ≡ map (link_of flags) ways.now) }
 {

@@ -123,10 +123,8 @@ pub fn read_cuts(alloc: Global, text: &[u8]) -> Result<CutList, TextRefusal>
     let mut list = CutList::new(alloc);
     let mut rest = text;
     'lines: while let Some((line, after)) = first_line(rest) {
-        match list.add_line(line) {
-            Ok(()) => rest = after,
-            Err(refusal) => return Err(refusal),
-        }
+        list.add_line(line)?;
+        rest = after;
     }
     Ok(list)
 }

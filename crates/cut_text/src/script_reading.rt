@@ -91,10 +91,8 @@ pub fn read_script(alloc: Global, text: &[u8]) -> Result<ScriptLines, TextRefusa
     let mut list = ScriptLines::new(alloc);
     let mut rest = text;
     'lines: while let Some((line, after)) = first_line(rest) {
-        match list.add_line(line) {
-            Ok(()) => rest = after,
-            Err(refusal) => return Err(refusal),
-        }
+        list.add_line(line)?;
+        rest = after;
     }
     Ok(list)
 }

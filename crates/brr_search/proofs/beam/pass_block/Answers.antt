@@ -1,12 +1,12 @@
 use Rattle.std.proofs.Common.{List, ap, sym, ◌∙◌, map}
 use Rattle.brr_search.specs.Links.{link_of}
 use Rattle.brr_search.specs.declared.way.Way.{Way}
-use Rattle.brr_search.proofs.Headers.{best_ways-have_room}
+use Rattle.brr_search.proofs.Headers.{best_ways-take_flags}
 use Rattle.brr_search.proofs.Rows.{row_fronts}
 use Rattle.brr_search.proofs.beam.pass_block.Goals as goal
 
 pub row_of-requires-clause-room : goal.row_of-requires-clause-room
-row_of-requires-clause-room c = rw (c.deref-2.ensures.value, c.in_ok-best_ways.ensures.ways) (best_ways-have_room c.args.most c.deref.result.now c.args.targets.now c.args.count c.requires.count)
+row_of-requires-clause-room c = rw (c.deref-2.ensures.value, c.in_ok-best_ways.ensures.ways) (best_ways-take_flags c.args.most c.deref.result.now c.args.targets.now c.args.count c.requires.count)
 
 pub returns-clause-fronts : goal.returns-clause-fronts
 returns-clause-fronts c =

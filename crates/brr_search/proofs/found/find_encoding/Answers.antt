@@ -1,43 +1,48 @@
 use Rattle.std.proofs.Common.{◌-◌, ℕ, ℤ, List, Ok, inl, inr, true, false, sym, ap, ◌∙◌}
+use Rattle.std.proofs.lemmas.Result.{err_from_is_err_and}
 use Rattle.brr_encode.specs.Encoding.{padded_samples}
 use Rattle.brr_encode.specs.Report.{reports_of}
 use Rattle.brr_search.specs.Found.{sum_of_squares}
 use Rattle.brr_search.proofs.Choice.{accepted, refused, if_refused, found_plain, found_at, reported}
 use Rattle.brr_search.proofs.found.find_encoding.Goals as goal
 
-pub returns-in-Err-clause-refused : goal.returns-in-Err-clause-refused
-returns-in-Err-clause-refused c = if_refused _ c.args.ways c.args.loop_block c.args.samples.now c.args.looped c.in-Err.ensures.refused
+pub returns-in_err-plain-clause-refused : goal.returns-in_err-plain-clause-refused
+returns-in_err-plain-clause-refused c =
+    let p = err_from_is_err_and c.from_residual.result c.from_residual.ensures.1 in
+    rw (p.1, p.2) (if_refused _ c.args.ways c.args.loop_block c.args.samples.now c.args.looped c.in_err-plain.ensures.refused)
 
-pub returns-in-Err-clause-causes : goal.returns-in-Err-clause-causes
-returns-in-Err-clause-causes c = elim c.in-Err.ensures.causes [
-  | inl is ↦ inl (refused c.args.ways c.args.loop_block c.args.samples.now c.args.looped _ is)
-  | inr is ↦ inr is
-]
+pub returns-in_err-plain-clause-causes : goal.returns-in_err-plain-clause-causes
+returns-in_err-plain-clause-causes c =
+    let p = err_from_is_err_and c.from_residual.result c.from_residual.ensures.1 in
+    rw (p.1, p.2) (elim c.in_err-plain.ensures.causes [
+      | inl is ↦ inl (refused c.args.ways c.args.loop_block c.args.samples.now c.args.looped _ is)
+      | inr is ↦ inr is
+    ])
 
 pub returns-then-ways-le1-clause-bytes : goal.returns-then-ways-le1-clause-bytes
 returns-then-ways-le1-clause-bytes c =
-    let all = accepted c.args.ways c.args.loop_block c.args.samples.now c.args.looped _ c.in-Ok.ensures.bytes in
+    let all = accepted c.args.ways c.args.loop_block c.args.samples.now c.args.looped _ c.in_ok-plain.ensures.bytes in
     all.1 ∙ ap (λ (b : List ℕ). Ok b) (found_plain c.args.ways c.args.loop_block c.args.samples.now c.args.looped c.if-ways-le1.true ∙ sym all.0)
 
 pub returns-then-ways-le1-clause-refused : goal.returns-then-ways-le1-clause-refused
 returns-then-ways-le1-clause-refused c =
-    let all = accepted c.args.ways c.args.loop_block c.args.samples.now c.args.looped _ c.in-Ok.ensures.bytes in
+    let all = accepted c.args.ways c.args.loop_block c.args.samples.now c.args.looped _ c.in_ok-plain.ensures.bytes in
     rw (all.1) tt
 
 pub returns-in_err-targets-clause-refused : goal.returns-in_err-targets-clause-refused
 returns-in_err-targets-clause-refused c =
-    let all = accepted c.args.ways c.args.loop_block c.args.samples.now c.args.looped _ c.in-Ok.ensures.bytes in
+    let all = accepted c.args.ways c.args.loop_block c.args.samples.now c.args.looped _ c.in_ok-plain.ensures.bytes in
     rw (all.1) tt
 
 pub returns-in_err-encoded-clause-refused : goal.returns-in_err-encoded-clause-refused
 returns-in_err-encoded-clause-refused c =
-    let all = accepted c.args.ways c.args.loop_block c.args.samples.now c.args.looped _ c.in-Ok.ensures.bytes in
+    let all = accepted c.args.ways c.args.loop_block c.args.samples.now c.args.looped _ c.in_ok-plain.ensures.bytes in
     rw (all.1) tt
 
 pub returns-in-Some-clause-bytes : goal.returns-in-Some-clause-bytes
 returns-in-Some-clause-bytes c =
-    let all = accepted c.args.ways c.args.loop_block c.args.samples.now c.args.looped _ c.in-Ok.ensures.bytes in
-    let costs = c.sum_of_squares-cost.ensures ∙ ap sum_of_squares (c.deref.ensures.value ∙ c.in-Ok.ensures.reports ∙ ap (λ (b : List ℕ). reports_of b (padded_samples c.args.samples.now)) all.0) in
+    let all = accepted c.args.ways c.args.loop_block c.args.samples.now c.args.looped _ c.in_ok-plain.ensures.bytes in
+    let costs = c.sum_of_squares-cost.ensures ∙ ap sum_of_squares (c.deref.ensures.value ∙ c.in_ok-plain.ensures.reports ∙ ap (λ (b : List ℕ). reports_of b (padded_samples c.args.samples.now)) all.0) in
     let cheaper = rw c.in-Some.is at c.in_ok-encoded.ensures.cheaper in
     let bytes = rw c.in-Some.is at c.in_ok-encoded.ensures.bytes in
     let most = ap (λ (n : ℕ). n - 1) c.from-most.ensures in
@@ -47,13 +52,13 @@ returns-in-Some-clause-bytes c =
 
 pub returns-in-Some-clause-refused : goal.returns-in-Some-clause-refused
 returns-in-Some-clause-refused c =
-    let all = accepted c.args.ways c.args.loop_block c.args.samples.now c.args.looped _ c.in-Ok.ensures.bytes in
+    let all = accepted c.args.ways c.args.loop_block c.args.samples.now c.args.looped _ c.in_ok-plain.ensures.bytes in
     rw (all.1) tt
 
 pub returns-in-None-clause-bytes : goal.returns-in-None-clause-bytes
 returns-in-None-clause-bytes c =
-    let all = accepted c.args.ways c.args.loop_block c.args.samples.now c.args.looped _ c.in-Ok.ensures.bytes in
-    let costs = c.sum_of_squares-cost.ensures ∙ ap sum_of_squares (c.deref.ensures.value ∙ c.in-Ok.ensures.reports ∙ ap (λ (b : List ℕ). reports_of b (padded_samples c.args.samples.now)) all.0) in
+    let all = accepted c.args.ways c.args.loop_block c.args.samples.now c.args.looped _ c.in_ok-plain.ensures.bytes in
+    let costs = c.sum_of_squares-cost.ensures ∙ ap sum_of_squares (c.deref.ensures.value ∙ c.in_ok-plain.ensures.reports ∙ ap (λ (b : List ℕ). reports_of b (padded_samples c.args.samples.now)) all.0) in
     let none = c.in_ok-encoded.ensures.none c.in-None.is in
     let most = ap (λ (n : ℕ). n - 1) c.from-most.ensures in
     let targets = c.deref-2.ensures.value ∙ c.in_ok-targets.ensures.targets in
@@ -62,22 +67,22 @@ returns-in-None-clause-bytes c =
 
 pub returns-in-None-clause-refused : goal.returns-in-None-clause-refused
 returns-in-None-clause-refused c =
-    let all = accepted c.args.ways c.args.loop_block c.args.samples.now c.args.looped _ c.in-Ok.ensures.bytes in
+    let all = accepted c.args.ways c.args.loop_block c.args.samples.now c.args.looped _ c.in_ok-plain.ensures.bytes in
     rw (all.1) tt
 
 pub returns-then-ways-le1-clause-plain : goal.returns-then-ways-le1-clause-plain
-returns-then-ways-le1-clause-plain c _ = (accepted c.args.ways c.args.loop_block c.args.samples.now c.args.looped _ c.in-Ok.ensures.bytes).0
+returns-then-ways-le1-clause-plain c _ = (accepted c.args.ways c.args.loop_block c.args.samples.now c.args.looped _ c.in_ok-plain.ensures.bytes).0
 
 pub returns-then-ways-le1-clause-never_dearer : goal.returns-then-ways-le1-clause-never_dearer
 returns-then-ways-le1-clause-never_dearer c =
-    let all = accepted c.args.ways c.args.loop_block c.args.samples.now c.args.looped _ c.in-Ok.ensures.bytes in
+    let all = accepted c.args.ways c.args.loop_block c.args.samples.now c.args.looped _ c.in_ok-plain.ensures.bytes in
     let found = found_plain c.args.ways c.args.loop_block c.args.samples.now c.args.looped c.if-ways-le1.true in
-    reported c.args.ways c.args.loop_block c.args.samples.now c.args.looped _ _ (found ∙ sym all.0) c.in-Ok.ensures.reports
+    reported c.args.ways c.args.loop_block c.args.samples.now c.args.looped _ _ (found ∙ sym all.0) c.in_ok-plain.ensures.reports
 
 pub returns-in-Some-clause-never_dearer : goal.returns-in-Some-clause-never_dearer
 returns-in-Some-clause-never_dearer c =
-    let all = accepted c.args.ways c.args.loop_block c.args.samples.now c.args.looped _ c.in-Ok.ensures.bytes in
-    let costs = c.sum_of_squares-cost.ensures ∙ ap sum_of_squares (c.deref.ensures.value ∙ c.in-Ok.ensures.reports ∙ ap (λ (b : List ℕ). reports_of b (padded_samples c.args.samples.now)) all.0) in
+    let all = accepted c.args.ways c.args.loop_block c.args.samples.now c.args.looped _ c.in_ok-plain.ensures.bytes in
+    let costs = c.sum_of_squares-cost.ensures ∙ ap sum_of_squares (c.deref.ensures.value ∙ c.in_ok-plain.ensures.reports ∙ ap (λ (b : List ℕ). reports_of b (padded_samples c.args.samples.now)) all.0) in
     let cheaper = rw c.in-Some.is at c.in_ok-encoded.ensures.cheaper in
     let bytes = rw c.in-Some.is at c.in_ok-encoded.ensures.bytes in
     let reports = rw c.in-Some.is at c.in_ok-encoded.ensures.reports in
@@ -88,10 +93,10 @@ returns-in-Some-clause-never_dearer c =
 
 pub returns-in-None-clause-never_dearer : goal.returns-in-None-clause-never_dearer
 returns-in-None-clause-never_dearer c =
-    let all = accepted c.args.ways c.args.loop_block c.args.samples.now c.args.looped _ c.in-Ok.ensures.bytes in
-    let costs = c.sum_of_squares-cost.ensures ∙ ap sum_of_squares (c.deref.ensures.value ∙ c.in-Ok.ensures.reports ∙ ap (λ (b : List ℕ). reports_of b (padded_samples c.args.samples.now)) all.0) in
+    let all = accepted c.args.ways c.args.loop_block c.args.samples.now c.args.looped _ c.in_ok-plain.ensures.bytes in
+    let costs = c.sum_of_squares-cost.ensures ∙ ap sum_of_squares (c.deref.ensures.value ∙ c.in_ok-plain.ensures.reports ∙ ap (λ (b : List ℕ). reports_of b (padded_samples c.args.samples.now)) all.0) in
     let none = c.in_ok-encoded.ensures.none c.in-None.is in
     let most = ap (λ (n : ℕ). n - 1) c.from-most.ensures in
     let targets = c.deref-2.ensures.value ∙ c.in_ok-targets.ensures.targets in
     let found = found_at c.args.ways _ c.args.loop_block _ c.args.samples.now _ c.args.looped false c.if-ways-le1.false most targets costs none in
-    reported c.args.ways c.args.loop_block c.args.samples.now c.args.looped _ _ (found ∙ sym all.0) c.in-Ok.ensures.reports
+    reported c.args.ways c.args.loop_block c.args.samples.now c.args.looped _ _ (found ∙ sym all.0) c.in_ok-plain.ensures.reports
