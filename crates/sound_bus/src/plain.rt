@@ -15,7 +15,7 @@ use chip_form::Chip;
 use lock_step::{Counts, DrainedBus, writes_port, writes_register};
 use ports_timers::Io;
 use spc_form::OpenState;
-use spc700_exec::{Bus, Cpu, step};
+use spc700_exec::{Bus, CYCLES_PER_SAMPLE, Cpu, MOST_CALLS_BEFORE_STEP, step};
 use std::alloc::Global;
 use std::marker::Model;
 use trace_form::{Frames, Record, Records};
@@ -35,6 +35,8 @@ pub struct PlainBus<C: Chip> {
 
 impl<C: Chip> Model for PlainBus<C> {
     ghost use Rattle.std.specs.Prelude.{◌≡◌, ◌+◌, ◌*◌, ◌/◌, ◌<◌, ◌≤◌, length};
+    ghost use Rattle.spc700_exec.specs.Bus.{most_calls};
+    ghost use Rattle.spc700_exec.specs.declared.bus.TheConstants.{CYCLES_PER_SAMPLE};
     ghost use Rattle.chip_form.specs.Limits.{most_samples_of_chip};
     ghost use Rattle.lock_step.specs.Machine.{Machine};
 
@@ -52,11 +54,11 @@ impl<C: Chip> Model for PlainBus<C> {
     } };
 
     // A call emits at most one frame and the records of one sample.
-    ghost invariant = { λ b. (C.sample b.chip ≡ b.clock / 32)
+    ghost invariant = { λ b. (C.sample b.chip ≡ b.clock / CYCLES_PER_SAMPLE)
         × (length b.frames ≤ b.calls)
         × (length b.records ≤ 9 * b.calls)
-        × (b.clock < 32 * (most_samples_of_chip + 1))
-        × (b.calls ≤ 64) };
+        × (b.clock < CYCLES_PER_SAMPLE * (most_samples_of_chip + 1))
+        × (b.calls ≤ most_calls) };
 }
 
 /// Makes the next sample.
@@ -167,7 +169,7 @@ impl<C: Chip> Bus for PlainBus<C> {
         self.calls += 1;
         self.io.ticks(self.clock, cycles);
         self.clock += u64::from(cycles);
-        if u64::from(self.chip.sample()) < self.clock / 32 {
+        if u64::from(self.chip.sample()) < self.clock / CYCLES_PER_SAMPLE {
             make_sample(
                 &mut self.chip,
                 &mut self.memory,
@@ -179,7 +181,7 @@ impl<C: Chip> Bus for PlainBus<C> {
     }
 
     fn to_sample(&self) -> u8 {
-        (32 - self.clock % 32) as u8
+        (CYCLES_PER_SAMPLE - self.clock % CYCLES_PER_SAMPLE) as u8
     }
 
     ghost lawful = { lock_step-lawful C.meaning };
@@ -189,11 +191,11 @@ impl<C: Chip> DrainedBus for PlainBus<C> {
     ghost emits = { lock_step_emits };
 
     fn made(&self) -> u32 {
-        (self.clock / 32) as u32
+        (self.clock / CYCLES_PER_SAMPLE) as u32
     }
 
     fn has_room(&self) -> bool {
-        self.calls <= 32
+        self.calls <= MOST_CALLS_BEFORE_STEP
     }
 
     /// Takes one step.

@@ -48,17 +48,17 @@ entry_read : (n : ℕ) → n < 16 → operand_of (decimal n ++ []) ≡ operand_w
 entry_read n few = operand_read [] (decimal n) [] (Plain n) refl (decimal_no_mark n few) (decimal_values n few) refl (written_decimal n few)
 
 -- a number that a slot has room for
-abbrev pub HasRoom : Slot → (number : ℕ) → Type 0
-HasRoom Absent number = ⊥
-HasRoom Register number = Unit {0}
-HasRoom Byte number = number < 0x100
-HasRoom Address number = number < 0x10000
-HasRoom Target number = number < 0x10000
-HasRoom MemoryBit number = number < 0x10000
-HasRoom (OwnBit own) number = (number < 0x100) × (own < 16)
-HasRoom (OwnEntry own) number = own < 16
+abbrev pub FitsSlot : Slot → (number : ℕ) → Type 0
+FitsSlot Absent number = ⊥
+FitsSlot Register number = Unit {0}
+FitsSlot Byte number = number < 0x100
+FitsSlot Address number = number < 0x10000
+FitsSlot Target number = number < 0x10000
+FitsSlot MemoryBit number = number < 0x10000
+FitsSlot (OwnBit own) number = (number < 0x100) × (own < 16)
+FitsSlot (OwnEntry own) number = own < 16
 
-pub operand_text_read : (f : Form) (n : ℕ) → HasRoom (pattern_of f).slot n → operand_of (operand_text f n) ≡ expected f n
+pub operand_text_read : (f : Form) (n : ℕ) → FitsSlot (pattern_of f).slot n → operand_of (operand_text f n) ≡ expected f n
 unfolding operand_of operand_after_marks written_of number_of is_name
 operand_text_read form.None n room = absurd room
 operand_text_read form.A n room = refl

@@ -16,7 +16,7 @@ use Rattle.spc700_asm.specs.Instructions.{instruction_at}
 use Rattle.spc700_asm.specs.Listing.{byte_text, operand_text, operand_after, text_of, rest_text, listing_of_first, listing_within, listing}
 use Rattle.spc700_asm.proofs.Unrolled.{all_there}
 use Rattle.spc700_asm.proofs.NumberTexts.{alike_below}
-use Rattle.spc700_asm.proofs.OperandTexts.{HasRoom}
+use Rattle.spc700_asm.proofs.OperandTexts.{FitsSlot}
 use Rattle.spc700_asm.proofs.Decoding.{IsShown}
 use Rattle.spc700_asm.proofs.TextRead.{own_fits, first_fits, second_fits, room}
 use Rattle.spc700_asm.proofs.Encoding.{AreBytes, bytes_dropped, found_at, found_again}
@@ -37,7 +37,7 @@ one_less n l = omega arith
 entry_is_short : (text : List ℕ) → length text ≤ 2 → length text ≤ 4
 entry_is_short text short = omega arith
 
-operand_is_short : (f : Form) (n : ℕ) → HasRoom (pattern_of f).slot n → length (operand_text f n) ≤ 4 + 6 * operand_bytes f
+operand_is_short : (f : Form) (n : ℕ) → FitsSlot (pattern_of f).slot n → length (operand_text f n) ≤ 4 + 6 * operand_bytes f
 unfolding encode_with
 operand_is_short form.None n room = absurd room
 operand_is_short form.A n room = leb-true _ _ refl

@@ -12,7 +12,7 @@ use Rattle.spc700_asm.specs.Patterns.{pattern_of}
 use Rattle.spc700_asm.specs.Listing.{byte_text, word_text, bit_text, operand_text}
 use Rattle.spc700_asm.specs.Characters.{capitals}
 use Rattle.spc700_asm.proofs.NumberTexts.{alike_below, hex_character}
-use Rattle.spc700_asm.proofs.OperandTexts.{HasRoom}
+use Rattle.spc700_asm.proofs.OperandTexts.{FitsSlot}
 use Rattle.spc700_asm.proofs.LineTexts.{is_text, fails, is_apart, all_append, IsMnemonic}
 use Rattle.std.specs.Str.{bytes_eq}
 
@@ -65,7 +65,7 @@ small_byte n = omega arith
 bit_characters : (text : List ℕ) (bit : ℕ) → fails is_apart text ≡ true → bit < 16 → fails is_apart (text ++ bit_text bit) ≡ true
 bit_characters text bit one few = all_append (λ character. not (is_apart character)) text (bit_text bit) one (decimal_characters bit few)
 
-pub operand_text_characters : (f : Form) (n : ℕ) → HasRoom (pattern_of f).slot n → fails is_apart (operand_text f n) ≡ true
+pub operand_text_characters : (f : Form) (n : ℕ) → FitsSlot (pattern_of f).slot n → fails is_apart (operand_text f n) ≡ true
 operand_text_characters form.None n room = absurd room
 operand_text_characters form.A n room = refl
 operand_text_characters form.X n room = refl
@@ -94,7 +94,7 @@ operand_text_characters form.NotBit n room = around (codes "/") (word_text (n % 
 operand_text_characters (form.DirectBit bit) n room = around [] (byte_text (n % 0x100) ++ bit_text bit) [] refl (bit_characters (byte_text (n % 0x100)) bit (byte_characters (n % 0x100) (small_byte n)) room.1) refl
 operand_text_characters (form.Table entry) n room = around [] (decimal entry) [] refl (decimal_characters entry room) refl
 
-pub operand_text_there : (f : Form) (n : ℕ) → HasRoom (pattern_of f).slot n → is_text (operand_text f n) ≡ true
+pub operand_text_there : (f : Form) (n : ℕ) → FitsSlot (pattern_of f).slot n → is_text (operand_text f n) ≡ true
 operand_text_there form.None n room = absurd room
 operand_text_there form.A n room = refl
 operand_text_there form.X n room = refl

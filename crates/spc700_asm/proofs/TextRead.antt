@@ -17,7 +17,7 @@ use Rattle.spc700_asm.specs.Operands.{Operand}
 use Rattle.spc700_asm.specs.Statements.{Code, is_this, is_alike, all_rows, opcode_written, code, statement_of}
 use Rattle.spc700_asm.proofs.Decoding.{IsShown, made}
 use Rattle.spc700_asm.proofs.NumberTexts.{alike_below}
-use Rattle.spc700_asm.proofs.OperandTexts.{HasRoom, operand_text_read}
+use Rattle.spc700_asm.proofs.OperandTexts.{FitsSlot, operand_text_read}
 use Rattle.spc700_asm.specs.Characters.{is_line_feed}
 use Rattle.spc700_asm.proofs.LineTexts.{fails, plain, all_append, line_of_none, line_of_one, line_of_two}
 use Rattle.spc700_asm.proofs.TextCharacters.{mnemonic_is, operand_text_characters, operand_text_there}
@@ -64,7 +64,7 @@ none_alone : (opcode : ℕ) → opcode < 256 → (is_absent (pattern_of (row_of 
 unfolding row_of columns printed_cycles cycle_map
 none_alone opcode below = alike_below 256 (λ o. is_absent (pattern_of (row_of o).first).slot && not (is_absent (pattern_of (row_of o).second).slot)) (λ o. false) refl opcode below
 
-pub room : (slot : Slot) (next n : ℕ) → own_fits slot ≡ true → IsShown slot next n → is_absent slot ≡ false → HasRoom slot n
+pub room : (slot : Slot) (next n : ℕ) → own_fits slot ≡ true → IsShown slot next n → is_absent slot ≡ false → FitsSlot slot n
 room Absent next n own is there = true≢false there
 room Register next n own is there = tt
 room Byte next n own is there = is

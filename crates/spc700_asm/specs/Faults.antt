@@ -5,6 +5,7 @@ use Rattle.spc700_table.specs.declared.Form.{Form}
 use Rattle.spc700_table.specs.Opcodes.{row_of}
 use Rattle.spc700_asm.specs.declared.refusal.LineFault.{LineFault}
 use Rattle.spc700_asm.specs.declared.refusal.LineFault.TheVariants as fault
+use Rattle.spc700_asm.specs.Instructions.{memory_end}
 use Rattle.spc700_asm.specs.Patterns.{pattern_of}
 use Rattle.spc700_asm.specs.Operands.{Operand, is_above, is_great}
 use Rattle.spc700_asm.specs.Statements.{Statement, Nothing, Name, Bytes, Words, Code}
@@ -40,7 +41,7 @@ first_fault labels at None = Some fault.Form
 first_fault labels at (Some statement) =
     if has_great_number statement then Some fault.Number
     else if defines_again labels statement then Some fault.Twice
-    else if nat_lt 0x10000 (at + size_of statement) then Some fault.Long
+    else if nat_lt memory_end (at + size_of statement) then Some fault.Long
     else None
 
 -- a fault of the line of a number, or else another refusal

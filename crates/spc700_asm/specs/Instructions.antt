@@ -7,6 +7,10 @@ use Rattle.spc700_table.specs.Opcodes.{row_of, is_distance, operand_bytes, lengt
 use Rattle.spc700_table.specs.Branches.{branch_target}
 use Rattle.spc700_asm.specs.declared.instruction.Instruction.{Instruction}
 
+-- where the memory ends
+abbrev pub memory_end : ℕ
+memory_end = 0x10000
+
 -- where the bytes of each operand begin, after the opcode
 abbrev pub first_place : OpRow → ℕ
 first_place row = if is_in_text_order row then 0 else operand_bytes row.second

@@ -8,6 +8,7 @@ use Rattle.spc700_asm.specs.declared.refusal.LineError.{LineError}
 use Rattle.spc700_asm.specs.declared.refusal.LineError.TheVariants as error
 use Rattle.spc700_asm.specs.declared.refusal.AsmRefusal.{AsmRefusal}
 use Rattle.spc700_asm.specs.declared.refusal.AsmRefusal.TheVariants as refusal
+use Rattle.spc700_asm.specs.Instructions.{memory_end}
 use Rattle.spc700_asm.specs.Operands.{written_of}
 use Rattle.spc700_asm.specs.Statements.{Statement, all_of, items_of, statement_of}
 use Rattle.spc700_asm.specs.Labels.{Labels, size_of, size_of_line, label_at, value_of}
@@ -57,7 +58,7 @@ IsBytesFault (error.Fault fault) bytes = bytes ≡ Err fault
 -- a line has no fault of the first four that its bytes depend on
 abbrev pub IsFine : (at : ℕ) → Option Statement → Type 0
 IsFine at None = ⊥
-IsFine at (Some statement) = (has_great_number statement ≡ false) × (at + size_of statement ≤ 0x10000)
+IsFine at (Some statement) = (has_great_number statement ≡ false) × (at + size_of statement ≤ memory_end)
 
 -- nor have lines from an address on
 abbrev pub AreFine : (at : ℕ) → List (Option Statement) → Type 0

@@ -16,8 +16,6 @@ pub fn assemble(alloc: Global, source: &[u8], origin: u16) -> Result<Vec<u8>, As
     ensures bytes { IfOk result (λ bytes. assembly source.now origin ≡ Ok bytes.items) }
     ensures refusal { IfErr result (λ refusal. Refuses refusal (assembly source.now origin)) }
 {
-    match survey(alloc, source, origin) {
-        Ok(names) => emit(alloc, &names, source, origin),
-        Err(refusal) => Err(refusal),
-    }
+    let names = survey(alloc, source, origin)?;
+    emit(alloc, &names, source, origin)
 }

@@ -2,7 +2,7 @@
 ghost use Rattle.std.specs.Prelude.{◌≡◌, ◌+◌, ◌-◌, ◌*◌, ◌%◌, ◌/◌, ◌≤◌, ◌<◌, ◌++◌, [], length, false, unwrap_or, Some, None, Ok, IsSome, IfSome, IfOk, IfErr, OnOk};
 ghost use Rattle.std.specs.Option.{option_map};
 ghost use Rattle.spc700_table.specs.Opcodes.{row_of, length_of, operand_bytes};
-ghost use Rattle.spc700_asm.specs.Instructions.{distance_ahead, is_near, bytes_of_number, bytes_of_operand, bytes_of_operands, bytes_of};
+ghost use Rattle.spc700_asm.specs.Instructions.{memory_end, distance_ahead, is_near, bytes_of_number, bytes_of_operand, bytes_of_operands, bytes_of};
 ghost use Rattle.spc700_asm.specs.Operands.{is_above, written_of};
 ghost use Rattle.spc700_asm.specs.Characters.{number_of};
 ghost use Rattle.spc700_asm.specs.Statements.{all_of, items_of, statement_of};
@@ -15,7 +15,7 @@ ghost use Rattle.spc700_asm.specs.Names.{Holds, Adds, AddsLine, word_bytes, byte
 use crate::OutOfMemory;
 use crate::characters::{number, trim};
 use crate::faults::size_within;
-use crate::instruction::{Instruction, is_distance};
+use crate::instruction::{Instruction, MEMORY_END, is_distance};
 use crate::names::Names;
 use crate::operand::{Operand, Written, written_in};
 use crate::pattern::{Slot, pattern_for};
@@ -43,7 +43,7 @@ fn is_far_operand(form: Form, next: u32, number: u16) -> bool
 
 /// Whether an instruction at an address has one.
 fn is_far(at: u32, instruction: Instruction) -> bool
-    requires { at ≤ 0x1_0000 }
+    requires { at ≤ memory_end }
     ensures { result ≡ is_far at instruction }
 {
     let row = row(instruction.opcode);
@@ -92,7 +92,7 @@ fn push_operands(
 /// Adds the bytes of an instruction at an address.
 #[tactic(auto, unfolding(crate::specs::Instructions::bytes_of))]
 fn push_instruction(out: &mut Vec<u8>, at: u32, instruction: Instruction) -> Result<(), LineError>
-    requires { at ≤ 0x1_0000 }
+    requires { at ≤ memory_end }
     ensures { Adds out.old.items out.new.items (instruction_bytes at (Some instruction)) result }
 {
     if is_far(at, instruction) {
@@ -228,7 +228,7 @@ fn push_statement(
     at: u32,
     statement: &Statement,
 ) -> Result<(), LineError>
-    requires at { at ≤ 0x1_0000 }
+    requires at { at ≤ memory_end }
     requires seen { IsSome (statement_seen statement.now) }
     requires small { IfSome (statement_seen statement.now) (λ seen. has_great_number seen ≡ false) }
     ensures { (labels : Labels) → Holds names.now labels → Adds out.old.items out.new.items (line_bytes labels at (statement_seen statement.now)) result }
@@ -250,20 +250,18 @@ fn push_statement(
 
 /// Adds the bytes of a line at an address that has none of the first four faults: the address after it.
 fn push_line(out: &mut Vec<u8>, names: &Names, at: u32, line: &[u8]) -> Result<u32, LineError>
-    requires at { at ≤ 0x1_0000 }
+    requires at { at ≤ memory_end }
     requires fine { IsFine at (statement_of line.now) }
     ensures bytes { (labels : Labels) → Holds names.now labels → OnOk result (AddsLine labels at line.now out.old.items out.new.items) }
     ensures fault { (labels : Labels) → Holds names.now labels → IfErr result (λ error. IsBytesFault error (line_bytes labels at (statement_of line.now))) }
     ensures next { IfOk result (λ next. next ≡ at + size_of_line (statement_of line.now)) }
-    ensures within { IfOk result (λ next. next ≤ 0x1_0000) }
+    ensures within { IfOk result (λ next. next ≤ memory_end) }
 {
     let Some(statement) = statement_in(line) else {
         return Ok(at);
     };
-    match push_statement(out, names, at, &statement) {
-        Ok(()) => Ok(at + size_within(&statement, 0x1_0000 - at).unwrap_or(0)),
-        Err(error) => Err(error),
-    }
+    push_statement(out, names, at, &statement)?;
+    Ok(at + size_within(&statement, MEMORY_END - at).unwrap_or(0))
 }
 
 /// The bytes of lines from an origin on that have none of the first four faults, or the first line with one of the last two.

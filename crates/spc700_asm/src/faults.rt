@@ -3,6 +3,7 @@ ghost use Rattle.std.specs.Prelude.{◌≡◌, [], ◌+◌, ◌*◌, ◌≤◌, 
 ghost use Rattle.std.specs.Option.{option_map};
 ghost use Rattle.std.specs.List.{list_any};
 ghost use Rattle.std.specs.Result.{result_err};
+ghost use Rattle.spc700_asm.specs.Instructions.{memory_end};
 ghost use Rattle.spc700_asm.specs.Characters.{number_of};
 ghost use Rattle.spc700_asm.specs.Operands.{written_of, is_above, is_great};
 ghost use Rattle.spc700_asm.specs.Statements.{all_of, items_of};
@@ -12,6 +13,7 @@ ghost use Rattle.spc700_asm.specs.Seen.{written_seen, operand_seen, statement_se
 ghost use Rattle.spc700_asm.specs.Names.{value_in_table, Holds};
 
 use crate::characters::{number, trim};
+use crate::instruction::MEMORY_END;
 use crate::names::Names;
 use crate::operand::{Operand, Written, written_in};
 use crate::pattern::{Slot, pattern_for};
@@ -81,7 +83,7 @@ fn has_great_word(items: &[u8]) -> bool
 
 /// How many bytes items have, where that isn't more than there is room for.
 fn items_size(items: &[u8], each: u32, room: u32) -> Option<u32>
-    requires { room ≤ 0x1_0000 }
+    requires { room ≤ memory_end }
     ensures { result ≡ within room (each * length (items_of items.now)) }
 {
     let mut rest = Some(items);
@@ -99,7 +101,7 @@ fn items_size(items: &[u8], each: u32, room: u32) -> Option<u32>
 
 /// How many bytes a statement gives, where that isn't more than there is room for.
 pub fn size_within(statement: &Statement, room: u32) -> Option<u32>
-    requires { room ≤ 0x1_0000 }
+    requires { room ≤ memory_end }
     ensures { IfSome (statement_seen statement.now) (λ seen. result ≡ within room (size_of seen)) }
 {
     match *statement {
@@ -145,17 +147,17 @@ fn defines_again(names: &Names, statement: &Statement) -> bool
 
 /// The size of a statement at an address after lines that define these names, or the first of the four faults.
 pub fn checked_size(names: &Names, at: u32, statement: &Statement) -> Result<u32, LineFault>
-    requires at { at ≤ 0x1_0000 }
+    requires at { at ≤ memory_end }
     requires seen { IsSome (statement_seen statement.now) }
     ensures fault { (labels : Labels) → Holds names.now labels → first_fault labels at (statement_seen statement.now) ≡ result_err result }
     ensures size { IfOk result (λ size. size ≡ size_of_line (statement_seen statement.now)) }
-    ensures within { IfOk result (λ size. at + size ≤ 0x1_0000) }
+    ensures within { IfOk result (λ size. at + size ≤ memory_end) }
 {
     if has_great_number(statement) {
         Err(LineFault::Number)
     } else if defines_again(names, statement) {
         Err(LineFault::Twice)
     } else {
-        size_within(statement, 0x1_0000 - at).ok_or(LineFault::Long)
+        size_within(statement, MEMORY_END - at).ok_or(LineFault::Long)
     }
 }

@@ -2,9 +2,12 @@
 ghost use Rattle.std.specs.Prelude.{◌≡◌, ◌+◌, ◌<◌, ◌≤◌, length};
 ghost use Rattle.spc700_table.specs.Opcodes.{row_of, is_distance, operand_bytes, length_of};
 ghost use Rattle.spc700_table.specs.Branches.{branch_target};
-ghost use Rattle.spc700_asm.specs.Instructions.{first_place, second_place, number_at, number_in_line, instruction_in, instruction_at};
+ghost use Rattle.spc700_asm.specs.Instructions.{memory_end, first_place, second_place, number_at, number_in_line, instruction_in, instruction_at};
 
 use spc700_table::{Form, OpRow, branch_target, byte_count, is_in_text_order, length, row};
+
+/// Where the memory ends.
+pub(crate) const MEMORY_END: u32 = 0x1_0000;
 
 /// An instruction: its opcode, and the number that stands in the line for each operand: the target of a branch, of a bit of
 /// memory the word of address and bit, and 0 where there is no number.
@@ -24,7 +27,7 @@ pub fn is_distance(form: Form) -> bool
 
 /// The address that a distance leads to from the address after the instruction, which may be past the last one.
 fn target(next: u32, distance: u8) -> u16
-    requires { next ≤ 0x1_0000 }
+    requires { next ≤ memory_end }
     ensures { result ≡ branch_target next distance }
 {
     branch_target((next % 0x1_0000) as u16, distance)
@@ -45,7 +48,7 @@ pub fn number_at(count: u8, bytes: &[u8]) -> u16
 
 /// What stands in the line for an operand whose bytes are at the front.
 fn number_in_line_at(form: Form, next: u32, bytes: &[u8]) -> u16
-    requires next { next ≤ 0x1_0000 }
+    requires next { next ≤ memory_end }
     requires few { operand_bytes form ≤ 2 }
     requires inside { operand_bytes form ≤ length bytes.now }
     ensures { result ≡ number_in_line form next (number_at (operand_bytes form) bytes.now) }
@@ -81,7 +84,7 @@ fn second_place(row: &OpRow) -> usize
 
 /// The instruction of an opcode with these bytes after it.
 fn instruction_in(opcode: u8, next: u32, operands: &[u8]) -> Instruction
-    requires next { next ≤ 0x1_0000 }
+    requires next { next ≤ memory_end }
     requires inside { length_of opcode ≤ length operands.now + 1 }
     ensures { result ≡ instruction_in opcode (row_of opcode) next operands.now }
 {
@@ -98,7 +101,7 @@ fn instruction_in(opcode: u8, next: u32, operands: &[u8]) -> Instruction
 /// The instruction at the front of bytes that stand at an address, where all its bytes are there.
 #[tactic(auto, unfolding(crate::specs::Instructions::instruction_at))]
 pub fn instruction_at(at: u32, bytes: &[u8]) -> Option<Instruction>
-    requires { at + length bytes.now ≤ 0x1_0000 }
+    requires { at + length bytes.now ≤ memory_end }
     ensures { result ≡ instruction_at at bytes.now }
 {
     let (opcode, operands) = bytes.split_first()?;

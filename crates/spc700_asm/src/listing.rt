@@ -2,6 +2,7 @@
 ghost use Rattle.std.specs.Prelude.{◌≡◌, ◌+◌, ◌<◌, ◌≤◌, ◌++◌, length, map, codes, OnOk, IfOk, IfSome, IfNone};
 ghost use Rattle.std.specs.List.{flat_map};
 ghost use Rattle.spc700_table.specs.Opcodes.{length_of};
+ghost use Rattle.spc700_asm.specs.Instructions.{memory_end};
 ghost use Rattle.spc700_asm.specs.Listing.{byte_text, word_text, bit_text, slot_text, operand_text, operand_after, text_of, rest_text, listing};
 
 use crate::OutOfMemory;
@@ -113,7 +114,7 @@ fn push_rest(out: &mut Vec<u8>, bytes: &[u8]) -> Result<(), OutOfMemory>
 
 /// The instruction at the front of bytes, where all its bytes are there, and what is after it.
 fn first_instruction(at: u32, bytes: &[u8]) -> Option<(Instruction, &[u8])>
-    requires { at + length bytes.now ≤ 0x1_0000 }
+    requires { at + length bytes.now ≤ memory_end }
     ensures found { IfSome result (λ first. listing at bytes.now ≡ text_of first.0 ++ codes "\n" ++ listing (at + length_of first.0.opcode) first.1.now) }
     ensures after { IfSome result (λ first. length_of first.0.opcode + length first.1.now ≡ length bytes.now) }
     ensures none { IfNone result (listing at bytes.now ≡ rest_text bytes.now) }
@@ -126,7 +127,7 @@ fn first_instruction(at: u32, bytes: &[u8]) -> Option<(Instruction, &[u8])>
 /// The listing of bytes that stand at an origin and end at 65,536 at most: a line for each instruction, and one more, of
 /// `.byte`, for bytes at the end that are no whole instruction. It may want memory.
 pub fn disassemble(alloc: Global, bytes: &[u8], origin: u16) -> Result<Vec<u8>, OutOfMemory>
-    requires { origin + length bytes.now ≤ 0x1_0000 }
+    requires { origin + length bytes.now ≤ memory_end }
     ensures { IfOk result (λ text. text.items ≡ listing origin bytes.now) }
 {
     let mut text = Vec::new(alloc);

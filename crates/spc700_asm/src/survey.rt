@@ -1,5 +1,6 @@
 //! The first going over a source: the names that its lines define, or the first line with one of the four faults.
 ghost use Rattle.std.specs.Prelude.{◌≡◌, ◌+◌, ◌≤◌, ◌++◌, [], None, length, IfOk, IfErr, OnOk};
+ghost use Rattle.spc700_asm.specs.Instructions.{memory_end};
 ghost use Rattle.spc700_asm.specs.Statements.{statement_of};
 ghost use Rattle.spc700_asm.specs.Labels.{Labels, size_of_line, label_at, labels_of};
 ghost use Rattle.spc700_asm.specs.Faults.{first_fault, first_refusal};
@@ -31,12 +32,12 @@ fn define_label<'a>(
 
 /// Goes over a line at an address: the address after it, its name among the names.
 fn survey_line<'a>(names: &mut Names<'a>, at: u32, line: &'a [u8]) -> Result<u32, LineError>
-    requires { at ≤ 0x1_0000 }
+    requires { at ≤ memory_end }
     ensures fault { (labels : Labels) → Holds names.old labels → IfErr result (λ error. IsFault error (first_fault labels at (statement_of line.now))) }
     ensures fine { (labels : Labels) → Holds names.old labels → OnOk result (first_fault labels at (statement_of line.now) ≡ None) }
     ensures defined { (labels : Labels) → Holds names.old labels → OnOk result (Holds names.new (labels ++ label_at at (statement_of line.now))) }
     ensures next { IfOk result (λ next. next ≡ at + size_of_line (statement_of line.now)) }
-    ensures within { IfOk result (λ next. next ≤ 0x1_0000) }
+    ensures within { IfOk result (λ next. next ≤ memory_end) }
 {
     let Some(statement) = statement_in(line) else {
         return Err(LineError::Fault(LineFault::Form));
