@@ -7,13 +7,17 @@ use Rattle.std.specs.List.{sum_by, count_by, list_any, range_with_len}
 use Rattle.std.specs.Str.{bytes_eq}
 use Rattle.aram_core.specs.Memory.{page_bytes}
 
--- the pages of a memory, which are the fewest slots of a pool: the first checkpoint has one for each
-abbrev pub fewest_pages : ℕ
-fewest_pages = 256
+-- how many pages a memory has
+abbrev pub page_count : ℕ
+page_count = 256
 
--- the 256 pages of a memory
+-- the fewest slots of a pool: the first checkpoint has one for each page
+abbrev pub fewest_pages : ℕ
+fewest_pages = page_count
+
+-- the pages of a memory
 unfoldable pub pages_of : (memory : List ℕ) → List (List ℕ)
-pages_of memory = map (page_bytes memory) (range_with_len 0 256)
+pages_of memory = map (page_bytes memory) (range_with_len 0 page_count)
 
 pub record Checkpoint : Type 0 where
   -- the number of samples made before it

@@ -5,8 +5,8 @@ use Rattle.cut_form.specs.declared.mark.Marked.TheVariants.{Kept, Taken, NoPages
 use Rattle.cut_form.specs.Checkpoints.{Checkpoint, with_checkpoint, without_entry, slots_needed, slots_free, stands_at, has_room}
 use Rattle.cut_form.specs.CutBook.{CutBook}
 
--- the live checkpoints once so many were given up
-pub record Room : Type 0 where
+-- the live checkpoints that remain once so many were given up
+pub record Remaining : Type 0 where
   pub live : List Checkpoint
   pub gave : ℕ
 
@@ -15,11 +15,11 @@ abbrev pub without_oldest : List Checkpoint → List Checkpoint
 without_oldest live = without_entry live 1
 
 -- so many are given up at most, one by one, until there is room
-abbrev pub room_made : (most : ℕ) → (slots : ℕ) → (pages : List (List ℕ)) → Room → Room
-room_made zero slots pages room = room
-room_made (suc most) slots pages room =
-    if has_room slots pages room.live then room
-    else room_made most slots pages (record { live = without_oldest room.live; gave = room.gave + 1 })
+abbrev pub room_made : (most : ℕ) → (slots : ℕ) → (pages : List (List ℕ)) → Remaining → Remaining
+room_made zero slots pages remaining = remaining
+room_made (suc most) slots pages remaining =
+    if has_room slots pages remaining.live then remaining
+    else room_made most slots pages (record { live = without_oldest remaining.live; gave = remaining.gave + 1 })
 
 -- the live checkpoints after a mark, and what came of it
 pub record MarkOutcome : Type 0 where
@@ -27,10 +27,10 @@ pub record MarkOutcome : Type 0 where
   pub marked : Marked
 
 -- one is taken where there is room for it
-abbrev pub mark_in : (slots : ℕ) → (pages : List (List ℕ)) → (sample : ℕ) → Room → MarkOutcome
-mark_in slots pages sample room =
-    if has_room slots pages room.live then record { live = with_checkpoint room.live sample pages; marked = Taken room.gave }
-    else record { live = room.live; marked = NoPages room.gave (slots_needed room.live pages) (slots_free slots room.live) }
+abbrev pub mark_in : (slots : ℕ) → (pages : List (List ℕ)) → (sample : ℕ) → Remaining → MarkOutcome
+mark_in slots pages sample remaining =
+    if has_room slots pages remaining.live then record { live = with_checkpoint remaining.live sample pages; marked = Taken remaining.gave }
+    else record { live = remaining.live; marked = NoPages remaining.gave (slots_needed remaining.live pages) (slots_free slots remaining.live) }
 
 -- A mark keeps the checkpoint that stands there, or makes room and takes one. All but that of sample 0 may be given up.
 abbrev pub mark_at : (slots : ℕ) → (pages : List (List ℕ)) → (sample : ℕ) → List Checkpoint → MarkOutcome

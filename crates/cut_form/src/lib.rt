@@ -5,6 +5,8 @@ mod cut;
 mod mark;
 mod script;
 
-pub use cut::{Cut, MOST_CHECKPOINTS, MOST_FRAMES, MOST_PLAYED, PLAYED_BYTES, SLOTS_FOR_CUTS};
+pub use cut::{
+    Cut, MOST_CHECKPOINTS, MOST_FRAMES, MOST_PLAYED, PAGE_COUNT, PLAYED_BYTES, SLOTS_FOR_CUTS,
+};
 pub use mark::{Marked, NoPages};
 pub use script::{Reply, ScriptLine};

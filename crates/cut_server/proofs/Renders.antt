@@ -24,7 +24,7 @@ use Rattle.cut_server.specs.Table.{TableState, Saved, live_checkpoints}
 use Rattle.cut_server.specs.Server.{lock_step_machines, standing_of, pages_at, chip_at}
 use Rattle.cut_server.specs.ServerState.{book_of}
 use Rattle.cut_server.specs.IsServed.{IsOnCourse}
-use Rattle.cut_server.specs.Renders.{IsAtRest, IsServing, IsOnWay, RunsOut}
+use Rattle.cut_server.specs.Renders.{HasHandedOver, IsServing, IsOnWay, RunsOut}
 
 -- the machines of a chip are lawful
 pub machines_lawful : {S V : Type 0} (chip : ChipMeaning S) (saving : ChipSaving S V) → IsLawfulSaving chip saving → AreLawful (lock_step_machines chip saving)
@@ -72,7 +72,7 @@ aimed_whole : {S V : Type 0} (chip : ChipMeaning S) (saving : ChipSaving S V) (r
 unfolding lock_step_machines
 aimed_whole chip saving render n rest = sym (rest_lists render.bus.machine (after_run (lock_step chip) n (render.cpu, render.bus.machine)) rest)
 
-pub aimed_frames : {S V : Type 0} (chip : ChipMeaning S) (saving : ChipSaving S V) (render : RenderState S) (n : ℕ) → IsAtRest render
+pub aimed_frames : {S V : Type 0} (chip : ChipMeaning S) (saving : ChipSaving S V) (render : RenderState S) (n : ℕ) → HasHandedOver render
     → frames_to_come chip (record render { samples = n }) ≡ (lock_step_machines chip saving).run_frames n (render.cpu, render.bus.machine)
 unfolding lock_step_machines
 aimed_frames chip saving render n rest = ap (λ m. run_frames (lock_step chip) lock_step_emits n (render.cpu, m)) (sym rest.drained)
@@ -82,9 +82,9 @@ pub record Arrives {S V : Type 0} (chip : ChipMeaning S) (saving : ChipSaving S 
   pub samples : new.samples ≡ n
   pub whole : (new.cpu, new.bus.machine) ≡ (lock_step_machines chip saving).after_run n (old.cpu, old.bus.machine)
   pub total : new.bus.chip_total ≡ count_after old.bus.chip_total (n - old.samples)
-  pub rest : IsAtRest new
+  pub handed_over : HasHandedOver new
 
-pub arrives : {S V : Type 0} (chip : ChipMeaning S) (saving : ChipSaving S V) (old aimed new : RenderState S) (n : ℕ) → IsAtRest old → aimed ≡ record old { samples = n } → RunsOut chip aimed new → Arrives chip saving old new n
+pub arrives : {S V : Type 0} (chip : ChipMeaning S) (saving : ChipSaving S V) (old aimed new : RenderState S) (n : ℕ) → HasHandedOver old → aimed ≡ record old { samples = n } → RunsOut chip aimed new → Arrives chip saving old new n
 arrives chip saving old aimed new n rest is out =
     let length : aimed.samples ≡ n = ap (λ r. r.samples) is in
     let machine : new.bus.machine ≡ (whole_at_length chip aimed).1 = ap (λ w. w.1) out.whole in
@@ -92,11 +92,11 @@ arrives chip saving old aimed new n rest is out =
       samples = out.samples ∙ length;
       whole = out.whole ∙ ap (whole_at_length chip) is ∙ aimed_whole chip saving old n rest.drained;
       total = out.total ∙ ap (λ r. count_after r.bus.chip_total (r.samples - r.bus.chip_sample)) is ∙ ap (λ k. count_after old.bus.chip_total (n - k)) rest.chip;
-      rest = record { drained = ap drained_machine machine ∙ sym machine; chip = out.sample ∙ sym out.samples };
+      handed_over = record { drained = ap drained_machine machine ∙ sym machine; chip = out.sample ∙ sym out.samples };
     }
 
 -- A render that was loaded.
-pub loaded_whole_is : {S V : Type 0} (chip : ChipMeaning S) (saving : ChipSaving S V) (render : RenderState S) (saved : PlayState V) (memory : List ℕ) → IsAtRest render
+pub loaded_whole_is : {S V : Type 0} (chip : ChipMeaning S) (saving : ChipSaving S V) (render : RenderState S) (saved : PlayState V) (memory : List ℕ) → HasHandedOver render
     → ((loaded_render chip saving render saved memory).cpu, (loaded_render chip saving render saved memory).bus.machine) ≡ (lock_step_machines chip saving).loaded (render.cpu, render.bus.machine) saved memory
 unfolding lock_step_machines
 loaded_whole_is chip saving render saved memory rest = sym (rest_lists render.bus.machine (saved.cpu, loaded_machine saving render.bus.machine saved.bus memory) rest.drained)
@@ -106,12 +106,12 @@ pub loaded_samples : {S V : Type 0} (chip : ChipMeaning S) (saving : ChipSaving 
 unfolding lock_step_machines
 loaded_samples chip saving render saved memory can = sym can.bus.number
 
-pub loaded_rest : {S V : Type 0} (chip : ChipMeaning S) (saving : ChipSaving S V) (render : RenderState S) (saved : PlayState V) (memory : List ℕ) → CanBePlayed saving saved → IsAtRest (loaded_render chip saving render saved memory)
-loaded_rest chip saving render saved memory can = record { drained = refl; chip = omega (arith, can.bus.number) }
+pub loaded_handed_over : {S V : Type 0} (chip : ChipMeaning S) (saving : ChipSaving S V) (render : RenderState S) (saved : PlayState V) (memory : List ℕ) → CanBePlayed saving saved → HasHandedOver (loaded_render chip saving render saved memory)
+loaded_handed_over chip saving render saved memory can = record { drained = refl; chip = omega (arith, can.bus.number) }
 
 -- A render that was opened.
-pub opened_rest : {S : Type 0} (chip : ChipMeaning S) (render : RenderState S) (w : Whole (Machine S)) (total : ℕ) → (render.cpu, render.bus) ≡ with_opened_book chip w total → drained_machine w.1 ≡ w.1 → w.1.clock ≡ 0 → render.samples ≡ 0 → IsAtRest render
-opened_rest chip render w total is drained clock samples =
+pub opened_handed_over : {S : Type 0} (chip : ChipMeaning S) (render : RenderState S) (w : Whole (Machine S)) (total : ℕ) → (render.cpu, render.bus) ≡ with_opened_book chip w total → drained_machine w.1 ≡ w.1 → w.1.clock ≡ 0 → render.samples ≡ 0 → HasHandedOver render
+opened_handed_over chip render w total is drained clock samples =
     let machine : render.bus.machine ≡ w.1 = ap (λ p. p.1.machine) is in
     record {
       drained = ap drained_machine machine ∙ drained ∙ sym machine;

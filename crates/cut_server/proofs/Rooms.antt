@@ -4,7 +4,7 @@ use Rattle.std.specs.List.{remove, remove_range}
 use Rattle.std.proofs.lemmas.List.{drop-drop}
 use Rattle.std.proofs.lemmas.Bool.{cases_Bool, or_parts}
 use Rattle.cut_form.specs.Checkpoints.{Checkpoint, next_to_dropped, without_entry, has_room, stands_at}
-use Rattle.cut_form.specs.Marks.{Room, room_made}
+use Rattle.cut_form.specs.Marks.{Remaining, room_made}
 use Rattle.cut_server.specs.Table.{TableState, saved_of, live_checkpoints}
 
 -- dropping keeps the number of those after the first
@@ -54,7 +54,7 @@ makes_more {pages = pages} {before} {old} {mid} makes new more none saved live s
     let gave = before - length (live_checkpoints mid) in
     let fewer : length (live_checkpoints new) + 1 ≡ length (live_checkpoints mid) = omega (arith, ap length live, length-without_entry (live_checkpoints mid) 1 more) in
     let next : before - length (live_checkpoints new) ≡ gave + 1 = omega (arith, fewer, makes.fewer) in
-    let room_of : List Checkpoint → ℕ → Room = λ live gave. room_made (length live - 1) (length old.pool) pages (record { live = live; gave = gave }) in
+    let room_of : List Checkpoint → ℕ → Remaining = λ live gave. room_made (length live - 1) (length old.pool) pages (record { live = live; gave = gave }) in
     record {
       count = makes.count;
       fewer = omega (arith, fewer, makes.fewer);
@@ -83,6 +83,6 @@ none_in_room (suc most) slots pages live gave sample none = elim (cases_Bool (ha
   | inr full ↦ rw full (none_in_room most slots pages (without_entry live 1) (gave + 1) sample (none_without live 1 sample none))
 ]
 
-pub none_left : (most slots : ℕ) (pages : List (List ℕ)) (live : List Checkpoint) (gave sample : ℕ) (room : Room) → room ≡ room_made most slots pages (record { live = live; gave = gave }) → stands_at live sample ≡ false
+pub none_left : (most slots : ℕ) (pages : List (List ℕ)) (live : List Checkpoint) (gave sample : ℕ) (room : Remaining) → room ≡ room_made most slots pages (record { live = live; gave = gave }) → stands_at live sample ≡ false
     → stands_at room.live sample ≡ false
 none_left most slots pages live gave sample room is none = rw is (none_in_room most slots pages live gave sample none)

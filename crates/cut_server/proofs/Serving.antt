@@ -23,7 +23,7 @@ use Rattle.cut_server.specs.Server.{lock_step_machines, standing_of, opening, pa
 use Rattle.cut_server.specs.IsServed.{GoesOn, GoesBack}
 use Rattle.cut_server.specs.Renders.{IsServing}
 use Rattle.cut_server.proofs.Course.{course_of, served_on, served_back, served_more, served_less, served_opened, start_opened, frames_here, goes, goes_back, tune_on}
-use Rattle.cut_server.proofs.Renders.{machines_lawful, played_at, Arrives, aimed_frames, loaded_whole_is, loaded_samples, loaded_rest, opened_rest, pages_here}
+use Rattle.cut_server.proofs.Renders.{machines_lawful, played_at, Arrives, aimed_frames, loaded_whole_is, loaded_samples, loaded_handed_over, opened_handed_over, pages_here}
 
 -- A new server stands at the opening.
 pub record IsOpened {S : Type 0} (chip : ChipMeaning S) (render : RenderState S) (w : Whole (Machine S)) (total : ℕ) : Type 0 where
@@ -56,8 +56,8 @@ module _ {S V : Type 0} {chip : ChipMeaning S} {saving : ChipSaving S V} where
       let can = saved_can_be_played saves serving i s read in
       record {
         served = served_back (machines_lawful chip saving saves) serving.served i s read (standing_of new) done (ap (λ r. r.samples) is ∙ loaded_samples chip saving render s.state s.memory can)
-            (ap (λ r. (r.cpu, r.bus.machine)) is ∙ loaded_whole_is chip saving render s.state s.memory serving.rest);
-        rest = rw is (loaded_rest chip saving render s.state s.memory can);
+            (ap (λ r. (r.cpu, r.bus.machine)) is ∙ loaded_whole_is chip saving render s.state s.memory serving.handed_over);
+        handed_over = rw is (loaded_handed_over chip saving render s.state s.memory can);
       }
 
   pub goes_back_to : IsLawfulSaving chip saving → {render : RenderState S} {table : TableState (PlayState V)} {at : ℕ} → IsServing chip saving render table at → (i : ℕ) (s : Saved (PlayState V)) → slice_get (saved_of table) i ≡ Some s
@@ -66,14 +66,14 @@ module _ {S V : Type 0} {chip : ChipMeaning S} {saving : ChipSaving S V} where
   goes_back_to saves {render} serving i s read new is total =
       let can = saved_can_be_played saves serving i s read in
       goes_back (machines_lawful chip saving saves) serving.served i s read (standing_of new) (ap (λ r. r.samples) is ∙ loaded_samples chip saving render s.state s.memory can)
-      (ap (λ r. (r.cpu, r.bus.machine)) is ∙ loaded_whole_is chip saving render s.state s.memory serving.rest) total
+      (ap (λ r. (r.cpu, r.bus.machine)) is ∙ loaded_whole_is chip saving render s.state s.memory serving.handed_over) total
 
   -- it goes on to a sample
   pub serving_on : IsLawfulSaving chip saving → {render : RenderState S} {table : TableState (PlayState V)} {at : ℕ} → IsServing chip saving render table at → (n : ℕ) → at ≤ n → n ≤ most_frames
       → (new : RenderState S) → Arrives chip saving render new n → is_at_length new ≡ true → IsServing chip saving new table n
   serving_on saves serving n later few new there done = record {
     served = served_on (machines_lawful chip saving saves) serving.served n later few (standing_of new) done there.samples there.whole;
-    rest = there.rest;
+    handed_over = there.handed_over;
   }
 
   pub goes_on_to : IsLawfulSaving chip saving → {render : RenderState S} {table : TableState (PlayState V)} {at : ℕ} → IsServing chip saving render table at → (n : ℕ) (new : RenderState S) → Arrives chip saving render new n
@@ -88,7 +88,7 @@ module _ {S V : Type 0} {chip : ChipMeaning S} {saving : ChipSaving S V} where
   frames_few saves {render} {at = at} serving most =
       let laws = machines_lawful chip saving saves in
       let counted = laws.counts (at + most) (render.cpu, render.bus.machine) (omega (arith, serving.served.here)) in
-      omega (arith, ap length (aimed_frames chip saving render (at + most) serving.rest), counted, serving.served.here)
+      omega (arith, ap length (aimed_frames chip saving render (at + most) serving.handed_over), counted, serving.served.here)
 
   pub aimed_few : IsLawfulSaving chip saving → {render : RenderState S} {table : TableState (PlayState V)} {at : ℕ} → IsServing chip saving render table at → (most : ℕ) (aimed : RenderState S) → aimed ≡ record render { samples = at + most }
       → length (frames_to_come chip aimed) ≡ most
@@ -96,7 +96,7 @@ module _ {S V : Type 0} {chip : ChipMeaning S} {saving : ChipSaving S V} where
 
   pub frames_played : IsLawfulSaving chip saving → {render : RenderState S} {table : TableState (PlayState V)} {at : ℕ} → IsServing chip saving render table at → (most : ℕ)
       → frames_to_come chip (record render { samples = at + most }) ≡ slice_of (frames_to chip saving (record { standing = standing_of render; table = table })) at most
-  frames_played saves {render} {table} {at} serving most = aimed_frames chip saving render (at + most) serving.rest ∙ frames_here (machines_lawful chip saving saves) serving.served most
+  frames_played saves {render} {table} {at} serving most = aimed_frames chip saving render (at + most) serving.handed_over ∙ frames_here (machines_lawful chip saving saves) serving.served most
 
   -- it has one checkpoint more, or some fewer
   pub serving_more : IsLawfulSaving chip saving → {render : RenderState S} {table : TableState (PlayState V)} {at : ℕ} → IsServing chip saving render table at → (new : TableState (PlayState V)) (state : PlayState V) (memory : List ℕ)
@@ -104,19 +104,19 @@ module _ {S V : Type 0} {chip : ChipMeaning S} {saving : ChipSaving S V} where
   unfolding lock_step_machines
   serving_more saves serving new state memory state_is memory_is more = record {
     served = served_more (machines_lawful chip saving saves) serving.served new state memory state_is memory_is more;
-    rest = serving.rest;
+    handed_over = serving.handed_over;
   }
 
   pub serving_less : {render : RenderState S} {table : TableState (PlayState V)} {at : ℕ} → IsServing chip saving render table at → (new : TableState (PlayState V)) (a b : ℕ) → 0 < a → saved_of new ≡ remove_range (saved_of table) a b
       → IsServing chip saving render new at
-  serving_less serving new a b some less = record { served = served_less serving.served new a b some less; rest = serving.rest }
+  serving_less serving new a b some less = record { served = served_less serving.served new a b some less; handed_over = serving.handed_over }
 
   pub serving_opened : IsLawfulSaving chip saving → {render : RenderState S} {w : Whole (Machine S)} {total : ℕ} → IsOpened chip render w total → (table : TableState (PlayState V)) (state : PlayState V) (memory : List ℕ)
       → state ≡ saved_whole saving (render.cpu, render.bus.machine) → memory ≡ render.bus.machine.memory → saved_of table ≡ record { sample = 0; state = state; memory = memory } ∷ [] → IsServing chip saving render table 0
   unfolding lock_step_machines
   serving_opened saves {render} {w} {total} opened table state memory state_is memory_is is = record {
     served = served_opened (machines_lawful chip saving saves) (standing_of render) table state memory state_is memory_is is opened.done opened.samples (ap (λ p. p.1.clock / 32) (whole_of opened) ∙ ap (λ k. k / 32) opened.clock);
-    rest = opened_rest chip render w total opened.whole opened.drained opened.clock opened.samples;
+    handed_over = opened_handed_over chip render w total opened.whole opened.drained opened.clock opened.samples;
   }
 
   pub start_is_opened : IsLawfulSaving chip saving → {render : RenderState S} {w : Whole (Machine S)} {total : ℕ} → IsOpened chip render w total → (table : TableState (PlayState V)) (state : PlayState V) (memory : List ℕ)

@@ -1,5 +1,6 @@
 -- What a server keeps of its render. No contract that others see cites these words.
 use Rattle.std.specs.Prelude.{◌≡◌, ℕ, ◌-◌, ◌*◌, ◌<◌, ◌≤◌, false}
+use Rattle.spc700_exec.specs.declared.bus.TheConstants.{CYCLES_PER_SAMPLE}
 use Rattle.chip_form.specs.Samples.{count_after}
 use Rattle.chip_form.specs.ChipMeaning.{ChipMeaning}
 use Rattle.chip_form.specs.ChipSaving.{ChipSaving}
@@ -11,7 +12,7 @@ use Rattle.cut_server.specs.Server.{lock_step_machines, standing_of}
 use Rattle.cut_server.specs.IsServed.{IsServed}
 
 -- A render at its length has handed over all that was emitted, and its chip stands there too.
-pub record IsAtRest {S : Type 0} (render : RenderState S) : Type 0 where
+pub record HasHandedOver {S : Type 0} (render : RenderState S) : Type 0 where
   pub drained : drained_machine render.bus.machine ≡ render.bus.machine
   pub chip : render.bus.chip_sample ≡ render.samples
 
@@ -19,7 +20,7 @@ pub record IsAtRest {S : Type 0} (render : RenderState S) : Type 0 where
 pub record IsServing {S V : Type 0} (chip : ChipMeaning S) (saving : ChipSaving S V) (render : RenderState S)
     (table : TableState (PlayState V)) (at : ℕ) : Type 0 where
   pub served : IsServed (lock_step_machines chip saving) (standing_of render) table at
-  pub rest : IsAtRest render
+  pub handed_over : HasHandedOver render
 
 -- A render is on the way to the same length and machine. Its chip made as many samples as the number of its next one rose by.
 pub record IsOnWay {S : Type 0} (chip : ChipMeaning S) (old new : RenderState S) : Type 0 where
@@ -32,7 +33,7 @@ pub record IsOnWay {S : Type 0} (chip : ChipMeaning S) (old new : RenderState S)
 pub record GoesNearer {S : Type 0} (chip : ChipMeaning S) (old new : RenderState S) : Type 0 where
   pub way : IsOnWay chip old new
   pub later : is_at_length new ≡ false → old.bus.machine.clock < new.bus.machine.clock
-  pub below : is_at_length new ≡ false → new.bus.machine.clock < 32 * new.samples
+  pub below : is_at_length new ≡ false → new.bus.machine.clock < CYCLES_PER_SAMPLE * new.samples
 
 -- A render went on to its length.
 pub record RunsOut {S : Type 0} (chip : ChipMeaning S) (old new : RenderState S) : Type 0 where

@@ -1,6 +1,7 @@
 -- What contracts see of a server of cuts.
 use Rattle.std.specs.Prelude.{ℕ, ◌/◌, List}
 use Rattle.num_fix.specs.declared.Frame.{Frame}
+use Rattle.spc700_exec.specs.declared.bus.TheConstants.{CYCLES_PER_SAMPLE}
 use Rattle.chip_form.specs.ChipMeaning.{ChipMeaning}
 use Rattle.chip_form.specs.ChipSaving.{ChipSaving}
 use Rattle.lock_step.specs.Machine.{Machine}
@@ -17,7 +18,7 @@ unfoldable pub lock_step_machines : {S V : Type 0} → ChipMeaning S → ChipSav
 lock_step_machines chip saving = record {
   state = saved_whole saving;
   memory = λ w. w.1.memory;
-  sample = λ saved. saved.bus.clock / 32;
+  sample = λ saved. saved.bus.clock / CYCLES_PER_SAMPLE;
   loaded = loaded_whole saving;
   after_run = whole_after_run chip;
   run_frames = frames_of_run chip;

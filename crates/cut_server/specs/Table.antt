@@ -4,7 +4,7 @@ use Rattle.std.specs.List.{flat_map, sum_by, count_by}
 use Rattle.page_pool.specs.declared.slot.Slot.{Slot}
 use Rattle.page_pool.specs.Pool.{slot_at, free_slots}
 use Rattle.cut_server.specs.declared.table.Mark.{Mark}
-use Rattle.cut_form.specs.Checkpoints.{Checkpoint, most_checkpoints, fewest_pages, by_places, slots_used}
+use Rattle.cut_form.specs.Checkpoints.{Checkpoint, most_checkpoints, page_count, fewest_pages, by_places, slots_used}
 
 -- A pool of pages, and the live checkpoints in the order in which they were taken: of each its sample, what was saved of the
 -- machine, and the page of the pool for each page of its memory.
@@ -56,10 +56,10 @@ times_named marks slot = sum_by (λ mark. count_by (nat_eq slot) mark.pages) mar
 abbrev pub most_named : ℕ
 most_named = fewest_pages * most_checkpoints
 
--- each checkpoint has 256 pages
+-- each checkpoint has all pages of its memory
 abbrev pub AreWhole : {S : Type 0} → List (Mark S) → Type 0
 AreWhole [] = Unit {0}
-AreWhole (mark ∷ marks) = (length mark.pages ≡ 256) × AreWhole marks
+AreWhole (mark ∷ marks) = (length mark.pages ≡ page_count) × AreWhole marks
 
 -- each slot has as many owners as live checkpoints name it; a slot that none names is free
 abbrev pub AreOwnersCounted : {S : Type 0} → TableState S → Type 0

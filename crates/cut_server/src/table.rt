@@ -3,7 +3,7 @@ ghost use Rattle.std.specs.Prelude.{◌≡◌, ◌==◌, ◌≤◌, ◌+◌, ◌
 ghost use Rattle.std.specs.Prelude.{IfOk, IfSome, IsNone, Some, ◌↔◌};
 ghost use Rattle.std.specs.List.{list_any, position, remove, remove_range};
 ghost use Rattle.page_pool.specs.Pool.{most_pages, free_slots};
-ghost use Rattle.cut_form.specs.Checkpoints.{most_checkpoints, fewest_pages, pages_of, with_checkpoint, without_checkpoint, without_entry, stands_at, nearest};
+ghost use Rattle.cut_form.specs.Checkpoints.{page_count, most_checkpoints, fewest_pages, pages_of, with_checkpoint, without_checkpoint, without_entry, stands_at, nearest};
 ghost use Rattle.cut_form.specs.Checkpoints.{shared_with_newest, own_slots, slots_needed, slots_free, has_room};
 ghost use Rattle.cut_form.specs.Marks.{room_made};
 ghost use Rattle.cut_server.specs.Table.{Saved, live_checkpoints, saved_of, samples_of, newest_from, AreOwnersCounted};
@@ -12,7 +12,7 @@ ghost use Rattle.cut_server.specs.IsServed.{BeginAtOpening};
 use crate::OutOfMemory;
 use crate::pages::{give_all, own_slots, place_all};
 use aram_core::Aram;
-use cut_form::MOST_CHECKPOINTS;
+use cut_form::{MOST_CHECKPOINTS, PAGE_COUNT};
 use page_pool::{Page, PagePool};
 use std::alloc::Global;
 use std::marker::Model;
@@ -22,7 +22,7 @@ use std::marker::Model;
 pub(crate) struct Mark<S: Copy> {
     pub(crate) sample: u32,
     pub(crate) state: S,
-    pub(crate) pages: [Page; 256],
+    pub(crate) pages: [Page; PAGE_COUNT],
 }
 
 /// Up to 64 checkpoints, in the order in which they were taken. The first is that of the opening.
@@ -166,7 +166,7 @@ impl<S: Copy> Table<S> {
             slice_get (saved_of self.now) index ≡ Some (record { sample = sample; state = result; memory = memory.new }) }
     {
         let mark = &self.marks[index];
-        for page in 0..256 {
+        for page in 0..PAGE_COUNT {
             memory.set_page(page as u8, self.pool.bytes(mark.pages[page]));
         }
         mark.state
@@ -174,7 +174,7 @@ impl<S: Copy> Table<S> {
 
     /// Whether a page of a memory holds what that of the newest holds.
     fn is_shared(&self, memory: &Aram, page: usize) -> bool
-        requires { page < 256 }
+        requires { page < page_count }
         ensures { Some result ≡ slice_get (shared_with_newest (live_checkpoints self.now) (pages_of memory.now)) page }
     {
         match self.marks.last() {
@@ -184,18 +184,18 @@ impl<S: Copy> Table<S> {
     }
 
     /// Which pages of a memory hold what those of the newest hold.
-    pub(crate) fn shared_pages(&self, memory: &Aram) -> [bool; 256]
+    pub(crate) fn shared_pages(&self, memory: &Aram) -> [bool; PAGE_COUNT]
         ensures { result ≡ shared_with_newest (live_checkpoints self.now) (pages_of memory.now) }
     {
-        let mut shared = [false; 256];
-        for page in 0..256 {
+        let mut shared = [false; PAGE_COUNT];
+        for page in 0..PAGE_COUNT {
             shared[page] = self.is_shared(memory, page);
         }
         shared
     }
 
     /// Takes one more, which shares these pages with the newest.
-    pub(crate) fn add(&mut self, sample: u32, state: S, memory: &Aram, shared: &[bool; 256])
+    pub(crate) fn add(&mut self, sample: u32, state: S, memory: &Aram, shared: &[bool; PAGE_COUNT])
         requires few { length (samples_of self.old) < most_checkpoints }
         requires shared { shared.now ≡ shared_with_newest (live_checkpoints self.old) (pages_of memory.now) }
         requires pages { own_slots shared.now ≤ free_slots self.old.pool }

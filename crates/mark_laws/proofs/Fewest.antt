@@ -4,7 +4,7 @@ use Rattle.std.specs.Prelude.{if◌then◌else◌}
 use Rattle.std.proofs.lemmas.Bool.Decides.{nat_tests}
 use Rattle.cut_form.specs.declared.mark.Marked.TheVariants.{Kept, Taken, NoPages}
 use Rattle.cut_form.specs.Checkpoints.{Checkpoint, with_checkpoint, next_to_dropped, slots_needed, slots_free, has_room}
-use Rattle.cut_form.specs.Marks.{Room, without_oldest, room_made, MarkOutcome, mark_in}
+use Rattle.cut_form.specs.Marks.{Remaining, without_oldest, room_made, MarkOutcome, mark_in}
 use Rattle.mark_laws.specs.GivenUp.{left_after, samples_of, TakenFirstGoFirst, gave_up, LeavesRoom, AsFewAsLeaveRoom}
 
 -- dropping one before others leaves the samples of the others
@@ -29,7 +29,7 @@ left-one_more zero live = refl
 left-one_more (suc count) live = left-one_more count (without_oldest live)
 
 -- What making room leaves, of what a mark had given up before: no fewer leave room, and where there is none, all were given up.
-record Makes (slots : ℕ) (pages : List (List ℕ)) (live : List Checkpoint) (most : ℕ) (room : Room) : Type 0 where
+record Makes (slots : ℕ) (pages : List (List ℕ)) (live : List Checkpoint) (most : ℕ) (room : Remaining) : Type 0 where
   left : room.live ≡ left_after room.gave live
   fewest : (fewer : ℕ) → fewer < room.gave → has_room slots pages (left_after fewer live) ≡ false
   within : room.gave ≤ most
@@ -66,7 +66,7 @@ makes slots pages live (suc more) gave fewest = by (has_room slots pages (left_a
         (subst (λ (l : List Checkpoint). Makes slots pages live (gave + 1 + more) (room_made more slots pages (record { live = l; gave = gave + 1 }))) one_more
         (further (none_yet slots pages live gave fewest is)))
 
-leaves : (slots : ℕ) (pages : List (List ℕ)) (sample : ℕ) (live : List Checkpoint) (room : Room) → Makes slots pages live (length live - 1) room
+leaves : (slots : ℕ) (pages : List (List ℕ)) (sample : ℕ) (live : List Checkpoint) (room : Remaining) → Makes slots pages live (length live - 1) room
     → LeavesRoom slots pages sample live (gave_up (mark_in slots pages sample room).marked) (mark_in slots pages sample room)
 leaves slots pages sample live room made = by (has_room slots pages room.live) refl
   where
@@ -96,7 +96,7 @@ leaves slots pages sample live room made = by (has_room slots pages room.live) r
 
 pub as_few_as_leave_room : AsFewAsLeaveRoom
 as_few_as_leave_room slots pages sample live none =
-    let room : Room = room_made (length live - 1) slots pages (record { live = live; gave = 0 }) in
+    let room : Remaining = room_made (length live - 1) slots pages (record { live = live; gave = 0 }) in
     let others : 0 + (length live - 1) ≡ length live - 1 = omega arith in
     let made : Makes slots pages live (length live - 1) room =
     subst (λ (n : ℕ). Makes slots pages live n room) others (makes slots pages live (length live - 1) 0 (λ fewer below. absurd (omega (arith, below)))) in

@@ -5,7 +5,7 @@ use Rattle.cut_server.proofs.Serving.{serving_on, tune_kept_on, aimed_few, frame
 use Rattle.cut_server.proofs.server.CutServer.play.Goals as goal
 
 there : (g : _) (c : goal.After-self-1 g) → Arrives g.C.Chip.meaning g.C.Chip.saving c.self.inside.render c.run_out_into.new.render (c.self.inside.position + c.args.most)
-there g c = arrives g.C.Chip.meaning g.C.Chip.saving c.self.inside.render c.aim.new.self c.run_out_into.new.render _ c.self.invariant.rest c.aim.ensures c.run_out_into.ensures.out
+there g c = arrives g.C.Chip.meaning g.C.Chip.saving c.self.inside.render c.aim.new.self c.run_out_into.new.render _ c.self.invariant.handed_over c.aim.ensures c.run_out_into.ensures.out
 
 pub invariant_of-self : goal.invariant_of-self
 invariant_of-self g c =

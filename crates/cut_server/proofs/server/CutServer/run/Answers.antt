@@ -4,7 +4,7 @@ use Rattle.cut_server.proofs.Serving.{serving_on, goes_on_to}
 use Rattle.cut_server.proofs.server.CutServer.run.Goals as goal
 
 there : (g : _) (c : goal.After-self-1 g) → Arrives g.C.Chip.meaning g.C.Chip.saving c.self.inside.render c.run_out.new.render c.args.at
-there g c = arrives g.C.Chip.meaning g.C.Chip.saving c.self.inside.render c.aim.new.self c.run_out.new.render c.args.at c.self.invariant.rest c.aim.ensures c.run_out.ensures.out
+there g c = arrives g.C.Chip.meaning g.C.Chip.saving c.self.inside.render c.aim.new.self c.run_out.new.render c.args.at c.self.invariant.handed_over c.aim.ensures c.run_out.ensures.out
 
 pub invariant_of-self : goal.invariant_of-self
 invariant_of-self g c =
