@@ -3,20 +3,25 @@ use Rattle.std.specs.Prelude.{◌≡◌, ℕ, ◌+◌, ◌-◌, ◌*◌, ◌≤�
 use Rattle.std.specs.List.{flat_map}
 use Rattle.num_fix.specs.declared.Frame.{Frame}
 use Rattle.num_fix.specs.Limits.{most_frames}
-use Rattle.wav_form.specs.Wave.{frame_bytes}
+use Rattle.wav_form.specs.Wave.{frame_bytes, frame_size}
 use Rattle.trace_form.specs.declared.record.Record.{Record}
 use Rattle.trace_form.specs.declared.text.TheConstants.{LINE_SIZE}
 use Rattle.trace_form.specs.Line.{lines_of}
 use Rattle.trace_form.specs.Rooms.{frame_room, record_room}
+use Rattle.spc700_exec.specs.declared.bus.TheConstants.{CYCLES_PER_SAMPLE}
 use Rattle.chip_form.specs.ChipMeaning.{ChipMeaning}
 use Rattle.render_core.specs.RenderState.{RenderState, frames_to_come, records_to_come, counts_to_come}
 use Rattle.render_core.specs.Fade.{faded_from}
 use Rattle.command_frame.specs.Stream.{Both}
 use Rattle.render_files.specs.RenderReport.{sound_report}
 
+-- the bytes of a frame of two channels
+abbrev pub stereo_size : ℕ
+stereo_size = frame_size 2
+
 -- the bytes of the most frames that a piece has
 abbrev pub most_bytes_of_frames : ℕ
-most_bytes_of_frames = 4 * frame_room
+most_bytes_of_frames = stereo_size * frame_room
 
 -- the bytes of the most lines that it has
 abbrev pub most_bytes_of_lines : ℕ
@@ -59,7 +64,7 @@ report_of chip files = sound_report files.samples (counts_to_come chip files.ren
 
 -- the cycles that are left
 abbrev pub work_of : {S : Type 0} → FilesState S → ℕ
-work_of files = 32 * files.samples - files.render.bus.machine.clock
+work_of files = CYCLES_PER_SAMPLE * files.samples - files.render.bus.machine.clock
 
 -- The frames that were made and those to come are all, of which the last `fade` fade; the report stands once all are made.
 pub record IsComplete {S : Type 0} (chip : ChipMeaning S) (render : RenderState S) (made samples fade : ℕ) (is_done : Bool) (report : List ℕ) : Type 0 where

@@ -8,7 +8,7 @@ ghost use Rattle.render_core.specs.Fade.{faded_from, faded_frames};
 ghost use Rattle.render_core.specs.RenderState.{frames_to_come, records_to_come, counts_to_come};
 ghost use Rattle.render_files.specs.RenderReport.{sound_report};
 ghost use Rattle.num_fix.specs.Limits.{most_frames};
-ghost use Rattle.render_files.specs.RenderFiles.{most_bytes_of_frames, most_bytes_of_lines, trace_of, to_come_of, held_of, report_of, work_of, IsUnmade};
+ghost use Rattle.render_files.specs.RenderFiles.{stereo_size, most_bytes_of_frames, most_bytes_of_lines, trace_of, to_come_of, held_of, report_of, work_of, IsUnmade};
 ghost use Rattle.report_text.specs.Room.{room_size};
 
 use crate::rows::put_frames;
@@ -69,7 +69,7 @@ impl<C: Chip> Model for RenderFiles<C> {
 
 /// Adds the bytes of frames, the first of which is frame `at` of so many, of which the last `fade` fade.
 fn put_faded_frames(wave: &mut ByteRoom, frames: &[Frame], at: u32, samples: u32, fade: u32)
-    requires room { length wave.old + 4 * length frames.now ≤ room_size }
+    requires room { length wave.old + stereo_size * length frames.now ≤ room_size }
     requires inside { at + length frames.now ≤ samples }
     requires within { fade ≤ samples }
     ensures { wave.new ≡ wave.old ++ flat_map frame_bytes (faded_from at samples fade frames.now) }

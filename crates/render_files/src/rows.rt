@@ -4,10 +4,14 @@ ghost use Rattle.std.specs.List.{flat_map};
 ghost use Rattle.wav_form.specs.Wave.{frame_bytes};
 ghost use Rattle.trace_form.specs.Rooms.{frame_room};
 ghost use Rattle.report_text.specs.Room.{room_size};
+ghost use Rattle.render_files.specs.RenderFiles.{stereo_size};
 
 use num_fix::Frame;
 use report_text::ByteRoom;
 use wav_form::put_frame;
+
+/// The bytes of a frame of two channels.
+const STEREO_SIZE: usize = 4;
 
 /// The most frames of a row: as many as a piece of a render has at most.
 const ROW: usize = 128;
@@ -15,21 +19,21 @@ const ROW: usize = 128;
 /// Adds the bytes of a row of frames at once.
 fn put_row(wave: &mut ByteRoom, frames: &[Frame])
     requires few { length frames.now ≤ frame_room }
-    requires room { length wave.old + 4 * length frames.now ≤ room_size }
+    requires room { length wave.old + stereo_size * length frames.now ≤ room_size }
     ensures { wave.new ≡ wave.old ++ flat_map frame_bytes frames.now }
 {
-    let mut row = [0; 4 * ROW];
+    let mut row = [0; STEREO_SIZE * ROW];
     let mut end = 0;
     for frame in frames {
-        row[end..end + 4].copy_from_slice(&put_frame(*frame));
-        end += 4;
+        row[end..end + STEREO_SIZE].copy_from_slice(&put_frame(*frame));
+        end += STEREO_SIZE;
     }
     wave.append(&row[..end]);
 }
 
 /// Adds the bytes of frames, a row at a time.
 pub fn put_frames(wave: &mut ByteRoom, frames: &[Frame])
-    requires { length wave.old + 4 * length frames.now ≤ room_size }
+    requires { length wave.old + stereo_size * length frames.now ≤ room_size }
     ensures { wave.new ≡ wave.old ++ flat_map frame_bytes frames.now }
 {
     let mut at = 0;

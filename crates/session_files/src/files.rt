@@ -12,6 +12,7 @@ ghost use Rattle.cut_form.specs.GrowingFrames.{AreOfRun};
 ghost use Rattle.session_files.specs.Player.{left_to_play};
 ghost use Rattle.session_files.specs.Report.{report_on};
 ghost use Rattle.session_files.specs.SessionFiles.{replies_of_server, to_come_of, held_of, report_of, work_of, is_finished, GoesOn};
+ghost use Rattle.render_files.specs.RenderFiles.{stereo_size};
 ghost use Rattle.report_text.specs.Room.{room_size};
 
 use crate::OutOfMemory;
@@ -60,7 +61,7 @@ impl<C: Chip> Model for SessionFiles<C> {
 
 /// Adds the bytes of the frames that were played.
 fn put_played(wave: &mut ByteRoom, frames: &Frames)
-    requires { length wave.old + 4 * length frames.now ≤ room_size }
+    requires { length wave.old + stereo_size * length frames.now ≤ room_size }
     ensures { wave.new ≡ wave.old ++ flat_map frame_bytes frames.now }
 {
     put_frames(wave, frames.as_slice());
