@@ -83,9 +83,9 @@ SLIPS = [
     Slip('PSW written P', ['spc700_asm'], ['worked_files'], [
         (PATTERNS, '(codes "PSW")', '(codes "P")'), (PATTERNS_CODE, 'b"PSW"', 'b"P"')]),
     Slip('names of 33 characters', ['spc700_asm'], ['worked_files'], [
-        (ASM, 'nat_le (length text) 32', 'nat_le (length text) 33'), (ASM_CODE, 'text.len() > 32', 'text.len() > 33')]),
+        (ASM, 'longest_name = 32', 'longest_name = 33'), (ASM_CODE, 'LONGEST_NAME: usize = 32', 'LONGEST_NAME: usize = 33')]),
     Slip('names of 31 characters at most', ['spc700_asm'], ['worked_files'], [
-        (ASM, 'nat_le (length text) 32', 'nat_le (length text) 31'), (ASM_CODE, 'text.len() > 32', 'text.len() > 31')]),
+        (ASM, 'longest_name = 32', 'longest_name = 31'), (ASM_CODE, 'LONGEST_NAME: usize = 32', 'LONGEST_NAME: usize = 31')]),
     Slip('a carriage return is no blank', ['spc700_asm'], ['worked_files'], [
         (ASM, '((character == 9) || (character == 13))', '(character == 9)'), (ASM_CODE, " || character == b'\\r'", '')]),
     Slip('a tab is no blank', ['spc700_asm'], ['worked_files'], [
@@ -133,7 +133,7 @@ SLIPS = [
         (ACCEPTED, 'codes "SNES-SPC700 Sound File Data"', 'codes "SNES-SPC700 sound File Data"'),
         (READING, '*b"SNES-SPC700 Sound File Data"', '*b"SNES-SPC700 sound File Data"')]),
     Slip('files of 65,919 bytes accepted', ['spc_form'], ['worked_files', 'command_info'], [
-        (ACCEPTED, 'least_length = 65920', 'least_length = 65919'), (READING, 'bytes.len() < 65920', 'bytes.len() < 65919')]),
+        (ACCEPTED, 'least_length = 65920', 'least_length = 65919'), (READING, 'LEAST_LENGTH: usize = 65920', 'LEAST_LENGTH: usize = 65919')]),
     Slip('A shown for X and X for A', ['command_info'], ['command_info'], [
         (INFO, 'register_text (codes "a") (slice_index file 0x27) ++ register_text (codes "x") (slice_index file 0x28)',
          'register_text (codes "a") (slice_index file 0x28) ++ register_text (codes "x") (slice_index file 0x27)'),
