@@ -7,10 +7,6 @@ import sys
 import wave
 
 
-class Handle(ctypes.Structure):
-    _fields_ = [('engine', ctypes.c_void_p), ('is_open', ctypes.c_bool)]
-
-
 class Options(ctypes.Structure):
     _fields_ = [('pages', ctypes.c_uint32), ('mark_seconds', ctypes.c_uint32), ('muted', ctypes.c_uint8)]
 
@@ -25,19 +21,22 @@ class Player:
     NAMES = {4: 'no SPC length', 5: 'no SPC signature', 6: 'no table', 7: 'out of memory', 16: 'not open', 17: 'out of range'}
 
     def __init__(self, library, spc, table, pages=4096, mark_seconds=0, muted=0):
-        self.lib, self.handle = ctypes.CDLL(library), Handle()
-        handle, number, size = ctypes.POINTER(Handle), ctypes.c_uint32, ctypes.c_size_t
+        self.lib, self.handle = ctypes.CDLL(library), ctypes.c_void_p()
+        handle, number, size = ctypes.c_void_p, ctypes.c_uint32, ctypes.c_size_t
+        for call in self.lib.spcwave_new, self.lib.spcwave_delete:
+            call.argtypes = [ctypes.POINTER(handle)]
         self.lib.spcwave_open.argtypes = [handle, ctypes.c_char_p, size, ctypes.c_char_p, size, ctypes.POINTER(Options)]
         for play in self.lib.spcwave_play, self.lib.spcwave_play_faded:
             play.argtypes, play.restype = [handle, ctypes.c_void_p, size], size
         self.lib.spcwave_seek.argtypes = [handle, number]
-        for call in self.lib.spcwave_mark, self.lib.spcwave_close, self.lib.spcwave_position, self.lib.spcwave_free_pages:
+        for call in self.lib.spcwave_mark, self.lib.spcwave_position, self.lib.spcwave_free_pages:
             call.argtypes = [handle]
         self.lib.spcwave_length.argtypes = [handle, ctypes.POINTER(number), ctypes.POINTER(number)]
         self.lib.spcwave_tag.argtypes, self.lib.spcwave_tag.restype = [handle, number, ctypes.c_char_p, size], size
         self.lib.spcwave_tagged.argtypes, self.lib.spcwave_tagged.restype = [handle], ctypes.c_bool
         self.lib.spcwave_registers.argtypes = [handle, ctypes.c_char_p]
         self.lib.spcwave_voice.argtypes = [handle, number, ctypes.POINTER(Voice)]
+        self.told(self.lib.spcwave_new(self.handle))
         self.told(self.lib.spcwave_open(self.handle, spc, len(spc), table, len(table), Options(pages, mark_seconds, muted)))
 
     def told(self, status):
@@ -89,7 +88,7 @@ class Player:
         return voice
 
     def close(self):
-        self.lib.spcwave_close(self.handle)
+        self.lib.spcwave_delete(self.handle)
 
 
 def main():

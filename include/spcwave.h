@@ -6,13 +6,14 @@
  * following, which nothing checks. Of a caller's errors only NOT_OPEN and OUT_OF_RANGE tell.
  *
  * You owe, for every call:
- *  - a handle that was zeroed once (SPCWAVE_CLOSED, or memset) and since then was written by these functions alone. It may be moved
- *    (memcpy, and the old one forgotten), never copied. No two calls may use it at once, and it stays on the thread that opened it;
- *  - pointers that aren't null, also where the length is 0, to memory that nobody else reads or writes during the call; no two of them, nor
- *    the handle, overlap;
+ *  - a handle that spcwave_new made and spcwave_delete hasn't given back. No two calls may use one at once, and it stays on the thread that
+ *    made it;
+ *  - pointers that aren't null, also where the length is 0, to memory that nobody else reads or writes during the call, and of which no two
+ *    overlap;
  *  - malloc, realloc and free of one allocator; 512 KB of stack for spcwave_open, 32 KB for the others; no call from a signal handler.
  * Nothing is global: any number of handles may be used side by side.
- * Only spcwave_open takes memory: three quarters of a megabyte, and 256 bytes a page. Only spcwave_close, and spcwave_open of an open handle, gives it back.
+ * Only spcwave_new and spcwave_open take memory: 16 bytes the one, three quarters of a megabyte and 256 bytes a page the other. Only spcwave_close,
+ * spcwave_open of an open handle, and spcwave_delete give it back.
  */
 #ifndef SPCWAVE_H
 #define SPCWAVE_H
@@ -64,13 +65,8 @@ typedef struct spcwave_options {
 /* 4,096 pages, no marks but those that are asked for, and all voices. */
 #define SPCWAVE_OPTIONS { SPCWAVE_PAGES, 0, 0 }
 
-/* A player, or none. Look at no field. */
-typedef struct spcwave_player {
-    void *engine;
-    bool is_open;
-} spcwave_player;
-
-#define SPCWAVE_CLOSED { 0, false }
+/* A handle: it has a player of one tune after another, or none. */
+typedef struct spcwave_player spcwave_player;
 
 /* One stereo sample. An array of n of them is an int16_t[2 * n], left first. */
 typedef struct spcwave_frame {
@@ -88,6 +84,13 @@ typedef struct spcwave_voice_shown {
 /* The version of this header, and of the library: a byte for each of the last two of its three numbers. */
 #define SPCWAVE_VERSION 0x010100u
 uint32_t spcwave_version(void);
+
+/* Makes a handle, without a player, and writes its address to `*player`, which is no other's. Answers OK; or OUT_OF_MEMORY, and then `*player`
+ * stays as it was. */
+uint32_t spcwave_new(spcwave_player **player);
+
+/* Gives the memory of a handle back, and that of its player if one is open. Afterwards `*player` is no handle. */
+void spcwave_delete(spcwave_player **player);
 
 /* Opens a player at the opening of a tune. `table` is the table of weights by which voices interpolate, 512 numbers of 16 bits,
  * low byte first: spcwave_table.h makes the console's. A player that was open is closed first. Answers OK; or OUT_OF_RANGE exactly where one

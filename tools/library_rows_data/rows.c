@@ -33,11 +33,11 @@ struct second { const uint8_t *spc, *table; size_t spc_length; const spcwave_fra
 static void *play_second(void *given) {
     struct second *it = given;
     const spcwave_options options = { 256, 0, 0 };
-    spcwave_player player = SPCWAVE_CLOSED;
+    spcwave_player *player;
     spcwave_frame *got = malloc(sizeof *got * it->count);
-    it->same = spcwave_open(&player, it->spc, it->spc_length, it->table, 1024, &options) == SPCWAVE_OK
-        && spcwave_play(&player, got, it->count) == it->count && memcmp(got, it->wanted, sizeof *got * it->count) == 0;
-    spcwave_close(&player);
+    it->same = spcwave_new(&player) == SPCWAVE_OK && spcwave_open(player, it->spc, it->spc_length, it->table, 1024, &options) == SPCWAVE_OK
+        && spcwave_play(player, got, it->count) == it->count && memcmp(got, it->wanted, sizeof *got * it->count) == 0;
+    spcwave_delete(&player);
     free(got);
     return NULL;
 }
@@ -49,174 +49,172 @@ int main(int argc, char **argv) {
     uint32_t count = (uint32_t)((wave_length - 44) / 4), length, fade, steady;
     int seeks = argc > 4 ? atoi(argv[4]) : 1000, n, marks;
     char text[SPCWAVE_TAG_SIZE];
-    spcwave_player player = SPCWAVE_CLOSED, other = SPCWAVE_CLOSED;
+    spcwave_player *player, *other;
     spcwave_frame *got = malloc(sizeof *got * (count + 8));
     spcwave_options options = SPCWAVE_OPTIONS, few = { 255, 0, 0 }, many = { 65537, 0, 0 }, seldom = { 4096, 3601, 0 };
     uint8_t registers[128];
     spcwave_voice_shown voice;
 
     row(spcwave_version() == SPCWAVE_VERSION, "the header is that of the library");
+    row(spcwave_new(&player) == SPCWAVE_OK && spcwave_new(&other) == SPCWAVE_OK && player != other, "two handles");
     /* closed handles */
     memset(got, 0x55, sizeof *got * 8);
-    row(spcwave_play(&player, got, 8) == 0 && ((uint8_t *)got)[0] == 0x55, "a closed handle plays nothing");
-    row(spcwave_seek(&player, 0) == SPCWAVE_NOT_OPEN, "or seeks");
-    row(spcwave_mark(&player) == SPCWAVE_NOT_OPEN, "or marks");
-    row(spcwave_position(&player) == 0, "or stands");
+    row(spcwave_play(player, got, 8) == 0 && ((uint8_t *)got)[0] == 0x55, "a closed handle plays nothing");
+    row(spcwave_seek(player, 0) == SPCWAVE_NOT_OPEN, "or seeks");
+    row(spcwave_mark(player) == SPCWAVE_NOT_OPEN, "or marks");
+    row(spcwave_position(player) == 0, "or stands");
     length = 1, fade = 2;
-    row(spcwave_length(&player, &length, &fade) == SPCWAVE_NOT_OPEN && length == 1 && fade == 2, "or has a length");
-    row(spcwave_free_pages(&player) == 0, "or free pages");
-    row(spcwave_play_faded(&player, got, 8) == 0 && ((uint8_t *)got)[0] == 0x55, "or plays with a fade");
+    row(spcwave_length(player, &length, &fade) == SPCWAVE_NOT_OPEN && length == 1 && fade == 2, "or has a length");
+    row(spcwave_free_pages(player) == 0, "or free pages");
+    row(spcwave_play_faded(player, got, 8) == 0 && ((uint8_t *)got)[0] == 0x55, "or plays with a fade");
     memset(registers, 0x55, sizeof registers);
     memset(&voice, 0x55, sizeof voice);
-    row(spcwave_registers(&player, registers) == SPCWAVE_NOT_OPEN && registers[0] == 0x55 && registers[127] == 0x55, "or has registers");
-    row(spcwave_voice(&player, 0, &voice) == SPCWAVE_NOT_OPEN && voice.level == 0x5555 && voice.source == 0x5555, "or voices");
-    row(spcwave_tag(&player, SPCWAVE_TITLE, text, sizeof text) == 0 && text[0] == 0, "or a title");
-    row(!spcwave_tagged(&player), "or tags");
-    spcwave_close(&player);
-    spcwave_close(&player);
+    row(spcwave_registers(player, registers) == SPCWAVE_NOT_OPEN && registers[0] == 0x55 && registers[127] == 0x55, "or has registers");
+    row(spcwave_voice(player, 0, &voice) == SPCWAVE_NOT_OPEN && voice.level == 0x5555 && voice.source == 0x5555, "or voices");
+    row(spcwave_tag(player, SPCWAVE_TITLE, text, sizeof text) == 0 && text[0] == 0, "or a title");
+    row(!spcwave_tagged(player), "or tags");
+    spcwave_close(player);
+    spcwave_close(player);
     /* refusals */
-    row(spcwave_open(&player, spc, 65919, table, 1024, &options) == SPCWAVE_SPC_LENGTH, "too short");
-    row(spcwave_open(&player, spc, 0, table, 1024, &options) == SPCWAVE_SPC_LENGTH, "empty");
-    row(spcwave_open(&player, wave, 65920, table, 1024, &options) == SPCWAVE_SPC_SIGNATURE, "no signature");
-    row(spcwave_open(&player, spc, spc_length, table, 1023, &options) == SPCWAVE_TABLE_LENGTH, "short table");
-    row(spcwave_open(&player, spc, spc_length, table, 1024, &few) == SPCWAVE_OUT_OF_RANGE, "few pages");
-    row(spcwave_open(&player, spc, spc_length, table, 1024, &many) == SPCWAVE_OUT_OF_RANGE, "many pages");
-    row(spcwave_open(&player, spc, spc_length, table, 1024, &seldom) == SPCWAVE_OUT_OF_RANGE, "marks too seldom");
-    row(!player.is_open, "refusals open none");
+    row(spcwave_open(player, spc, 65919, table, 1024, &options) == SPCWAVE_SPC_LENGTH, "too short");
+    row(spcwave_open(player, spc, 0, table, 1024, &options) == SPCWAVE_SPC_LENGTH, "empty");
+    row(spcwave_open(player, wave, 65920, table, 1024, &options) == SPCWAVE_SPC_SIGNATURE, "no signature");
+    row(spcwave_open(player, spc, spc_length, table, 1023, &options) == SPCWAVE_TABLE_LENGTH, "short table");
+    row(spcwave_open(player, spc, spc_length, table, 1024, &few) == SPCWAVE_OUT_OF_RANGE, "few pages");
+    row(spcwave_open(player, spc, spc_length, table, 1024, &many) == SPCWAVE_OUT_OF_RANGE, "many pages");
+    row(spcwave_open(player, spc, spc_length, table, 1024, &seldom) == SPCWAVE_OUT_OF_RANGE, "marks too seldom");
+    row(spcwave_seek(player, 0) == SPCWAVE_NOT_OPEN, "refusals open none");
     /* the whole tune */
-    row(spcwave_open(&player, spc, spc_length, table, table_length, &options) == SPCWAVE_OK, "opens");
-    row(spcwave_length(&player, &length, &fade) == SPCWAVE_OK && length == count, "its length is that of the sound file");
+    row(spcwave_open(player, spc, spc_length, table, table_length, &options) == SPCWAVE_OK, "opens");
+    row(spcwave_length(player, &length, &fade) == SPCWAVE_OK && length == count, "its length is that of the sound file");
     steady = length - fade;
     /* its tags, which stand in the file's bytes from 2Eh on, and byte 23h says whether there are any */
-    row(spcwave_tagged(&player) == (spc[0x23] == 0x1A), "whether it has tags");
+    row(spcwave_tagged(player) == (spc[0x23] == 0x1A), "whether it has tags");
     for (i = 0; i < 32 && spc[0x2E + i]; i++) {}
-    row(spcwave_tag(&player, SPCWAVE_TITLE, text, sizeof text) == i && memcmp(text, spc + 0x2E, i) == 0 && text[i] == 0, "its title");
+    row(spcwave_tag(player, SPCWAVE_TITLE, text, sizeof text) == i && memcmp(text, spc + 0x2E, i) == 0 && text[i] == 0, "its title");
     for (i = 0; i < 32 && spc[0xB1 + i]; i++) {}
-    row(spcwave_tag(&player, SPCWAVE_ARTIST, text, sizeof text) == i && memcmp(text, spc + 0xB1, i) == 0 && text[i] == 0, "its artist");
+    row(spcwave_tag(player, SPCWAVE_ARTIST, text, sizeof text) == i && memcmp(text, spc + 0xB1, i) == 0 && text[i] == 0, "its artist");
     memset(text, 0x55, sizeof text);
-    n = (int)spcwave_tag(&player, SPCWAVE_TITLE, text, 4);
+    n = (int)spcwave_tag(player, SPCWAVE_TITLE, text, 4);
     row(n < 3 || (memcmp(text, spc + 0x2E, 3) == 0 && text[3] == 0 && text[4] == 0x55), "cut off with a zero byte");
-    row(spcwave_tag(&player, SPCWAVE_TITLE, text, 0) == (size_t)n && (n < 1 || text[0] == (char)spc[0x2E]), "no room, and nothing written");
-    row(spcwave_tag(&player, 8, text, sizeof text) == 0 && text[0] == 0, "no tag has number 8");
-    row(spcwave_free_pages(&player) == 4096 - 256, "the mark of frame 0 has 256 pages");
-    row(spcwave_position(&player) == 0, "stands at 0");
+    row(spcwave_tag(player, SPCWAVE_TITLE, text, 0) == (size_t)n && (n < 1 || text[0] == (char)spc[0x2E]), "no room, and nothing written");
+    row(spcwave_tag(player, 8, text, sizeof text) == 0 && text[0] == 0, "no tag has number 8");
+    row(spcwave_free_pages(player) == 4096 - 256, "the mark of frame 0 has 256 pages");
+    row(spcwave_position(player) == 0, "stands at 0");
     double t = now();
-    row(spcwave_play(&player, got, count) == count, "plays all at once");
+    row(spcwave_play(player, got, count) == count, "plays all at once");
     t = now() - t;
     printf("played %u frames in %.3f s, %.1f ns a frame\n", count, t, 1e9 * t / count);
     row(memcmp(got, ref, steady * sizeof *got) == 0, "and they are those of the sound file");
-    row(spcwave_position(&player) == count, "stands at the end");
+    row(spcwave_position(player) == count, "stands at the end");
     spcwave_frame *mine = malloc(sizeof *mine * (count + 8));
     memcpy(mine, got, sizeof *mine * count);
-    /* in odd pieces, beside a second player that is moved in memory */
+    /* in odd pieces, beside a second player */
     options.pages = 256;
-    row(spcwave_open(&other, spc, spc_length, table, table_length, &options) == SPCWAVE_OK, "a second player");
-    row(spcwave_seek(&player, 0) == SPCWAVE_OK && spcwave_position(&player) == 0, "back to 0");
+    row(spcwave_open(other, spc, spc_length, table, table_length, &options) == SPCWAVE_OK, "a second player");
+    row(spcwave_seek(player, 0) == SPCWAVE_OK && spcwave_position(player) == 0, "back to 0");
     uint32_t at = 0;
     int same = 1;
     while (at < count / 4) {
         uint32_t piece = 1 + below(700);
-        spcwave_player moved;
-        row(spcwave_play(&player, got, piece) == piece, "a piece");
+        row(spcwave_play(player, got, piece) == piece, "a piece");
         same &= memcmp(got, mine + at, piece * sizeof *got) == 0;
-        memcpy(&moved, &other, sizeof moved);
-        memset(&other, 0xAA, sizeof other);
-        row(spcwave_play(&moved, got, piece) == piece, "a piece of the other");
+        row(spcwave_play(other, got, piece) == piece, "a piece of the other");
         same &= memcmp(got, mine + at, piece * sizeof *got) == 0;
-        memcpy(&other, &moved, sizeof moved);
         at += piece;
     }
     row(same, "pieces of both are those of the tune");
-    spcwave_close(&other);
-    row(!other.is_open && spcwave_play(&other, got, 1) == 0, "closed");
+    spcwave_close(other);
+    row(spcwave_play(other, got, 1) == 0, "closed");
     /* in a thread of its own, while this one plays */
     struct second second = {spc, table, spc_length, mine, count / 4, 0};
     pthread_t thread;
     row(pthread_create(&thread, NULL, play_second, &second) == 0, "a second thread");
-    spcwave_seek(&player, count / 8);
-    row(spcwave_play(&player, got, count / 8) == count / 8 && memcmp(got, mine + count / 8, count / 8 * sizeof *got) == 0, "frames beside a second thread");
+    spcwave_seek(player, count / 8);
+    row(spcwave_play(player, got, count / 8) == count / 8 && memcmp(got, mine + count / 8, count / 8 * sizeof *got) == 0, "frames beside a second thread");
     row(pthread_join(thread, NULL) == 0 && second.same, "and those of its player");
     /* with the fade */
-    spcwave_seek(&player, 0);
-    row(spcwave_play_faded(&player, got, count + 8) == count && memcmp(got, ref, count * sizeof *got) == 0, "with the fade they are the whole sound file");
-    row(spcwave_play_faded(&player, got, 8) == 0 && spcwave_position(&player) == count, "and no more");
+    spcwave_seek(player, 0);
+    row(spcwave_play_faded(player, got, count + 8) == count && memcmp(got, ref, count * sizeof *got) == 0, "with the fade they are the whole sound file");
+    row(spcwave_play_faded(player, got, 8) == 0 && spcwave_position(player) == count, "and no more");
     for (n = 0, same = 1; n < 100; n++) {
         uint32_t to = steady - 64 + below(fade + 64);
         size_t wanted = count - to < 64 ? count - to : 64;
-        spcwave_seek(&player, to);
-        same &= spcwave_play_faded(&player, got, 64) == wanted && memcmp(got, ref + to, wanted * sizeof *got) == 0;
+        spcwave_seek(player, to);
+        same &= spcwave_play_faded(player, got, 64) == wanted && memcmp(got, ref + to, wanted * sizeof *got) == 0;
     }
     row(same, "wherever it begins");
     /* what shows */
-    row(spcwave_registers(&player, registers) == SPCWAVE_OK, "registers");
+    row(spcwave_registers(player, registers) == SPCWAVE_OK, "registers");
     for (n = 0, same = 1; n < 8; n++) {
-        row(spcwave_voice(&player, (uint32_t)n, &voice) == SPCWAVE_OK, "a voice");
+        row(spcwave_voice(player, (uint32_t)n, &voice) == SPCWAVE_OK, "a voice");
         same &= voice.source == registers[16 * n + 4] && voice.pitch == (registers[16 * n + 2] + 256 * registers[16 * n + 3]) % 0x4000;
         same &= voice.output == (int8_t)registers[16 * n + 9] && voice.level / 16 == registers[16 * n + 8];
     }
     row(same, "and voices are those of the registers");
-    row(spcwave_voice(&player, 8, &voice) == SPCWAVE_OUT_OF_RANGE, "there is no voice 8");
+    row(spcwave_voice(player, 8, &voice) == SPCWAVE_OUT_OF_RANGE, "there is no voice 8");
     /* frames behind those given are left */
-    spcwave_seek(&player, 10);
+    spcwave_seek(player, 10);
     memset(got, 0x55, sizeof *got * 8);
-    row(spcwave_play(&player, got, 3) == 3 && memcmp(got, mine + 10, 12) == 0 && ((uint8_t *)got)[12] == 0x55, "frames behind are left");
-    row(spcwave_play(&player, got, 0) == 0 && spcwave_position(&player) == 13, "none are none");
+    row(spcwave_play(player, got, 3) == 3 && memcmp(got, mine + 10, 12) == 0 && ((uint8_t *)got)[12] == 0x55, "frames behind are left");
+    row(spcwave_play(player, got, 0) == 0 && spcwave_position(player) == 13, "none are none");
     /* past the hour's end */
-    row(spcwave_seek(&player, SPCWAVE_MOST + 1) == SPCWAVE_OUT_OF_RANGE && spcwave_position(&player) == 13, "past the hour");
+    row(spcwave_seek(player, SPCWAVE_MOST + 1) == SPCWAVE_OUT_OF_RANGE && spcwave_position(player) == 13, "past the hour");
     /* seeks */
     for (marks = 0; marks < 3; marks++) {
         static const char *how[] = {"without marks", "with marks", "with marks each second"};
         double worst = 0, all = 0, each;
         options.pages = 65536 / 8;
         options.mark_seconds = marks == 2;
-        row(spcwave_open(&player, spc, spc_length, table, table_length, &options) == SPCWAVE_OK, "opens again");
+        row(spcwave_open(player, spc, spc_length, table, table_length, &options) == SPCWAVE_OK, "opens again");
         if (marks == 2) {
-            for (at = 0; at < count; at += 1000) spcwave_play(&player, got, 1000);
-            n = (int)spcwave_free_pages(&player);
+            for (at = 0; at < count; at += 1000) spcwave_play(player, got, 1000);
+            n = (int)spcwave_free_pages(player);
             options.mark_seconds = 0;
-            row(spcwave_open(&other, spc, spc_length, table, table_length, &options) == SPCWAVE_OK, "a player beside it");
+            row(spcwave_open(other, spc, spc_length, table, table_length, &options) == SPCWAVE_OK, "a player beside it");
             for (at = 32000; at <= count; at += 32000) {
-                spcwave_seek(&other, at);
-                spcwave_mark(&other);
+                spcwave_seek(other, at);
+                spcwave_mark(other);
             }
-            row((int)spcwave_free_pages(&other) == n, "marks of its own are those that another one takes there");
-            spcwave_close(&other);
+            row((int)spcwave_free_pages(other) == n, "marks of its own are those that another one takes there");
+            spcwave_close(other);
         }
         if (marks == 1) {
             t = now();
             for (i = 1; i < 64; i++) {
-                spcwave_seek(&player, (uint32_t)(count * i / 64));
-                row(spcwave_mark(&player) == SPCWAVE_OK, "marks");
+                spcwave_seek(player, (uint32_t)(count * i / 64));
+                row(spcwave_mark(player) == SPCWAVE_OK, "marks");
             }
             printf("63 marks in %.3f s\n", now() - t);
         }
         for (n = 0, same = 1; n < seeks; n++) {
             uint32_t to = below(count - 64), want = 1 + below(64);
             t = now();
-            spcwave_seek(&player, to);
+            spcwave_seek(player, to);
             each = now() - t;
             all += each;
             if (each > worst) worst = each;
-            spcwave_play(&player, got, want);
+            spcwave_play(player, got, want);
             if (memcmp(got, mine + to, want * sizeof *got)) same = 0;
         }
         row(same, "seeks give slices");
         printf("%d seeks %s: %.3f ms each, %.3f ms at most\n", seeks, how[marks], 1e3 * all / seeks, 1e3 * worst);
-        spcwave_seek(&player, count / 2);
-        spcwave_mark(&player);
+        spcwave_seek(player, count / 2);
+        spcwave_mark(player);
         for (n = 0, all = 0; n < 100; n++) {
-            spcwave_play(&player, got, 64);
+            spcwave_play(player, got, 64);
             t = now();
-            spcwave_seek(&player, count / 2);
+            spcwave_seek(player, count / 2);
             all += now() - t;
         }
         printf("back to a mark: %.1f us\n", 1e4 * all);
     }
     options.pages = 4096;
     options.mark_seconds = 0;
-    for (n = 0, t = now(); n < 100; n++) spcwave_open(&player, spc, spc_length, table, table_length, &options);
+    for (n = 0, t = now(); n < 100; n++) spcwave_open(player, spc, spc_length, table, table_length, &options);
     printf("open: %.1f us\n", 1e4 * (now() - t));
-    spcwave_close(&player);
+    spcwave_delete(&player);
+    spcwave_delete(&other);
     free(got); free(mine); free(spc); free(table); free(wave);
     printf("%d rows, %d fail\n", rows, failures);
     return failures != 0;

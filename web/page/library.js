@@ -31,8 +31,9 @@ export class Refused extends Error {
 export class Player {
   constructor(module) {
     this.calls = new WebAssembly.Instance(module, {}).exports;
-    this.handle = this.room(16);
-    this.view(Uint8Array, this.handle, 16).fill(0);
+    const made = this.room(8);
+    if (this.calls.spcwave_new(made) !== 0) throw new Refused(7);
+    this.handle = this.view(Uint32Array, made, 1)[0];
     this.options = this.room(12);
     this.small = this.room(64);
     this.frames = this.room(4 * ROOM);

@@ -1,4 +1,4 @@
--- The handle that C keeps, and what calls make of it.
+-- The handle, and what calls make of it.
 use Rattle.std.specs.Prelude.{◌≡◌, ◌+◌, ◌-◌, ℕ, List, [], Option, Some, None, is_some, min, map}
 use Rattle.num_fix.specs.Limits.{most_frames}
 use Rattle.chip_form.specs.Samples.{count_after}
@@ -54,3 +54,8 @@ PlayedOn count = Moved (λ p. position_of p + count) (λ p. marks_played p count
 abbrev pub IsOpening : (bytes table : List ℕ) → PlayerOptions → Option PlayerState → Type 0
 IsOpening bytes table options None = ⊥
 IsOpening bytes table options (Some player) = IsOpened bytes table options player
+
+-- a handle is there, which has no player
+abbrev pub IsMade : Option SpcwavePlayer → Type 0
+IsMade None = ⊥
+IsMade (Some handle) = IsKept handle × (playing handle ≡ None)

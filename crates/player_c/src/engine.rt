@@ -8,6 +8,7 @@ use std::marker::Model;
 
 /// A pointer to a player on the heap, or any pointer where there is none.
 #[repr(C)]
+#[derive(Drop)]
 pub struct Engine {
     pub(crate) at: *mut u8,
     pub ghost playing: { Option PlayerState } by { coded_option the_code },

@@ -1,16 +1,17 @@
-// What C calls. No call but `spcwave_open` takes memory.
-ghost use Rattle.std.specs.Prelude.{◌≡◌, ◌≢◌, ◌++◌, ◌⊎◌, true, false, nat_le, None, IfErr, IfOk, IfSome, length, drop};
+// What C calls. No call but `spcwave_new` and `spcwave_open` takes memory.
+ghost use Rattle.std.specs.Prelude.{◌≡◌, ◌≢◌, ◌++◌, ◌⊎◌, true, false, nat_le, None, IfErr, IfOk, IfSome, IsSome, length, drop};
 ghost use Rattle.num_fix.specs.Limits.{most_frames};
 ghost use Rattle.chip_form.specs.Samples.{count_after};
 ghost use Rattle.player.specs.Inputs.{inputs_of, IsOpened};
 ghost use Rattle.player.specs.Options.{are_in_range};
 ghost use Rattle.player.specs.Player.{position_of, marks_of, marking, made_of, frames_sought, SeekIsNear};
 ghost use Rattle.player.specs.declared.refusal.PlayerRefusal.TheVariants as refusals;
-ghost use Rattle.player_c.specs.Handle.{IsOpening, IsKept, playing, frames_given, frames_played, faded_frames_given, faded_frames_of, Moved, PlayedOn};
+ghost use Rattle.player_c.specs.Handle.{IsMade, IsOpening, IsKept, playing, frames_given, frames_played, faded_frames_given, faded_frames_of, Moved, PlayedOn};
 ghost use Rattle.player_c.specs.Status.{ok, out_of_memory, out_of_range, inputs_status, open_status, range_status};
 
 use crate::handle::SpcwavePlayer;
-use crate::status::{NOT_OPEN, OK, OUT_OF_RANGE, status_of};
+use crate::pointer::SpcwavePointer;
+use crate::status::{NOT_OPEN, OK, OUT_OF_MEMORY, OUT_OF_RANGE, status_of};
 use cut_form::MOST_FRAMES;
 use player::{Player, PlayerOptions, PlayerRefusal, StereoFrame};
 use std::alloc::Global;
@@ -31,6 +32,34 @@ fn open_boxed(
         Ok(opened) => Ok(opened),
         Err(_) => Err(PlayerRefusal::OutOfMemory),
     }
+}
+
+/// Makes a handle on the heap, which has no player yet, and writes its address.
+#[unsafe(no_mangle)]
+pub extern "C" fn spcwave_new(alloc: Global, made: &mut SpcwavePointer) -> u32
+    requires { made.old.handle ≡ None }
+    ensures made { result ≡ ok → IsMade made.new.handle }
+    ensures refused { result ≢ ok → made.new.handle ≡ None }
+    ensures causes { (result ≡ ok) ⊎ (result ≡ out_of_memory) }
+{
+    match Box::new(alloc, SpcwavePlayer::none()) {
+        Ok(handle) => {
+            made.put(handle);
+            OK
+        }
+        Err(_) => OUT_OF_MEMORY,
+    }
+}
+
+/// Gives a handle's memory back, and that of its player if one is open.
+#[unsafe(no_mangle)]
+pub extern "C" fn spcwave_delete(alloc: Global, made: &mut SpcwavePointer)
+    requires made { IsSome made.old.handle }
+    requires kept { IfSome made.old.handle IsKept }
+    ensures { made.new.handle ≡ None }
+{
+    let mut handle = made.take(alloc);
+    spcwave_close(alloc, &mut handle);
 }
 
 /// Gives the memory of the player back, if one is open. Afterwards none is.

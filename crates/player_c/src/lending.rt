@@ -7,8 +7,24 @@ use crate::engine::Engine;
 use crate::parts::Parts;
 use player::Player;
 use std::alloc::Global;
+use std::ptr::null_mut;
 
 impl Engine {
+    /// No player, at any address.
+    fn at_nothing(at: *mut u8) -> Engine
+        ensures { result.playing ≡ None }
+    {
+        Engine { at }
+    }
+
+    /// No player.
+    pub fn none() -> Engine
+        ensures { result.playing ≡ None }
+    {
+        let at = null_mut();
+        Engine::at_nothing(at)
+    }
+
     /// Keeps what a box owns.
     fn put_parts(&mut self, player: Parts<Player, Global>)
         requires { self.old.playing ≡ None }

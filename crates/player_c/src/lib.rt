@@ -4,17 +4,21 @@
 mod engine;
 mod exports;
 mod handle;
+mod keeping;
 mod lending;
 mod parts;
+mod pointer;
 mod status;
 mod tags;
 mod telling;
 
 pub use engine::Engine;
 pub use exports::{
-    spcwave_close, spcwave_mark, spcwave_open, spcwave_play, spcwave_play_faded, spcwave_seek,
+    spcwave_close, spcwave_delete, spcwave_mark, spcwave_new, spcwave_open, spcwave_play,
+    spcwave_play_faded, spcwave_seek,
 };
 pub use handle::SpcwavePlayer;
+pub use pointer::SpcwavePointer;
 pub use telling::{
     spcwave_free_pages, spcwave_length, spcwave_position, spcwave_registers, spcwave_tag,
     spcwave_tagged, spcwave_version, spcwave_voice,

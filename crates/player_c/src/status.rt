@@ -7,6 +7,9 @@ use player::PlayerRefusal;
 /// All is well.
 pub(crate) const OK: u32 = 0;
 
+/// There is not enough memory.
+pub(crate) const OUT_OF_MEMORY: u32 = 7;
+
 /// No player is open.
 pub(crate) const NOT_OPEN: u32 = 16;
 
