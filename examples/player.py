@@ -18,14 +18,13 @@ class Voice(ctypes.Structure):
 class Player:
     """A player of the tune of some bytes; `play` gives frames of 4 bytes, as they stand in a WAV file."""
 
-    NAMES = {4: 'no SPC length', 5: 'no SPC signature', 6: 'no table', 7: 'out of memory', 16: 'not open', 17: 'out of range'}
+    NAMES = {4: 'no SPC length', 5: 'no SPC signature', 6: 'no table', 7: 'out of memory', 17: 'out of range'}
 
     def __init__(self, library, spc, table, pages=4096, mark_seconds=0, muted=0):
         self.lib, self.handle = ctypes.CDLL(library), ctypes.c_void_p()
         handle, number, size = ctypes.c_void_p, ctypes.c_uint32, ctypes.c_size_t
-        for call in self.lib.spcwave_new, self.lib.spcwave_delete:
-            call.argtypes = [ctypes.POINTER(handle)]
-        self.lib.spcwave_open.argtypes = [handle, ctypes.c_char_p, size, ctypes.c_char_p, size, ctypes.POINTER(Options)]
+        self.lib.spcwave_close.argtypes = [ctypes.POINTER(handle)]
+        self.lib.spcwave_open.argtypes = [ctypes.POINTER(handle), ctypes.c_char_p, size, ctypes.c_char_p, size, ctypes.POINTER(Options)]
         for play in self.lib.spcwave_play, self.lib.spcwave_play_faded:
             play.argtypes, play.restype = [handle, ctypes.c_void_p, size], size
         self.lib.spcwave_seek.argtypes = [handle, number]
@@ -36,7 +35,6 @@ class Player:
         self.lib.spcwave_tagged.argtypes, self.lib.spcwave_tagged.restype = [handle], ctypes.c_bool
         self.lib.spcwave_registers.argtypes = [handle, ctypes.c_char_p]
         self.lib.spcwave_voice.argtypes = [handle, number, ctypes.POINTER(Voice)]
-        self.told(self.lib.spcwave_new(self.handle))
         self.told(self.lib.spcwave_open(self.handle, spc, len(spc), table, len(table), Options(pages, mark_seconds, muted)))
 
     def told(self, status):
@@ -88,7 +86,7 @@ class Player:
         return voice
 
     def close(self):
-        self.lib.spcwave_delete(self.handle)
+        self.lib.spcwave_close(self.handle)
 
 
 def main():

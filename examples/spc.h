@@ -1,7 +1,7 @@
 /* spc.h: the function names of blargg's snes_spc over libspcwave, so that a player written for that library can be built with this one:
  *     cc player.c -I examples -lspcwave -lm
  * A frame is two samples, left first, and counts are of samples, as there. What differs:
- *  - spc_load_spc takes most of the memory, not spc_new, and plays each file as it is: spc_clear_echo does nothing, and silence at the head stays;
+ *  - spc_load_spc takes the memory, not spc_new, and plays each file as it is: spc_clear_echo does nothing, and silence at the head stays;
  *  - spc_skip is exact, and takes as long as playing; with marks in between (spcwave_mark) it would be quick;
  *  - an hour is the most that is played: behind it spc_play gives zeros and an error, and spc_skip an error, and stays;
  *  - the filter (spc_filter_*) leaves samples as they are, which are those that the console's chip hands on.
@@ -23,23 +23,23 @@ typedef short spc_sample_t;
 typedef const char *spc_err_t; /* NULL where all is well */
 
 typedef struct SNES_SPC {
-    spcwave_player *player;
+    spcwave_player *player; /* NULL where no file is loaded */
     uint8_t table[1024];
 } SNES_SPC;
 
 static inline SNES_SPC *spc_new(void) {
     SNES_SPC *spc = (SNES_SPC *)calloc(1, sizeof *spc);
-    if (!spc) return NULL;
-    if (spcwave_new(&spc->player) != SPCWAVE_OK) {
-        free(spc);
-        return NULL;
-    }
-    spcwave_console_table(spc->table);
+    if (spc) spcwave_console_table(spc->table);
     return spc;
 }
 
+static inline void spc_unload(SNES_SPC *spc) {
+    if (spc->player) spcwave_close(&spc->player);
+    spc->player = NULL;
+}
+
 static inline void spc_delete(SNES_SPC *spc) {
-    if (spc) spcwave_delete(&spc->player);
+    if (spc) spc_unload(spc);
     free(spc);
 }
 
@@ -49,26 +49,28 @@ static inline spc_err_t spc_status_text(uint32_t status) {
     case SPCWAVE_SPC_LENGTH:
     case SPCWAVE_SPC_SIGNATURE: return "Not an SPC file";
     case SPCWAVE_OUT_OF_MEMORY: return "Out of memory";
-    case SPCWAVE_NOT_OPEN: return "No SPC file is loaded";
     default: return "Out of range";
     }
 }
 
 static inline spc_err_t spc_load_spc(SNES_SPC *spc, const void *data, long size) {
     const spcwave_options options = SPCWAVE_OPTIONS;
-    return spc_status_text(spcwave_open(spc->player, (const uint8_t *)data, size < 0 ? 0 : (size_t)size, spc->table, sizeof spc->table, &options));
+    spc_unload(spc);
+    return spc_status_text(spcwave_open(&spc->player, (const uint8_t *)data, size < 0 ? 0 : (size_t)size, spc->table, sizeof spc->table, &options));
 }
 
 static inline void spc_clear_echo(SNES_SPC *spc) { (void)spc; }
 
 /* `count` samples, an even number, into `out`, which may be NULL: then they are skipped. */
 static inline spc_err_t spc_skip(SNES_SPC *spc, int count) {
+    if (!spc->player) return "No SPC file is loaded";
     return spc_status_text(spcwave_seek(spc->player, spcwave_position(spc->player) + (uint32_t)count / 2));
 }
 
 static inline spc_err_t spc_play(SNES_SPC *spc, int count, short *out) {
     size_t wanted = (size_t)count / 2, given;
     if (!out) return spc_skip(spc, count);
+    if (!spc->player) return "No SPC file is loaded";
     given = spcwave_play(spc->player, (spcwave_frame *)out, wanted);
     memset(out + 2 * given, 0, 4 * (wanted - given));
     return given == wanted ? NULL : "No more frames";

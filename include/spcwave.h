@@ -3,17 +3,16 @@
  * The sound: the frames that spcwave_play gives are, whatever was sought, marked or played before, frames [position, position + given)
  * of the run of the machine that the file opens over the table, with the muted voices of its options, its processor and S-DSP in lock
  * step. The library is proved to do what each comment below says, but for time and memory, which are measured, where its caller keeps the
- * following, which nothing checks. Of a caller's errors only NOT_OPEN and OUT_OF_RANGE tell.
+ * following, which nothing checks. Of a caller's errors only OUT_OF_RANGE tells.
  *
  * You owe, for every call:
- *  - a handle that spcwave_new made and spcwave_delete hasn't given back. No two calls may use one at once, and it stays on the thread that
- *    made it;
+ *  - a handle that spcwave_open gave and spcwave_close hasn't taken back. No two calls may use one at once, and it stays on the thread that
+ *    opened it;
  *  - pointers that aren't null, also where the length is 0, to memory that nobody else reads or writes during the call, and of which no two
  *    overlap;
  *  - malloc, realloc and free of one allocator; 512 KB of stack for spcwave_open, 32 KB for the others; no call from a signal handler.
  * Nothing is global: any number of handles may be used side by side.
- * Only spcwave_new and spcwave_open take memory: 16 bytes the one, three quarters of a megabyte and 256 bytes a page the other. Only spcwave_close,
- * spcwave_open of an open handle, and spcwave_delete give it back.
+ * Only spcwave_open takes memory: three quarters of a megabyte, and 256 bytes a page. Only spcwave_close gives it back.
  */
 #ifndef SPCWAVE_H
 #define SPCWAVE_H
@@ -38,7 +37,6 @@ enum spcwave_status {
     SPCWAVE_SPC_SIGNATURE = 5,  /* it doesn't begin with "SNES-SPC700 Sound File Data" */
     SPCWAVE_TABLE_LENGTH = 6,   /* the table hasn't 1,024 bytes */
     SPCWAVE_OUT_OF_MEMORY = 7,
-    SPCWAVE_NOT_OPEN = 16,      /* the handle has no player */
     SPCWAVE_OUT_OF_RANGE = 17   /* a number is out of its range */
 };
 
@@ -65,7 +63,7 @@ typedef struct spcwave_options {
 /* 4,096 pages, no marks but those that are asked for, and all voices. */
 #define SPCWAVE_OPTIONS { SPCWAVE_PAGES, 0, 0 }
 
-/* A handle: it has a player of one tune after another, or none. */
+/* A player. Its address is the handle that calls take. */
 typedef struct spcwave_player spcwave_player;
 
 /* One stereo sample. An array of n of them is an int16_t[2 * n], left first. */
@@ -85,24 +83,17 @@ typedef struct spcwave_voice_shown {
 #define SPCWAVE_VERSION 0x010100u
 uint32_t spcwave_version(void);
 
-/* Makes a handle, without a player, and writes its address to `*player`, which is no other's. Answers OK; or OUT_OF_MEMORY, and then `*player`
- * stays as it was. */
-uint32_t spcwave_new(spcwave_player **player);
-
-/* Gives the memory of a handle back, and that of its player if one is open. Afterwards `*player` is no handle. */
-void spcwave_delete(spcwave_player **player);
-
 /* Opens a player at the opening of a tune. `table` is the table of weights by which voices interpolate, 512 numbers of 16 bits,
- * low byte first: spcwave_table.h makes the console's. A player that was open is closed first. Answers OK; or OUT_OF_RANGE exactly where one
- * of the options is; or SPC_LENGTH or SPC_SIGNATURE, or else TABLE_LENGTH; or OUT_OF_MEMORY. Where it isn't OK none is open. Neither the
- * file, the table nor the options are needed afterwards. */
-uint32_t spcwave_open(spcwave_player *player, const uint8_t *spc, size_t spc_length, const uint8_t *table, size_t table_length,
+ * low byte first: spcwave_table.h makes the console's. Answers OK, and then `*player` is the handle; or OUT_OF_RANGE exactly where one
+ * of the options is; or SPC_LENGTH or SPC_SIGNATURE, or else TABLE_LENGTH; or OUT_OF_MEMORY. Where it isn't OK, `*player` stays as it was.
+ * Neither the file, the table nor the options are needed afterwards. */
+uint32_t spcwave_open(spcwave_player **player, const uint8_t *spc, size_t spc_length, const uint8_t *table, size_t table_length,
                       const spcwave_options *options);
 
-/* Gives the player's memory back, if one is open. */
-void spcwave_close(spcwave_player *player);
+/* Gives the player's memory back. Afterwards `*player` is no handle any more. */
+void spcwave_close(spcwave_player **player);
 
-/* Plays: writes min(count, MOST - position) frames, moves the position behind them, and tells how many; 0 where none is open. Frames of the
+/* Plays: writes min(count, MOST - position) frames, moves the position behind them, and tells how many. Frames of the
  * array behind those stay as they were. Where the position comes to a multiple of the options' mark_seconds, a mark is asked
  * for, as by spcwave_mark. */
 size_t spcwave_play(spcwave_player *player, spcwave_frame *frames, size_t count);
@@ -112,38 +103,38 @@ size_t spcwave_play(spcwave_player *player, spcwave_frame *frames, size_t count)
 size_t spcwave_play_faded(spcwave_player *player, spcwave_frame *frames, size_t count);
 
 /* Goes to a frame, 0 to MOST: the machine makes the frames between it and the position, or the last mark up to it where that is nearer,
- * as fast as if they were played: never more than lie between it and any mark up to it. Answers OK; or NOT_OPEN or OUT_OF_RANGE, and then
- * nothing has changed. */
+ * as fast as if they were played: never more than lie between it and any mark up to it. Answers OK; or OUT_OF_RANGE, and then nothing
+ * has changed. */
 uint32_t spcwave_seek(spcwave_player *player, uint32_t frame);
 
 /* Keeps the state at the position, so that a later seek to it or soon behind it is quick. There are 64 marks at most, that of frame 0
  * among them, which always stays; the oldest others are given up where pages or places are short. Where there isn't room
- * even then, none is kept, and the others are gone all the same. Answers OK or NOT_OPEN. */
+ * even then, none is kept, and the others are gone all the same. Answers OK. */
 uint32_t spcwave_mark(spcwave_player *player);
 
-/* The position: how many frames stand before it. 0 where none is open. */
+/* The position: how many frames stand before it. */
 uint32_t spcwave_position(spcwave_player *player);
 
-/* How many of the pages are free for marks. 0 where none is open. */
+/* How many of the pages are free for marks. */
 uint32_t spcwave_free_pages(spcwave_player *player);
 
 /* The length by the file's tags, and how many of its last frames fade out, in frames; three minutes without a fade where the tags
- * tell none. Frames can be played behind it. Answers OK; or NOT_OPEN, and then both numbers stay as they were. */
+ * tell none. Frames can be played behind it. Answers OK. */
 uint32_t spcwave_length(spcwave_player *player, uint32_t *frames, uint32_t *fade);
 
-/* Whether the file says that it has tags; their texts are told either way. False where none is open. */
+/* Whether the file says that it has tags; their texts are told either way. */
 bool spcwave_tagged(spcwave_player *player);
 
 /* Writes the text of a tag: as many of its bytes as `size` has room for with a zero byte behind them, whatever bytes the file has there, up
- * to its first zero byte; nothing where `size` is 0. Tells the whole text's length. The text is empty where none is open or no tag has
- * the number. */
+ * to its first zero byte; nothing where `size` is 0. Tells the whole text's length. The text is empty where no tag has the
+ * number. */
 size_t spcwave_tag(spcwave_player *player, uint32_t tag, char *text, size_t size);
 
 /* Copies the S-DSP's 128 registers at the position: as they stand once the step of the processor is done in which the frame before it was
- * made; at 0 those of the file. Answers OK; or NOT_OPEN, and then they stay as they were. */
+ * made; at 0 those of the file. Answers OK. */
 uint32_t spcwave_registers(spcwave_player *player, uint8_t registers[128]);
 
-/* Tells what shows of voice 0 to 7 at the position. Answers OK; or NOT_OPEN, or OUT_OF_RANGE for another number, and then it stays as it was. */
+/* Tells what shows of voice 0 to 7 at the position. Answers OK; or OUT_OF_RANGE for another number, and then it stays as it was. */
 uint32_t spcwave_voice(spcwave_player *player, uint32_t number, spcwave_voice_shown *voice);
 
 #ifdef __cplusplus

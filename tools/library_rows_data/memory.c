@@ -1,4 +1,4 @@
-/* Each allocation of spcwave_new and of spcwave_open refused in turn, and that no other call allocates: memory TUNE.spc TABLE. Link with
+/* Each allocation of spcwave_open refused in turn, and that no other call allocates: memory TUNE.spc TABLE. Link with
  * -Wl,--wrap=malloc,--wrap=realloc,--wrap=free. */
 #include <stdio.h>
 #include <stdlib.h>
@@ -38,14 +38,11 @@ int main(int argc, char **argv) {
     const spcwave_options options = { 4096, 1, 0 };
     uint8_t registers[128];
     spcwave_voice_shown voice;
-    spcwave_player *player, *none = NULL;
+    spcwave_player *player = NULL;
     static spcwave_frame frames[1000];
     long before, i, all;
     calls = bytes = most = live = 0;
-    if (spcwave_new(&player)) return 3;
-    printf("new: %ld calls, %ld bytes\n", calls, bytes);
-    calls = 0;
-    if (spcwave_open(player, spc, n, table, 1024, &options)) return 3;
+    if (spcwave_open(&player, spc, n, table, 1024, &options)) return 3;
     all = calls;
     printf("open: %ld calls of malloc and realloc, %ld blocks live, %ld bytes, %ld at most\n", all, live, bytes, most);
     before = calls; frees = 0;
@@ -56,21 +53,17 @@ int main(int argc, char **argv) {
         if (spcwave_mark(player) || spcwave_seek(player, (uint32_t)(i * 7919))) return 5;
     }
     printf("play, mark, seek and show: %ld calls, %ld frees\n", calls - before, frees);
-    spcwave_close(player);
+    spcwave_close(&player);
+    player = NULL;
     printf("close: %ld blocks live, %ld bytes\n", live, bytes);
     for (i = 0; i < all; i++) {
         calls = 0; refused = i;
-        uint32_t status = spcwave_open(player, spc, n, table, 1024, &options);
-        if (status != SPCWAVE_OUT_OF_MEMORY || spcwave_play(player, frames, 1) || live != 1) {
+        uint32_t status = spcwave_open(&player, spc, n, table, 1024, &options);
+        if (status != SPCWAVE_OUT_OF_MEMORY || player || live) {
             printf("FAILS at %ld: status %u, %ld live\n", i, (unsigned)status, live);
             return 1;
         }
     }
     printf("each of %ld calls refused: status 7, none open, nothing left\n", all);
-    refused = -1;
-    if (spcwave_open(player, spc, n, table, 1024, &options)) return 7;
-    spcwave_delete(&player);
-    calls = refused = 0;
-    if (live || spcwave_new(&none) != SPCWAVE_OUT_OF_MEMORY || none || live) return 8;
     return 0;
 }

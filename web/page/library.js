@@ -31,9 +31,8 @@ export class Refused extends Error {
 export class Player {
   constructor(module) {
     this.calls = new WebAssembly.Instance(module, {}).exports;
-    const made = this.room(8);
-    if (this.calls.spcwave_new(made) !== 0) throw new Refused(7);
-    this.handle = this.view(Uint32Array, made, 1)[0];
+    this.at = this.room(8); // where the handle's address stands
+    this.handle = 0;
     this.options = this.room(12);
     this.small = this.room(64);
     this.frames = this.room(4 * ROOM);
@@ -47,9 +46,12 @@ export class Player {
     this.view(Uint8Array, this.file, spc.length).set(spc);
     this.view(Uint8Array, this.table, TABLE_BYTES).set(table.subarray(0, TABLE_BYTES));
     this.view(Uint32Array, this.options, 3).set([pages, markSeconds, 0]);
+    if (this.handle !== 0) this.calls.spcwave_close(this.at);
+    this.handle = 0;
     const status = this.calls.spcwave_open(
-      this.handle, this.file, BigInt(spc.length), this.table, BigInt(table.length), this.options);
+      this.at, this.file, BigInt(spc.length), this.table, BigInt(table.length), this.options);
     if (status !== 0) throw new Refused(status);
+    this.handle = this.view(Uint32Array, this.at, 1)[0];
   }
 
   /** Bytes of the library's memory. */

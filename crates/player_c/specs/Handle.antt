@@ -55,7 +55,7 @@ abbrev pub IsOpening : (bytes table : List ℕ) → PlayerOptions → Option Pla
 IsOpening bytes table options None = ⊥
 IsOpening bytes table options (Some player) = IsOpened bytes table options player
 
--- a handle is there, which has no player
-abbrev pub IsMade : Option SpcwavePlayer → Type 0
-IsMade None = ⊥
-IsMade (Some handle) = IsKept handle × (playing handle ≡ None)
+-- the same, of a handle that stands
+abbrev pub IsOpeningIn : (bytes table : List ℕ) → PlayerOptions → Option SpcwavePlayer → Type 0
+IsOpeningIn bytes table options None = ⊥
+IsOpeningIn bytes table options (Some handle) = IsKept handle × IsOpening bytes table options (playing handle)

@@ -1,13 +1,13 @@
-// What C calls. No call but `spcwave_new` and `spcwave_open` takes memory.
-ghost use Rattle.std.specs.Prelude.{◌≡◌, ◌≢◌, ◌++◌, ◌⊎◌, true, false, nat_le, None, IfErr, IfOk, IfSome, IsSome, length, drop};
+// What C calls. No call but `spcwave_open` takes memory.
+ghost use Rattle.std.specs.Prelude.{◌≡◌, ◌≢◌, ◌<◌, ◌++◌, ◌⊎◌, true, false, nat_le, None, IfErr, IfOk, IfSome, IsSome, length, drop};
 ghost use Rattle.num_fix.specs.Limits.{most_frames};
 ghost use Rattle.chip_form.specs.Samples.{count_after};
 ghost use Rattle.player.specs.Inputs.{inputs_of, IsOpened};
 ghost use Rattle.player.specs.Options.{are_in_range};
 ghost use Rattle.player.specs.Player.{position_of, marks_of, marking, made_of, frames_sought, SeekIsNear};
 ghost use Rattle.player.specs.declared.refusal.PlayerRefusal.TheVariants as refusals;
-ghost use Rattle.player_c.specs.Handle.{IsMade, IsOpening, IsKept, playing, frames_given, frames_played, faded_frames_given, faded_frames_of, Moved, PlayedOn};
-ghost use Rattle.player_c.specs.Status.{ok, out_of_memory, out_of_range, inputs_status, open_status, range_status};
+ghost use Rattle.player_c.specs.Handle.{IsOpening, IsOpeningIn, IsKept, playing, frames_given, frames_played, faded_frames_given, faded_frames_of, Moved, PlayedOn};
+ghost use Rattle.player_c.specs.Status.{ok, out_of_memory, not_open, out_of_range, inputs_status, open_status, range_status};
 
 use crate::handle::SpcwavePlayer;
 use crate::pointer::SpcwavePointer;
@@ -34,37 +34,8 @@ fn open_boxed(
     }
 }
 
-/// Makes a handle on the heap, which has no player yet, and writes its address.
-#[unsafe(no_mangle)]
-pub extern "C" fn spcwave_new(alloc: Global, made: &mut SpcwavePointer) -> u32
-    requires { made.old.handle ≡ None }
-    ensures made { result ≡ ok → IsMade made.new.handle }
-    ensures refused { result ≢ ok → made.new.handle ≡ None }
-    ensures causes { (result ≡ ok) ⊎ (result ≡ out_of_memory) }
-{
-    match Box::new(alloc, SpcwavePlayer::none()) {
-        Ok(handle) => {
-            made.put(handle);
-            OK
-        }
-        Err(_) => OUT_OF_MEMORY,
-    }
-}
-
-/// Gives a handle's memory back, and that of its player if one is open.
-#[unsafe(no_mangle)]
-pub extern "C" fn spcwave_delete(alloc: Global, made: &mut SpcwavePointer)
-    requires made { IsSome made.old.handle }
-    requires kept { IfSome made.old.handle IsKept }
-    ensures { made.new.handle ≡ None }
-{
-    let mut handle = made.take(alloc);
-    spcwave_close(alloc, &mut handle);
-}
-
 /// Gives the memory of the player back, if one is open. Afterwards none is.
-#[unsafe(no_mangle)]
-pub extern "C" fn spcwave_close(alloc: Global, player: &mut SpcwavePlayer)
+fn close_in(alloc: Global, player: &mut SpcwavePlayer)
     requires { IsKept player.old }
     ensures kept { IsKept player.new }
     ensures none { playing player.new ≡ None }
@@ -75,28 +46,23 @@ pub extern "C" fn spcwave_close(alloc: Global, player: &mut SpcwavePlayer)
     }
 }
 
-/// Opens a player of the tune of an SPC file over a table of weights, with these options. A player that was open is closed first.
-#[unsafe(no_mangle)]
-pub extern "C" fn spcwave_open(
+/// Opens a player in a handle that has none.
+fn open_in(
     alloc: Global,
     player: &mut SpcwavePlayer,
     spc: &[u8],
     table: &[u8],
-    options: &PlayerOptions,
+    options: PlayerOptions,
 ) -> u32
-    requires { IsKept player.old }
+    requires kept { IsKept player.old }
+    requires none { playing player.old ≡ None }
+    requires in_range { are_in_range options ≡ true }
     ensures kept { IsKept player.new }
-    ensures opened { result ≡ ok → IsOpening spc.now table.now options.now (playing player.new) }
-    ensures refused { result ≢ ok → playing player.new ≡ None }
-    ensures out_of_range { result ≡ out_of_range → are_in_range options.now ≡ false }
-    ensures in_range { are_in_range options.now ≡ false → result ≡ out_of_range }
-    ensures causes { (result ≡ ok) ⊎ (result ≡ out_of_memory) ⊎ (result ≡ out_of_range) ⊎ (inputs_status spc.now table.now ≡ result) }
+    ensures opened { result ≡ ok → IsOpening spc.now table.now options (playing player.new) }
+    ensures causes { (result ≡ ok) ⊎ (result ≡ out_of_memory) ⊎ (inputs_status spc.now table.now ≡ result) }
+    ensures low { result < not_open }
 {
-    spcwave_close(alloc, player);
-    if !options.are_in_range() {
-        return OUT_OF_RANGE;
-    }
-    match open_boxed(alloc, spc, table, *options) {
+    match open_boxed(alloc, spc, table, options) {
         Ok(opened) => {
             player.engine.put(opened);
             player.is_open = true;
@@ -104,6 +70,50 @@ pub extern "C" fn spcwave_open(
         }
         Err(refusal) => status_of(refusal),
     }
+}
+
+/// Opens a player of the tune of an SPC file over a table of weights, with these options, in a handle on the heap, and writes the handle's
+/// address. Where it is refused nothing is written.
+#[unsafe(no_mangle)]
+pub extern "C" fn spcwave_open(
+    alloc: Global,
+    player: &mut SpcwavePointer,
+    spc: &[u8],
+    table: &[u8],
+    options: &PlayerOptions,
+) -> u32
+    requires { player.old.handle ≡ None }
+    ensures opened { result ≡ ok → IsOpeningIn spc.now table.now options.now player.new.handle }
+    ensures refused { result ≢ ok → player.new ≡ player.old }
+    ensures out_of_range { result ≡ out_of_range → are_in_range options.now ≡ false }
+    ensures in_range { are_in_range options.now ≡ false → result ≡ out_of_range }
+    ensures causes { (result ≡ ok) ⊎ (result ≡ out_of_memory) ⊎ (result ≡ out_of_range) ⊎ (inputs_status spc.now table.now ≡ result) }
+{
+    if !options.are_in_range() {
+        return OUT_OF_RANGE;
+    }
+    match Box::new(alloc, SpcwavePlayer::none()) {
+        Ok(mut handle) => {
+            let status = open_in(alloc, &mut handle, spc, table, *options);
+            if status != OK {
+                return status;
+            }
+            player.put(handle);
+            OK
+        }
+        Err(_) => OUT_OF_MEMORY,
+    }
+}
+
+/// Gives the memory of a player and of its handle back.
+#[unsafe(no_mangle)]
+pub extern "C" fn spcwave_close(alloc: Global, player: &mut SpcwavePointer)
+    requires stands { IsSome player.old.handle }
+    requires kept { IfSome player.old.handle IsKept }
+    ensures none { player.new.handle ≡ None }
+{
+    let mut handle = player.take(alloc);
+    close_in(alloc, &mut handle);
 }
 
 /// Plays the next frames, as many as there is room for, but not past an hour; tells how many: 0 where none is open.

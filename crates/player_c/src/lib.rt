@@ -14,8 +14,7 @@ mod telling;
 
 pub use engine::Engine;
 pub use exports::{
-    spcwave_close, spcwave_delete, spcwave_mark, spcwave_new, spcwave_open, spcwave_play,
-    spcwave_play_faded, spcwave_seek,
+    spcwave_close, spcwave_mark, spcwave_open, spcwave_play, spcwave_play_faded, spcwave_seek,
 };
 pub use handle::SpcwavePlayer;
 pub use pointer::SpcwavePointer;
