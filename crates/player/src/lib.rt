@@ -10,6 +10,7 @@ mod player;
 mod refusal;
 #[cfg(test)]
 mod tests;
+mod threads;
 mod voices;
 
 pub use laws::what_was_heard_is_near;
@@ -18,4 +19,5 @@ pub use output::{StereoFrame, put_text};
 pub use player::Player;
 pub use refusal::PlayerRefusal;
 pub use std::alloc::AllocError as OutOfMemory;
+pub use threads::a_player_may_go_to_another_thread;
 pub use voices::ShownVoice;

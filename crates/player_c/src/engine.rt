@@ -19,3 +19,6 @@ impl Model for Engine {
 
     ghost also_owns = { λ e. owns_playing e.at e.playing };
 }
+
+// What it owns may go to another thread, as its proof shows.
+unsafe impl Send for Engine {}

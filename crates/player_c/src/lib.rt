@@ -11,6 +11,7 @@ mod pointer;
 mod status;
 mod tags;
 mod telling;
+mod threads;
 
 pub use engine::Engine;
 pub use exports::{
@@ -22,3 +23,4 @@ pub use telling::{
     spcwave_free_pages, spcwave_length, spcwave_position, spcwave_registers, spcwave_tag,
     spcwave_tagged, spcwave_version, spcwave_voice,
 };
+pub use threads::a_handle_may_go_to_another_thread;
