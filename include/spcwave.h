@@ -6,8 +6,8 @@
  * following, which nothing checks. Of a caller's errors only OUT_OF_RANGE tells.
  *
  * You owe, for every call:
- *  - a handle that spcwave_open gave and spcwave_close hasn't taken back. No two calls may use one at once, and it stays on the thread that
- *    opened it;
+ *  - a handle that spcwave_open gave and spcwave_close hasn't taken back. No two calls may use one at once. It may go to another thread, by a
+ *    lock, a thread's start or its end, or a sequentially consistent atomic;
  *  - pointers that aren't null, also where the length is 0, to memory that nobody else reads or writes during the call, and of which no two
  *    overlap;
  *  - malloc, realloc and free of one allocator; 512 KB of stack for spcwave_open, 32 KB for the others; no call from a signal handler.

@@ -42,6 +42,17 @@ static void *play_second(void *given) {
     return NULL;
 }
 
+/* A handle that was opened in one thread plays in another. */
+struct handed { spcwave_player *player; const spcwave_frame *wanted; uint32_t count; int same; };
+static void *play_handed(void *given) {
+    struct handed *it = given;
+    spcwave_frame *got = malloc(sizeof *got * it->count);
+    it->same = spcwave_seek(it->player, 0) == SPCWAVE_OK && spcwave_play(it->player, got, it->count) == it->count
+        && memcmp(got, it->wanted, sizeof *got * it->count) == 0;
+    free(got);
+    return NULL;
+}
+
 int main(int argc, char **argv) {
     size_t spc_length, table_length, wave_length, i;
     uint8_t *spc = whole(argv[1], &spc_length), *table = whole(argv[2], &table_length), *wave = whole(argv[3], &wave_length);
@@ -113,6 +124,9 @@ int main(int argc, char **argv) {
     spcwave_seek(player, count / 8);
     row(spcwave_play(player, got, count / 8) == count / 8 && memcmp(got, mine + count / 8, count / 8 * sizeof *got) == 0, "frames beside a second thread");
     row(pthread_join(thread, NULL) == 0 && second.same, "and those of its player");
+    struct handed handed = {player, mine, count / 8, 0};
+    row(pthread_create(&thread, NULL, play_handed, &handed) == 0 && pthread_join(thread, NULL) == 0 && handed.same, "a handle that goes to another thread");
+    row(spcwave_position(player) == count / 8, "and comes back");
     /* with the fade */
     spcwave_seek(player, 0);
     row(spcwave_play_faded(player, got, count + 8) == count && memcmp(got, ref, count * sizeof *got) == 0, "with the fade they are the whole sound file");
