@@ -3,12 +3,13 @@
  * The sound: the frames that spcwave_play gives are, whatever was sought, marked or played before, frames [position, position + given)
  * of the run of the machine that the file opens over the table, with the muted voices of its options, its processor and S-DSP in lock
  * step. The library is proved to do what each comment below says, but for time and memory, which are measured, where its caller keeps the
- * following, which nothing checks. Of a caller's errors only OUT_OF_RANGE tells.
+ * following. Of what a caller owes nothing is checked; an option, a frame or a voice out of its range is answered with OUT_OF_RANGE.
  *
- * You owe, for every call:
- *  - a handle that spcwave_open gave and spcwave_close hasn't taken back. No two calls may use one at once. It may go to another thread, by a
- *    lock, a thread's start or its end, or a sequentially consistent atomic;
- *  - pointers that aren't null, also where the length is 0, to memory that nobody else reads or writes during the call, and of which no two
+ * You owe:
+ *  - to each call that takes a player, a handle that spcwave_open gave and spcwave_close hasn't taken back. No two calls may use one at once. It
+ *    may go to another thread, by a lock, a thread's start or its end, or a sequentially consistent atomic;
+ *  - to spcwave_open, a `*player` that holds no open handle: it is overwritten, and may hold anything else;
+ *  - to every call, pointers that aren't null, also where the length is 0, to memory that nobody else reads or writes during the call, and of which no two
  *    overlap;
  *  - malloc, realloc and free of one allocator; 512 KB of stack for spcwave_open, 32 KB for the others; no call from a signal handler.
  * Nothing is global: any number of handles may be used side by side.
@@ -73,8 +74,9 @@ typedef struct spcwave_frame {
 
 /* What shows of a voice once a sample is made. */
 typedef struct spcwave_voice_shown {
-    uint16_t level;   /* of its envelope, 0 to 2,047: that at which its next sample sounds; right after a key on, that before it */
-    uint16_t pitch;   /* of its registers, 0 to 16,383: at 4,096 its sample is played 32,000 of its samples a second */
+    uint16_t level;   /* of its envelope, 0 to 2,047: that at which its next sample sounds; but right after the sample in which it was keyed
+                         on, still that of before */
+    uint16_t pitch;   /* of its registers, 0 to 16,383: at 4,096 it plays 32,000 numbers of its sample a second */
     int16_t output;   /* the high byte of its output, -128 to 127, as the register OUTX has it */
     uint16_t source;  /* the number of its sample in the directory, 0 to 255 */
 } spcwave_voice_shown;
@@ -90,7 +92,7 @@ uint32_t spcwave_version(void);
 uint32_t spcwave_open(spcwave_player **player, const uint8_t *spc, size_t spc_length, const uint8_t *table, size_t table_length,
                       const spcwave_options *options);
 
-/* Gives the player's memory back. Afterwards `*player` is no handle any more. */
+/* Gives the memory of the player and of its handle back. Afterwards `*player` is no handle; it isn't set to NULL. */
 void spcwave_close(spcwave_player **player);
 
 /* Plays: writes min(count, MOST - position) frames, moves the position behind them, and tells how many. Frames of the
@@ -102,9 +104,8 @@ size_t spcwave_play(spcwave_player *player, spcwave_frame *frames, size_t count)
  * min(count, length - position) frames, and 0 from the length on. */
 size_t spcwave_play_faded(spcwave_player *player, spcwave_frame *frames, size_t count);
 
-/* Goes to a frame, 0 to MOST: the machine makes the frames between it and the position, or the last mark up to it where that is nearer,
- * as fast as if they were played: never more than lie between it and any mark up to it. Answers OK; or OUT_OF_RANGE, and then nothing
- * has changed. */
+/* Goes to a frame, 0 to MOST. The machine starts from the position or from the last mark, whichever lies nearer before the frame or at it,
+ * and makes the frames from there, as fast as if they were played. Answers OK; or OUT_OF_RANGE, and then nothing has changed. */
 uint32_t spcwave_seek(spcwave_player *player, uint32_t frame);
 
 /* Keeps the state at the position, so that a later seek to it or soon behind it is quick. There are 64 marks at most, that of frame 0
