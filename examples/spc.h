@@ -5,10 +5,12 @@
  *  - spc_skip is exact, and takes as long as playing; with marks in between (spcwave_mark) it would be quick;
  *  - an hour is the most that is played: behind it spc_play gives zeros and an error, and spc_skip an error, and stays;
  *  - the filter (spc_filter_*) leaves samples as they are, which are those that the console's chip hands on.
- * Without an equal, and left out, so that a player which calls them doesn't compile: emulator use (spc_init_rom, spc_set_output, spc_sample_count,
- * spc_reset, spc_soft_reset, spc_read_port, spc_write_port, spc_end_frame), spc_mute_voices (voices are muted where a player is opened: the options'
- * `muted`), spc_disable_surround, spc_set_tempo, and saved states
- * (spc_init_header, spc_save_spc, spc_check_kon, spc_copy_state).
+ * Without an equal, and left out, so that a player which uses them doesn't compile:
+ *  - emulator use: spc_init_rom, spc_rom_size, spc_set_output, spc_sample_count, spc_reset, spc_soft_reset, spc_time_t, spc_port_count, spc_read_port,
+ *    spc_write_port, spc_end_frame;
+ *  - sound control: spc_mute_voices and spc_voice_count (voices are muted where a player is opened: the options' `muted`), spc_disable_surround,
+ *    spc_set_tempo, spc_tempo_unit;
+ *  - saved states: spc_copy_state, spc_state_size, spc_copy_func_t, spc_init_header, spc_save_spc, spc_check_kon.
  */
 #ifndef SPC_H
 #define SPC_H
@@ -17,7 +19,8 @@
 #include "spcwave.h"
 #include "spcwave_table.h"
 
-enum { spc_sample_rate = 32000, spc_clock_rate = 1024000, spc_clocks_per_sample = 32, spc_file_size = 0x10180, spc_filter_gain_unit = 0x100 };
+enum { spc_sample_rate = 32000, spc_clock_rate = 1024000, spc_clocks_per_sample = 32, spc_file_size = 0x10200 };
+enum { spc_filter_gain_unit = 0x100, spc_filter_bass_none = 0, spc_filter_bass_norm = 8, spc_filter_bass_max = 31 };
 
 typedef short spc_sample_t;
 typedef const char *spc_err_t; /* NULL where all is well */
@@ -61,12 +64,13 @@ static inline spc_err_t spc_load_spc(SNES_SPC *spc, const void *data, long size)
 
 static inline void spc_clear_echo(SNES_SPC *spc) { (void)spc; }
 
-/* `count` samples, an even number, into `out`, which may be NULL: then they are skipped. */
+/* Skips `count` samples, an even number. */
 static inline spc_err_t spc_skip(SNES_SPC *spc, int count) {
     if (!spc->player) return "No SPC file is loaded";
     return spc_status_text(spcwave_seek(spc->player, spcwave_position(spc->player) + (uint32_t)count / 2));
 }
 
+/* Plays `count` samples, an even number, into `out`; where `out` is NULL they are skipped. */
 static inline spc_err_t spc_play(SNES_SPC *spc, int count, short *out) {
     size_t wanted = (size_t)count / 2, given;
     if (!out) return spc_skip(spc, count);
