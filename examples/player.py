@@ -90,6 +90,8 @@ class Player:
 
 
 def main():
+    if not 5 <= len(sys.argv) <= 7:
+        sys.exit('usage: player.py LIBRARY TUNE.spc TABLE OUT.wav [FROM_SECOND [SECONDS]]')
     library, tune, table, out = sys.argv[1:5]
     begin, seconds = (float(it) for it in (sys.argv[5:] + ['0', '-1'][len(sys.argv) - 5:])[:2])
     player = Player(library, open(tune, 'rb').read(), open(table, 'rb').read())
