@@ -9,8 +9,8 @@
  *  - to each call that takes a player, a handle that spcwave_open gave and spcwave_close hasn't taken back. No two calls may use one at once. It
  *    may go to another thread, by a lock, a thread's start or its end, or a sequentially consistent atomic;
  *  - to spcwave_open, a `*player` that holds no open handle: it is overwritten, and may hold anything else;
- *  - to every call, pointers that aren't null, also where the length is 0, to memory that nobody else reads or writes during the call, and of which no two
- *    overlap;
+ *  - to every call, pointers that aren't null, also where the length is 0, to memory that nobody else reads or writes during the call, and of
+ *    which no two overlap;
  *  - malloc, realloc and free of one allocator; 512 KB of stack for spcwave_open, 32 KB for the others; no call from a signal handler.
  * Nothing is global: any number of handles may be used side by side.
  * Only spcwave_open takes memory: three quarters of a megabyte, and 256 bytes a page. Only spcwave_close gives it back.
