@@ -131,6 +131,9 @@ int main(int argc, char **argv) {
     spcwave_seek(player, 0);
     row(spcwave_play_faded(player, got, count + 8) == count && memcmp(got, ref, count * sizeof *got) == 0, "with the fade they are the whole sound file");
     row(spcwave_play_faded(player, got, 8) == 0 && spcwave_position(player) == count, "and no more");
+    /* from a mark, which keeps the seeks short */
+    spcwave_seek(player, steady - 64);
+    spcwave_mark(player);
     for (n = 0, same = 1; n < 100; n++) {
         uint32_t to = steady - 64 + below(fade + 64);
         size_t wanted = count - to < 64 ? count - to : 64;
