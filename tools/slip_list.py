@@ -83,9 +83,9 @@ SLIPS = [
     Slip('PSW written P', ['spc700_asm'], ['worked_files'], [
         (PATTERNS, '(codes "PSW")', '(codes "P")'), (PATTERNS_CODE, 'b"PSW"', 'b"P"')]),
     Slip('names of 33 characters', ['spc700_asm'], ['worked_files'], [
-        (ASM, 'longest_name = 32', 'longest_name = 33'), (ASM_CODE, 'LONGEST_NAME: usize = 32', 'LONGEST_NAME: usize = 33')]),
+        (ASM, 'most_name_characters = 32', 'most_name_characters = 33'), (ASM_CODE, 'MOST_NAME_CHARACTERS: usize = 32', 'MOST_NAME_CHARACTERS: usize = 33')]),
     Slip('names of 31 characters at most', ['spc700_asm'], ['worked_files'], [
-        (ASM, 'longest_name = 32', 'longest_name = 31'), (ASM_CODE, 'LONGEST_NAME: usize = 32', 'LONGEST_NAME: usize = 31')]),
+        (ASM, 'most_name_characters = 32', 'most_name_characters = 31'), (ASM_CODE, 'MOST_NAME_CHARACTERS: usize = 32', 'MOST_NAME_CHARACTERS: usize = 31')]),
     Slip('a carriage return is no blank', ['spc700_asm'], ['worked_files'], [
         (ASM, '((character == 9) || (character == 13))', '(character == 9)'), (ASM_CODE, " || character == b'\\r'", '')]),
     Slip('a tab is no blank', ['spc700_asm'], ['worked_files'], [
@@ -109,50 +109,50 @@ SLIPS = [
         (DECIMAL, '(adjusted + 0x100 - 6) % 0x100', '(adjusted + 0x100 - 5) % 0x100'), (DECIMAL_CODE, 'adjusted.wrapping_sub(6)', 'adjusted.wrapping_sub(5)')]),
 
     # SPC files and what is shown of them
-    Slip("the dumper's and the date's places exchanged", ['spc_form'], ['command_info'], [
+    Slip("the dumper's and the date's places exchanged", ['spc_form'], ['worked_commands'], [
         (TAGS, 'field_start Dumper = 0x6E', 'field_start Dumper = 0x9E'), (TAGS, 'field_start Date = 0x9E', 'field_start Date = 0x6E'),
         (TAGS_CODE, 'Tag::Dumper => 0x6E', 'Tag::Dumper => 0x9E'), (TAGS_CODE, 'Tag::Date => 0x9E', 'Tag::Date => 0x6E')]),
-    Slip("the title's and the game's places exchanged", ['spc_form'], ['command_info'], [
+    Slip("the title's and the game's places exchanged", ['spc_form'], ['worked_commands'], [
         (TAGS, 'field_start Title = 0x2E', 'field_start Title = 0x4E'), (TAGS, 'field_start Game = 0x4E', 'field_start Game = 0x2E'),
         (TAGS_CODE, 'Tag::Title => 0x2E', 'Tag::Title => 0x4E'), (TAGS_CODE, 'Tag::Game => 0x4E', 'Tag::Game => 0x2E')]),
-    Slip('the artist one byte later', ['spc_form'], ['command_info'], [
+    Slip('the artist one byte earlier', ['spc_form'], ['worked_commands'], [
         (TAGS, 'field_start Artist = 0xB1', 'field_start Artist = 0xB0'), (TAGS_CODE, 'Tag::Artist => 0xB1', 'Tag::Artist => 0xB0')]),
-    Slip('a date of ten bytes', ['spc_form'], ['command_info'], [
+    Slip('a date of ten bytes', ['spc_form'], ['worked_commands'], [
         (TAGS, 'field_size Date = 11', 'field_size Date = 10'), (TAGS_CODE, 'Tag::Date => 11', 'Tag::Date => 10')]),
-    Slip('a dumper of 32 bytes', ['spc_form'], ['command_info'], [
+    Slip('a dumper of 32 bytes', ['spc_form'], ['worked_commands'], [
         (TAGS, 'field_size Dumper = 16', 'field_size Dumper = 32'), (TAGS_CODE, 'Tag::Dumper => 16', 'Tag::Dumper => 32')]),
-    Slip('an artist of 31 bytes', ['spc_form'], ['command_info'], [
+    Slip('an artist of 31 bytes', ['spc_form'], ['worked_commands'], [
         (TAGS, 'field_size Artist = 32', 'field_size Artist = 31'),
         (TAGS_CODE, 'Tag::Title | Tag::Game | Tag::Comments | Tag::Artist => 32', 'Tag::Artist => 31, Tag::Title | Tag::Game | Tag::Comments => 32')]),
     Slip('31 frames a millisecond of a fade', ['spc_form'], ['worked_files'], [
-        (TAGS, 'frames = 32000 * seconds + 32 * milliseconds; fade = 32 * milliseconds', 'frames = 32000 * seconds + 31 * milliseconds; fade = 31 * milliseconds'),
+        (TAGS, 'frames = SAMPLE_RATE * seconds + 32 * milliseconds; fade = 32 * milliseconds', 'frames = SAMPLE_RATE * seconds + 31 * milliseconds; fade = 31 * milliseconds'),
         (TAGS_CODE, '32 * fade.unwrap_or(0)', '31 * fade.unwrap_or(0)')]),
     Slip('another length without tags', ['spc_form'], ['worked_files'], [
         (TAGS, 'frames = 5760000;', 'frames = 5760001;'), (TAGS_CODE, '5_760_000', '5_760_001')]),
-    Slip('a signature in small letters', ['spc_form'], ['worked_files', 'command_info'], [
+    Slip('a signature in small letters', ['spc_form'], ['worked_files', 'worked_commands'], [
         (ACCEPTED, 'codes "SNES-SPC700 Sound File Data"', 'codes "SNES-SPC700 sound File Data"'),
         (READING, '*b"SNES-SPC700 Sound File Data"', '*b"SNES-SPC700 sound File Data"')]),
-    Slip('files of 65,919 bytes accepted', ['spc_form'], ['worked_files', 'command_info'], [
+    Slip('files of 65,919 bytes accepted', ['spc_form'], ['worked_files', 'worked_commands'], [
         (ACCEPTED, 'least_length = 65920', 'least_length = 65919'), (READING, 'LEAST_LENGTH: usize = 65920', 'LEAST_LENGTH: usize = 65919')]),
-    Slip('A shown for X and X for A', ['command_info'], ['command_info'], [
-        (INFO, 'register_text (codes "a") (slice_index file 0x27) ++ register_text (codes "x") (slice_index file 0x28)',
-         'register_text (codes "a") (slice_index file 0x28) ++ register_text (codes "x") (slice_index file 0x27)'),
+    Slip('A shown for X and X for A', ['command_info'], ['worked_commands'], [
+        (INFO, 'register_text (codes "a") (a_of file) ++ register_text (codes "x") (x_of file)',
+         'register_text (codes "a") (x_of file) ++ register_text (codes "x") (a_of file)'),
         (INFO_CODE, 'put_register(report, b"a", file.a())?', 'put_register(report, b"a", file.x())?'),
         (INFO_CODE, 'put_register(report, b"x", file.x())?', 'put_register(report, b"x", file.a())?')]),
-    Slip('the status and the stack pointer exchanged', ['command_info'], ['command_info'], [
-        (INFO, 'register_text (codes "psw") (slice_index file 0x2A) ++ register_text (codes "sp") (slice_index file 0x2B)',
-         'register_text (codes "psw") (slice_index file 0x2B) ++ register_text (codes "sp") (slice_index file 0x2A)'),
+    Slip('the status and the stack pointer exchanged', ['command_info'], ['worked_commands'], [
+        (INFO, 'register_text (codes "psw") (psw_of file) ++ register_text (codes "sp") (sp_of file)',
+         'register_text (codes "psw") (sp_of file) ++ register_text (codes "sp") (psw_of file)'),
         (INFO_CODE, 'put_register(report, b"psw", file.psw())?', 'put_register(report, b"psw", file.sp())?'),
         (INFO_CODE, 'put_register(report, b"sp", file.sp())', 'put_register(report, b"sp", file.psw())')]),
-    Slip('the tag named author', ['command_info'], ['command_info'], [
+    Slip('the tag named author', ['command_info'], ['worked_commands'], [
         (INFO, 'codes "artist"', 'codes "author"'), (INFO_CODE, 'b"artist"', 'b"author"')]),
 
     # sound files
     Slip('a rate of 32,040 in the head', ['wav_form'], ['worked_files'], [
-        (WAVE, 'little_bytes 4 32000 ++', 'little_bytes 4 32040 ++'), (WAVE_CODE, '\\x00\\x7d', '\\x28\\x7d')]),
+        (WAVE, 'little_bytes 4 SAMPLE_RATE ++', 'little_bytes 4 32040 ++'), (WAVE_CODE, '\\x00\\x7d', '\\x28\\x7d')]),
     Slip('another byte rate', ['wav_form'], ['worked_files'], [
-        (WAVE, 'little_bytes 4 (32000 * frame_size channels)', 'little_bytes 4 (32040 * frame_size channels)'),
-        (WAVE_CODE, '32000 * frame_size', '32040 * frame_size')]),
+        (WAVE, 'little_bytes 4 (SAMPLE_RATE * frame_size channels)', 'little_bytes 4 (32040 * frame_size channels)'),
+        (WAVE_CODE, 'SAMPLE_RATE * frame_size', '32040 * frame_size')]),
     Slip('a size of 44 and the frames after RIFF', ['wav_form'], ['worked_files'], [
         (WAVE, '(36 + frames * frame_size channels)', '(44 + frames * frame_size channels)'), (WAVE_CODE, '36 + size', '44 + size')]),
     Slip('right before left', ['wav_form'], ['worked_files'], [
@@ -244,7 +244,7 @@ SLIPS = [
         (REGISTERS, 'ESA: usize = 0x6d', 'ESA: usize = 0x7d'), (REGISTERS, 'EDL: usize = 0x7d', 'EDL: usize = 0x6d')]),
     Slip('KON and KOFF exchanged', ['dsp_state'], ['worked_sounds', 'worked_renders'], [
         (REGISTERS, 'KON: usize = 0x4c', 'KON: usize = 0x5c'), (REGISTERS, 'KOFF: usize = 0x5c', 'KOFF: usize = 0x4c')]),
-    Slip('PMON and NON exchanged', ['dsp_state'], ['worked_sounds', 'worked_renders', 'command_render'], [
+    Slip('PMON and NON exchanged', ['dsp_state'], ['worked_sounds', 'worked_renders', 'worked_tunes'], [
         (REGISTERS, 'PMON: usize = 0x2d', 'PMON: usize = 0x3d'), (REGISTERS, 'NON: usize = 0x3d', 'NON: usize = 0x2d')]),
 
     # statuses and complaints
@@ -258,23 +258,23 @@ SLIPS = [
         (LINES_CODE, 'b": far\\n"', 'b": faar\\n"'), (LINES_CODE, 'b": long\\n"', 'b": far\\n"'), (LINES_CODE, 'b": faar\\n"', 'b": long\\n"')]),
 
     # the opening, and what a render reports
-    Slip('X and Y exchanged at the opening', ['render_core'], ['command_render', 'worked_renders'], [
-        (OPENED, 'x = slice_index file 0x28', 'x = slice_index file 0x29'), (OPENED, 'y = slice_index file 0x29', 'y = slice_index file 0x28'),
+    Slip('X and Y exchanged at the opening', ['render_core'], ['worked_tunes', 'worked_renders'], [
+        (OPENED, 'x = x_of file', 'x = y_of file'), (OPENED, 'y = y_of file', 'y = x_of file'),
         (OPENED_CODE, 'x: file.x()', 'x: file.y()'), (OPENED_CODE, 'y: file.y()', 'y: file.x()')]),
-    Slip('A and X exchanged at the opening', ['render_core'], ['command_render', 'worked_renders'], [
-        (OPENED, 'a = slice_index file 0x27', 'a = slice_index file 0x28'), (OPENED, 'x = slice_index file 0x28', 'x = slice_index file 0x27'),
+    Slip('A and X exchanged at the opening', ['render_core'], ['worked_tunes', 'worked_renders'], [
+        (OPENED, 'a = a_of file', 'a = x_of file'), (OPENED, 'x = x_of file', 'x = a_of file'),
         (OPENED_CODE, 'a: file.a()', 'a: file.x()'), (OPENED_CODE, 'x: file.x()', 'x: file.a()')]),
-    Slip('the status and the stack pointer exchanged at the opening', ['render_core'], ['command_render', 'worked_renders'], [
-        (OPENED, 'sp = slice_index file 0x2B', 'sp = slice_index file 0x2A'), (OPENED, 'psw = slice_index file 0x2A', 'psw = slice_index file 0x2B'),
+    Slip('the status and the stack pointer exchanged at the opening', ['render_core'], ['worked_tunes', 'worked_renders'], [
+        (OPENED, 'sp = sp_of file', 'sp = psw_of file'), (OPENED, 'psw = psw_of file', 'psw = sp_of file'),
         (OPENED_CODE, 'sp: file.sp()', 'sp: file.psw()'), (OPENED_CODE, 'psw: file.psw()', 'psw: file.sp()')]),
-    Slip('the causes register and memory exchanged', ['render_files'], ['command_render'], [
+    Slip('the causes register and memory exchanged', ['render_files'], ['worked_tunes'], [
         (BATCHES, 'decimal counts.register ++ codes " memory " ++ decimal counts.memory', 'decimal counts.memory ++ codes " memory " ++ decimal counts.register'),
         (BATCHES_CODE, 'b" register ", counts.register', 'b" register ", counts.memory'), (BATCHES_CODE, 'b" memory ", counts.memory', 'b" memory ", counts.register')]),
-    Slip('the causes full and end exchanged', ['render_files'], ['command_render'], [
+    Slip('the causes full and end exchanged', ['render_files'], ['worked_tunes'], [
         (BATCHES, 'codes " full " ++ decimal counts.full', 'codes " full " ++ decimal counts.«end»'),
         (BATCHES, '++ codes " end " ++ decimal counts.«end»', '++ codes " end " ++ decimal counts.full'),
         (BATCHES_CODE, 'b" full ", counts.full', 'b" full ", counts.end'), (BATCHES_CODE, 'b" end ", counts.end', 'b" end ", counts.full')]),
-    Slip('the causes echo and events exchanged', ['render_files'], ['command_render'], [
+    Slip('the causes echo and events exchanged', ['render_files'], ['worked_tunes'], [
         (BATCHES, 'codes " echo " ++ decimal counts.echo', 'codes " echo " ++ decimal counts.events'),
         (BATCHES, 'codes " events " ++ decimal counts.events', 'codes " events " ++ decimal counts.echo'),
         (BATCHES_CODE, 'b" echo ", counts.echo', 'b" echo ", counts.events'), (BATCHES_CODE, 'b" events ", counts.events', 'b" events ", counts.echo')]),
@@ -286,6 +286,6 @@ SLIPS = [
         (DRAWS, 's / 0x1000000', 's / 0x10000 % 0x100'), (DRAWS_CODE, '(state >> 24) as u8', '(state >> 16) as u8')]),
     Slip('lists of 1,001 cuts', ['cut_form', 'cut_text'], ['worked_files'], [
         ('cut_form/specs/CutList.antt', 'most_cuts = 1000', 'most_cuts = 1001'), ('cut_text/src/cuts.rt', 'MOST_CUTS: usize = 1000', 'MOST_CUTS: usize = 1001')]),
-    Slip('the text of a mark', ['cut_form', 'session_files'], ['command_serve'], [
+    Slip('the text of a mark', ['cut_form', 'session_files'], ['worked_tunes'], [
         (SESSION, 'codes " gave "', 'codes " gives "'), (REPLIES, 'b" gave "', 'b" gives "')]),
 ]

@@ -8,6 +8,7 @@ use Rattle.std.proofs.Common.{refl, sym, ap, ◌∙◌, arith, inl, inr, pow-suc
 use Rattle.std.proofs.lemmas.Bool.{cases_Bool, cases_lt, and_right}
 use Rattle.std.proofs.lemmas.Bool.Decides.{nat_tests}
 use Rattle.std.proofs.lemmas.Nat.Bits.{bit_at_cat_low, bit_at_cat_high, bit_at-lt, same_from_bits_below}
+use Rattle.aram_core.specs.declared.aram.TheConstants.{PAGE_COUNT}
 use Rattle.aram_core.specs.Pages.{Pages}
 
 -- the bit of a page is set
@@ -21,7 +22,7 @@ marked_below low high (suc n) = if is_marked low high n then set.insert (marked_
 
 -- the marked pages
 unfoldable pub marked_pages : ℕ → ℕ → Pages
-marked_pages low high = marked_below low high 256
+marked_pages low high = marked_below low high PAGE_COUNT
 
 -- the n lowest bits of a number: bit i is set where the set has the page first + i
 abbrev pub bits_of : Pages → ℕ → ℕ → ℕ
@@ -64,11 +65,12 @@ one_page pages n q marks false e ih = elim (cases_Bool (nat_eq q n)) [
 -- what the set of marked pages contains
 contains-marked_below : (low high n q : ℕ) → set.contains (marked_below low high n) q ≡ (nat_lt q n && is_marked low high q)
 contains-marked_below low high zero q = let none : nat_lt q 0 ≡ false = grind (arith, nat_tests) in rw none (set.contains-empty nat_cmp q)
-contains-marked_below low high (suc n) q = one_page (marked_below low high n) n q (is_marked low high) (is_marked low high n) refl (contains-marked_below low high n q)
+contains-marked_below low high (suc n) q =
+    one_page (marked_below low high n) n q (is_marked low high) (is_marked low high n) refl (contains-marked_below low high n q)
 
-pub contains-marked_pages : (low high q : ℕ) → set.contains (marked_pages low high) q ≡ (nat_lt q 256 && is_marked low high q)
+pub contains-marked_pages : (low high q : ℕ) → set.contains (marked_pages low high) q ≡ (nat_lt q PAGE_COUNT && is_marked low high q)
 unfolding marked_pages
-contains-marked_pages low high q = contains-marked_below low high 256 q
+contains-marked_pages low high q = contains-marked_below low high PAGE_COUNT q
 
 bits_of-lt : (pages : Pages) (first n : ℕ) → bits_of pages first n < 2 ^ n
 bits_of-lt pages first zero = omega arith
@@ -107,10 +109,11 @@ low_comes_back low high fits = same_from_bits_below 128 _ low (bits_of-lt (marke
     bit : (i : ℕ) → i < 128 → bit_at (bits_of (marked_pages low high) 0 128) i ≡ bit_at low i
     bit i h =
         let start : 0 + i ≡ i = omega arith in
-        let within : nat_lt i 256 ≡ true = grind (arith, nat_tests) in
+        let within : nat_lt i PAGE_COUNT ≡ true = grind (arith, nat_tests) in
         let low_half : nat_lt i 128 ≡ true = grind (arith, nat_tests) in
         let same : i % 128 ≡ i = omega arith in
-        bit_at-bits_of (marked_pages low high) 0 128 i h ∙ rw (start, contains-marked_pages low high i, within, low_half, same) (from_test (bit_at low i) (bit_at-lt low i))
+        let bit_is = from_test (bit_at low i) (bit_at-lt low i) in
+        bit_at-bits_of (marked_pages low high) 0 128 i h ∙ rw (start, contains-marked_pages low high i, within, low_half, same) bit_is
 
 high_comes_back : (low high : ℕ) → high < 2 ^ 128 → word_of (marked_pages low high) 128 ≡ high
 unfolding word_of
@@ -118,10 +121,11 @@ high_comes_back low high fits = same_from_bits_below 128 _ high (bits_of-lt (mar
   where
     bit : (i : ℕ) → i < 128 → bit_at (bits_of (marked_pages low high) 128 128) i ≡ bit_at high i
     bit i h =
-        let within : nat_lt (128 + i) 256 ≡ true = grind (arith, nat_tests) in
+        let within : nat_lt (128 + i) PAGE_COUNT ≡ true = grind (arith, nat_tests) in
         let high_half : nat_lt (128 + i) 128 ≡ false = grind (arith, nat_tests) in
         let same : (128 + i) % 128 ≡ i = omega arith in
-        bit_at-bits_of (marked_pages low high) 128 128 i h ∙ rw (contains-marked_pages low high (128 + i), within, high_half, same) (from_test (bit_at high i) (bit_at-lt high i))
+        let bit_is = from_test (bit_at high i) (bit_at-lt high i) in
+        bit_at-bits_of (marked_pages low high) 128 128 i h ∙ rw (contains-marked_pages low high (128 + i), within, high_half, same) bit_is
 
 pub words_come_back : {X : Type 0} (low high : ℕ) → low < 2 ^ 128 → high < 2 ^ 128 → (make : ℕ → ℕ → X)
     → make (word_of (marked_pages low high) 0) (word_of (marked_pages low high) 128) ≡ make low high

@@ -11,7 +11,10 @@ use std::marker::Model;
 pub const MEMORY_SIZE: usize = 0x10000;
 
 /// The bytes of a page.
-const PAGE: usize = 256;
+pub const PAGE_SIZE: usize = 256;
+
+/// The pages of the memory.
+pub const PAGE_COUNT: usize = 256;
 
 /// The memory of the sound unit: 65,536 bytes at the addresses 0000h to FFFFh.
 #[derive(Drop)]
@@ -62,24 +65,24 @@ impl Aram {
         u16::from(self.get(at)) + 256 * u16::from(self.get(at.wrapping_add(1)))
     }
 
-    /// The 256 bytes of a page.
+    /// The bytes of a page.
     pub fn page(&self, page: u8) -> &[u8]
         ensures bytes { result.now ≡ page_bytes self.now page }
-        ensures length { length result.now ≡ 256 }
+        ensures length { length result.now ≡ PAGE_SIZE }
         ensures memory { length self.now ≡ MEMORY_SIZE }
     {
-        let first = PAGE * usize::from(page);
-        &self.bytes[first..first + PAGE]
+        let first = PAGE_SIZE * usize::from(page);
+        &self.bytes[first..first + PAGE_SIZE]
     }
 
-    /// Puts 256 bytes into a page.
+    /// Puts bytes into a page, as many as it has.
     pub fn set_page(&mut self, page: u8, bytes: &[u8])
-        requires { length bytes.now ≡ 256 }
+        requires { length bytes.now ≡ PAGE_SIZE }
         ensures bytes { self.new ≡ with_page self.old page bytes.now }
         ensures memory { length self.old ≡ MEMORY_SIZE }
     {
-        let first = PAGE * usize::from(page);
-        self.bytes[first..first + PAGE].copy_from_slice(bytes);
+        let first = PAGE_SIZE * usize::from(page);
+        self.bytes[first..first + PAGE_SIZE].copy_from_slice(bytes);
     }
 
     /// Takes over all bytes of another memory.

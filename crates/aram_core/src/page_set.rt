@@ -4,16 +4,20 @@ ghost use Rattle.std.specs.Prelude.{◌≡◌, ◌≤◌, ◌<◌, ◌-◌, ◌*
 ghost use Rattle.std.specs.FinSet as set;
 ghost use Rattle.aram_core.specs.Pages.{page_of, pages_from, have_common_page};
 
+use crate::{PAGE_COUNT, PAGE_SIZE};
 use std::marker::Model;
+
+/// The pages of the memory, as a number of pages in a row.
+const PAGES: u16 = PAGE_COUNT as u16;
 
 /// The page of an address: its high byte.
 pub fn page_of(address: u16) -> u8
     ensures { result ≡ page_of address }
 {
-    (address / 256) as u8
+    (address / PAGE_SIZE as u16) as u8
 }
 
-/// A set of page numbers, 0 to 255; a page is 256 bytes of memory.
+/// A set of page numbers, 0 to 255.
 #[derive(Clone, Copy, Debug)]
 pub struct PageSet {
     low: u128,
@@ -50,7 +54,7 @@ impl PageSet {
 
     /// The first so many pages.
     fn below(count: u16) -> PageSet
-        requires { count ≤ 256 }
+        requires { count ≤ PAGE_COUNT }
         ensures { (q : ℕ) → set.contains result q ≡ nat_lt q count }
     {
         PageSet {
@@ -61,17 +65,17 @@ impl PageSet {
 
     /// So many pages from a first one on, which go on at page 0 after page 255.
     pub fn pages_from(first: u8, count: u16) -> PageSet
-        requires { count ≤ 256 }
+        requires { count ≤ PAGE_COUNT }
         ensures { result ≡ pages_from first count }
     {
         let first = u16::from(first);
         let end = first + count;
         let before = PageSet::below(first);
-        if end <= 256 {
+        if end <= PAGES {
             PageSet::below(end).without(&before)
         } else {
-            let mut pages = PageSet::below(256).without(&before);
-            pages.add_all(&PageSet::below(end - 256));
+            let mut pages = PageSet::below(PAGES).without(&before);
+            pages.add_all(&PageSet::below(end - PAGES));
             pages
         }
     }

@@ -1,11 +1,11 @@
 -- The blocks of a chain lie within the 162 bytes from its start on and the 162 bytes from its loop word on.
-use Rattle.std.proofs.Common.{◌≡◌, ◌≢◌, ℕ, zero, suc, ◌+◌, ◌-◌, ◌*◌, ◌%◌, ◌<◌, ◌≤◌, ◌==◌, List, [], ◌∷◌, ◌++◌, map, flat_map, Bool, true, false, ◌&&◌, slice_index, if◌then◌else◌, ◌⊎◌, inl, inr, refl, ap, sym, ◌∙◌, arith}
+use Rattle.std.proofs.Common.{◌≡◌, ◌≢◌, ℕ, zero, suc, ◌+◌, ◌-◌, ◌*◌, ◌/◌, ◌%◌, ◌<◌, ◌≤◌, List, [], ◌∷◌, ◌++◌, map, flat_map, Bool, true, false, ◌&&◌, slice_index, if◌then◌else◌, ◌⊎◌, inl, inr, refl, ap, sym, ◌∙◌, arith}
 use Rattle.std.specs.List.{range_with_len}
 use Rattle.std.specs.Ordering.{nat_cmp}
 use Rattle.std.specs.Cmp.{nat_cmp_total}
 use Rattle.std.specs.FinSet as set
 use Rattle.std.specs.FinMap.{nat_cmp-IsAntisymmetric}
-use Rattle.std.proofs.lemmas.Bool.{and_right, cases_Bool}
+use Rattle.std.proofs.lemmas.Bool.{and_right}
 use Rattle.std.proofs.lemmas.Grind.{flat_map-append}
 use Rattle.std.proofs.lemmas.Bool.Decides.{nat_tests}
 use Rattle.aram_core.specs.Memory.{byte_at}
@@ -18,6 +18,8 @@ use Rattle.echo_unit.specs.Flg.{has_echo_writes}
 use Rattle.dsp_state.specs.Reach.{voice_entry, can_start, own_chain, start_chain, voice_starts, entries_from, starts_from, chip_window, chip_reach}
 use Rattle.dsp_state.specs.declared.registers.TheConstants.{FLG}
 use Rattle.dsp_state.specs.declared.state.ChipState.{ChipState}
+use Rattle.reach_map.proofs.EveryPage.{has_none}
+use Rattle.reach_map.proofs.PageOfBytes.{fewer_bytes}
 use Rattle.reach_laws.proofs.PageSets.{contains-pages, apart_right, at_page, in_left, in_right, in_either}
 use Rattle.reach_laws.proofs.ChainPages.{bytes_have}
 use Rattle.batch_rows.specs.Afar.{far_pages, far_voice_pages, far_pages_of_chip, window_from, AreApart, IsVoiceApart}
@@ -124,24 +126,29 @@ found f i (suc n) p h use_it = elim (in_either (f i ∷ []) (map f (range_with_l
   | inr rest ↦ found f (i + 1) n p rest (λ k above below same. use_it k (omega (arith, above)) (omega (arith, below)) same)
 ]
 
--- a page so far from a window's first is none of a shorter window's
-pub page_off : (page esa len way : ℕ) → page < 0x100 → esa < 0x100 → way < 0x100 → (way + esa) % 0x100 ≡ page → len ≤ 0x100 * way → has_page (window_from esa len) page ≡ false
-page_off page esa len way small small' near_by is far = elim (cases_Bool (has_page (window_from esa len) page)) [
-  | inl here ↦ found (λ i. page_of (esa * 0x100 + i)) 0 len page here (λ k above below same. absurd (omega (arith, same, below, small, small', near_by, is, far)))
-  | inr none ↦ none
-]
+-- a byte so far from the first of a window's pages is on none of them
+pages_differ : (esa len far i : ℕ) → esa < 0x100 → far < 0x10000 → len % 0x100 ≡ 0 → len ≤ far → i < len → page_of (esa * 0x100 + far) ≢ page_of (esa * 0x100 + i)
+pages_differ esa len far i small small' whole beyond within same = omega (arith, same, small, small', whole, beyond, within)
 
--- a few bytes lie on the page of the first and on that of the last
-pub bytes_off : (those : List ℕ) (start count first last : ℕ) → 1 ≤ count → count ≤ 0x100 → first ≡ page_of start → last ≡ page_of (start + (count - 1))
-    → has_page those first ≡ false → has_page those last ≡ false → AreApart (pages_of_bytes start count) those
-bytes_off those start count first last some few first_is last_is off off' page h = found (λ i. page_of (start + i)) 0 count page h (λ k above below same. by (page == first) refl k below same)
+-- A few bytes have no page of a window of whole pages, where their last is further from its start than both are long.
+pub bytes_off : (start count esa len way : ℕ) → esa < 0x100 → way < 0x10000 → (way + esa * 0x100) % 0x10000 ≡ (start + (count - 1)) % 0x10000 → 1 ≤ count → len % 0x100 ≡ 0
+    → len + (count - 1) ≤ way → AreApart (pages_of_bytes start count) (window_from esa len)
+bytes_off start count esa len way small small' is some whole far page here =
+    found (λ i. page_of (start + i)) 0 count page here (λ k above below same.
+    let from : ℕ = way - (count - 1 - k) in
+    let beyond : len ≤ from = omega (arith, far, below, some) in
+    let near_by : from < 0x10000 = omega (arith, small') in
+    let byte : page_of (start + k) ≡ page_of (esa * 0x100 + from) = ap (λ (x : ℕ). x / 256) (same_byte start count esa way k is some below far) in
+    has_none (λ i. page_of (esa * 0x100 + i)) page 0 len (λ i first within there.
+    pages_differ esa len from i small near_by whole beyond (omega (arith, within)) (sym byte ∙ same ∙ there)))
   where
-    by : (b : Bool) → (page == first) ≡ b → (k : ℕ) → k < 0 + count → page_of (start + k) ≡ page → has_page those page ≡ false
-    by true e k below same = let here : page ≡ first = grind (arith, nat_tests, e) in rw here off
-    by false e k below same =
-        let other : page ≢ first = grind (arith, nat_tests, e) in
-        let here : page ≡ last = omega (arith, same, below, some, few, first_is, last_is, other) in
-        rw here off'
+    same_byte : (start count esa way k : ℕ) → (way + esa * 0x100) % 0x10000 ≡ (start + (count - 1)) % 0x10000 → 1 ≤ count → k < 0 + count → len + (count - 1) ≤ way
+        → (start + k) % 0x10000 ≡ (esa * 0x100 + (way - (count - 1 - k))) % 0x10000
+    same_byte start count esa way k is some below far = omega (arith, is, some, below, far)
+
+-- and none of a shorter window's
+pub shorter : (these : List ℕ) (esa less len : ℕ) → less ≤ len → AreApart these (window_from esa len) → AreApart these (window_from esa less)
+shorter these esa less len fits apart page here = fewer_bytes (esa * 0x100) less len page fits (apart page here)
 
 pub none_apart : (those : List ℕ) → AreApart [] those
 none_apart those page h = absurd (none_has page h)

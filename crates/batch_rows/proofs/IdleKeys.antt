@@ -17,7 +17,7 @@ same_keys s waiting w t =
     ap (λ (one : ℕ). record s { hidden = record s.hidden { waiting = one; taken = waiting } }) w
     ∙ ap (λ (one : ℕ). record s { hidden = record s.hidden { waiting = s.hidden.waiting; taken = one } }) t
 
-poll_idle : (s : ChipState) (k : ℕ) → s.hidden.waiting ≡ 0 → s.hidden.taken ≡ 0 → after_poll s k ≡ s
+pub poll_idle : (s : ChipState) (k : ℕ) → s.hidden.waiting ≡ 0 → s.hidden.taken ≡ 0 → after_poll s k ≡ s
 unfolding after_poll
 poll_idle s k w t = by (k % 2 == 0)
   where
@@ -28,7 +28,7 @@ poll_idle s k w t = by (k % 2 == 0)
     by true = same_keys s (without_bits s.hidden.waiting s.hidden.taken) (none ∙ sym w) (none ∙ sym t)
     by false = refl
 
-noise_idle : (s : ChipState) (counter : ℕ) → fires (noise_rate (slice_index s.registers FLG)) counter ≡ false → after_noise s counter ≡ s
+pub noise_idle : (s : ChipState) (counter : ℕ) → fires (noise_rate (slice_index s.registers FLG)) counter ≡ false → after_noise s counter ≡ s
 unfolding after_noise
 noise_idle s counter still = rw still refl
 

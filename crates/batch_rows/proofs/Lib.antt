@@ -6,6 +6,7 @@
 -- ResultsOfBatch: the results of a batch are those of its last sample, but for ENDX, and its keys are taken at its first poll.
 -- KeyRows: one sample more of the rows of keys and noise.
 -- IdleKeys: samples that leave the keys and the noise as they are.
+-- FirstPolls: the keys of a batch whose noise stays as it is change at its first two polls alone.
 -- PlayedLane: a voice over the rows of a batch makes the steps of its lane.
 -- VoiceMore: one voice more of a batch, over any row of its outputs.
 -- Remains: the voices of a batch, one more of them played.
@@ -15,6 +16,7 @@
 -- EchoOver: the echo's run over rows that agree, and one step more of ENDX.
 -- MakeBatch: what the voices, the echo and the results leave of a batch by rows.
 -- Afar: the blocks of a chain lie in two runs of bytes.
+-- CellLine: cells in line, and the bytes that they miss.
 pub mod Lanes
 pub mod SameInputs
 pub mod OneMore
@@ -22,8 +24,10 @@ pub mod ByRows
 pub mod InReach
 pub mod ResultsOfBatch
 pub mod Afar
+pub mod CellLine
 pub mod KeyRows
 pub mod IdleKeys
+pub mod FirstPolls
 pub mod PlayedLane
 pub mod VoiceMore
 pub mod Remains

@@ -32,7 +32,7 @@ poll_of_parts s k registers voices echo = by (k % 2 == 0)
     by true = refl
     by false = refl
 
-registers-after_poll : (s : ChipState) (k : ℕ) → (after_poll s k).registers ≡ s.registers
+pub registers-after_poll : (s : ChipState) (k : ℕ) → (after_poll s k).registers ≡ s.registers
 unfolding after_noise
 registers-after_poll s k = registers-before_voices s k
 

@@ -103,7 +103,7 @@ module _ (s : ChipState) (k : ℕ) where
   unfolding after_poll after_noise
   at_poll even = (rw even refl, rw even refl)
 
-  between_polls : (k % 2 == 0) ≡ false → ((before_voices s k).hidden.waiting ≡ s.hidden.waiting) × ((before_voices s k).hidden.taken ≡ s.hidden.taken)
+  pub between_polls : (k % 2 == 0) ≡ false → ((before_voices s k).hidden.waiting ≡ s.hidden.waiting) × ((before_voices s k).hidden.taken ≡ s.hidden.taken)
   unfolding after_poll after_noise
   between_polls odd = (rw odd refl, rw odd refl)
 
@@ -121,7 +121,7 @@ small_keys k s (suc n) small = by ((k + n) % 2 == 0) refl (small_keys k s n smal
     by false odd before = let same = (between_polls now (k + n) odd).0 in omega (arith, same, before)
 
 -- from the first poll of a batch on the key-ons that wait are those that are taken
-settled : (k : ℕ) (s : ChipState) (i more : ℕ) → ((k + i) % 2 == 0) ≡ true → (keys_after k s (suc (more + i))).hidden.waiting ≡ (keys_after k s (suc (more + i))).hidden.taken
+pub settled : (k : ℕ) (s : ChipState) (i more : ℕ) → ((k + i) % 2 == 0) ≡ true → (keys_after k s (suc (more + i))).hidden.waiting ≡ (keys_after k s (suc (more + i))).hidden.taken
 unfolding keys_after
 settled k s i zero even =
     let both = at_poll (keys_after k s i) (k + i) even in

@@ -3,15 +3,18 @@ use Rattle.std.specs.Prelude.{◌≡◌, ℕ, suc, ◌+◌, ◌<◌, ◌≤◌, 
 use Rattle.std.specs.FinSet as set
 use Rattle.aram_core.specs.Pages.{have_common_page}
 use Rattle.voice_unit.specs.declared.interface.VoiceOut.{VoiceOut}
+use Rattle.echo_unit.specs.Cells.{cell_after}
 use Rattle.echo_unit.specs.Flg.{has_echo_writes}
 use Rattle.reach_map.specs.Reach.{window_pages}
 use Rattle.chip_form.specs.Limits.{most_samples_of_batch}
 use Rattle.dsp_state.specs.Reach.{chip_window, chip_reach}
+use Rattle.dsp_state.specs.Registers.{echo_regs}
 use Rattle.dsp_state.specs.Sample.{is_polled, sample}
 use Rattle.chip_form.specs.Samples.{samples}
 use Rattle.dsp_state.specs.Valid.{is_valid}
 use Rattle.dsp_state.specs.declared.registers.TheConstants.{FLG, ENDX}
 use Rattle.dsp_state.specs.declared.state.ChipState.{ChipState}
+use Rattle.reach_laws.specs.CellsMiss.{CellsMissVoices}
 use Rattle.batch_rows.specs.Afar.{far_pages_of_chip}
 use Rattle.batch_rows.specs.Apart.{VoicesReadTheSame}
 use Rattle.batch_rows.specs.Once.{put_once, endx_after}
@@ -25,6 +28,13 @@ ApartByRows = (n k : ℕ) (s : ChipState) (memory : List ℕ) → VoicesReadTheS
 abbrev pub ReachByRows : Type 0
 ReachByRows =
     (n k : ℕ) (s : ChipState) (memory : List ℕ) → n ≤ most_samples_of_batch → is_valid s ≡ true → (chip_reach s memory).entangled ≡ false
+    → samples sample n k s memory ≡ by_rows n k s memory
+
+-- so are those of a batch from a valid state whose cells of the echo have no byte that a voice can read in it
+abbrev pub BytesByRows : Type 0
+BytesByRows =
+    (n k : ℕ) (s : ChipState) (memory : List ℕ) → n ≤ most_samples_of_batch → is_valid s ≡ true
+    → CellsMissVoices (cell_after s.hidden.echo (echo_regs s.registers)) s memory n 0 s.hidden.voices
     → samples sample n k s memory ≡ by_rows n k s memory
 
 -- and those made while echo writes are off

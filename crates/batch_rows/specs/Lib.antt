@@ -3,6 +3,7 @@
 -- Apart: that the voices of a batch read nothing that its echo writes.
 -- Once: what a batch does once.
 -- Afar: what voices can read, from afar.
+-- CellLine: cells of the echo that stand one after another.
 -- KeyRows: the rows of keys and noise that the voices of a batch read.
 -- Reads: what the voices of a batch read.
 -- PlayedLane: what a voice leaves of a batch.
@@ -16,6 +17,7 @@ pub mod Rows
 pub mod Apart
 pub mod Once
 pub mod Afar
+pub mod CellLine
 pub mod KeyRows
 pub mod Reads
 pub mod PlayedLane

@@ -1,14 +1,14 @@
 //! Whether the echo can write what the voices read, seen from afar: no chain is walked.
 
-ghost use Rattle.std.specs.Prelude.{◌≡◌, ◌<◌, ◌≤◌, true, false, not, slice_index};
-ghost use Rattle.aram_core.specs.Pages.{has_page};
+ghost use Rattle.std.specs.Prelude.{◌≡◌, ◌<◌, ◌≤◌, ◌%◌, true, false, not, slice_index};
+ghost use Rattle.aram_core.specs.declared.aram.TheConstants.{PAGE_SIZE};
 ghost use Rattle.reach_map.specs.Reach.{pages_of_bytes};
 ghost use Rattle.echo_unit.specs.Flg.{has_echo_writes};
 ghost use Rattle.dsp_state.specs.Reach.{chip_reach};
 ghost use Rattle.dsp_state.specs.declared.registers.TheConstants.{FLG};
 ghost use Rattle.batch_rows.specs.Afar.{AreApart, IsVoiceApart, far_pages, window_from};
 
-use aram_core::{Aram, page_of};
+use aram_core::{Aram, PAGE_SIZE};
 use dsp_state::ChipState;
 use dsp_state::registers::{DIR, EDL, ESA, FLG, SRCN, voice_register};
 use echo_unit::has_echo_writes;
@@ -17,29 +17,28 @@ use voice_unit::{Voice, entry_address, loop_word, start_word};
 /// How many bytes from its start, and from its loop word, a chain lies within.
 const CHAIN: u16 = 162;
 
-/// Whether a page is none of those of a window of `len` bytes from page `esa` on.
-fn is_page_off(page: u8, esa: u8, len: u32) -> bool
-    ensures { result ≡ true → has_page (window_from esa len) page ≡ false }
-{
-    let way = page.wrapping_sub(esa);
-    len <= 256 * u32::from(way)
-}
+/// The bytes of a page.
+const PAGE: u16 = PAGE_SIZE as u16;
 
-/// Whether a few bytes have no page of a window.
+/// Whether a few bytes have no page of a window of whole pages: from its start to the last of them it is further than both are long.
+#[inline]
 fn are_bytes_off(start: u16, count: u16, esa: u8, len: u32) -> bool
     requires some { 1 ≤ count }
-    requires few { count ≤ 256 }
+    requires few { count ≤ PAGE_SIZE }
+    requires most { len ≤ 0x10000 }
+    requires whole { len % PAGE_SIZE ≡ 0 }
     ensures { result ≡ true → AreApart (pages_of_bytes start count) (window_from esa len) }
 {
-    let last = start.wrapping_add(count - 1);
-    if !is_page_off(page_of(start), esa, len) {
-        return false;
-    }
-    is_page_off(page_of(last), esa, len)
+    let more = count - 1;
+    let way = start.wrapping_sub(PAGE * u16::from(esa)).wrapping_add(more);
+    len + u32::from(more) <= u32::from(way)
 }
 
-/// Whether a chain has no page of a window.
+/// Whether a chain has no page of a window of whole pages.
+#[inline]
 fn is_chain_off(block: u16, loop_word: u16, esa: u8, len: u32) -> bool
+    requires most { len ≤ 0x10000 }
+    requires whole { len % PAGE_SIZE ≡ 0 }
     ensures { result ≡ true → AreApart (far_pages (record { block = block; loop_word = loop_word })) (window_from esa len) }
 {
     if !are_bytes_off(block, CHAIN, esa, len) {
@@ -48,9 +47,11 @@ fn is_chain_off(block: u16, loop_word: u16, esa: u8, len: u32) -> bool
     are_bytes_off(loop_word, CHAIN, esa, len)
 }
 
-/// Whether what voice `v` can read has no page of a window.
+/// Whether what voice `v` can read has no page of a window of whole pages.
 fn is_voice_off(state: &ChipState, memory: &Aram, v: u8, voice: &Voice, esa: u8, len: u32) -> bool
-    requires { v < 8 }
+    requires voice { v < 8 }
+    requires most { len ≤ 0x10000 }
+    requires whole { len % PAGE_SIZE ≡ 0 }
     ensures { result ≡ true → IsVoiceApart state.now memory.now v voice.now esa len }
 {
     let dir = state.registers[DIR];
@@ -69,15 +70,27 @@ fn is_voice_off(state: &ChipState, memory: &Aram, v: u8, voice: &Voice, esa: u8,
     is_chain_off(start_word(dir, srcn, memory), again, esa, len)
 }
 
+/// So many bytes, up to the end of their last page.
+fn whole_pages(len: u32) -> u32
+    requires { len ≤ 0x10000 }
+    ensures least { len ≤ result }
+    ensures most { result ≤ 0x10000 }
+    ensures whole { result % PAGE_SIZE ≡ 0 }
+{
+    let page = u32::from(PAGE);
+    (len + (page - 1)) / page * page
+}
+
 /// Whether what the voices can read has no page of the echo's window, seen from afar.
 fn is_apart_from_afar(state: &ChipState, memory: &Aram) -> bool
     ensures { result ≡ true → (chip_reach state.now memory.now).entangled ≡ false }
 {
     let esa = state.registers[ESA];
     let window = state.hidden.echo.window(esa, state.registers[EDL]);
+    let len = whole_pages(window.len);
     for v in 0..8u8 {
         let voice = &state.hidden.voices[usize::from(v)];
-        if !is_voice_off(state, memory, v, voice, esa, window.len) {
+        if !is_voice_off(state, memory, v, voice, esa, len) {
             return false;
         }
     }
@@ -91,15 +104,23 @@ fn is_still(state: &ChipState) -> bool
     !has_echo_writes(state.registers[FLG])
 }
 
-/// Whether the echo can't write what the voices read in the next 64 samples. Chains are walked only where it can't be told from afar.
-pub fn is_echo_apart(state: &ChipState, memory: &Aram) -> bool
-    ensures { result ≡ not (chip_reach state.now memory.now).entangled }
+/// Whether it is seen from afar that the echo can't write what the voices read in the next 64 samples. A `false` is free: no clause says
+/// when it comes, and whoever gets it looks closer.
+pub fn is_echo_far(state: &ChipState, memory: &Aram) -> bool
+    ensures { result ≡ true → (chip_reach state.now memory.now).entangled ≡ false }
 {
     let still = is_still(state);
     if still {
         return true;
     }
-    let far = is_apart_from_afar(state, memory);
+    is_apart_from_afar(state, memory)
+}
+
+/// Whether the echo can't write what the voices read in the next 64 samples. Chains are walked only where it can't be told from afar.
+pub fn is_echo_apart(state: &ChipState, memory: &Aram) -> bool
+    ensures { result ≡ not (chip_reach state.now memory.now).entangled }
+{
+    let far = is_echo_far(state, memory);
     if far {
         return true;
     }

@@ -1,6 +1,6 @@
 //! The keys and the noise, of a sample and of a batch.
 
-ghost use Rattle.std.specs.Prelude.{◌≡◌, ◌≤◌, ◌+◌, ◌<◌, ℕ, true, false, get_or, slice_index, replicate};
+ghost use Rattle.std.specs.Prelude.{◌≡◌, ◌≤◌, ◌+◌, ◌<◌, ℕ, suc, true, false, get_or, slice_index, replicate};
 ghost use Rattle.rate_clock.specs.Counter.{counter_at, counter_after, IsQuiet};
 ghost use Rattle.chip_form.specs.Limits.{most_samples_of_chip, most_samples_of_batch};
 ghost use Rattle.dsp_state.specs.Registers.{noise_rate};
@@ -144,6 +144,45 @@ fn idle_rows(state: &ChipState, number: u32) -> BatchRows
     }
 }
 
+/// The first samples of a batch, of which two poll the keys: later ones change them no more.
+const KEYED: u8 = 4;
+
+/// Polls the keys in n samples of a batch whose noise stays as it is, and puts the key-ons that are taken in each.
+fn poll_each(state: &mut ChipState, number: u32, n: u8, kon: &mut [u8; BATCH_SIZE])
+    requires few { n ≤ most_samples_of_batch }
+    requires number { number + n ≤ most_samples_of_chip }
+    requires quiet { IsQuiet (noise_rate (slice_index state.old.registers FLG)) number n }
+    ensures state { state.new ≡ keys_after number state.old n }
+    ensures taken { (j : ℕ) → j < n → slice_index kon.new j ≡ (keys_after number state.old (suc j)).hidden.taken }
+    ensures bytes { (j : ℕ) → j < n → slice_index kon.new j < 0x100 }
+    ensures others { (j : ℕ) → n ≤ j → slice_index kon.new j ≡ slice_index kon.old j }
+    ensures registers { state.new.registers ≡ state.old.registers }
+{
+    for j in 0..n {
+        let place = usize::from(j);
+        poll(state, number + u32::from(j));
+        kon[place] = taken_keys(state);
+    }
+}
+
+/// Steps the keys through a batch of n samples whose noise stays as it is. A key-on is taken at one poll and dropped at the next.
+fn step_keys_alone(state: &mut ChipState, number: u32, n: u8) -> BatchRows
+    requires few { n ≤ most_samples_of_batch }
+    requires number { number + n ≤ most_samples_of_chip }
+    requires quiet { IsQuiet (noise_rate (slice_index state.old.registers FLG)) number n }
+    ensures state { state.new ≡ keys_after number state.old n }
+    ensures rows { AreKeyRows number n state.old result }
+    ensures noise { (j : ℕ) → j < n → slice_index result.noise j < 0x8000 }
+    ensures taken { (j : ℕ) → j < n → slice_index result.kon j < 0x100 }
+    ensures registers { state.new.registers ≡ state.old.registers }
+{
+    let few = n.min(KEYED);
+    let _waiting = state.hidden.waiting;
+    let mut rows = idle_rows(state, number);
+    poll_each(state, number, few, &mut rows.kon);
+    rows
+}
+
 /// The clock of the sample after those that were made.
 pub(crate) fn next_clock(clock: &RateClock) -> RateClock
     ensures { (n : ℕ) → clock.now ≡ counter_after n → result ≡ counter_at n }
@@ -152,7 +191,7 @@ pub(crate) fn next_clock(clock: &RateClock) -> RateClock
 }
 
 /// Steps the keys and the noise through a batch of n samples from a number on, the first of them at a clock, and gives what its voices read as rows.
-/// Where neither keys nor noise change, the rows are made at once.
+/// Where the noise stays as it is, so do the keys but for the first samples.
 pub fn step_keys(
     state: &mut ChipState,
     number: u32,
@@ -174,6 +213,10 @@ pub fn step_keys(
     let idle = are_keys_idle(state, n, rate, first);
     if idle {
         return idle_rows(state, number);
+    }
+    let still = is_noise_still(n, rate, first);
+    if still {
+        return step_keys_alone(state, number, n);
     }
     step_keys_each(state, number, n, rate, first)
 }

@@ -1,11 +1,12 @@
 // The laws of batches by rows.
-ghost use Rattle.batch_rows.specs.Laws.{ApartByRows, ReachByRows, StillByRows, FarChainsApart, ResultsOnce, KeysOnce};
+ghost use Rattle.batch_rows.specs.Laws.{ApartByRows, ReachByRows, BytesByRows, StillByRows, FarChainsApart, ResultsOnce, KeysOnce};
 
-/// Samples whose voices read nothing that the echo writes are those by rows. Where the echo can't write what voices read, or echo writes
-/// are off, they are such.
+/// Samples whose voices read nothing that the echo writes are those by rows. They are such where the echo can't write what voices read, where
+/// the cells that it writes in them have no byte that a voice can read in them, and where echo writes are off.
 pub fn batches_by_rows()
     ensures apart { ApartByRows }
     ensures reach { ReachByRows }
+    ensures bytes { BytesByRows }
     ensures still { StillByRows }
 {}
 

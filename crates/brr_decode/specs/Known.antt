@@ -3,8 +3,8 @@ use Rattle.std.specs.Prelude.{◌≡◌, ℕ, ◌+◌, ◌*◌, ◌≤◌, ℤ}
 use Rattle.num_fix.specs.SignedWords.{number_at}
 use Rattle.brr_decode.specs.declared.remembered.RememberedBlock.{RememberedBlock}
 
--- a block has such a header and such digits, and was decoded from a group on, or from one before it, that came after the samples p2 and p1
-pub record IsKnown (block : RememberedBlock) (header digits group : ℕ) (p1 p2 : ℤ) : Type 0 where
+-- a block was decoded from such a header and such digits, from a group on or from one before it, after the samples p2 and p1
+pub record WasDecodedFrom (block : RememberedBlock) (header digits group : ℕ) (p1 p2 : ℤ) : Type 0 where
   pub header_is : block.header ≡ header
   pub digits_are : block.digits ≡ digits
   pub reaches_back : block.from ≤ group

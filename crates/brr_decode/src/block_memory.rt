@@ -2,7 +2,7 @@
 //! the same blocks again and again.
 ghost use Rattle.std.specs.Prelude.{◌≡◌, ◌<◌, ◌≤◌, ◌+◌, ◌*◌, ◌++◌, ℕ, List, ℤ, true, length, take};
 ghost use Rattle.brr_decode.specs.Kept.{EndsWith, with_group};
-ghost use Rattle.brr_decode.specs.Known.{IsKnown};
+ghost use Rattle.brr_decode.specs.Known.{WasDecodedFrom};
 ghost use Rattle.brr_decode.specs.Remembered.{byte_of, with_groups};
 
 use crate::remembered::{RememberedBlock, byte_of};
@@ -25,7 +25,7 @@ impl RememberedBlock {
     #[inline(never)]
     fn decoded(header: u8, digits: u64, group: u8, p1: i16, p2: i16) -> RememberedBlock
         requires { group < 4 }
-        ensures { IsKnown result header digits group p1 p2 }
+        ensures { WasDecodedFrom result header digits group p1 p2 }
     {
         let mut row = [0; 32];
         let first = 4 * usize::from(group);
@@ -50,7 +50,7 @@ impl RememberedBlock {
     #[inline(always)]
     fn is_known(&self, header: u8, digits: u64, group: u8, p1: i16, p2: i16) -> bool
         requires { group < 4 }
-        ensures { result ≡ true → IsKnown self.now header digits group p1 p2 }
+        ensures { result ≡ true → WasDecodedFrom self.now header digits group p1 p2 }
     {
         let at = 4 * usize::from(group);
         self.digits == digits
@@ -64,17 +64,17 @@ impl RememberedBlock {
 /// The last blocks that were decoded, 2,048 at most. Contracts see nothing of it.
 #[derive(Drop)]
 pub struct BlockMemory {
-    blocks: Box<[RememberedBlock; 2048]>,
+    blocks: Vec<RememberedBlock>,
 }
 
 impl Model for BlockMemory {
-    ghost use Rattle.std.specs.Prelude.{⊤, ◌≡◌, length};
+    ghost use Rattle.std.specs.Prelude.{⊤, ◌≡◌, vec_len};
 
     ghost Value = { ⊤ };
 
     ghost view = { λ _. tt };
 
-    ghost invariant = { λ m. length m.blocks.value ≡ 2048 };
+    ghost invariant = { λ m. vec_len m.blocks ≡ 2048 };
 }
 
 impl BlockMemory {
@@ -82,8 +82,7 @@ impl BlockMemory {
     /// what it was decoded from.
     pub fn new(alloc: Global) -> Result<BlockMemory, OutOfMemory> {
         let zeros = RememberedBlock::decoded(0, 0, 0, 0, 0);
-        let blocks = [zeros; BLOCKS];
-        let blocks = Box::new(alloc, blocks)?;
+        let blocks = vec![in alloc; zeros; BLOCKS]?;
         Ok(BlockMemory { blocks })
     }
 
@@ -100,7 +99,7 @@ impl BlockMemory {
         p2: i16,
     ) -> &RememberedBlock
         requires { group < 4 }
-        ensures { IsKnown result.now header digits group p1 p2 }
+        ensures { WasDecodedFrom result.now header digits group p1 p2 }
     {
         let place = place_of(address);
         if !self.blocks[place].is_known(header, digits, group, p1, p2) {

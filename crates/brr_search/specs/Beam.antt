@@ -53,7 +53,8 @@ abbrev pub fronts : (front : ℕ → List ℕ) → (flags : ℕ) → (ways : Lis
 fronts front flags ways place = with_block front flags (slice_get ways place)
 
 -- the blocks of the cheapest way, the first one, through so many blocks from this index on; before them each way has these blocks
-abbrev pub blocks_through : (most count index loop_block : ℕ) → (looped : Bool) → (ways : List Way) → (front : ℕ → List ℕ) → (targets : List ℤ) → List ℕ
+abbrev pub blocks_through : (most count index loop_block : ℕ) → (looped : Bool) → (ways : List Way)
+    → (front : ℕ → List ℕ) → (targets : List ℤ) → List ℕ
 blocks_through most zero index loop_block looped ways front targets = front 0
 blocks_through most (suc count) index loop_block looped ways front targets =
     let best = best_ways most ways (take 16 targets) (header_count (stands_alone index loop_block)) in

@@ -1,5 +1,5 @@
 -- The encoding that is found: the plain one, or a cheaper one along other ways.
-use Rattle.std.specs.Prelude.{ℕ, ◌+◌, ◌-◌, ◌*◌, ◌/◌, ◌==◌, ◌&&◌, List, [], ◌∷◌, length, nat_lt, nat_le, ℤ, Bool, Result, if◌then◌else◌}
+use Rattle.std.specs.Prelude.{ℕ, ◌+◌, ◌-◌, ◌*◌, ◌/◌, ◌==◌, ◌&&◌, List, [], ◌∷◌, length, nat_lt, nat_le, ℤ, Bool, Option, Result, IfOk, IfSome, if◌then◌else◌}
 use Rattle.brr_encode.specs.Encoding.{padded_samples, encoding_from, unless_refused}
 use Rattle.brr_encode.specs.Report.{reports_of}
 use Rattle.brr_encode.specs.declared.report.BlockReport.{BlockReport}
@@ -19,6 +19,10 @@ cost_of blocks targets = sum_of_squares (reports_of blocks targets)
 -- the blocks along the cheapest of so many ways through targets
 unfoldable pub searched : (most loop_block : ℕ) → (targets : List ℤ) → (looped : Bool) → List ℕ
 searched most loop_block targets looped = blocks_through most (length targets / 16) 0 loop_block looped (no_way ∷ []) (λ _. []) targets
+
+-- if something is found, it is so
+abbrev pub IfFound : {T E : Type 0} → Result (Option T) E → (T → Type 0) → Type 0
+IfFound result IsSo = IfOk result (λ found. IfSome found IsSo)
 
 -- blocks are as many as the targets want, and cost less than this
 abbrev pub is_cheaper : (cost : ℕ) → (targets : List ℤ) → (blocks : List ℕ) → Bool

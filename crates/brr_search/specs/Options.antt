@@ -1,10 +1,11 @@
 -- How a sound is encoded.
 use Rattle.std.specs.Prelude.{◌≤◌, ℕ, ◌/◌, Bool, false, ◌||◌, nat_le, Option, None, Some, is_some, unwrap_or, IfSome}
 use Rattle.brr_search.specs.declared.options.EncodeOptions.{EncodeOptions}
+use Rattle.brr_search.specs.declared.options.TheConstants.{MOST_WAYS}
 
--- the most ways that are kept open
+-- the most ways that are kept open: 64
 abbrev pub most_ways : ℕ
-most_ways = 64
+most_ways = MOST_WAYS
 
 -- as many ways as may be kept open
 abbrev pub AreInRange : EncodeOptions → Type 0

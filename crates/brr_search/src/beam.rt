@@ -1,6 +1,7 @@
 // The blocks along the cheapest of several ways.
 ghost use Rattle.std.specs.Prelude.{◌≡◌, ◌≤◌, ◌%◌, ◌/◌, ◌∷◌, ℕ, [], length, reverse, slice_get, IfOk, OnOk};
 ghost use Rattle.brr_encode.specs.Encoding.{most_samples};
+ghost use Rattle.brr_search.specs.declared.options.TheConstants.{MOST_WAYS};
 ghost use Rattle.brr_search.specs.Ways.{no_way};
 ghost use Rattle.brr_search.specs.Beam.{best_ways, fronts, blocks_through};
 ghost use Rattle.brr_search.specs.Links.{blocks_along};
@@ -23,7 +24,7 @@ struct Search {
 
 /// A search before the first of so many blocks, with room for so many ways.
 fn open(alloc: Global, most: usize, blocks: usize) -> Result<Search, OutOfMemory>
-    requires { most ≤ 64 }
+    requires { most ≤ MOST_WAYS }
     ensures ways { IfOk result (λ search. search.ways.items ≡ no_way ∷ []) }
     ensures rows { IfOk result (λ search. search.rows.items ≡ []) }
 {
@@ -49,7 +50,7 @@ fn pass_block(
     count: u8,
     flags: u8,
 ) -> Result<(), OutOfMemory>
-    requires starts { length search.old.ways.items ≤ 64 }
+    requires starts { length search.old.ways.items ≤ MOST_WAYS }
     requires count { count ≤ 52 }
     requires flags { flags ≤ 3 }
     ensures ways { OnOk result (search.new.ways.items ≡ best_ways most search.old.ways.items targets.now count) }
@@ -79,10 +80,11 @@ pub fn search_blocks(
     targets: &[i16],
     looped: bool,
 ) -> Result<Vec<u8>, OutOfMemory>
-    requires most { most ≤ 64 }
+    requires most { most ≤ MOST_WAYS }
     requires whole { length targets.now % 16 ≡ 0 }
     requires few { length targets.now ≤ most_samples }
-    ensures { IfOk result (λ blocks. blocks.items ≡ blocks_through most (length targets.now / 16) 0 loop_block looped (no_way ∷ []) (λ _. []) targets.now) }
+    ensures { IfOk result (λ blocks.
+        blocks.items ≡ blocks_through most (length targets.now / 16) 0 loop_block looped (no_way ∷ []) (λ _. []) targets.now) }
 {
     let mut search = open(alloc, most, targets.len() / 16)?;
     let mut index = 0;

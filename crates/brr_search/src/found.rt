@@ -1,8 +1,9 @@
 // The encoding that is found.
-ghost use Rattle.std.specs.Prelude.{◌≡◌, ◌%◌, ◌<◌, ◌≤◌, ◌-◌, ◌⊎◌, true, false, All, length, None, IfSome, IfOk, IfErr};
+ghost use Rattle.std.specs.Prelude.{◌≡◌, ◌%◌, ◌<◌, ◌≤◌, ◌-◌, ◌⊎◌, true, false, All, length, None, IfOk, IfErr};
 ghost use Rattle.brr_encode.specs.Encoding.{padded_samples, encoding_from, most_blocks, most_samples};
 ghost use Rattle.brr_encode.specs.Report.{reports_of, IsWithin};
-ghost use Rattle.brr_search.specs.Found.{searched, is_cheaper, found_encoding, found_samples, sum_of_squares, cost_of};
+ghost use Rattle.brr_search.specs.declared.options.TheConstants.{MOST_WAYS};
+ghost use Rattle.brr_search.specs.Found.{IfFound, searched, is_cheaper, found_encoding, found_samples, sum_of_squares, cost_of};
 
 use crate::OutOfMemory;
 use crate::beam::search_blocks;
@@ -19,15 +20,15 @@ fn encode_below(
     targets: &[i16],
     looped: bool,
 ) -> Result<Option<Encoded>, OutOfMemory>
-    requires most { most ≤ 64 }
+    requires most { most ≤ MOST_WAYS }
     requires whole { length targets.now % 16 ≡ 0 }
     requires few { length targets.now ≤ most_samples }
     ensures none { IfOk result (λ found. found ≡ None → is_cheaper cost targets.now (searched most loop_block targets.now looped) ≡ false) }
-    ensures cheaper { IfOk result (λ found. IfSome found (λ _. is_cheaper cost targets.now (searched most loop_block targets.now looped) ≡ true)) }
-    ensures bytes { IfOk result (λ found. IfSome found (λ encoded. encoded.bytes.items ≡ searched most loop_block targets.now looped)) }
-    ensures reports { IfOk result (λ found. IfSome found (λ encoded. encoded.reports.items ≡ reports_of encoded.bytes.items targets.now)) }
-    ensures within { IfOk result (λ found. IfSome found (λ encoded. All IsWithin encoded.reports.items)) }
-    ensures count { IfOk result (λ found. IfSome found (λ encoded. length encoded.reports.items ≤ most_blocks)) }
+    ensures cheaper { IfFound result (λ _. is_cheaper cost targets.now (searched most loop_block targets.now looped) ≡ true) }
+    ensures bytes { IfFound result (λ encoded. encoded.bytes.items ≡ searched most loop_block targets.now looped) }
+    ensures reports { IfFound result (λ encoded. encoded.reports.items ≡ reports_of encoded.bytes.items targets.now) }
+    ensures within { IfFound result (λ encoded. All IsWithin encoded.reports.items) }
+    ensures count { IfFound result (λ encoded. length encoded.reports.items ≤ most_blocks) }
 {
     let bytes = search_blocks(alloc, most, loop_block, targets, looped)?;
     if bytes.len() != targets.len() / 16 * 9 {
@@ -52,7 +53,7 @@ pub fn find_encoding(
     samples: &[i16],
     looped: bool,
 ) -> Result<Encoded, EncodeRefusal>
-    requires { ways ≤ 64 }
+    requires { ways ≤ MOST_WAYS }
     ensures bytes { IfOk result (λ encoded. found_samples ways loop_block samples.now looped ≡ Ok encoded.bytes.items) }
     ensures reports { IfOk result (λ encoded. encoded.reports.items ≡ reports_of encoded.bytes.items (padded_samples samples.now)) }
     ensures within { IfOk result (λ encoded. All IsWithin encoded.reports.items) }

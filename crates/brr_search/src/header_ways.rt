@@ -1,5 +1,6 @@
 // The ways through a block.
 ghost use Rattle.std.specs.Prelude.{◌≡◌, ◌≤◌, [], length, OnOk};
+ghost use Rattle.brr_search.specs.declared.options.TheConstants.{MOST_WAYS};
 ghost use Rattle.brr_search.specs.Beam.{after_target, after_targets, opened, keep_all, limit_of, best_ways};
 
 use crate::OutOfMemory;
@@ -44,7 +45,7 @@ fn pass_targets(lanes: &mut Lanes, bounds: Bounds, targets: &[i16]) -> Result<()
 
 /// Opens the ways of a block under a header: each goes on from one of those before.
 fn open_ways(ways: &mut Vec<Way>, header: u8, starts: &[Way]) -> Result<(), OutOfMemory>
-    requires { length starts.now ≤ 64 }
+    requires { length starts.now ≤ MOST_WAYS }
     ensures { OnOk result (ways.new.items ≡ opened header 0 starts.now) }
 {
     ways.clear();
@@ -88,7 +89,7 @@ pub fn best_ways(
     targets: &[i16],
     count: u8,
 ) -> Result<(), OutOfMemory>
-    requires starts { length starts.now ≤ 64 }
+    requires starts { length starts.now ≤ MOST_WAYS }
     requires count { count ≤ 52 }
     ensures ways { OnOk result (best.new.items ≡ best_ways most starts.now targets.now count) }
     ensures few { OnOk result (length best.new.items ≤ most) }

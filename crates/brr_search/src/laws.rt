@@ -16,7 +16,8 @@ pub fn what_is_found_is_never_dearer()
 
 /// One way alone is the plain encoding.
 pub fn one_way_is_the_plain_encoding()
-    ensures { (loop_block : ℕ) (samples : List ℤ) (looped : Bool) → found_encoding 1 loop_block samples looped ≡ encoding_from loop_block samples looped }
+    ensures { (loop_block : ℕ) (samples : List ℤ) (looped : Bool)
+        → found_encoding 1 loop_block samples looped ≡ encoding_from loop_block samples looped }
 {}
 
 /// Each way that stays has a header that its block may have: filter 0 in a block that stands alone, a shift of at most 12, and neither the

@@ -18,5 +18,5 @@ pub use laws::{
     blocks_that_are_found_have_allowed_headers, each_way_has_an_allowed_header,
     one_way_is_the_plain_encoding, what_is_found_is_never_dearer,
 };
-pub use options::EncodeOptions;
+pub use options::{EncodeOptions, MOST_WAYS};
 pub use std::alloc::AllocError as OutOfMemory;

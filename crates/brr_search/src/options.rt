@@ -2,12 +2,15 @@
 ghost use Rattle.std.specs.Prelude.{◌≡◌, ◌≤◌};
 ghost use Rattle.brr_search.specs.Options.{AreInRange, most_ways, ways_of, loop_block_of, is_looped, is_past};
 
+/// The most ways that are kept open.
+pub const MOST_WAYS: u8 = 64;
+
 /// How a sound is encoded.
 #[derive(Clone, Copy)]
 pub struct EncodeOptions {
     /// Whether the sound loops.
     pub looped: bool,
-    /// How many ways are kept open, 1 to 64; one, where it isn't said.
+    /// How many ways are kept open, from 1 on; one, where it isn't said.
     pub ways: Option<u8>,
     /// The sample from which the loop goes on, a multiple of 16; it loops where this is said, and from the first sample where it isn't.
     pub loop_at: Option<u32>,

@@ -54,7 +54,3 @@ pub record AddsSamples {S : Type 0} (mask : ℕ) (made : SamplesResult S) (state
 -- a count with some more, which stands still at the end of 64 bits
 abbrev pub count_after : (count more : ℕ) → ℕ
 count_after count more = min (count + more) (2 ^ 64 - 1)
-
--- with one more
-abbrev pub next_count : ℕ → ℕ
-next_count count = count_after count 1

@@ -1,7 +1,7 @@
 // The sound chip that a bus is handed.
 ghost use Rattle.std.specs.Prelude.{◌≡◌, ℕ, ◌+◌, ◌*◌, ◌≤◌, ◌==◌, true, length, if◌then◌else◌};
 ghost use Rattle.std.specs.FinSet as set;
-ghost use Rattle.chip_form.specs.Samples.{samples, AddsSamples, next_count, count_after};
+ghost use Rattle.chip_form.specs.Samples.{samples, AddsSamples, count_after};
 ghost use Rattle.chip_form.specs.ChipMeaning.{ChipMeaning};
 ghost use Rattle.chip_form.specs.ChipSaving.{ChipSaving};
 ghost use Rattle.chip_form.specs.ChipLaws.{IsLawfulChip};
@@ -71,7 +71,7 @@ pub trait Chip: Drop {
         ensures made { let made = samples meaning.sample n (sample self.old) (state self.old) memory.old in
             AddsSamples mask made (state self.new) memory.new frames.old frames.new records.old records.new }
         ensures sample { sample self.new ≡ sample self.old + n }
-        ensures batches { batches self.new ≡ (if n == 0 then batches self.old else next_count (batches self.old)) }
+        ensures batches { batches self.new ≡ (if n == 0 then batches self.old else count_after (batches self.old) 1) }
         ensures total { total self.new ≡ count_after (total self.old) n };
 
     /// Whether the next 64 samples can write bytes of a page.

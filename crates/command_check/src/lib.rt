@@ -3,8 +3,6 @@
 
 mod command;
 mod sums;
-#[cfg(test)]
-mod tests;
 
 pub use command::check;
 pub use sums::Sums;

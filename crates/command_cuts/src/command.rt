@@ -139,7 +139,8 @@ pub fn cuts<H: Host>(
 ) -> Option<Refusal<Cause>>
     requires outputs { CanDeliver (H.state host.old) }
     ensures attempts { let answer = λ (files : Files). cuts_answer wave.now muted (files file.now) (files table.now) (files list.now) in
-        Attempts answer (spc_input file.now ∷ table_input table.now ∷ input_up_to input_limit list.now ∷ []) result (H.state host.old) (H.state host.new) }
+        Attempts answer (spc_input file.now ∷ table_input table.now ∷ input_up_to input_limit list.now ∷ [])
+        result (H.state host.old) (H.state host.new) }
     ensures not_usage { result ≡ Some Refusal.Usage → ⊥ }
 {
     let prepared = prepare(alloc, host, file, table, list, wave, muted);

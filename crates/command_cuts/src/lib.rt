@@ -4,7 +4,5 @@
 
 mod command;
 mod list;
-#[cfg(test)]
-mod tests;
 
 pub use command::cuts;

@@ -1,10 +1,10 @@
 -- What `dis` answers.
 use Rattle.std.specs.Prelude.{ℕ, ◌+◌, List, [], ◌∷◌, ◌++◌, length, Option, codes, decimal, count_by, nat_lt, if◌then◌else◌}
+use Rattle.aram_core.specs.declared.aram.TheConstants.{MEMORY_SIZE}
 use Rattle.spc700_asm.specs.Characters.{is_line_feed}
 use Rattle.spc700_asm.specs.Listing.{listing}
 use Rattle.command_frame.specs.Answer.{Answer, done, refused}
 use Rattle.command_frame.specs.declared.refusals.Refusal.TheVariants.{Input}
-use Rattle.command_dis.specs.declared.command.TheConstants.{MEMORY}
 use Rattle.input_files.specs.Reading.{input_limit, bytes_in, answer_from}
 use Rattle.exit_status.specs.declared.cause.Cause.{Cause}
 use Rattle.exit_status.specs.declared.cause.Cause.TheVariants.{InputTooLong, CodeLength}
@@ -23,7 +23,7 @@ listing_answer output text = done (record { name = output; bytes = text } ∷ []
 -- what the listing of this code to this name answers; the code is to end with the memory at the latest
 abbrev pub code_answer : (origin : ℕ) → (output bytes : List ℕ) → Answer Cause
 code_answer origin output bytes =
-    if nat_lt MEMORY (origin + length bytes) then refused (Input (CodeLength (length bytes) origin))
+    if nat_lt MEMORY_SIZE (origin + length bytes) then refused (Input (CodeLength (length bytes) origin))
     else listing_answer output (listing origin bytes)
 
 -- the same by what the input holds

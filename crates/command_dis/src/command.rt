@@ -7,6 +7,7 @@ ghost use Rattle.command_frame.specs.Delivery.{CanDeliver};
 ghost use Rattle.command_frame.specs.Plan.{plan_makes};
 ghost use Rattle.command_dis.specs.Dis.{line_count, dis_report, code_answer, dis_answer};
 
+use aram_core::MEMORY_SIZE;
 use command_frame::{OutOfMemory, Plan, PlannedOutput, Refusal, carry_out};
 use exit_status::Cause;
 use input_files::{INPUT_LIMIT, read_input};
@@ -14,9 +15,6 @@ use report_text::put_named;
 use snd_host::Host;
 use spc700_asm::disassemble;
 use std::alloc::Global;
-
-/// The size of the memory.
-const MEMORY: usize = 0x1_0000;
 
 /// How many lines a text has, each ended by a line feed.
 fn line_count(text: &[u8]) -> usize
@@ -44,7 +42,7 @@ fn plan<'a>(
 ) -> Result<Plan<'a>, Refusal<Cause>>
     ensures { Plans plan_makes (code_answer origin output.now bytes.now) result }
 {
-    if bytes.len() > MEMORY - usize::from(origin) {
+    if bytes.len() > MEMORY_SIZE - usize::from(origin) {
         return Err(Refusal::Input(Cause::CodeLength {
             length: bytes.len(),
             origin,

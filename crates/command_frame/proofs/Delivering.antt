@@ -3,7 +3,7 @@ use Rattle.std.proofs.Common.{◌≡◌, Result, Ok, Err, ℕ, ◌-◌, List, []
 use Rattle.std.proofs.lemmas.List.{append-nil}
 use Rattle.snd_host.specs.Host.{HostState, Output, next_count, Writes, WritesAll, rooms_less}
 use Rattle.snd_host.proofs.Writes.{index-rooms_less}
-use Rattle.command_frame.proofs.Places.{index-rooms_less_other, ended_are_whole_as}
+use Rattle.command_frame.proofs.Places.{index-rooms_less_other, ended_are_whole_as, none_in_order}
 use Rattle.command_frame.proofs.Standing.{delivered}
 use Rattle.command_frame.specs.Delivery.{Gains, IsBegun, Delivers}
 use Rattle.command_frame.specs.Stream.{AreDone}
@@ -48,6 +48,7 @@ then_report {T = T} {U = U} {E = E} outputs report a b c x (Ok y) d w =
       ok = (refl, d.ok.1, d.ok.2);
       part = tt;
       ended_whole = ended_are_whole_as d.begun outputs d.ended d.ok.1;
+      in_order = d.in_order;
       report_last = λ some. (d.ok.1, d.ok.2);
       inputs = w.wrote.others.inputs ∙ d.inputs;
       notes = w.cause.notes_kept (λ is. absurd (cc)) ∙ d.notes;
@@ -65,6 +66,7 @@ then_report {T = T} {U = U} {E = E} outputs report a b c x (Err e) d w =
       ok = tt;
       part = (w.part.prefix, subst (λ (l : List Output). IsBegun l outputs) (sym d.ok.1) (begun_all outputs));
       ended_whole = ended_are_whole_as d.begun outputs d.ended d.ok.1;
+      in_order = d.in_order;
       report_last = λ some. (d.ok.1, d.ok.2);
       inputs = w.part.wrote.others.inputs ∙ d.inputs;
       notes = w.cause.notes_kept (λ is. absurd (cc)) ∙ d.notes;
@@ -90,6 +92,7 @@ no_outputs a x = record {
   ok = (refl, refl, refl);
   part = tt;
   ended_whole = tt;
+  in_order = none_in_order [] tt;
   report_last = λ some. absurd (some refl);
   inputs = refl;
   notes = refl;

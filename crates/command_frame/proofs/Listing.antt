@@ -4,6 +4,7 @@ use Rattle.std.proofs.lemmas.List.{append-nil}
 use Rattle.snd_host.specs.Host.{HostState, Output, next_count, IsPrefix}
 use Rattle.command_frame.specs.Delivery.{Gains, IsBegun, EndedAreWhole, HaveRooms, all_ended}
 use Rattle.command_frame.specs.Stream.{AreDone, Stops}
+use Rattle.command_frame.proofs.Places.{in_order_after}
 
 all_ended-append : (xs ys : List Output) → all_ended (xs ++ ys) ≡ all_ended xs ++ all_ended ys
 all_ended-append [] ys = refl
@@ -100,6 +101,7 @@ stops_then xs ys more a b c report one two e =
       ok = tt;
       part = (record { rest = report; split = refl }, begun_after xs d.begun ys more d.part.1);
       ended_whole = whole_after xs d.begun d.ended ys more d.part.1 d.ended_whole;
+      in_order = in_order_after xs d.ended d.in_order;
       report_last = λ some. absurd (some refl);
       inputs = d.inputs ∙ one.inputs;
       notes = d.notes ∙ one.notes;

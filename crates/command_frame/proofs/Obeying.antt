@@ -1,7 +1,7 @@
 -- What a command did is what its answer says.
 use Rattle.std.proofs.Common.{◌≡◌, ◌⊎◌, inl, inr, Result, Ok, Err, IsOk, IsSome, ℕ, ◌+◌, ◌≤◌, Bool, List, [], ◌++◌, length, get_or, Option, Some, None, refl, sym, ◌∙◌, ap, subst, rules}
 use Rattle.std.proofs.lemmas.List.{append-nil}
-use Rattle.snd_host.specs.Host.{HostState, Files, Output, Asked, next_count, Rose, InputFailed, OutputFailed, ChangesInputs, asked_of}
+use Rattle.snd_host.specs.Host.{HostState, Files, Output, Asked, next_count, Rose, ChangesInputs, asked_of}
 use Rattle.snd_host.proofs.OpenedInputs.{in_order_same, in_order_nothing}
 use Rattle.snd_host.proofs.Writes.{rose}
 use Rattle.snd_host.specs.declared.host.Failed.{Failed}
@@ -12,6 +12,7 @@ use Rattle.command_frame.specs.Delivery.{Gains, HaveRooms, Delivers, all_ended}
 use Rattle.command_frame.specs.Answer.{Answer, done, refused, refusal_of, outputs_of, report_of, line_of, delivery_refusal}
 use Rattle.command_frame.specs.Conduct.{Delivery, NoneRose, EndsAs, IsSettled, IsOfDelivery, ReadsReached, Attempts, WritesComplaint, Obeys, Prepares, CarriesOut}
 use Rattle.command_frame.proofs.Delivering.{gains_nothing}
+use Rattle.command_frame.proofs.Places.{none_in_order}
 
 -- reading changes nothing that was made
 made_after : (r c : List ℕ) (o : List Output) (e : List Bool) (x y z : HostState) → ChangesInputs x y → Gains r c o e y z → Gains r c o e x z
@@ -136,6 +137,7 @@ module _ {P C : Type 0} {inputs : List NamedInput} (makes : P → Delivery) (ans
       read = λ wrong. absurd (cc);
       write = λ wrong. absurd (cc);
       refused = λ some not_write. absurd (some refl);
+      in_order = d.in_order;
       report_last = λ some. let last = d.report_last some in last.1 ∙ ap all_ended (sym last.0);
     };
     read = λ files told. reads_same files x y z (p.opened files told) (λ settled. settled) (λ delivered. delivered) (opened_kept y z d.inputs);
@@ -157,6 +159,7 @@ module _ {P C : Type 0} {inputs : List NamedInput} (makes : P → Delivery) (ans
       read = λ wrong. absurd (cc);
       write = λ _. record { once = d.cause.failed.once ∙ ap next_count p.others.outputs; last = d.cause.failed.last };
       refused = λ some not_write. absurd (not_write refl);
+      in_order = d.in_order;
       report_last = λ some. let last = d.report_last some in last.1 ∙ ap all_ended (sym last.0);
     };
     read = λ files told. reads_same files x y z (p.opened files told) (λ settled. prepared_is_settled {C = C}) (λ delivered. inl refl) (opened_kept y z d.inputs);
@@ -194,6 +197,7 @@ module _ {P C : Type 0} {inputs : List NamedInput} (makes : P → Delivery) (ans
       read = λ is. p.read (ap (λ (r : Refusal C). Err r) cc);
       write = λ is. absurd (p.no_write (ap (λ (r : Refusal C). Err r) cc));
       refused = λ some not_write. (refl, refl, refl);
+      in_order = none_in_order [] tt;
       report_last = λ some. absurd (some refl);
     };
     read = p.opened;
@@ -234,6 +238,7 @@ obeys {C = C} line answer named refusal x y z t c silent = record {
     read = λ is. let r = t.causes.read is in (record { once = inputs ∙ r.0.once; last = c.last ∙ r.0.last }, r.1);
     write = λ is. let w = t.causes.write is in record { once = c.outputs ∙ w.once; last = c.last ∙ w.last };
     refused = t.causes.refused;
+    in_order = t.causes.in_order;
     report_last = t.causes.report_last;
   };
   read = λ files told. reads_same files x y z (t.read files told) (λ settled. settled) (λ delivered. delivered) (opened_kept y z c.wrote.others.inputs);
@@ -305,6 +310,7 @@ attempts_usage x = record {
     read = λ wrong. absurd (cc);
     write = λ wrong. absurd (cc);
     refused = λ some not_write. (refl, refl, refl);
+    in_order = none_in_order [] tt;
     report_last = λ some. absurd (some refl);
   };
   read = λ files told. record { order = in_order_nothing _ x; all = λ delivered. refl };

@@ -1,11 +1,11 @@
 -- Outputs by their places: what a write at one place leaves of the others.
-use Rattle.std.proofs.Common.{◌≡◌, ◌≢◌, inl, inr, ℕ, zero, suc, ◌+◌, ◌-◌, ◌≤◌, ◌<◌, Bool, true, false, List, [], ◌∷◌, ◌++◌, length, get_or, set, Some, refl, sym, ◌∙◌, ap, subst, arith, rules, append_assoc, length-append}
+use Rattle.std.proofs.Common.{◌≡◌, ◌≢◌, inl, inr, ℕ, zero, suc, ◌+◌, ◌-◌, ◌≤◌, ◌<◌, Bool, true, false, List, [], ◌∷◌, ◌++◌, length, get_or, set, replicate, Some, refl, sym, ◌∙◌, ap, subst, arith, rules, append_assoc, length-append}
 use Rattle.std.specs.Prelude.{slice_get}
 use Rattle.std.proofs.lemmas.List.{get_or-set_other, length-set}
 use Rattle.std.proofs.lemmas.Bool.{cases_eq}
-use Rattle.snd_host.specs.Host.{Given, Output, IsPrefix, given_with, outputs_with, rooms_less}
+use Rattle.snd_host.specs.Host.{Given, Output, IsPrefix, given_with, outputs_with, rooms_less, longest_output_name}
 use Rattle.snd_host.proofs.Writes.{index-rooms_less}
-use Rattle.command_frame.specs.Delivery.{IsBegun, EndedAreWhole, HaveRooms}
+use Rattle.command_frame.specs.Delivery.{IsBegun, EndedAreWhole, AreEndedInOrder, HaveRooms, all_ended}
 use Rattle.command_frame.specs.Stream.{bytes_of, RoomsAfter}
 
 grown_after : (created outputs : List Output) (i : ℕ) (bytes : List ℕ) → outputs_with (created ++ outputs) (length created + i) bytes ≡ created ++ outputs_with outputs i bytes
@@ -106,7 +106,7 @@ begun_at (b ∷ begun) [] i is below = absurd is
 begun_at (b ∷ begun) (o ∷ total) zero is below = (o, refl, is.1)
 begun_at (b ∷ begun) (o ∷ total) (suc i) is below = begun_at begun total i is.2 (omega arith)
 
-pub have_at : (total : List Output) (rooms : List ℕ) (place i : ℕ) (o : Output) → HaveRooms total rooms place → slice_get total i ≡ Some o → (place + i < length rooms) × (length o.bytes ≤ get_or rooms (place + i) 0) × (length o.name ≤ 200)
+pub have_at : (total : List Output) (rooms : List ℕ) (place i : ℕ) (o : Output) → HaveRooms total rooms place → slice_get total i ≡ Some o → (place + i < length rooms) × (length o.bytes ≤ get_or rooms (place + i) 0) × (length o.name ≤ longest_output_name)
 have_at [] rooms place i o have at = absurd (search rules)
 have_at (p ∷ total) rooms place zero o have at =
     let same : p ≡ o = cc in
@@ -154,6 +154,16 @@ ended_are_whole (o ∷ outputs) (flag ∷ flags) = (λ ended. refl, ended_are_wh
 pub ended_are_whole_as : (begun outputs : List Output) (flags : List Bool) → begun ≡ outputs → EndedAreWhole begun flags outputs
 ended_are_whole_as begun outputs flags same = subst (λ (l : List Output). EndedAreWhole l flags outputs) (sym same) (ended_are_whole outputs flags)
 
+-- outputs that were all ended are so in order, and those after them
+pub in_order_after : (xs : List Output) (flags : List Bool) → AreEndedInOrder flags → AreEndedInOrder (all_ended xs ++ flags)
+in_order_after [] flags in_order = in_order
+in_order_after (x ∷ xs) flags in_order =
+    let rest = in_order_after xs flags in_order in record { ended = suc rest.ended; others = rest.others; split = ap (λ (l : List Bool). true ∷ l) rest.split }
+
+pub all_in_order : (xs : List Output) → AreEndedInOrder (all_ended xs)
+all_in_order [] = record { ended = 0; others = 0; split = refl }
+all_in_order (x ∷ xs) = let rest = all_in_order xs in record { ended = suc rest.ended; others = rest.others; split = ap (λ (l : List Bool). true ∷ l) rest.split }
+
 -- no output was ended
 abbrev pub NoneEnded : List Bool → Type 0
 NoneEnded [] = Unit {0}
@@ -164,3 +174,10 @@ none_ended [] flags outputs none = tt
 none_ended (o ∷ begun) [] outputs none = tt
 none_ended (o ∷ begun) (flag ∷ flags) [] none = tt
 none_ended (o ∷ begun) (flag ∷ flags) (output ∷ outputs) none = (λ ended. let open_yet = none.0 in absurd (cc), none_ended begun flags outputs none.1)
+
+all_false : (flags : List Bool) → NoneEnded flags → flags ≡ replicate (length flags) false
+all_false [] none = refl
+all_false (flag ∷ flags) none = ap (λ (b : Bool). b ∷ flags) none.0 ∙ ap (λ (l : List Bool). false ∷ l) (all_false flags none.1)
+
+pub none_in_order : (flags : List Bool) → NoneEnded flags → AreEndedInOrder flags
+none_in_order flags none = record { ended = 0; others = length flags; split = all_false flags none }

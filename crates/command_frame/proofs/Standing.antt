@@ -1,10 +1,11 @@
 -- A state in which outputs stand that were created since another state: each call goes from one such state to the next, or it fails and a part stands.
-use Rattle.std.proofs.Common.{◌≡◌, ◌≢◌, Ok, Err, IsOk, ℕ, ◌+◌, ◌-◌, ◌≤◌, ◌<◌, Bool, true, false, List, [], ◌∷◌, ◌++◌, length, get_or, set, map, Some, refl, sym, ◌∙◌, ap, subst, arith, rules, append_assoc, length-append}
+use Rattle.std.proofs.Common.{◌≡◌, ◌≢◌, Ok, Err, ℕ, ◌+◌, ◌-◌, ◌≤◌, ◌<◌, Bool, true, false, List, [], ◌∷◌, ◌++◌, length, get_or, set, map, Some, refl, sym, ◌∙◌, ap, subst, arith, rules, append_assoc, length-append}
 use Rattle.std.proofs.lemmas.List.{append-nil, length-set}
-use Rattle.snd_host.specs.Host.{HostState, Given, Output, HasCause, next_count, ChangesOutputs, KeepsRooms, Writes, WritesAll, outputs_with, rooms_less}
-use Rattle.command_frame.specs.Delivery.{Gains, IsBegun, EndedAreWhole, HaveRooms, Delivers, all_ended}
+use Rattle.snd_host.specs.Host.{HostState, Given, Output, next_count, ChangesOutputs, KeepsRooms, Writes, WritesAll, outputs_with, rooms_less}
+use Rattle.command_frame.specs.Delivery.{Gains, IsBegun, EndedAreWhole, AreEndedInOrder, HaveRooms, Delivers, all_ended}
+use Rattle.command_frame.specs.Ending.{Finishes, FailsUnwritten}
 use Rattle.command_frame.specs.Stream.{bytes_of, RoomsAfter, Stands, Stops, AreDone}
-use Rattle.command_frame.proofs.Places.{grown_since, ended_since, length-outputs_with, bytes_of-end, bytes_of-past, rooms_lowered, begun_at, have_at, begun_less, prefix_short, bytes_of-given_with, ended_are_whole, NoneEnded, none_ended}
+use Rattle.command_frame.proofs.Places.{grown_since, ended_since, length-outputs_with, bytes_of-end, bytes_of-past, rooms_lowered, begun_at, have_at, begun_less, prefix_short, bytes_of-given_with, ended_are_whole, all_in_order, NoneEnded, none_ended, none_in_order}
 
 -- nothing was created yet
 pub stands_at_first : (a : HostState) → ((given : Given) → a.given ≡ Some given → length given.created ≡ length a.ended) → Stands [] [] [] a a
@@ -100,6 +101,7 @@ module _ (outputs : List Output) (flags : List Bool) (a c : HostState) (s : Stan
         ok = tt;
         part = (record { rest = report; split = refl }, begun_less outputs total i w.part.part bytes w.part.prefix begun);
         ended_whole = none_ended (outputs_with outputs i w.part.part) flags total none;
+        in_order = none_in_order flags none;
         report_last = λ some. absurd (some refl);
         inputs = w.part.wrote.others.inputs ∙ s.inputs;
         notes = w.cause.notes_kept not_complaint ∙ s.notes;
@@ -117,36 +119,35 @@ module _ (outputs : List Output) (flags : List Bool) (a c : HostState) (s : Stan
       }
 
   -- the output of this place is ended
-  pub stands_ended : {T E : Type 0} (d : HostState) (x : T) → d.given ≡ c.given → d.ended ≡ set c.ended (n - 2) true → ChangesOutputs c d → d.faults.notes ≡ c.faults.notes → HasCause {T = T} {E = E} c.faults.outputs d.faults.outputs (Ok x) → KeepsRooms c d →
-      Stands outputs (set flags i true) [] a d
-  stands_ended d x given ended others notes cause keeps = record {
-    made = record { given = λ g told. given ∙ s.made.given g told; ended = ended ∙ ap (λ (l : List Bool). set l (n - 2) true) s.made.ended ∙ ended_since a.ended flags n i is; holds = others.holds ∙ s.made.holds };
+  pub stands_ended : (d : HostState) → Finishes n c d → Stands outputs (set flags i true) [] a d
+  stands_ended d f = record {
+    made = record { given = λ g told. f.given ∙ s.made.given g told; ended = f.ended ∙ ap (λ (l : List Bool). set l (n - 2) true) s.made.ended ∙ ended_since a.ended flags n i is; holds = f.others.holds ∙ s.made.holds };
     tells_each = s.tells_each;
     even = length-set flags i true ∙ s.even;
-    inputs = others.inputs ∙ s.inputs;
-    notes = notes ∙ s.notes;
-    faults = cause.same ∙ s.faults;
-    rooms = λ rooms told. let before = s.rooms rooms told in (before.0, keeps before.0 before.1, before.2);
+    inputs = f.others.inputs ∙ s.inputs;
+    notes = f.notes ∙ s.notes;
+    faults = f.faults ∙ s.faults;
+    rooms = λ rooms told. let before = s.rooms rooms told in (before.0, f.rooms before.0 before.1, before.2);
   }
 
 -- a call that fails and writes nothing: the ending of an output, or the creation of one that there was room for
-pub stops_unwritten : {T E : Type 0} (outputs : List Output) (flags : List Bool) (a c d : HostState) (e : E) (total : List Output) (report : List ℕ) → Stands outputs flags [] a c → d.given ≡ c.given → d.ended ≡ c.ended → ChangesOutputs c d → d.faults.notes ≡ c.faults.notes →
-    HasCause {T = T} {E = E} c.faults.outputs d.faults.outputs (Err e) → d.failed_last ≡ true → KeepsRooms c d → IsBegun outputs total → EndedAreWhole outputs flags total →
-    ((rooms : List ℕ) (after : List ℕ) → a.steady ≡ Some rooms → c.steady ≡ Some after → length after ≡ length rooms → HaveRooms total rooms (length a.ended + 2) → IsOk {T = T} {E = E} (Err e)) → Stops total report a d
-stops_unwritten outputs flags a c d e total report s given ended others notes cause last keeps begun whole steady f = record {
+pub stops_unwritten : (outputs : List Output) (flags : List Bool) (a c d : HostState) (total : List Output) (report : List ℕ) → Stands outputs flags [] a c → FailsUnwritten c d → IsBegun outputs total → EndedAreWhole outputs flags total →
+    AreEndedInOrder flags → ((rooms : List ℕ) (after : List ℕ) → a.steady ≡ Some rooms → c.steady ≡ Some after → length after ≡ length rooms → HaveRooms total rooms (length a.ended + 2) → ⊥) → Stops total report a d
+stops_unwritten outputs flags a c d total report s fails begun whole in_order unsteady e = record {
   reported = [];
   begun = outputs;
   ended = flags;
-  made = record { given = λ g told. given ∙ s.made.given g told; ended = ended ∙ s.made.ended; holds = others.holds ∙ s.made.holds };
+  made = record { given = λ g told. fails.given ∙ s.made.given g told; ended = fails.ended ∙ s.made.ended; holds = fails.others.holds ∙ s.made.holds };
   ok = tt;
   part = (record { rest = report; split = refl }, begun);
   ended_whole = whole;
+  in_order = in_order;
   report_last = λ some. absurd (some refl);
-  inputs = others.inputs ∙ s.inputs;
-  notes = notes ∙ s.notes;
-  cause = record { later = omega (arith, cause.later, s.faults); failed = record { once = cause.failed ∙ ap next_count s.faults; last = last }; same = tt };
-  enough = λ rooms told have fits. let before = s.rooms rooms told in let ok = steady rooms before.0 told before.1 before.2.count have in absurd (search rules);
-  rooms = λ rooms told. let before = s.rooms rooms told in (before.0, keeps before.0 before.1, before.2.report_room, before.2.complaint_room);
+  inputs = fails.others.inputs ∙ s.inputs;
+  notes = fails.notes ∙ s.notes;
+  cause = record { later = omega (arith, fails.later, s.faults); failed = record { once = fails.failed.once ∙ ap next_count s.faults; last = fails.failed.last }; same = tt };
+  enough = λ rooms told have fits. let before = s.rooms rooms told in absurd (unsteady rooms before.0 told before.1 before.2.count have);
+  rooms = λ rooms told. let before = s.rooms rooms told in (before.0, fails.rooms before.0 before.1, before.2.report_room, before.2.complaint_room);
 }
 
 -- all outputs stand, and are ended
@@ -184,6 +185,7 @@ delivered outputs a c x s = record {
   ok = (refl, refl, refl);
   part = tt;
   ended_whole = ended_are_whole outputs (all_ended outputs);
+  in_order = all_in_order outputs;
   report_last = λ some. absurd (some refl);
   inputs = s.inputs;
   notes = s.notes;

@@ -1,14 +1,16 @@
 -- The steps of a stream.
-use Rattle.std.proofs.Common.{◌≡◌, Result, Ok, Err, IsOk, IsSome, ℕ, ◌+◌, ◌-◌, ◌≤◌, ◌<◌, Bool, true, false, List, [], ◌∷◌, ◌++◌, length, set, map, Option, Some, None, OnOk, OnErr, refl, sym, ◌∙◌, ap, subst, arith, rules, append_assoc}
+use Rattle.std.proofs.Common.{◌≡◌, ◌⊎◌, inl, inr, Result, Ok, Err, IsOk, IsSome, ℕ, ◌+◌, ◌-◌, ◌≤◌, ◌<◌, Bool, true, false, List, [], ◌∷◌, ◌++◌, length, set, map, Option, Some, None, OnOk, OnErr, refl, sym, ◌∙◌, ap, subst, arith, rules, append_assoc}
 use Rattle.std.specs.Prelude.{slice_get, is_err}
 use Rattle.std.proofs.lemmas.List.{append-nil}
-use Rattle.snd_host.specs.Host.{HostState, Given, HasCause, ChangesOutputs, KeepsRooms, WritesAll, IsPrefix}
+use Rattle.snd_host.specs.Host.{HostState, Given, HasCause, ChangesOutputs, KeepsRooms, WritesAll, IsPrefix, longest_output_name}
 use Rattle.snd_host.specs.declared.host.Failed.{Failed}
 use Rattle.snd_host.specs.declared.host.OutFile.{OutFile}
 use Rattle.command_frame.specs.declared.streaming.Targets.{Targets}
+use Rattle.command_frame.specs.Delivery.{AreEndedInOrder}
+use Rattle.command_frame.specs.Ending.{Finishes, FailsUnwritten, StaysOpen, FinishesInTurn}
 use Rattle.command_frame.specs.Stream.{Both, Stands, Stops, Fills, pair, flags_of, IsSecond, AreTargets, IsOpenAfter, AreOpen, Begins, Puts, Ends, Pumps}
 use Rattle.command_frame.proofs.Delivering.{begun_all}
-use Rattle.command_frame.proofs.Places.{ended_are_whole, none_ended, prefix_front, get_set_other, unended_since}
+use Rattle.command_frame.proofs.Places.{ended_are_whole, none_ended, none_in_order, prefix_front, unended_since}
 use Rattle.command_frame.proofs.Standing.{stands_at_first, stands_created, next_number, stands_written, stops_written, stands_ended, stops_unwritten, are_done}
 
 first_place : (second : Option (List ℕ)) (a : HostState) (targets : Targets) → AreTargets second a targets → targets.first.0 ≡ length a.ended + 2 + 0
@@ -152,17 +154,36 @@ pub failed_by : {T E : Type 0} {last : Bool} (r : Result T E) → last ≡ is_er
 failed_by (Ok x) is = tt
 failed_by (Err e) is = is
 
+-- a call failed that writes nothing
+never_ok : false ≡ true → ⊥
+never_ok wrong = cc
+
+fails_unwritten : {T E : Type 0} (e : E) (old new : HostState) → new.given ≡ old.given → new.ended ≡ old.ended → ChangesOutputs old new → new.faults.notes ≡ old.faults.notes → HasCause {T = T} {E = E} old.faults.outputs new.faults.outputs (Err e) →
+    new.failed_last ≡ true → KeepsRooms old new → FailsUnwritten old new
+fails_unwritten e old new given ended others notes cause last keeps = record {
+  given = given;
+  ended = ended;
+  others = others;
+  notes = notes;
+  later = cause.later;
+  failed = record { once = cause.failed; last = last };
+  rooms = keeps;
+}
+
 -- the first output could not be created
 pub begin_failed : (first : List ℕ) (second : Option (List ℕ)) (a b : HostState) (e : Failed) → ((given : Given) → a.given ≡ Some given → length given.created ≡ length a.ended) →
     b.given ≡ a.given → b.ended ≡ a.ended → ChangesOutputs a b → b.faults.notes ≡ a.faults.notes → HasCause {T = OutFile} {E = Failed} a.faults.outputs b.faults.outputs (Err e) → b.failed_last ≡ true → KeepsRooms a b →
-    ((rooms : List ℕ) → a.steady ≡ Some rooms → length a.ended + 2 < length rooms → length first ≤ 200 → IsOk {T = OutFile} {E = Failed} (Err e)) → Begins first second a b (Err e)
+    ((rooms : List ℕ) → a.steady ≡ Some rooms → length a.ended + 2 < length rooms → length first ≤ longest_output_name → IsOk {T = OutFile} {E = Failed} (Err e)) → Begins first second a b (Err e)
 begin_failed first second a b e tells given ended others notes cause last keeps steady = record { ok = tt; err = stops second }
   where
+    fails : FailsUnwritten a b
+    fails = fails_unwritten e a b given ended others notes cause last keeps
+
     stops : (second : Option (List ℕ)) (xs ys report : List ℕ) → Stops (pair first second xs ys) report a b
-    stops None xs ys report = stops_unwritten {T = OutFile} {E = Failed} [] [] a a b e (pair first None xs ys) report (stands_at_first a tells) given ended others notes cause last keeps tt tt
-        (λ rooms after told still same have. steady rooms told have.0 have.2)
-    stops (Some name) xs ys report = stops_unwritten {T = OutFile} {E = Failed} [] [] a a b e (pair first (Some name) xs ys) report (stands_at_first a tells) given ended others notes cause last keeps tt tt
-        (λ rooms after told still same have. steady rooms told have.0 have.2)
+    stops None xs ys report = stops_unwritten [] [] a a b (pair first None xs ys) report (stands_at_first a tells) fails tt tt (none_in_order [] tt)
+        (λ rooms after told still same have. never_ok (steady rooms told have.0 have.2))
+    stops (Some name) xs ys report = stops_unwritten [] [] a a b (pair first (Some name) xs ys) report (stands_at_first a tells) fails tt tt (none_in_order [] tt)
+        (λ rooms after told still same have. never_ok (steady rooms told have.0 have.2))
 
 pub begun_first : (first : List ℕ) (a b : HostState) → ((given : Given) → a.given ≡ Some given → length given.created ≡ length a.ended) → b.ended ≡ a.ended ++ false ∷ [] →
     ((given : Given) → a.given ≡ Some given → b.given ≡ Some (record given { created = given.created ++ record { name = first; bytes = [] } ∷ [] })) →
@@ -172,13 +193,14 @@ begun_first first a b tells ended created others notes faults keeps = stands_cre
 -- the second output could not be created
 pub begin_failed_second : (first name : List ℕ) (a b d : HostState) (e : Failed) → Stands (pair first None [] []) (flags_of None false) [] a b →
     d.given ≡ b.given → d.ended ≡ b.ended → ChangesOutputs b d → d.faults.notes ≡ b.faults.notes → HasCause {T = OutFile} {E = Failed} b.faults.outputs d.faults.outputs (Err e) → d.failed_last ≡ true → KeepsRooms b d →
-    ((rooms : List ℕ) → b.steady ≡ Some rooms → length b.ended + 2 < length rooms → length name ≤ 200 → IsOk {T = OutFile} {E = Failed} (Err e)) → Begins first (Some name) a d (Err e)
+    ((rooms : List ℕ) → b.steady ≡ Some rooms → length b.ended + 2 < length rooms → length name ≤ longest_output_name → IsOk {T = OutFile} {E = Failed} (Err e)) → Begins first (Some name) a d (Err e)
 begin_failed_second first name a b d e s given ended others notes cause last keeps steady = record {
   ok = tt;
-  err = λ xs ys report. stops_unwritten {T = OutFile} {E = Failed} (pair first None [] []) (flags_of None false) a b d e (pair first (Some name) xs ys) report s given ended others notes cause last keeps (refl, record { rest = xs; split = refl }, tt) (none_ended (pair first None [] []) (flags_of None false) (pair first (Some name) xs ys) (refl, tt))
+  err = λ xs ys report. stops_unwritten (pair first None [] []) (flags_of None false) a b d (pair first (Some name) xs ys) report s (fails_unwritten e b d given ended others notes cause last keeps) (refl, record { rest = xs; split = refl }, tt)
+      (none_ended (pair first None [] []) (flags_of None false) (pair first (Some name) xs ys) (refl, tt)) (none_in_order (flags_of None false) (refl, tt))
       (λ rooms after told still same have.
       let many = next_number (pair first None [] []) (flags_of None false) a b (length b.ended + 2) s refl in
-      steady after still (let place = have.3.0 in omega arith) have.3.2);
+      never_ok (steady after still (let place = have.3.0 in omega arith) have.3.2));
 }
 
 pub begins_both : (first name : List ℕ) (a b d : HostState) (targets : Targets) (file : OutFile) → targets.second ≡ Some file → targets.first.0 ≡ length a.ended + 2 → file.0 ≡ length b.ended + 2 → Stands (pair first None [] []) (flags_of None false) [] a b →
@@ -198,50 +220,80 @@ begins_both first name a b d targets file is number after s ended created others
 is_steady : (c : HostState) (after : List ℕ) → c.steady ≡ Some after → IsSome c.steady
 is_steady c after told = subst (λ (o : Option (List ℕ)). IsSome o) (sym told) (search rules)
 
--- the first output could not be ended
-pub end_failed : (targets : Targets) (old new : HostState) (e : Failed) → new.given ≡ old.given → new.ended ≡ old.ended → ChangesOutputs old new → new.faults.notes ≡ old.faults.notes →
-    HasCause {T = Unit {0}} {E = Failed} old.faults.outputs new.faults.outputs (Err e) → new.failed_last ≡ true → KeepsRooms old new → (IsSome old.steady → IsOk {T = Unit {0}} {E = Failed} (Err e)) → Ends targets old new (Err e)
-end_failed targets old new e given ended others notes cause last keeps steady = record {
-  ok = tt;
-  err = λ first second xs ys report a are s. stops_unwritten {T = Unit {0}} {E = Failed} (pair first second xs ys) (flags_of second false) a old new e (pair first second xs ys) report s given ended others notes cause last keeps (begun_all (pair first second xs ys)) (ended_are_whole (pair first second xs ys) (flags_of second false))
-      (λ rooms after told still same have. steady (is_steady old after still));
-}
+-- an output could not be ended
+pub stays_open : {T E : Type 0} (e : E) (old new : HostState) → new.given ≡ old.given → new.ended ≡ old.ended → ChangesOutputs old new → new.faults.notes ≡ old.faults.notes → HasCause {T = T} {E = E} old.faults.outputs new.faults.outputs (Err e) →
+    new.failed_last ≡ true → KeepsRooms old new → (IsSome old.steady → IsOk {T = T} {E = E} (Err e)) → StaysOpen old new
+stays_open e old new given ended others notes cause last keeps steady =
+    record { fails = fails_unwritten e old new given ended others notes cause last keeps; unsteady = λ is. never_ok (steady is) }
+
+finishes : {T E : Type 0} (x : T) (file : ℕ) (old new : HostState) → new.given ≡ old.given → new.ended ≡ set old.ended (file - 2) true → ChangesOutputs old new → new.faults.notes ≡ old.faults.notes →
+    HasCause {T = T} {E = E} old.faults.outputs new.faults.outputs (Ok x) → KeepsRooms old new → Finishes file old new
+finishes x file old new given ended others notes cause keeps = record { given = given; ended = ended; others = others; notes = notes; faults = cause.same; rooms = keeps }
+
+-- the second of two, or the earlier one already, could not be
+pub in_turn : (earlier later : ℕ) (old mid new : HostState) (x : Unit {0}) (r : Result (Unit {0}) Failed) → mid.given ≡ old.given → mid.ended ≡ set old.ended (earlier - 2) true → ChangesOutputs old mid → mid.faults.notes ≡ old.faults.notes →
+    HasCause {T = Unit {0}} {E = Failed} old.faults.outputs mid.faults.outputs (Ok x) → KeepsRooms old mid → new.given ≡ mid.given → OnOk r (new.ended ≡ set mid.ended (later - 2) true) → OnErr r (new.ended ≡ mid.ended) → ChangesOutputs mid new →
+    new.faults.notes ≡ mid.faults.notes → HasCause mid.faults.outputs new.faults.outputs r → OnErr r (new.failed_last ≡ true) → KeepsRooms mid new → (IsSome mid.steady → IsOk r) → FinishesInTurn earlier later old new r
+in_turn earlier later old mid new x (Ok y) given ended others notes cause keeps given2 ended2 kept2 others2 notes2 cause2 last2 keeps2 steady2 =
+    record { ok = (mid, finishes x earlier old mid given ended others notes cause keeps, finishes y later mid new given2 ended2 others2 notes2 cause2 keeps2); err = tt }
+in_turn earlier later old mid new x (Err e) given ended others notes cause keeps given2 ended2 kept2 others2 notes2 cause2 last2 keeps2 steady2 =
+    record { ok = tt; err = inr (mid, finishes x earlier old mid given ended others notes cause keeps, stays_open e mid new given2 kept2 others2 notes2 cause2 last2 keeps2 steady2) }
+
+pub earlier_failed : (earlier later : ℕ) (old new : HostState) (e : Failed) → StaysOpen old new → FinishesInTurn {T = Unit {0}} earlier later old new (Err e)
+earlier_failed earlier later old new e open_yet = record { ok = tt; err = inl open_yet }
+
+-- where the first one could not be ended, none is
+open_in_order : (second : Option (List ℕ)) → AreEndedInOrder (flags_of second false)
+open_in_order None = none_in_order (flags_of None false) (refl, tt)
+open_in_order (Some name) = none_in_order (flags_of (Some name) false) (refl, (refl, tt))
+
+end_failed : (targets : Targets) (old new : HostState) → StaysOpen old new → (first : List ℕ) (second : Option (List ℕ)) (xs ys report : List ℕ) (a : HostState) → AreTargets second a targets →
+    Stands (pair first second xs ys) (flags_of second false) [] a old → Stops (pair first second xs ys) report a new
+end_failed targets old new open_yet first second xs ys report a are s =
+    stops_unwritten (pair first second xs ys) (flags_of second false) a old new (pair first second xs ys) report s open_yet.fails (begun_all (pair first second xs ys)) (ended_are_whole (pair first second xs ys) (flags_of second false)) (open_in_order second)
+    (λ rooms after told still same have. open_yet.unsteady (is_steady old after still))
 
 -- there is no second output to end
-pub ends_one : (targets : Targets) (old new : HostState) (x : Unit {0}) → targets.second ≡ None → new.given ≡ old.given → new.ended ≡ set old.ended (targets.first.0 - 2) true → ChangesOutputs old new → new.faults.notes ≡ old.faults.notes →
-    HasCause {T = Unit {0}} {E = Failed} old.faults.outputs new.faults.outputs (Ok x) → KeepsRooms old new → Ends targets old new (Ok (tt {0}))
-ends_one targets old new x none given ended others notes cause keeps = record { ok = all; err = tt }
+pub ends_one : (targets : Targets) (old new : HostState) (r : Result (Unit {0}) Failed) → targets.second ≡ None → new.given ≡ old.given → OnOk r (new.ended ≡ set old.ended (targets.first.0 - 2) true) → OnErr r (new.ended ≡ old.ended) → ChangesOutputs old new →
+    new.faults.notes ≡ old.faults.notes → HasCause old.faults.outputs new.faults.outputs r → OnErr r (new.failed_last ≡ true) → KeepsRooms old new → (IsSome old.steady → IsOk r) → Ends targets old new r
+ends_one targets old new (Ok x) none given ended kept others notes cause last keeps steady = record { ok = all; err = tt }
   where
     all : (first : List ℕ) (second : Option (List ℕ)) (xs ys : List ℕ) (a : HostState) → AreTargets second a targets → Stands (pair first second xs ys) (flags_of second false) [] a old → Stands (pair first second xs ys) (flags_of second true) [] a new
-    all first None xs ys a are s = stands_ended (pair first None xs ys) (flags_of None false) a old s targets.first.0 0 (first_place None a targets are) {T = Unit {0}} {E = Failed} new x given ended others notes cause keeps
+    all first None xs ys a are s = stands_ended (pair first None xs ys) (flags_of None false) a old s targets.first.0 0 (first_place None a targets are) new (finishes x targets.first.0 old new given ended others notes cause keeps)
     all first (Some name) xs ys a are s = absurd (subst (λ (f : Option OutFile). IsSecond (Some name) f (length a.ended + 2)) none are.second_number)
+ends_one targets old new (Err e) none given ended kept others notes cause last keeps steady = record { ok = tt; err = end_failed targets old new (stays_open e old new given kept others notes cause last keeps steady) }
 
--- the second output is still open when the first one is ended
-pub still_open : (targets : Targets) (file : OutFile) (old new : List Bool) → targets.second ≡ Some file → AreOpen old targets → new ≡ set old (targets.first.0 - 2) true → slice_get new (file.0 - 2) ≡ Some false
-still_open targets file old new is o ended =
-    let after : IsOpenAfter old targets.first.0 (Some file) = subst (λ (f : Option OutFile). IsOpenAfter old targets.first.0 f) is o.second_open in
-    let low = o.low in
-    let less = after.0 in
-    rw ended (get_set_other old (targets.first.0 - 2) (file.0 - 2) true (λ same. absurd (omega arith)) ∙ after.1)
+-- both outputs can be ended
+pub second_open : (targets : Targets) (file : OutFile) (ended : List Bool) → targets.second ≡ Some file → AreOpen ended targets → (targets.first.0 < file.0) × (slice_get ended (file.0 - 2) ≡ Some false)
+second_open targets file ended is open_yet = subst (λ (f : Option OutFile). IsOpenAfter ended targets.first.0 f) is open_yet.second_open
 
-module _ (targets : Targets) (file : OutFile) (old mid new : HostState) (x : Unit {0}) (is : targets.second ≡ Some file) (given : mid.given ≡ old.given) (ended : mid.ended ≡ set old.ended (targets.first.0 - 2) true) (others : ChangesOutputs old mid)
-    (notes : mid.faults.notes ≡ old.faults.notes) (cause : HasCause {T = Unit {0}} {E = Failed} old.faults.outputs mid.faults.outputs (Ok x)) (keeps : KeepsRooms old mid) where
-  half_ended : (first name xs ys : List ℕ) (a : HostState) → AreTargets (Some name) a targets → Stands (pair first (Some name) xs ys) (flags_of (Some name) false) [] a old → Stands (pair first (Some name) xs ys) (true ∷ false ∷ []) [] a mid
-  half_ended first name xs ys a are s = stands_ended (pair first (Some name) xs ys) (flags_of (Some name) false) a old s targets.first.0 0 (first_place (Some name) a targets are) {T = Unit {0}} {E = Failed} mid x given ended others notes cause keeps
+module _ (targets : Targets) (file : OutFile) (is : targets.second ≡ Some file) where
+  half_ended : (old mid : HostState) → Finishes targets.first.0 old mid → (first name xs ys : List ℕ) (a : HostState) → AreTargets (Some name) a targets → Stands (pair first (Some name) xs ys) (flags_of (Some name) false) [] a old →
+      Stands (pair first (Some name) xs ys) (true ∷ false ∷ []) [] a mid
+  half_ended old mid f first name xs ys a are s = stands_ended (pair first (Some name) xs ys) (flags_of (Some name) false) a old s targets.first.0 0 (first_place (Some name) a targets are) mid f
 
-  pub ends_second : (r : Result (Unit {0}) Failed) → new.given ≡ mid.given → OnOk r (new.ended ≡ set mid.ended (file.0 - 2) true) → OnErr r (new.ended ≡ mid.ended) → ChangesOutputs mid new → new.faults.notes ≡ mid.faults.notes →
-      HasCause mid.faults.outputs new.faults.outputs r → OnErr r (new.failed_last ≡ true) → KeepsRooms mid new → (IsSome mid.steady → IsOk r) → Ends targets old new r
-  ends_second (Ok y) given2 ended2 kept2 others2 notes2 cause2 last2 keeps2 steady2 = record { ok = all; err = tt }
+  second_failed : (old mid new : HostState) → Finishes targets.first.0 old mid → StaysOpen mid new → (first : List ℕ) (second : Option (List ℕ)) (xs ys report : List ℕ) (a : HostState) → AreTargets second a targets →
+      Stands (pair first second xs ys) (flags_of second false) [] a old → Stops (pair first second xs ys) report a new
+  second_failed old mid new f open_yet first None xs ys report a are s = absurd (subst (λ (g : Option OutFile). IsSecond None g (length a.ended + 2)) is are.second_number)
+  second_failed old mid new f open_yet first (Some name) xs ys report a are s =
+      stops_unwritten (pair first (Some name) xs ys) (true ∷ false ∷ []) a mid new (pair first (Some name) xs ys) report (half_ended old mid f first name xs ys a are s) open_yet.fails (begun_all (pair first (Some name) xs ys))
+      (ended_are_whole (pair first (Some name) xs ys) (true ∷ false ∷ [])) (record { ended = 1; others = 1; split = refl }) (λ rooms after told still same have. open_yet.unsteady (is_steady mid after still))
+
+  -- the two outputs are ended, the first one first
+  pub ends_in_turn : (old new : HostState) (r : Result (Unit {0}) Failed) → FinishesInTurn targets.first.0 file.0 old new r → Ends targets old new r
+  ends_in_turn old new (Ok y) turn = record { ok = all; err = tt }
     where
       all : (first : List ℕ) (second : Option (List ℕ)) (xs ys : List ℕ) (a : HostState) → AreTargets second a targets → Stands (pair first second xs ys) (flags_of second false) [] a old → Stands (pair first second xs ys) (flags_of second true) [] a new
-      all first None xs ys a are s = absurd (subst (λ (f : Option OutFile). IsSecond None f (length a.ended + 2)) is are.second_number)
-      all first (Some name) xs ys a are s = stands_ended (pair first (Some name) xs ys) (true ∷ false ∷ []) a mid (half_ended first name xs ys a are s) file.0 1 (second_place targets file name a is are) {T = Unit {0}} {E = Failed} new y given2 ended2 others2 notes2 cause2 keeps2
-  ends_second (Err e) given2 ended2 kept2 others2 notes2 cause2 last2 keeps2 steady2 = record { ok = tt; err = failed }
+      all first None xs ys a are s = absurd (subst (λ (g : Option OutFile). IsSecond None g (length a.ended + 2)) is are.second_number)
+      all first (Some name) xs ys a are s =
+          let mid = turn.ok.0 in
+          stands_ended (pair first (Some name) xs ys) (true ∷ false ∷ []) a mid (half_ended old mid turn.ok.1 first name xs ys a are s) file.0 1 (second_place targets file name a is are) new turn.ok.2
+  ends_in_turn old new (Err e) turn = record { ok = tt; err = by turn.err }
     where
-      failed : (first : List ℕ) (second : Option (List ℕ)) (xs ys report : List ℕ) (a : HostState) → AreTargets second a targets → Stands (pair first second xs ys) (flags_of second false) [] a old → Stops (pair first second xs ys) report a new
-      failed first None xs ys report a are s = absurd (subst (λ (f : Option OutFile). IsSecond None f (length a.ended + 2)) is are.second_number)
-      failed first (Some name) xs ys report a are s = stops_unwritten {T = Unit {0}} {E = Failed} (pair first (Some name) xs ys) (true ∷ false ∷ []) a mid new e (pair first (Some name) xs ys) report (half_ended first name xs ys a are s) given2 kept2 others2 notes2 cause2 last2 keeps2 (begun_all (pair first (Some name) xs ys)) (ended_are_whole (pair first (Some name) xs ys) (true ∷ false ∷ []))
-          (λ rooms after told still same have. steady2 (is_steady mid after still))
+      by : StaysOpen old new ⊎ ((mid : HostState) × Finishes targets.first.0 old mid × StaysOpen mid new) → (first : List ℕ) (second : Option (List ℕ)) (xs ys report : List ℕ) (a : HostState) → AreTargets second a targets →
+          Stands (pair first second xs ys) (flags_of second false) [] a old → Stops (pair first second xs ys) report a new
+      by (inl open_yet) = end_failed targets old new open_yet
+      by (inr both) = second_failed old both.0 new both.1 both.2
 
 all_ended : (first : List ℕ) (second : Option (List ℕ)) (xs ys : List ℕ) → flags_of second true ≡ map (λ _. true) (pair first second xs ys)
 all_ended first None xs ys = refl

@@ -1,9 +1,9 @@
 -- How a command may end, and what it leaves on the host. `answer` is what it answers, by what the names of its inputs hold.
-use Rattle.std.specs.Prelude.{◌≡◌, ◌≢◌, ℕ, ◌+◌, ◌≤◌, ◌⊎◌, Bool, true, false, List, [], ◌∷◌, length, Option, Some, None, Result, Ok, Err, IfOk, IfErr, IsSome, IsTrue, slice_index}
+use Rattle.std.specs.Prelude.{◌≡◌, ◌≢◌, ℕ, ◌+◌, ◌≤◌, ◌⊎◌, Bool, List, [], length, Option, Some, None, Result, Ok, Err, IfOk, IfErr, IsSome, IsTrue, slice_index}
 use Rattle.snd_host.specs.Host.{HostState, Files, Output, IfTold, next_count, Rose, InputFailed, OutputFailed, IsPrefix, ChangesInputs, Writes}
 use Rattle.snd_host.specs.OpenedInputs.{OpensInOrder}
 use Rattle.snd_host.specs.declared.host.Failed.{Failed}
-use Rattle.command_frame.specs.Delivery.{Gains, IsBegun, EndedAreWhole, HaveRooms, Delivers, all_ended}
+use Rattle.command_frame.specs.Delivery.{Gains, IsBegun, EndedAreWhole, AreEndedInOrder, HaveRooms, Delivers, all_ended}
 use Rattle.command_frame.specs.NamedInputs.{NamedInput, are_some, inputs_read, inputs_reached}
 use Rattle.command_frame.specs.Answer.{Answer, done, refused, refusal_of, outputs_of, report_of, line_of, delivery_refusal}
 use Rattle.command_frame.specs.declared.refusals.Refusal.{Refusal}
@@ -43,6 +43,8 @@ pub record HasCauses {C : Type 0} (names_input : Bool) (refusal : Option (Refusa
   pub read : refusal ≡ Some ReadFault → InputFailed old new × IsTrue names_input
   pub write : refusal ≡ Some WriteFault → OutputFailed old new
   pub refused : refusal ≢ None → refusal ≢ Some WriteFault → (report ≡ []) × (outputs ≡ []) × (ended ≡ [])
+  -- Outputs are ended in their order.
+  pub in_order : AreEndedInOrder ended
   -- The report comes last: where some of it was written, all outputs that were created are ended.
   pub report_last : report ≢ [] → ended ≡ all_ended outputs
 

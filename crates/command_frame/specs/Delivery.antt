@@ -1,6 +1,6 @@
 -- What a delivery makes on a host: outputs that are created, written and ended, and then the report.
-use Rattle.std.specs.Prelude.{◌≡◌, ◌≢◌, ℕ, ◌+◌, ◌-◌, ◌≤◌, ◌<◌, Bool, true, List, [], ◌∷◌, ◌++◌, length, map, Some, Result, IsOk, OnOk, OnErr, slice_index}
-use Rattle.snd_host.specs.Host.{HostState, Given, Output, IfTold, OutputFailed, IsPrefix, asked_of, most_outputs, longest_name}
+use Rattle.std.specs.Prelude.{◌≡◌, ◌≢◌, ℕ, ◌+◌, ◌-◌, ◌≤◌, ◌<◌, Bool, true, false, List, [], ◌∷◌, ◌++◌, length, map, replicate, Some, Result, IsOk, OnOk, OnErr, slice_index}
+use Rattle.snd_host.specs.Host.{HostState, Given, Output, IfTold, OutputFailed, IsPrefix, asked_of, most_outputs, longest_output_name}
 
 -- Two outputs more have numbers below 2 ^ 32.
 abbrev pub CanDeliver : HostState → Type 0
@@ -34,11 +34,17 @@ EndedAreWhole (o ∷ begun) [] outputs = Unit {0}
 EndedAreWhole (o ∷ begun) (flag ∷ flags) [] = Unit {0}
 EndedAreWhole (o ∷ begun) (flag ∷ flags) (output ∷ outputs) = (flag ≡ true → o.bytes ≡ output.bytes) × EndedAreWhole begun flags outputs
 
+-- Outputs are ended in their order: so many of these flags are true, and none behind them.
+pub record AreEndedInOrder (flags : List Bool) : Type 0 where
+  pub ended : ℕ
+  pub others : ℕ
+  pub split : flags ≡ replicate ended true ++ replicate others false
+
 -- Each of these outputs, the first of which gets the number n, has a room that takes it and a name that is not too long.
 abbrev pub HaveRooms : List Output → List ℕ → ℕ → Type 0
 HaveRooms [] rooms n = Unit {0}
 HaveRooms (output ∷ outputs) rooms n =
-    (n < length rooms) × (length output.bytes ≤ slice_index rooms n) × (length output.name ≤ longest_name) × HaveRooms outputs rooms (n + 1)
+    (n < length rooms) × (length output.bytes ≤ slice_index rooms n) × (length output.name ≤ longest_output_name) × HaveRooms outputs rooms (n + 1)
 
 -- a flag for each of these outputs: it was ended
 abbrev pub all_ended : List Output → List Bool
@@ -65,6 +71,7 @@ pub record Delivers {T E : Type 0} (outputs : List Output) (report : List ℕ) (
   pub ok : OnOk result ((reported ≡ report) × (begun ≡ outputs) × (ended ≡ all_ended outputs))
   pub part : OnErr result (IsPrefix reported report × IsBegun begun outputs)
   pub ended_whole : EndedAreWhole begun ended outputs
+  pub in_order : AreEndedInOrder ended
   -- The report comes last: where some of it was written, all outputs are whole and ended.
   pub report_last : reported ≢ [] → (begun ≡ outputs) × (ended ≡ all_ended outputs)
   pub inputs : asked_of new ≡ asked_of old

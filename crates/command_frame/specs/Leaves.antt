@@ -2,11 +2,12 @@
 use Rattle.std.specs.Prelude.{◌≡◌, ◌≢◌, ◌⊎◌, ℕ, Bool, List, [], ◌++◌, IsSomeAnd}
 use Rattle.snd_host.specs.Host.{HostState, Output, IfTold, next_count, Rose, IsPrefix}
 use Rattle.command_frame.specs.Answer.{Answer, outputs_of, report_of}
-use Rattle.command_frame.specs.Delivery.{IsBegun, EndedAreWhole, all_ended}
+use Rattle.command_frame.specs.Delivery.{IsBegun, EndedAreWhole, AreEndedInOrder, all_ended}
 
 -- The report grew by these bytes, and these outputs were created, each with a flag that it was ended.
 pub record Leaves (report : List ℕ) (outputs : List Output) (flags : List Bool) (old new : HostState) : Type 0 where
-  pub given : IfTold old.given (λ before. IsSomeAnd new.given (λ now. (now.report ≡ before.report ++ report) × (now.created ≡ before.created ++ outputs)))
+  pub given : IfTold old.given (λ before.
+      IsSomeAnd new.given (λ now. (now.report ≡ before.report ++ report) × (now.created ≡ before.created ++ outputs)))
   pub ended : new.ended ≡ old.ended ++ flags
 
 -- No output was created, and the report didn't grow.
@@ -25,8 +26,9 @@ pub record LeavesPart {C : Type 0} (a : Answer C) (old new : HostState) : Type 0
   pub leaves : Leaves report outputs flags old new
   pub reported : IsPrefix report (report_of a)
   pub begun : IsBegun outputs (outputs_of a)
-  -- An output that was ended has all its bytes.
+  -- An output that was ended has all its bytes, and those before it were ended too.
   pub ended_whole : EndedAreWhole outputs flags (outputs_of a)
+  pub in_order : AreEndedInOrder flags
 
 -- Where the report grew, the outputs of the answer were created before, in order, with all their bytes, and ended.
 abbrev pub ReportsLast : {C : Type 0} → Answer C → HostState → HostState → Type 0

@@ -4,6 +4,8 @@ pub mod Answer
 pub mod Conduct
 -- what a delivery makes on a host
 pub mod Delivery
+-- two outputs that are ended, one after the other
+pub mod Ending
 -- what a plan of a list of outputs makes
 pub mod Listed
 -- what a run leaves on a host that tells it

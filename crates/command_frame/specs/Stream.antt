@@ -32,14 +32,15 @@ pub record Stands (outputs : List Output) (flags : List Bool) (report : List ℕ
   pub inputs : asked_of c ≡ asked_of a
   pub notes : c.faults.notes ≡ a.faults.notes
   pub faults : c.faults.outputs ≡ a.faults.outputs
-  pub rooms : (rooms : List ℕ) → a.steady ≡ Some rooms → (after : List ℕ) × (c.steady ≡ Some after) × RoomsAfter (length a.ended + 2) outputs report rooms after
+  pub rooms : (rooms : List ℕ) → a.steady ≡ Some rooms
+      → (after : List ℕ) × (c.steady ≡ Some after) × RoomsAfter (length a.ended + 2) outputs report rooms after
 
 -- A call failed: of these outputs and this report a part stands.
 abbrev pub Stops : List Output → List ℕ → HostState → HostState → Type 0
 Stops outputs report old new = (e : Failed) → Delivers {T = Unit {0}} {E = Failed} outputs report old new (Err e)
 
 -- the rooms of the outputs from the number `next` on, of the report and of the complaint are what they were
-pub record KeepsRooms (next : ℕ) (rooms after : List ℕ) : Type 0 where
+pub record KeepsOtherRooms (next : ℕ) (rooms after : List ℕ) : Type 0 where
   pub count : length after ≡ length rooms
   pub report_room : slice_index after 0 ≡ slice_index rooms 0
   pub complaint_room : slice_index after 1 ≡ slice_index rooms 1
@@ -51,7 +52,7 @@ pub record AreDone (outputs : List Output) (a c : HostState) : Type 0 where
   pub inputs : asked_of c ≡ asked_of a
   pub notes : c.faults.notes ≡ a.faults.notes
   pub faults : c.faults.outputs ≡ a.faults.outputs
-  pub rooms : IfTold a.steady (λ rooms. (after : List ℕ) × (c.steady ≡ Some after) × KeepsRooms (length c.ended + 2) rooms after)
+  pub rooms : IfTold a.steady (λ rooms. (after : List ℕ) × (c.steady ≡ Some after) × KeepsOtherRooms (length c.ended + 2) rooms after)
 
 -- These outputs were created, written and ended, or a call failed and a part of them stands.
 pub record Fills {T E : Type 0} (outputs : List Output) (old new : HostState) (result : Result T E) : Type 0 where

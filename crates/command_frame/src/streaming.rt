@@ -1,7 +1,8 @@
 // Two outputs that are created, written piece by piece and ended, and then the report.
-ghost use Rattle.std.specs.Prelude.{◌≡◌, ◌<◌, ◌++◌, [], length, true, Option, option_map, OnOk};
+ghost use Rattle.std.specs.Prelude.{◌≡◌, ◌≢◌, ◌-◌, ◌<◌, ◌≤◌, ◌++◌, [], length, true, false, Option, Some, option_map, OnOk, slice_get};
 ghost use Rattle.snd_host.specs.Host.{HostState};
 ghost use Rattle.command_frame.specs.Delivery.{CanDeliver, Delivers};
+ghost use Rattle.command_frame.specs.Ending.{FinishesInTurn};
 ghost use Rattle.command_frame.specs.Stream.{Begins, Puts, Ends, Fills, AreOpen, stream_outputs};
 
 use crate::Pieces;
@@ -66,15 +67,27 @@ fn pump<H: Host, P: Pieces>(host: &mut H, targets: Targets, source: &mut P) -> R
     }
 }
 
-/// Ends the outputs.
+/// Ends two outputs, the earlier one first.
+fn end_in_turn<H: Host>(host: &mut H, earlier: OutFile, later: OutFile) -> Result<(), Failed>
+    requires earlier_created { 2 ≤ earlier.0 }
+    requires later_created { 2 ≤ later.0 }
+    requires apart { earlier.0 ≢ later.0 }
+    requires earlier_open { slice_get (H.state host.old).ended (earlier.0 - 2) ≡ Some false }
+    requires later_open { slice_get (H.state host.old).ended (later.0 - 2) ≡ Some false }
+    ensures { FinishesInTurn earlier.0 later.0 (H.state host.old) (H.state host.new) result }
+{
+    host.finish(earlier)?;
+    host.finish(later)
+}
+
+/// Ends the outputs, in their order.
 fn end<H: Host>(host: &mut H, targets: Targets) -> Result<(), Failed>
     requires { AreOpen (H.state host.old).ended targets }
     ensures { Ends targets (H.state host.old) (H.state host.new) result }
 {
-    host.finish(targets.first)?;
     match targets.second {
-        Some(file) => host.finish(file),
-        None => Ok(()),
+        Some(file) => end_in_turn(host, targets.first, file),
+        None => host.finish(targets.first),
     }
 }
 

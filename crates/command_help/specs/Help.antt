@@ -6,7 +6,7 @@ use Rattle.exit_status.specs.declared.cause.Cause.{Cause}
 -- the commands with their words, a line each, and where the formats are described
 abbrev pub help_text : List ℕ
 help_text =
-    codes "spcwave renders SPC music, as the Super Nintendo plays it, to WAV files. Its commands:\n" ++
+    codes "spcwave renders SPC music files to WAV files. Its commands:\n" ++
     codes "\n" ++
     codes "  spcwave render SPC TABLE WAV [--samples N] [--trace FILE] [--voices HH] [--mute HH]: render a tune, and trace it on request\n" ++
     codes "  spcwave info SPC: show the tags and the registers of a tune\n" ++

@@ -14,7 +14,7 @@ use std::alloc::Global;
 
 /// The commands with their words, a line each, and where the formats are described.
 const HELP: &[u8] = b"\
-spcwave renders SPC music, as the Super Nintendo plays it, to WAV files. Its commands:\n\
+spcwave renders SPC music files to WAV files. Its commands:\n\
 \n\
 \x20 spcwave render SPC TABLE WAV [--samples N] [--trace FILE] [--voices HH] [--mute HH]: render a tune, and trace it on request\n\
 \x20 spcwave info SPC: show the tags and the registers of a tune\n\

@@ -1,8 +1,8 @@
 -- What `info` answers.
-use Rattle.std.specs.Prelude.{ℕ, ◌+◌, List, [], ◌∷◌, ◌++◌, length, slice_index, Option, codes, decimal, if◌then◌else◌}
+use Rattle.std.specs.Prelude.{ℕ, ◌+◌, List, [], ◌∷◌, ◌++◌, length, Option, codes, decimal, if◌then◌else◌}
 use Rattle.std.specs.List.{flat_map}
 use Rattle.command_frame.specs.Answer.{Answer, done}
-use Rattle.spc_form.specs.Layout.{pc_of}
+use Rattle.spc_form.specs.Layout.{minor_of, pc_of, a_of, x_of, y_of, psw_of, sp_of}
 use Rattle.spc_form.specs.Tags.{has_tags, text_of}
 use Rattle.spc_form.specs.declared.tags.Tag.{Tag}
 use Rattle.spc_form.specs.declared.tags.Tag.TheVariants.{Title, Game, Dumper, Comments, Date, Seconds, Fade, Artist}
@@ -44,10 +44,10 @@ counter_text file = codes "pc " ++ four_digits (pc_of file)
 
 abbrev pub data_text : (file : List ℕ) → List ℕ
 data_text file =
-    register_text (codes "a") (slice_index file 0x27) ++ register_text (codes "x") (slice_index file 0x28) ++ register_text (codes "y") (slice_index file 0x29)
+    register_text (codes "a") (a_of file) ++ register_text (codes "x") (x_of file) ++ register_text (codes "y") (y_of file)
 
 abbrev pub status_text : (file : List ℕ) → List ℕ
-status_text file = register_text (codes "psw") (slice_index file 0x2A) ++ register_text (codes "sp") (slice_index file 0x2B)
+status_text file = register_text (codes "psw") (psw_of file) ++ register_text (codes "sp") (sp_of file)
 
 -- the line of the processor's registers
 abbrev pub register_line : (file : List ℕ) → List ℕ
@@ -56,7 +56,7 @@ register_line file = counter_text file ++ data_text file ++ status_text file ++ 
 -- the report on a file, whose input had this size
 abbrev pub info_report : (size : ℕ) → (file : List ℕ) → List ℕ
 info_report size file =
-    codes "length " ++ decimal size ++ codes "\nminor " ++ decimal (slice_index file 0x24) ++ codes "\n"
+    codes "length " ++ decimal size ++ codes "\nminor " ++ decimal (minor_of file) ++ codes "\n"
     ++ tag_lines file ++ register_line file
 
 -- what the bytes of an input answer

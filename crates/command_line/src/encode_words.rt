@@ -3,11 +3,8 @@ ghost use Rattle.std.specs.Prelude.{◌≡◌, ◌<◌, ◌≤◌, length, map, 
 ghost use Rattle.brr_search.specs.Options.{AreInRange, most_ways};
 ghost use Rattle.command_line.specs.EncodeWords.{ways_in, loop_at_in, with_loop, encode_options_with, encode_options_from, encode_options_in};
 
-use brr_search::EncodeOptions;
+use brr_search::{EncodeOptions, MOST_WAYS};
 use text_form::{decimal_value, is_number};
-
-/// The most ways that are kept open.
-const MOST_WAYS: u64 = 64;
 
 /// The most samples of a sound that is encoded.
 const MOST_SAMPLES: u64 = 116480;
@@ -21,7 +18,7 @@ fn ways_in(word: &[u8]) -> Option<u8>
         return None;
     }
     let ways = decimal_value(word);
-    if (1..=MOST_WAYS).contains(&ways) {
+    if (1..=u64::from(MOST_WAYS)).contains(&ways) {
         Some(ways as u8)
     } else {
         None

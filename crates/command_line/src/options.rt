@@ -5,7 +5,7 @@ ghost use Rattle.cut_form.specs.Checkpoints.{fewest_pages};
 ghost use Rattle.render_options.specs.Options.{options_of, SamplesWithinHour};
 ghost use Rattle.command_line.specs.Options.{is_name, count_in, demo_number_in, name_in, voices_in, origin_in, range_in, pages_in, options_with, options_in};
 
-use cut_form::MOST_FRAMES;
+use cut_form::{MOST_FRAMES, PAGE_COUNT};
 use render_options::RenderOptions;
 use text_form::{decimal_value, is_number};
 
@@ -13,9 +13,9 @@ use text_form::{decimal_value, is_number};
 const GREATEST_NUMBER: u64 = 4294967295;
 
 /// The fewest and the most pages for the checkpoints of a session.
-const FEWEST_PAGES: u64 = 256;
+const FEWEST_PAGES: u64 = PAGE_COUNT as u64;
 
-const MOST_PAGES: u64 = 65536;
+const MOST_PAGES: u64 = page_pool::MOST_PAGES as u64;
 
 /// Whether a word may name a file.
 pub fn is_name(word: &str) -> bool

@@ -2,11 +2,5 @@
 #![tactic(auto)]
 
 mod command;
-#[cfg(test)]
-mod render_tests;
-#[cfg(test)]
-mod renders;
-#[cfg(test)]
-mod trace_tests;
 
 pub use command::render;

@@ -4,7 +4,5 @@
 mod command;
 mod pieces;
 mod reports;
-#[cfg(test)]
-mod tests;
 
 pub use command::rip;

@@ -31,7 +31,8 @@ abbrev pub script_answer : (wave : List ℕ) → SessionOptions → (file : List
 script_answer wave options file table lines = replies_answer wave options.muted file table (tune_replies options file table lines)
 
 -- the same by what the script holds, by what the table holds, and by what the inputs hold: the file comes first
-abbrev pub table_answer : (wave : List ℕ) → SessionOptions → (held_script : Option (List ℕ)) → (file : List ℕ) → (table : List ℤ) → Answer Cause
+abbrev pub table_answer : (wave : List ℕ) → SessionOptions → (held_script : Option (List ℕ))
+    → (file : List ℕ) → (table : List ℤ) → Answer Cause
 table_answer wave options held_script file table = answer_from (script_in held_script) (script_answer wave options file table)
 
 abbrev pub file_answer : (wave : List ℕ) → SessionOptions → (held_table held_script : Option (List ℕ)) → (file : List ℕ) → Answer Cause

@@ -155,7 +155,8 @@ pub fn serve<H: Host>(
     requires enough { fewest_pages ≤ options.pages }
     requires few { options.pages ≤ most_pages }
     ensures attempts { let answer = λ (files : Files). serve_answer wave.now options (files file.now) (files table.now) (files script.now) in
-        Attempts answer (spc_input file.now ∷ table_input table.now ∷ input_up_to input_limit script.now ∷ []) result (H.state host.old) (H.state host.new) }
+        Attempts answer (spc_input file.now ∷ table_input table.now ∷ input_up_to input_limit script.now ∷ [])
+        result (H.state host.old) (H.state host.new) }
     ensures not_usage { result ≡ Some Refusal.Usage → ⊥ }
 {
     let prepared = prepare(alloc, host, file, table, script, wave, options);

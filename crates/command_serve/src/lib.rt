@@ -4,7 +4,5 @@
 
 mod command;
 mod script;
-#[cfg(test)]
-mod tests;
 
 pub use command::serve;

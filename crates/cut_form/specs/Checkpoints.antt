@@ -6,10 +6,11 @@ use Rattle.std.specs.Prelude.{ℕ, zero, suc, ◌-◌, Bool, false, not, ◌&&�
 use Rattle.std.specs.List.{sum_by, count_by, list_any, range_with_len}
 use Rattle.std.specs.Str.{bytes_eq}
 use Rattle.aram_core.specs.Memory.{page_bytes}
+use Rattle.aram_core.specs.declared.aram.TheConstants.{PAGE_COUNT}
 
 -- how many pages a memory has
 abbrev pub page_count : ℕ
-page_count = 256
+page_count = PAGE_COUNT
 
 -- the fewest slots of a pool: the first checkpoint has one for each page
 abbrev pub fewest_pages : ℕ

@@ -6,9 +6,6 @@ pub const MOST_FRAMES: u32 = 115_200_000;
 /// The slots of the pool of a list of cuts.
 pub const SLOTS_FOR_CUTS: u32 = 4096;
 
-/// How many pages a memory has; a checkpoint has a slot for each.
-pub const PAGE_COUNT: usize = 256;
-
 /// The most live checkpoints.
 pub const MOST_CHECKPOINTS: u32 = 64;
 

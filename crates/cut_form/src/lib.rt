@@ -5,8 +5,7 @@ mod cut;
 mod mark;
 mod script;
 
-pub use cut::{
-    Cut, MOST_CHECKPOINTS, MOST_FRAMES, MOST_PLAYED, PAGE_COUNT, PLAYED_BYTES, SLOTS_FOR_CUTS,
-};
+pub use aram_core::PAGE_COUNT;
+pub use cut::{Cut, MOST_CHECKPOINTS, MOST_FRAMES, MOST_PLAYED, PLAYED_BYTES, SLOTS_FOR_CUTS};
 pub use mark::{Marked, NoPages};
 pub use script::{Reply, ScriptLine};

@@ -18,11 +18,11 @@ use Rattle.render_core.specs.Saved.{saved_whole, CanBePlayed, loaded_render}
 use Rattle.render_core.specs.Whole.{made_by, with_lists_of, IsPlayedLawfully}
 use Rattle.render_core.proofs.WholeRuns.{is_played_lawfully}
 use Rattle.cut_form.specs.Checkpoints.{pages_of, slots_needed, with_checkpoint}
-use Rattle.cut_form.specs.CutBook.{needed_here, with_live, with_one_here}
+use Rattle.cut_form.specs.CutBook.{with_live, with_one_here}
 use Rattle.cut_server.specs.Machines.{AreLawful}
-use Rattle.cut_server.specs.Table.{TableState, Saved, live_checkpoints}
-use Rattle.cut_server.specs.Server.{lock_step_machines, standing_of, pages_at, chip_at}
-use Rattle.cut_server.specs.ServerState.{book_of}
+use Rattle.cut_server.specs.Table.{TableState, Saved, saved_of, live_checkpoints}
+use Rattle.cut_server.specs.Server.{lock_step_machines, standing_of, chip_after}
+use Rattle.cut_server.specs.ServerState.{book_of, first_machine, pages_after}
 use Rattle.cut_server.specs.IsServed.{IsOnCourse}
 use Rattle.cut_server.specs.Renders.{HasHandedOver, IsServing, IsOnWay, RunsOut}
 
@@ -118,34 +118,38 @@ opened_handed_over chip render w total is drained clock samples =
       chip = ap (λ p. p.1.chip_sample) is ∙ omega (arith, clock, samples);
     }
 
+-- the machine at the opening of a server over a render
+abbrev pub opening_of : {S V : Type 0} → ChipMeaning S → ChipSaving S V → RenderState S → TableState (PlayState V) → Whole (Machine S)
+opening_of chip saving render table = first_machine (lock_step_machines chip saving) (render.cpu, render.bus.machine) (saved_of table)
+
 -- the pages of the memory where a server stands
-pub pages_here : {S V : Type 0} (chip : ChipMeaning S) (saving : ChipSaving S V) (render : RenderState S) (table : TableState (PlayState V)) (at : ℕ) → IsServing chip saving render table at → (memory : List ℕ) → memory ≡ render.bus.machine.memory
-    → pages_of memory ≡ pages_at chip saving (record { standing = standing_of render; table = table }) render.samples
+pub pages_here : {S V : Type 0} {chip : ChipMeaning S} {saving : ChipSaving S V} {render : RenderState S} {made : ℕ} {table : TableState (PlayState V)} {at : ℕ} → IsServing chip saving render made table at → (memory : List ℕ)
+    → memory ≡ render.bus.machine.memory → pages_of memory ≡ pages_after (lock_step_machines chip saving) (opening_of chip saving render table) render.samples
 unfolding lock_step_machines
-pages_here chip saving render table at serving memory is =
-    ap pages_of is ∙ ap (λ w. pages_of w.1.memory) serving.served.course ∙ ap (pages_at chip saving (record { standing = standing_of render; table = table })) (sym serving.served.position)
+pages_here {chip = chip} {saving} {render} {table = table} serving memory is =
+    ap pages_of is ∙ ap (λ w. pages_of w.1.memory) serving.served.course ∙ ap (pages_after (lock_step_machines chip saving) (opening_of chip saving render table)) (sym serving.served.position)
 
 -- and the chip there
-pub chip_there : {S V : Type 0} (chip : ChipMeaning S) (saving : ChipSaving S V) (render : RenderState S) (table : TableState (PlayState V)) (at : ℕ) → IsServing chip saving render table at
-    → render.bus.machine.chip ≡ chip_at chip saving (record { standing = standing_of render; table = table }) render.samples
+pub chip_there : {S V : Type 0} {chip : ChipMeaning S} {saving : ChipSaving S V} {render : RenderState S} {made : ℕ} {table : TableState (PlayState V)} {at : ℕ} → IsServing chip saving render made table at
+    → render.bus.machine.chip ≡ chip_after chip (opening_of chip saving render table) render.samples
 unfolding lock_step_machines
-chip_there chip saving render table at serving =
-    ap (λ w. w.1.chip) serving.served.course ∙ ap (chip_at chip saving (record { standing = standing_of render; table = table })) (sym serving.served.position)
+chip_there {chip = chip} {saving} {render} {table = table} serving =
+    ap (λ w. w.1.chip) serving.served.course ∙ ap (chip_after chip (opening_of chip saving render table)) (sym serving.served.position)
 
 -- so many slots a checkpoint there needs, and this is the book with it
-pub needed_is : {S V : Type 0} {chip : ChipMeaning S} {saving : ChipSaving S V} {render : RenderState S} {table : TableState (PlayState V)} {at : ℕ} → IsServing chip saving render table at → (memory : List ℕ) → memory ≡ render.bus.machine.memory
-    → (need : ℕ) → need ≡ slots_needed (live_checkpoints table) (pages_of memory)
-    → need ≡ needed_here (pages_at chip saving (record { standing = standing_of render; table = table })) (book_of (record { standing = standing_of render; table = table }))
-needed_is {chip = chip} {saving} {render} {table} {at} serving memory is need needed = needed ∙ ap (slots_needed (live_checkpoints table)) (pages_here chip saving render table at serving memory is)
+pub needed_is : {S V : Type 0} {chip : ChipMeaning S} {saving : ChipSaving S V} {render : RenderState S} {made : ℕ} {table : TableState (PlayState V)} {at : ℕ} → IsServing chip saving render made table at → (memory : List ℕ)
+    → memory ≡ render.bus.machine.memory → (need : ℕ) → need ≡ slots_needed (live_checkpoints table) (pages_of memory)
+    → need ≡ slots_needed (live_checkpoints table) (pages_after (lock_step_machines chip saving) (opening_of chip saving render table) render.samples)
+needed_is {table = table} serving memory is need needed = needed ∙ ap (slots_needed (live_checkpoints table)) (pages_here serving memory is)
 
-pub taken_is : {S V : Type 0} {chip : ChipMeaning S} {saving : ChipSaving S V} {render : RenderState S} {table : TableState (PlayState V)} {at : ℕ} → IsServing chip saving render table at → (memory : List ℕ) → memory ≡ render.bus.machine.memory
-    → (new : TableState (PlayState V)) → live_checkpoints new ≡ with_checkpoint (live_checkpoints table) at (pages_of memory)
-    → book_of (record { standing = standing_of render; table = new })
-    ≡ with_one_here (pages_at chip saving (record { standing = standing_of render; table = table })) (book_of (record { standing = standing_of render; table = table }))
-taken_is {chip = chip} {saving} {render} {table} {at} serving memory is new live =
+pub taken_is : {S V : Type 0} {chip : ChipMeaning S} {saving : ChipSaving S V} {render : RenderState S} {made : ℕ} {table : TableState (PlayState V)} {at : ℕ} → IsServing chip saving render made table at → (memory : List ℕ)
+    → memory ≡ render.bus.machine.memory → (new : TableState (PlayState V)) → live_checkpoints new ≡ with_checkpoint (live_checkpoints table) at (pages_of memory) → {told : ℕ}
+    → book_of (record { standing = standing_of render; made = told; table = new })
+    ≡ with_one_here (pages_after (lock_step_machines chip saving) (opening_of chip saving render table)) (book_of (record { standing = standing_of render; made = told; table = table }))
+taken_is {chip = chip} {saving} {render} {table = table} {at} serving memory is new live {told} =
     let before = live_checkpoints table in
-    ap (with_live (book_of (record { standing = standing_of render; table = table })))
-    (live ∙ ap (λ k. with_checkpoint before k (pages_of memory)) (sym serving.served.position) ∙ ap (with_checkpoint before render.samples) (pages_here chip saving render table at serving memory is))
+    ap (with_live (book_of (record { standing = standing_of render; made = told; table = table })))
+    (live ∙ ap (λ k. with_checkpoint before k (pages_of memory)) (sym serving.served.position) ∙ ap (with_checkpoint before render.samples) (pages_here serving memory is))
 
 -- While a render runs to its length.
 pub way_begun : {S : Type 0} (chip : ChipMeaning S) (render : RenderState S) → render.bus.chip_total < 2 ^ 64 → IsOnWay chip render render

@@ -16,11 +16,12 @@ pub record HasHandedOver {S : Type 0} (render : RenderState S) : Type 0 where
   pub drained : drained_machine render.bus.machine ≡ render.bus.machine
   pub chip : render.bus.chip_sample ≡ render.samples
 
--- A server over a render: what it keeps.
-pub record IsServing {S V : Type 0} (chip : ChipMeaning S) (saving : ChipSaving S V) (render : RenderState S)
+-- A server over a render: what it keeps. The number that it tells to have made is that of its render.
+pub record IsServing {S V : Type 0} (chip : ChipMeaning S) (saving : ChipSaving S V) (render : RenderState S) (made : ℕ)
     (table : TableState (PlayState V)) (at : ℕ) : Type 0 where
   pub served : IsServed (lock_step_machines chip saving) (standing_of render) table at
   pub handed_over : HasHandedOver render
+  pub counted : made ≡ render.bus.chip_total
 
 -- A render is on the way to the same length and machine. Its chip made as many samples as the number of its next one rose by.
 pub record IsOnWay {S : Type 0} (chip : ChipMeaning S) (old new : RenderState S) : Type 0 where

@@ -29,7 +29,6 @@ abbrev pub standing_of : {S : Type 0} → RenderState S → Standing (Whole (Mac
 standing_of render = record {
   samples = render.samples;
   whole = (render.cpu, render.bus.machine);
-  total = render.bus.chip_total;
   is_done = is_at_length render;
 }
 

@@ -11,20 +11,20 @@ pub record Standing (W : Type 0) : Type 0 where
   -- the samples made, which are its length
   pub samples : ℕ
   pub whole : W
-  -- the samples that the chip in hand made in all
-  pub total : ℕ
   pub is_done : Bool
 
 pub record ServerState (W V : Type 0) : Type 0 where
   pub standing : Standing W
+  -- the samples that the chip in hand made in all
+  pub made : ℕ
   pub table : TableState V
 
--- where it stands, its checkpoints, and how much it made: its render's own total
+-- where it stands, its checkpoints, and how much it made
 abbrev pub book_of : {W V : Type 0} → ServerState W V → CutBook
 book_of server = record {
   position = server.standing.samples;
   live = live_checkpoints server.table;
-  made = server.standing.total;
+  made = server.made;
 }
 
 -- the slots of its pool

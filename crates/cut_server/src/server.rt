@@ -44,9 +44,9 @@ impl<C: Chip> Model for CutServer<C> {
 
     ghost Value = { ChipServer C.State C.Saved };
 
-    ghost view = { λ s. record { standing = standing_of s.render; table = s.table } };
+    ghost view = { λ s. record { standing = standing_of s.render; made = s.render.bus.chip_total; table = s.table } };
 
-    ghost invariant = { λ s. IsServing C.meaning C.saving s.render s.table s.position };
+    ghost invariant = { λ s. IsServing C.meaning C.saving s.render s.render.bus.chip_total s.table s.position };
 }
 
 impl<C: Chip> CutServer<C> {

@@ -2,6 +2,7 @@
 ghost use Rattle.std.specs.Prelude.{◌≡◌, ◌==◌, ◌≤◌, ◌+◌, ◌-◌, ◌<◌, ◌++◌, ◌∷◌, [], false, length, vec_len, vec_capacity, slice_index, slice_get};
 ghost use Rattle.std.specs.Prelude.{IfOk, IfSome, IsNone, Some, ◌↔◌};
 ghost use Rattle.std.specs.List.{list_any, position, remove, remove_range};
+ghost use Rattle.std.specs.Vec.{SameBlock};
 ghost use Rattle.page_pool.specs.Pool.{most_pages, free_slots};
 ghost use Rattle.cut_form.specs.Checkpoints.{page_count, most_checkpoints, fewest_pages, pages_of, with_checkpoint, without_checkpoint, without_entry, stands_at, nearest};
 ghost use Rattle.cut_form.specs.Checkpoints.{shared_with_newest, own_slots, slots_needed, slots_free, has_room};
@@ -54,13 +55,14 @@ fn newest_pages<S: Copy>(marks: &[Mark<S>]) -> &[Page]
     }
 }
 
-/// Adds a mark, for which there is room.
+/// Adds a mark, for which there is room: the block of the list stays.
 fn push_mark<S: Copy>(marks: &mut Vec<Mark<S>>, mark: Mark<S>)
     requires { vec_len marks.old < vec_capacity marks.old }
     ensures items { marks.new.items ≡ marks.old.items ++ mark ∷ [] }
-    ensures capacity { vec_capacity marks.old ≤ vec_capacity marks.new }
+    ensures block { SameBlock marks.old marks.new }
 {
-    let _ = marks.push(mark);
+    let end = marks.len();
+    let _ = marks.insert(end, mark);
 }
 
 /// Whether one of the marks was taken at a sample.

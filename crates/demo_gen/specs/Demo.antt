@@ -1,6 +1,7 @@
 -- The file: its parts at their places, and zeros everywhere else (SPC file format text v0.30; which parts is own).
 use Rattle.std.specs.Prelude.{ℕ, List, [], ◌∷◌, ◌++◌, codes, decimal, fold}
 use Rattle.spc_form.specs.Accepted.{signature, padded_to, kept_length}
+use Rattle.spc_form.specs.Layout.{dsp_place}
 use Rattle.demo_gen.specs.Places.{cell, with_part}
 use Rattle.demo_gen.specs.Draws.{state_after}
 use Rattle.demo_gen.specs.Samples.{directory, sample_bytes}
@@ -29,7 +30,7 @@ parts number =
     ∷ (cell 0x2000, registers (state_after 1152 number))
     ∷ (cell 0x2100, values (state_after 1152 number))
     ∷ (cell 0x2200, sample_bytes 1 256 (state_after 512 (state_after 1152 number)))
-    ∷ (0x10100, dsp_registers)
+    ∷ (dsp_place, dsp_registers)
     ∷ []
 
 -- the demo file of a number, 66,048 bytes

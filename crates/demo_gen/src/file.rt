@@ -9,7 +9,7 @@ use crate::driver::{put_driver, put_dsp_registers};
 use crate::samples::{put_directory, put_sample_bytes};
 use crate::writes::{put_registers, put_values};
 use itoa::Buffer;
-use spc_form::{SpcFile, SpcRefusal, read_spc};
+use spc_form::{DSP_PLACE, KEPT_LENGTH, MEMORY_PLACE, SpcFile, SpcRefusal, read_spc};
 use std::alloc::Global;
 
 /// What a file begins with: the signature, the version, the mark of tags, PC, A, X, Y, PSW and SP.
@@ -20,7 +20,7 @@ fn cell(address: usize) -> usize
     requires { address < 0x10000 }
     ensures { result ≡ cell address }
 {
-    0x100 + address
+    MEMORY_PLACE + address
 }
 
 /// Puts the front into the file.
@@ -49,7 +49,7 @@ fn demo_bytes(alloc: Global, number: u32) -> Result<Vec<u8>, OutOfMemory>
     ensures bytes { IfOk result (λ file. file.items ≡ demo_bytes number) }
     ensures len { IfOk result (λ file. vec_len file ≡ kept_length) }
 {
-    let mut file = Vec::with_capacity(alloc, 66048)?;
+    let mut file = Vec::with_capacity(alloc, KEPT_LENGTH)?;
     put_front(&mut file, 0)?;
     put_title(&mut file, 0x2E, number)?;
     put_directory(&mut file, cell(0x0200))?;
@@ -58,8 +58,8 @@ fn demo_bytes(alloc: Global, number: u32) -> Result<Vec<u8>, OutOfMemory>
     put_registers(&mut file, cell(0x2000), writes)?;
     let rest = put_values(&mut file, cell(0x2100), writes)?;
     put_sample_bytes(&mut file, cell(0x2200), 1, 256, rest)?;
-    put_dsp_registers(&mut file, 0x10100)?;
-    file.resize(66048, 0)?;
+    put_dsp_registers(&mut file, DSP_PLACE)?;
+    file.resize(KEPT_LENGTH, 0)?;
     Ok(file)
 }
 

@@ -5,7 +5,7 @@ ghost use Rattle.disk_host.specs.Created.{flags_of};
 ghost use Rattle.disk_host.specs.Held.{told_at, held_by};
 ghost use Rattle.std.specs.Io.KnownBytes.{ReadConsumes, WriteAppends};
 
-use snd_host::{Failed, Host, InFile, OutFile};
+use snd_host::{Failed, Host, InFile, MOST_READ_AT_ONCE, OutFile};
 use std::alloc::Global;
 use std::fs;
 use std::io::{Read, Write};
@@ -79,8 +79,8 @@ fn read_some<F: Read>(file: &mut F, buf: &mut [u8]) -> Result<usize, Failed>
     ensures after { IfOk result (λ count. drop count buf.new ≡ drop count buf.old) }
     ensures bytes { ReadConsumes (F.remaining file.old) (F.remaining file.new) result buf.new }
 {
-    let mut chunk = [0u8; 4096];
-    let most = buf.len().min(4096);
+    let mut chunk = [0u8; MOST_READ_AT_ONCE];
+    let most = buf.len().min(MOST_READ_AT_ONCE);
     let Ok(count) = file.read(&mut chunk[..most]) else {
         return Err(Failed);
     };

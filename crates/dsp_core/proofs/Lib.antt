@@ -1,2 +1,2 @@
--- Batches: samples whose echo can't write what the voices read are those by rows.
+-- Batches: samples whose voices read the same are those by rows, and samples after samples.
 pub mod Batches

@@ -20,7 +20,8 @@ use Rattle.chip_form.specs.SavingLaws.{IsLawfulSaving}
 use Rattle.dsp_core.specs.DspChip.{dsp_chip, dsp_saving}
 
 -- the records of the voices from v on are those of the voices up to 7 where there are 8 - v
-are_voice_records-records_from : (k v : ℕ) (answers : List VoiceOut) → v + length answers ≡ 8 → are_voice_records k v (records_from k v answers) ≡ true
+are_voice_records-records_from : (k v : ℕ) (answers : List VoiceOut) → v + length answers ≡ 8
+    → are_voice_records k v (records_from k v answers) ≡ true
 unfolding are_voice_records
 are_voice_records-records_from k v [] full = eq-eqb v 8 (omega arith)
 are_voice_records-records_from k v (answer ∷ answers) full =
@@ -55,7 +56,8 @@ table-register_write : (s : ChipState) (address byte : ℕ) → (register_write 
 unfolding register_write
 table-register_write s address byte = by (nat_le 0x80 address) _ _
   where
-    by : (b : Bool) (registers : List ℕ) (waiting : ℕ) → (if b then s else record s { registers = registers; hidden = record s.hidden { waiting = waiting } }).table ≡ s.table
+    by : (b : Bool) (registers : List ℕ) (waiting : ℕ)
+        → (if b then s else record s { registers = registers; hidden = record s.hidden { waiting = waiting } }).table ≡ s.table
     by true registers waiting = refl
     by false registers waiting = refl
 
@@ -67,7 +69,8 @@ muted-register_write : (s : ChipState) (address byte : ℕ) → (register_write 
 unfolding register_write
 muted-register_write s address byte = by (nat_le 0x80 address) _ _
   where
-    by : (b : Bool) (registers : List ℕ) (waiting : ℕ) → (if b then s else record s { registers = registers; hidden = record s.hidden { waiting = waiting } }).muted ≡ s.muted
+    by : (b : Bool) (registers : List ℕ) (waiting : ℕ)
+        → (if b then s else record s { registers = registers; hidden = record s.hidden { waiting = waiting } }).muted ≡ s.muted
     by true registers waiting = refl
     by false registers waiting = refl
 

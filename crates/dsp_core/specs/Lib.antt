@@ -1,4 +1,5 @@
 -- Chip: what contracts see of a chip.
+-- Next: what its next samples leave and give.
 -- Saved: what is saved of a chip, and put back.
 -- DspChip: the S-DSP as a chip.
 -- DspLaws: it keeps the laws of a chip.
@@ -6,6 +7,7 @@
 -- Inside: what holds of the fields of each chip.
 -- InsideSaved: and of all that is saved of one.
 pub mod Chip
+pub mod Next
 pub mod Saved
 pub mod DspChip
 pub mod DspLaws

@@ -5,12 +5,13 @@ ghost use Rattle.std.specs.FinSet as set;
 ghost use Rattle.std.specs.List.{filter};
 ghost use Rattle.trace_form.specs.Rooms.{frame_room, record_room};
 ghost use Rattle.chip_form.specs.Limits.{most_samples_of_chip, most_samples_of_batch};
-ghost use Rattle.chip_form.specs.Samples.{samples, in_mask, next_count, count_after};
-ghost use Rattle.dsp_state.specs.Sample.{sample};
+ghost use Rattle.chip_form.specs.Samples.{in_mask, count_after};
 ghost use Rattle.dsp_state.specs.Settings.{settings_of};
 ghost use Rattle.dsp_state.specs.Outside.{opened_state, register_read, register_write};
 ghost use Rattle.dsp_state.specs.Valid.{is_valid};
 ghost use Rattle.dsp_state.specs.Reach.{chip_reach};
+ghost use Rattle.batch_rows.specs.Apart.{VoicesReadTheSame};
+ghost use Rattle.dsp_core.specs.Next.{next_sample, next_samples};
 ghost use Rattle.dsp_core.specs.Saved.{saved_state, loaded_state};
 
 use crate::OutOfMemory;
@@ -18,7 +19,8 @@ use crate::sample::make_sample;
 use crate::saved::DspState;
 use aram_core::Aram;
 use batch_rows::{
-    BatchSamples, PlayedBatch, is_echo_apart, play_batch, play_recorded_batch, push_records,
+    BatchSamples, PlayedBatch, is_echo_apart, is_echo_far, play_batch, play_recorded_batch,
+    push_records, samples_apart,
 };
 use dsp_state::registers::{ENDX, KON};
 use dsp_state::{ChipState, Hidden, Settings, settings_of};
@@ -29,6 +31,12 @@ use std::alloc::Global;
 use std::marker::Model;
 use trace_form::{Frames, Records};
 use voice_unit::{UNHEARD, Voice, VoiceOut, Workspace};
+
+/// The fewest samples for which rows pay.
+const FEWEST_ROWS: u8 = 3;
+
+/// How many samples are made one by one before it is looked again whether rows may be.
+const ONE_BY_ONE: u8 = 4;
 
 /// The S-DSP. It runs once for each sample, 32,000 times a second of sound. Beside the chip's state it keeps what it works with, of which views and saved
 /// states see nothing: what it read of its registers, the places of its voices, and the blocks that were decoded.
@@ -151,10 +159,10 @@ impl Dsp {
         requires frame_room { length frames.old < frame_room }
         requires record_room { length records.old + 8 ≤ record_room }
         requires number { self.old.sample < most_samples_of_chip }
-        ensures chip { self.new ≡ record self.old { state = (sample self.old.sample self.old.state memory.old).state; sample = self.old.sample + 1 } }
-        ensures memory { memory.new ≡ (sample self.old.sample self.old.state memory.old).memory }
-        ensures frames { frames.new ≡ frames.old ++ (sample self.old.sample self.old.state memory.old).frame ∷ [] }
-        ensures records { records.new ≡ records.old ++ filter (in_mask mask) (sample self.old.sample self.old.state memory.old).records }
+        ensures chip { self.new ≡ record self.old { state = (next_sample self.old memory.old).state; sample = self.old.sample + 1 } }
+        ensures memory { memory.new ≡ (next_sample self.old memory.old).memory }
+        ensures frames { frames.new ≡ frames.old ++ (next_sample self.old memory.old).frame ∷ [] }
+        ensures records { records.new ≡ records.old ++ filter (in_mask mask) (next_sample self.old memory.old).records }
         ensures record_count { length records.new ≤ length records.old + 8 }
     {
         self.clock.step();
@@ -185,10 +193,10 @@ impl Dsp {
         requires frame_room { length frames.old + n ≤ frame_room }
         requires record_room { length records.old + 8 * n ≤ record_room }
         requires number { self.old.sample + n ≤ most_samples_of_chip }
-        ensures chip { self.new ≡ record self.old { state = (samples sample n self.old.sample self.old.state memory.old).state; sample = self.old.sample + n } }
-        ensures memory { memory.new ≡ (samples sample n self.old.sample self.old.state memory.old).memory }
-        ensures frames { frames.new ≡ frames.old ++ (samples sample n self.old.sample self.old.state memory.old).frames }
-        ensures records { records.new ≡ records.old ++ filter (in_mask mask) (samples sample n self.old.sample self.old.state memory.old).records }
+        ensures chip { self.new ≡ record self.old { state = (next_samples n self.old memory.old).state; sample = self.old.sample + n } }
+        ensures memory { memory.new ≡ (next_samples n self.old memory.old).memory }
+        ensures frames { frames.new ≡ frames.old ++ (next_samples n self.old memory.old).frames }
+        ensures records { records.new ≡ records.old ++ filter (in_mask mask) (next_samples n self.old memory.old).records }
     {
         let mut answers = [UNHEARD; 8];
         'samples: for _ in 0..n {
@@ -203,10 +211,10 @@ impl Dsp {
         requires few { n ≤ most_samples_of_batch }
         requires frame_room { length frames.old + n ≤ frame_room }
         requires number { self.old.sample + n ≤ most_samples_of_chip }
-        requires apart { (chip_reach self.old.state memory.old).entangled ≡ false }
-        ensures chip { self.new ≡ record self.old { state = (samples sample n self.old.sample self.old.state memory.old).state; sample = self.old.sample + n } }
-        ensures memory { memory.new ≡ (samples sample n self.old.sample self.old.state memory.old).memory }
-        ensures frames { frames.new ≡ frames.old ++ (samples sample n self.old.sample self.old.state memory.old).frames }
+        requires apart { VoicesReadTheSame n self.old.sample self.old.state memory.old }
+        ensures chip { self.new ≡ record self.old { state = (next_samples n self.old memory.old).state; sample = self.old.sample + n } }
+        ensures memory { memory.new ≡ (next_samples n self.old memory.old).memory }
+        ensures frames { frames.new ≡ frames.old ++ (next_samples n self.old memory.old).frames }
     {
         let samples = BatchSamples::after(&self.clock, self.number, n);
         play_batch(
@@ -238,11 +246,11 @@ impl Dsp {
         requires frame_room { length frames.old + n ≤ frame_room }
         requires record_room { length records.old + 8 * n ≤ record_room }
         requires number { self.old.sample + n ≤ most_samples_of_chip }
-        requires apart { (chip_reach self.old.state memory.old).entangled ≡ false }
-        ensures chip { self.new ≡ record self.old { state = (samples sample n self.old.sample self.old.state memory.old).state; sample = self.old.sample + n } }
-        ensures memory { memory.new ≡ (samples sample n self.old.sample self.old.state memory.old).memory }
-        ensures frames { frames.new ≡ frames.old ++ (samples sample n self.old.sample self.old.state memory.old).frames }
-        ensures records { records.new ≡ records.old ++ filter (in_mask mask) (samples sample n self.old.sample self.old.state memory.old).records }
+        requires apart { VoicesReadTheSame n self.old.sample self.old.state memory.old }
+        ensures chip { self.new ≡ record self.old { state = (next_samples n self.old memory.old).state; sample = self.old.sample + n } }
+        ensures memory { memory.new ≡ (next_samples n self.old memory.old).memory }
+        ensures frames { frames.new ≡ frames.old ++ (next_samples n self.old memory.old).frames }
+        ensures records { records.new ≡ records.old ++ filter (in_mask mask) (next_samples n self.old memory.old).records }
     {
         let samples = BatchSamples::after(&self.clock, self.number, n);
         play_recorded_batch(
@@ -258,16 +266,65 @@ impl Dsp {
         self.number += u32::from(n);
     }
 
-    /// Whether the next n samples may be made by rows, and it pays: they are more than two, and the echo can't write what the voices
-    /// read. A `false` is free: no clause says when it comes, and one by one the samples are the same.
-    fn goes_by_rows(&self, n: u8, memory: &Aram) -> bool
-        ensures some { result ≡ true → 0 < n }
-        ensures apart { result ≡ true → (chip_reach self.now.state memory.now).entangled ≡ false }
+    /// How many of the next n samples may be made by rows: where it is seen from afar that the echo can't write what the voices read all
+    /// of them, and else those that write nothing which a voice reads in them. None where it doesn't pay, as for one or two samples. Fewer
+    /// are free: no clause says how many it tells, and one by one the samples are the same.
+    fn samples_by_rows(&self, n: u8, memory: &Aram) -> u8
+        requires { n ≤ most_samples_of_batch }
+        ensures few { result ≤ n }
+        ensures same { VoicesReadTheSame result self.now.sample self.now.state memory.now }
     {
-        if n <= 2 {
-            return false;
+        if n < FEWEST_ROWS {
+            return 0;
         }
-        is_echo_apart(&self.state, memory)
+        let far = is_echo_far(&self.state, memory);
+        if far {
+            return n;
+        }
+        let apart = samples_apart(&self.state, memory, n);
+        if apart < FEWEST_ROWS {
+            return 0;
+        }
+        apart
+    }
+
+    /// Makes some of the next n samples, by rows or a few one by one, and adds their frames and the records of the voices in the mask.
+    /// The answer is how many.
+    fn make_some(
+        &mut self,
+        n: u8,
+        settings: &Settings,
+        memory: &mut Aram,
+        mask: u8,
+        frames: &mut Frames,
+        records: &mut Records,
+    ) -> u8
+        requires settings { settings.now ≡ settings_of self.old.state.registers self.old.state.muted }
+        requires some { 0 < n }
+        requires few { n ≤ most_samples_of_batch }
+        requires frame_room { length frames.old + n ≤ frame_room }
+        requires record_room { length records.old + 8 * n ≤ record_room }
+        requires number { self.old.sample + n ≤ most_samples_of_chip }
+        ensures some { 0 < result }
+        ensures few { result ≤ n }
+        ensures chip { let made = next_samples result self.old memory.old in
+            self.new ≡ record self.old { state = made.state; sample = self.old.sample + result } }
+        ensures memory { memory.new ≡ (next_samples result self.old memory.old).memory }
+        ensures frames { frames.new ≡ frames.old ++ (next_samples result self.old memory.old).frames }
+        ensures records { records.new ≡ records.old ++ filter (in_mask mask) (next_samples result self.old memory.old).records }
+    {
+        let rows = self.samples_by_rows(n, memory);
+        if rows == 0 {
+            let few = n.min(ONE_BY_ONE);
+            self.make_each(few, settings, memory, mask, frames, records);
+            return few;
+        }
+        if mask == 0 {
+            self.make_rows(rows, settings, memory, frames);
+            return rows;
+        }
+        self.make_recorded_rows(rows, settings, memory, mask, frames, records);
+        rows
     }
 
     /// Makes the next n samples, at most 64, and adds their frames and the records of the voices in the
@@ -284,13 +341,13 @@ impl Dsp {
         requires frame_room { length frames.old + n ≤ frame_room }
         requires record_room { length records.old + 8 * n ≤ record_room }
         requires number { self.old.sample + n ≤ most_samples_of_chip }
-        ensures state { self.new.state ≡ (samples sample n self.old.sample self.old.state memory.old).state }
+        ensures state { self.new.state ≡ (next_samples n self.old memory.old).state }
         ensures sample { self.new.sample ≡ self.old.sample + n }
-        ensures batches { self.new.batches ≡ (if n == 0 then self.old.batches else next_count self.old.batches) }
+        ensures batches { self.new.batches ≡ (if n == 0 then self.old.batches else count_after self.old.batches 1) }
         ensures total { self.new.total ≡ count_after self.old.total n }
-        ensures memory { memory.new ≡ (samples sample n self.old.sample self.old.state memory.old).memory }
-        ensures frames { frames.new ≡ frames.old ++ (samples sample n self.old.sample self.old.state memory.old).frames }
-        ensures records { records.new ≡ records.old ++ filter (in_mask mask) (samples sample n self.old.sample self.old.state memory.old).records }
+        ensures memory { memory.new ≡ (next_samples n self.old memory.old).memory }
+        ensures frames { frames.new ≡ frames.old ++ (next_samples n self.old memory.old).frames }
+        ensures records { records.new ≡ records.old ++ filter (in_mask mask) (next_samples n self.old memory.old).records }
     {
         self.total = self.total.saturating_add(u64::from(n));
         if n == 0 {
@@ -298,13 +355,9 @@ impl Dsp {
         }
         self.batches = self.batches.saturating_add(1);
         let settings = self.read_settings();
-        if !self.goes_by_rows(n, memory) {
-            return self.make_each(n, &settings, memory, mask, frames, records);
-        }
-        if mask == 0 {
-            self.make_rows(n, &settings, memory, frames);
-        } else {
-            self.make_recorded_rows(n, &settings, memory, mask, frames, records);
+        let mut made = 0;
+        'samples: while made < n {
+            made += self.make_some(n - made, &settings, memory, mask, frames, records);
         }
     }
 

@@ -1,5 +1,5 @@
-//! The S-DSP: eight voices, the echo and the registers. It makes its samples in batches: by rows where they are more than two and
-//! the echo can't write what the voices read, and else one after another. All that stands above it sees a chip as any other.
+//! The S-DSP: eight voices, the echo and the registers. It makes its samples in batches: by rows where they are more than two and the
+//! voices read nothing that the echo writes in them, and else one after another. All that stands above it sees a chip as any other.
 #![tactic(auto)]
 
 mod chip;

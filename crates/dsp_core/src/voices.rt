@@ -30,7 +30,8 @@ pub struct SampleReads<'a> {
 /// What voice `v` reads beside its registers.
 fn voice_in(settings: &Settings, common: &SharedByVoices, v: u8, previous: i16) -> VoiceIn
     requires { v < 8 }
-    ensures value { (registers : List ℕ) (muted : ℕ) → settings.now ≡ settings_of registers muted → result ≡ voice_in registers common.now v previous }
+    ensures value { (registers : List ℕ) (muted : ℕ) → settings.now ≡ settings_of registers muted
+        → result ≡ voice_in registers common.now v previous }
     ensures noise { result.noise ≡ common.now.noise }
 {
     let one = &settings.voices[usize::from(v)];

@@ -4,6 +4,7 @@ ghost use Rattle.std.specs.Prelude.{◌≡◌, ◌≤◌, ◌<◌, ◌+◌, ◌+
 ghost use Rattle.std.specs.FinSet as set;
 ghost use Rattle.arrayvec.specs.ArrayVec.{array_vec_len};
 ghost use Rattle.aram_core.specs.Pages.{has_page};
+ghost use Rattle.aram_core.specs.declared.aram.TheConstants.{MEMORY_SIZE};
 ghost use Rattle.reach_map.specs.Reach.{window_pages};
 ghost use Rattle.dsp_state.specs.Reach.{can_start, chip_reach, chip_window, entries_from, starts_from, voice_reads, voice_starts, voices_read};
 
@@ -114,7 +115,7 @@ impl ChipState {
     fn window(&self) -> Window
         ensures window { result ≡ chip_window self.now }
         ensures some { 1 ≤ result.len }
-        ensures most { result.len ≤ 0x10000 }
+        ensures most { result.len ≤ MEMORY_SIZE }
     {
         let echo = &self.hidden.echo;
         echo.window(self.registers[ESA], self.registers[EDL])

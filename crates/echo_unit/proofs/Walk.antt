@@ -1,5 +1,5 @@
 -- Where the echo stands after so many cells of a buffer that is longer than one cell: up to 64 of them are all apart.
-use Rattle.std.proofs.Common.{◌≡◌, ◌≢◌, ℕ, zero, suc, ◌+◌, ◌*◌, ◌%◌, ◌<◌, ◌≤◌, ◌==◌, nat_le, Bool, true, false, if◌then◌else◌, ◌⊎◌, inl, inr, refl, ap, arith}
+use Rattle.std.proofs.Common.{◌≡◌, ◌≢◌, ℕ, zero, suc, ◌+◌, ◌*◌, ◌%◌, ◌<◌, ◌≤◌, ◌==◌, nat_le, Bool, true, false, if◌then◌else◌, ◌⊎◌, inl, inr, refl, ap, ◌∙◌, arith}
 use Rattle.std.proofs.lemmas.Bool.Decides.{nat_tests}
 use Rattle.reach_map.specs.Window.{echo_length}
 use Rattle.echo_unit.specs.Echo.{EchoState, length_in_force, at_next_cell}
@@ -42,6 +42,16 @@ goes_on edl len offset at place force more =
     let test : nat_le (length_in_force edl at) (at.offset + 4) ≡ false = rw (force, place) short in
     let some : (offset + 4 == 0) ≡ false = grind (arith, nat_tests) in
     (rw test (ap (λ (n : ℕ). n + 4) place), rw (test, place, some) (rw place at force))
+
+-- cells that end before the buffer does stand one after another
+pub in_line : (edl cells : ℕ) (s : EchoState) → (0 < cells → s.offset + 4 * cells ≤ length_in_force edl s) → (j : ℕ) → j < cells
+    → ((after_cells s edl j).offset ≡ s.offset + 4 * j) × (length_in_force edl (after_cells s edl j) ≡ length_in_force edl s)
+in_line edl cells s room zero below = (omega arith, refl)
+in_line edl cells s room (suc j) below =
+    let before = in_line edl cells s room j (omega (arith, below)) in
+    let more : s.offset + 4 * j + 4 < length_in_force edl s = let all = room (omega (arith, below)) in omega (arith, all, below) in
+    let next = goes_on edl (length_in_force edl s) (s.offset + 4 * j) (after_cells s edl j) before.0 before.1 more in
+    (next.0 ∙ omega arith, next.1)
 
 turns : (edl len offset : ℕ) (at : EchoState) → at.offset ≡ offset → length_in_force edl at ≡ len → len ≤ offset + 4
     → ((at_next_cell at edl).offset ≡ 0) × (length_in_force edl (at_next_cell at edl) ≡ echo_length edl)

@@ -1,5 +1,6 @@
 -- The cells that the echo goes through one after another.
-use Rattle.std.specs.Prelude.{ℕ, zero, suc, ◌+◌, ◌*◌, ◌%◌, ◌<◌, ◌≤◌, List, [], ◌∷◌, ◌++◌}
+use Rattle.std.specs.Prelude.{◌≡◌, ℕ, zero, suc, ◌+◌, ◌*◌, ◌%◌, ◌<◌, ◌≤◌, List, [], ◌∷◌, ◌++◌}
+use Rattle.aram_core.specs.declared.aram.TheConstants.{PAGE_SIZE}
 use Rattle.num_fix.specs.declared.Frame.{Frame}
 use Rattle.echo_unit.specs.Echo.{EchoState, cell_address, cell_pair, with_cell, length_in_force, at_next_cell}
 use Rattle.echo_unit.specs.declared.regs.EchoRegs.{EchoRegs}
@@ -25,5 +26,9 @@ with_cells s regs words memory (suc j) = with_cell (with_cells s regs words memo
 
 -- the next so many cells stand one after another in one page
 pub record AreNeighbours (edl cells : ℕ) (s : EchoState) : Type 0 where
-  pub in_page : s.offset % 256 + 4 * cells ≤ 256
+  pub in_page : s.offset % PAGE_SIZE + 4 * cells ≤ PAGE_SIZE
   pub in_buffer : (j : ℕ) → 0 < j → j < cells → s.offset + 4 * j < length_in_force edl s
+
+-- the next so many cells stand one after another
+abbrev pub StandInLine : (edl cells : ℕ) → EchoState → Type 0
+StandInLine edl cells s = (j : ℕ) → j < cells → (after_cells s edl j).offset ≡ s.offset + 4 * j

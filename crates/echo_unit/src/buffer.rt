@@ -1,4 +1,4 @@
-//! The way of the echo over the cells of its buffer in a batch: those that stand one after another in a page are read at once, and
+//! How the echo goes over the cells of its buffer in a batch: those that stand one after another in a page are read at once, and
 //! written at once.
 
 ghost use Rattle.std.specs.Prelude.{◌≡◌, ◌≤◌, ◌<◌, ◌+◌, ◌*◌, true, length, map, take, ℕ, List};
@@ -8,9 +8,9 @@ ghost use Rattle.echo_unit.specs.EchoOverBatch.{pair_of};
 
 use crate::EchoRegs;
 use crate::echo::Echo;
-use crate::page::{pair_in, put_pair};
+use crate::page::{PAGE, pair_in, put_pair};
 use crate::rows::READ_SIZE;
-use aram_core::{Aram, page_of};
+use aram_core::{Aram, PAGE_SIZE, page_of};
 use num_fix::BATCH_SIZE;
 
 impl Echo {
@@ -35,7 +35,7 @@ impl Echo {
     {
         let address = self.cell(regs.esa);
         let page = memory.page(page_of(address));
-        let at = usize::from(address % 256);
+        let at = usize::from(address % PAGE);
         let from = 8 + usize::from(before);
         for i in 0..usize::from(cells) {
             let pair = pair_in(page, at + 4 * i);
@@ -91,9 +91,9 @@ impl Echo {
     {
         let address = self.cell(regs.esa);
         let page = page_of(address);
-        let at = usize::from(address % 256);
+        let at = usize::from(address % PAGE);
         let from = usize::from(before);
-        let mut bytes = [0; 256];
+        let mut bytes = [0; PAGE_SIZE];
         bytes.copy_from_slice(memory.page(page));
         for i in 0..usize::from(cells) {
             put_pair(&mut bytes, at + 4 * i, left[from + i], right[from + i]);

@@ -2,13 +2,14 @@
 ghost use Rattle.std.specs.Prelude.{◌≡◌, ◌<◌, ◌≤◌, ◌+◌, ◌*◌, ◌%◌, true, false, length, map, take};
 ghost use Rattle.reach_map.specs.Window.{echo_window};
 ghost use Rattle.echo_unit.specs.Echo.{first_echo, is_at_cell, cell_address, with_newest, after_reading, length_in_force, at_next_cell, echo_heard, next_echo, echo_memory, output_frame, feedback_pair};
-ghost use Rattle.echo_unit.specs.Cells.{AreNeighbours, after_cells, with_cells};
+ghost use Rattle.echo_unit.specs.Cells.{AreNeighbours, StandInLine, after_cells, with_cells};
 ghost use Rattle.echo_unit.specs.Flg.{has_echo_writes};
 ghost use Rattle.echo_unit.specs.EchoOverBatch.{echo_over, pair_of, main_of, sent_of};
 
 use crate::cell::{cell_address, cell_pair, put_cell};
 use crate::filter::filtered_pair;
 use crate::flg::has_echo_writes;
+use crate::page::PAGE;
 use crate::rows::{
     HeardRows, READ_SIZE, SILENCE, SumRows, feedback_row, filtered_row, frame_at, last_pairs,
     output_row, put_history,
@@ -122,7 +123,7 @@ impl Echo {
     }
 
     /// The address of its cell.
-    pub(crate) fn cell(&self, esa: u8) -> u16
+    pub fn cell(&self, esa: u8) -> u16
         ensures { result ≡ cell_address esa self.now.offset }
     {
         cell_address(esa, self.offset)
@@ -154,6 +155,15 @@ impl Echo {
         }
     }
 
+    /// How many of the next cells, at most so many, stand one after another before the buffer's end.
+    pub fn cells_in_line(&self, edl: u8, most: u8) -> u8
+        ensures few { result ≤ most }
+        ensures line { StandInLine edl result self.now }
+    {
+        let left = self.length_in_force(edl).saturating_sub(self.offset);
+        u16::from(most).min(left / 4) as u8
+    }
+
     /// How many of the next cells, at least one and at most so many, stand one after another in one page.
     pub(crate) fn neighbours(&self, edl: u8, most: u8) -> u8
         requires { 0 < most }
@@ -165,7 +175,7 @@ impl Echo {
         if self.length_in_force(edl) == 0 {
             return 1;
         }
-        let in_page = (256 - self.offset % 256) / 4;
+        let in_page = (PAGE - self.offset % PAGE) / 4;
         u16::from(most).min(in_page) as u8
     }
 

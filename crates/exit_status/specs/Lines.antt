@@ -9,7 +9,7 @@ use Rattle.exit_status.specs.declared.cause.LineFault.TheVariants as faults
 use Rattle.exit_status.specs.declared.cause.Cause.{Cause}
 use Rattle.exit_status.specs.declared.cause.Cause.TheVariants.{SpcLength, SpcSignature, TableLength, BrrLength, WavForm, EncodeSize, InputTooLong, AsmLine, CodeLength, CutList, Script}
 use Rattle.exit_status.specs.declared.status.Status.{Status}
-use Rattle.exit_status.specs.Statuses.{plain_end}
+use Rattle.exit_status.specs.Statuses.{end_without_numbers}
 
 -- the end of the line on a fault
 abbrev pub fault_end : LineFault → List ℕ
@@ -52,4 +52,4 @@ end_line refusal = line_of refusal_line refusal
 
 -- the line of a status, with the numbers of the answer where it has numbers
 abbrev pub status_line : Status → Answer Cause → List ℕ
-status_line status a = end_line (unwrap_or (plain_end status) (refusal_of a))
+status_line status a = end_line (unwrap_or (end_without_numbers status) (refusal_of a))

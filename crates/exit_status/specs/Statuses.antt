@@ -53,20 +53,20 @@ abbrev pub answer_status : Answer Cause → Status
 answer_status a = status_of (refusal_of a)
 
 -- the end that a status without numbers stands for
-abbrev pub plain_end : Status → Option (Option (Refusal Cause))
-plain_end statuses.Ok = Some None
-plain_end statuses.Usage = Some (Some Usage)
-plain_end statuses.ReadFault = Some (Some ReadFault)
-plain_end statuses.WriteFault = Some (Some WriteFault)
-plain_end statuses.OutOfMemory = Some (Some OutOfMemory)
-plain_end statuses.SpcLength = None
-plain_end statuses.SpcSignature = None
-plain_end statuses.TableLength = None
-plain_end statuses.BrrLength = None
-plain_end statuses.WavForm = Some (Some (Input WavForm))
-plain_end statuses.EncodeSize = None
-plain_end statuses.InputTooLong = Some (Some (Input InputTooLong))
-plain_end statuses.AsmLine = None
-plain_end statuses.CodeLength = None
-plain_end statuses.CutList = None
-plain_end statuses.Script = None
+abbrev pub end_without_numbers : Status → Option (Option (Refusal Cause))
+end_without_numbers statuses.Ok = Some None
+end_without_numbers statuses.Usage = Some (Some Usage)
+end_without_numbers statuses.ReadFault = Some (Some ReadFault)
+end_without_numbers statuses.WriteFault = Some (Some WriteFault)
+end_without_numbers statuses.OutOfMemory = Some (Some OutOfMemory)
+end_without_numbers statuses.SpcLength = None
+end_without_numbers statuses.SpcSignature = None
+end_without_numbers statuses.TableLength = None
+end_without_numbers statuses.BrrLength = None
+end_without_numbers statuses.WavForm = Some (Some (Input WavForm))
+end_without_numbers statuses.EncodeSize = None
+end_without_numbers statuses.InputTooLong = Some (Some (Input InputTooLong))
+end_without_numbers statuses.AsmLine = None
+end_without_numbers statuses.CodeLength = None
+end_without_numbers statuses.CutList = None
+end_without_numbers statuses.Script = None

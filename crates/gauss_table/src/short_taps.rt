@@ -58,10 +58,12 @@ fn high_half(pair: u32) -> i16
 }
 
 impl Products {
-    /// What four samples, oldest first, give by the factors of place `i` of 256 between the middle two.
+    /// The products of four samples, oldest first, with the factors of place `i` of 256 between the middle two. They stand apart, so
+    /// that those of two samples are made at once.
     #[tactic(auto, unfolding(crate::specs::Interpolation::mix))]
     pub fn at(factors: &[Factors; 256], i: u8, x0: i16, x1: i16, x2: i16, x3: i16) -> Products
-        ensures { (table : List ℤ) → AreFactors table factors.now → mix_of result.oldest result.older result.newer result.newest ≡ mix table i x0 x1 x2 x3 }
+        ensures { (table : List ℤ) → AreFactors table factors.now
+            → mix_of result.oldest result.older result.newer result.newest ≡ mix table i x0 x1 x2 x3 }
     {
         let by = &factors[usize::from(i)];
         Products {

@@ -97,8 +97,8 @@ fn try_step<L: Looks>(looks: &L, cpu: &mut Cpu) -> Option<u8>
 }
 
 /// Tries the steps from some registers on, and gives the cycles of a round of them that only looks and brings the registers
-/// back: 1 to 256. Rounds of at most eight steps are tried. None is given where none of them is such a round, and it may be
-/// given where one is.
+/// back: 1 to 256. Rounds of at most eight steps are tried. A `None` is free: no clause says when it comes,
+/// and the steps of the round are then taken one by one.
 pub fn try_round<L: Looks>(looks: &L, cpu: &Cpu) -> Option<u16>
     ensures round { IfSome result (λ cycles. (steps : ℕ) × (look_of_steps (L.sees looks.now) steps cpu.now ≡ Some (cpu.now, cycles))) }
     ensures few { IfSome result (λ cycles. (1 ≤ cycles) × (cycles ≤ 256)) }

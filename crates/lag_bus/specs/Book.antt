@@ -3,7 +3,7 @@ use Rattle.std.specs.Prelude.{◌≡◌, ℕ, ◌+◌, ◌-◌, ◌%◌, ◌^◌
 use Rattle.std.specs.FinSet as set
 use Rattle.aram_core.specs.Pages.{page_of}
 use Rattle.chip_form.specs.declared.pages.ReachPages.{ReachPages}
-use Rattle.chip_form.specs.Samples.{next_count, count_after}
+use Rattle.chip_form.specs.Samples.{count_after}
 use Rattle.lock_step.specs.declared.counts.Counts.{Counts}
 use Rattle.lag_bus.specs.declared.cause.Cause.{Cause}
 use Rattle.lag_bus.specs.declared.cause.Cause.TheVariants.{Register, Memory, Echo, Full, Events, End}
@@ -55,12 +55,12 @@ no_counts = record { batches = 0; register = 0; memory = 0; echo = 0; full = 0; 
 
 -- the counts with one more batch, for a cause
 abbrev pub counts_with_batch : Cause → Counts → Counts
-counts_with_batch Register counts = record counts { batches = next_count counts.batches; register = next_count counts.register }
-counts_with_batch Memory counts = record counts { batches = next_count counts.batches; memory = next_count counts.memory }
-counts_with_batch Echo counts = record counts { batches = next_count counts.batches; echo = next_count counts.echo }
-counts_with_batch Full counts = record counts { batches = next_count counts.batches; full = next_count counts.full }
-counts_with_batch Events counts = record counts { batches = next_count counts.batches; events = next_count counts.events }
-counts_with_batch End counts = record counts { batches = next_count counts.batches; «end» = next_count counts.«end» }
+counts_with_batch Register counts = record counts { batches = count_after counts.batches 1; register = count_after counts.register 1 }
+counts_with_batch Memory counts = record counts { batches = count_after counts.batches 1; memory = count_after counts.memory 1 }
+counts_with_batch Echo counts = record counts { batches = count_after counts.batches 1; echo = count_after counts.echo 1 }
+counts_with_batch Full counts = record counts { batches = count_after counts.batches 1; full = count_after counts.full 1 }
+counts_with_batch Events counts = record counts { batches = count_after counts.batches 1; events = count_after counts.events 1 }
+counts_with_batch End counts = record counts { batches = count_after counts.batches 1; «end» = count_after counts.«end» 1 }
 
 -- as long as no count is at the end of 64 bits, the batches are those of the six causes together
 abbrev pub AddsUp : Counts → Type 0

@@ -67,12 +67,12 @@ pub record IsHeld {S : Type 0} (chip : ChipMeaning S) (h : Held S) : Type 0 wher
   pub records_fit : length h.records + length h.ring + 8 * h.pending ≤ record_room
 
 -- where memory alone ends on a page: before the ports of page 0, or before the ROM
-abbrev pub memory_end : (page : ℕ) → ℕ
-memory_end page = if page == 0 then 0xF0 else 0xFFC0
+abbrev pub end_of_memory_alone : (page : ℕ) → ℕ
+end_of_memory_alone page = if page == 0 then 0xF0 else 0xFFC0
 
 -- A page of a kind is marked by where memory alone ends on it, or by an address before that. The mark 0 says nothing of its page.
 abbrev pub AreMarks : (IsOfKind : (page : ℕ) → Type 0) → (marks : List ℕ) → Type 0
-AreMarks IsOfKind marks = (page : ℕ) → 0 < slice_index_or marks page 0 → IsOfKind page × (slice_index_or marks page 0 ≤ memory_end page)
+AreMarks IsOfKind marks = (page : ℕ) → 0 < slice_index_or marks page 0 → IsOfKind page × (slice_index_or marks page 0 ≤ end_of_memory_alone page)
 
 -- what was asked of a reach, and not dropped, is so
 pub record IsKnown (reach : ReachPages) (known : KnownReach) : Type 0 where
@@ -82,7 +82,8 @@ pub record IsKnown (reach : ReachPages) (known : KnownReach) : Type 0 where
   -- and they don't read one that is marked as unread, so that a write to it is nothing to them
   pub unread : AreMarks (λ page. (reach.entangled || set.contains reach.read_pages page) ≡ false) known.unread
   -- where no more was kept than the mark of one page as unwritten, there is no other
-  pub single : known.is_single ≡ true → (known.entangled ≡ None) × AreMarks (λ page. page ≡ known.page) known.unwritten × AreMarks (λ page. ⊥) known.unread
+  pub single : known.is_single ≡ true
+      → (known.entangled ≡ None) × AreMarks (λ page. page ≡ known.page) known.unwritten × AreMarks (λ page. ⊥) known.unread
   -- where nothing was kept there is no mark
   pub none : known.is_any ≡ false → (known.entangled ≡ None) × AreMarks (λ page. ⊥) known.unwritten × AreMarks (λ page. ⊥) known.unread
 

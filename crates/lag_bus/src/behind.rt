@@ -23,12 +23,14 @@ pub trait BehindBus {
     /// What contracts see of it.
     ghost shows: { Self → Lagging Self.C.State };
 
-    /// Whether a mark tells that memory alone is at an address and that no sample to come writes it.
+    /// Whether a mark tells that memory alone is at an address and that no sample to come writes it. A `false` is free: no
+    /// clause says when it comes, and the bus then catches up before it is read.
     fn is_unwritten_memory(&self, addr: u16) -> bool
         ensures unwritten { result ≡ true → may_be_written (shows self.now).book.reach addr ≡ false }
         ensures alone { result ≡ true → IsMemoryAlone addr };
 
-    /// Whether a mark tells that memory alone is at an address and that no sample to come reads it.
+    /// Whether a mark tells that memory alone is at an address and that no sample to come reads it. A `false` is free: no
+    /// clause says when it comes, and the bus then catches up before it is written.
     fn is_unread_memory(&self, addr: u16) -> bool
         ensures unread { result ≡ true → may_be_read (shows self.now).book.reach addr ≡ false }
         ensures alone { result ≡ true → IsMemoryAlone addr };

@@ -3,9 +3,9 @@ ghost use Rattle.std.specs.Prelude.{◌≡◌, ◌/◌, true, false};
 ghost use Rattle.std.specs.FinSet as set;
 ghost use Rattle.chip_form.specs.declared.pages.ReachPages.{ReachPages};
 ghost use Rattle.lag_bus.specs.Book.{may_be_read, may_be_written};
-ghost use Rattle.lag_bus.specs.Held.{memory_end, IsMemoryAlone, IsKnown};
+ghost use Rattle.lag_bus.specs.Held.{end_of_memory_alone, IsMemoryAlone, IsKnown};
 
-use aram_core::{Aram, page_of};
+use aram_core::{Aram, PAGE_COUNT, page_of};
 use chip_form::Chip;
 
 /// What was asked of a chip's reach since it was dropped: whether it is entangled, and marks of the pages that no sample writes by
@@ -20,13 +20,13 @@ pub struct KnownReach {
     /// The page that was marked last as unwritten.
     page: u8,
     entangled: Option<bool>,
-    unwritten: [u16; 256],
-    unread: [u16; 256],
+    unwritten: [u16; PAGE_COUNT],
+    unread: [u16; PAGE_COUNT],
 }
 
 /// Where memory alone ends on a page.
-fn memory_end(page: u8) -> u16
-    ensures { result ≡ memory_end page }
+fn end_of_memory_alone(page: u8) -> u16
+    ensures { result ≡ end_of_memory_alone page }
 {
     if page == 0 { 0xF0 } else { 0xFFC0 }
 }
@@ -41,8 +41,8 @@ impl KnownReach {
             is_single: true,
             page: 0,
             entangled: None,
-            unwritten: [0; 256],
-            unread: [0; 256],
+            unwritten: [0; PAGE_COUNT],
+            unread: [0; PAGE_COUNT],
         }
     }
 
@@ -59,8 +59,8 @@ impl KnownReach {
             } else {
                 self.is_single = true;
                 self.entangled = None;
-                self.unwritten = [0; 256];
-                self.unread = [0; 256];
+                self.unwritten = [0; PAGE_COUNT];
+                self.unread = [0; PAGE_COUNT];
             }
         }
     }
@@ -74,7 +74,8 @@ impl KnownReach {
         self.ask_written(chip, memory, page);
     }
 
-    /// Whether a mark tells that memory alone is at an address, which no sample writes.
+    /// Whether a mark tells that memory alone is at an address, which no sample writes. A `false` is free: no clause
+    /// says when it comes, and whoever gets it asks the chip.
     #[inline(always)]
     pub fn is_unwritten_memory(&self, at: u16) -> bool
         ensures unwritten { (reach : ReachPages) → IsKnown reach self.now → result ≡ true → may_be_written reach at ≡ false }
@@ -83,7 +84,8 @@ impl KnownReach {
         at < self.unwritten[usize::from(page_of(at))]
     }
 
-    /// Whether the page of an address is marked as one that no sample writes.
+    /// Whether the page of an address is marked as one that no sample writes. A `false` is free: no clause says when it
+    /// comes, and whoever gets it asks the chip.
     #[inline]
     pub fn is_unwritten(&self, at: u16) -> bool
         ensures { (reach : ReachPages) → IsKnown reach self.now → result ≡ true → may_be_written reach at ≡ false }
@@ -91,7 +93,8 @@ impl KnownReach {
         0 < self.unwritten[usize::from(page_of(at))]
     }
 
-    /// Whether a mark tells that memory alone is at an address, which no sample reads.
+    /// Whether a mark tells that memory alone is at an address, which no sample reads. A `false` is free: no clause
+    /// says when it comes, and whoever gets it asks the chip.
     #[inline(always)]
     pub fn is_unread_memory(&self, at: u16) -> bool
         ensures unread { (reach : ReachPages) → IsKnown reach self.now → result ≡ true → may_be_read reach at ≡ false }
@@ -140,7 +143,7 @@ impl KnownReach {
         }
         self.is_any = true;
         self.is_single = false;
-        self.unread[usize::from(page_of(at))] = memory_end(page_of(at));
+        self.unread[usize::from(page_of(at))] = end_of_memory_alone(page_of(at));
         false
     }
 
@@ -165,7 +168,7 @@ impl KnownReach {
         self.is_single = self.is_single && (!self.is_any || self.page == page);
         self.is_any = true;
         self.page = page;
-        self.unwritten[usize::from(page)] = memory_end(page);
+        self.unwritten[usize::from(page)] = end_of_memory_alone(page);
         false
     }
 

@@ -2,7 +2,7 @@
 ghost use Rattle.std.specs.Prelude.{◌≡◌, ◌+◌, ◌*◌, ◌/◌, ◌-◌, ◌<◌, ◌≤◌, ◌%◌, ◌++◌, ◌∷◌, [], ◌==◌, unwrap_or, ◌||◌, not, true, false, length, if◌then◌else◌, IfOk};
 ghost use Rattle.aram_core.specs.Memory.{byte_at, with_byte};
 ghost use Rattle.spc700_exec.specs.Bus.{most_calls};
-ghost use Rattle.chip_form.specs.Samples.{next_count, count_after};
+ghost use Rattle.chip_form.specs.Samples.{count_after};
 ghost use Rattle.trace_form.specs.Rooms.{record_room, event_room};
 ghost use Rattle.num_fix.specs.Limits.{most_frames};
 ghost use Rattle.chip_form.specs.Limits.{most_samples_of_batch};
@@ -76,7 +76,7 @@ fn settle_for<C: Chip>(late: &mut LateChip<C>, counts: &mut Counts, cause: Cause
       pending = 0;
       events = 0;
       reach = C.meaning.reach late.old.chip late.old.memory;
-      batches = next_count late.old.batches;
+      batches = count_after late.old.batches 1;
       total = count_after late.old.total late.old.pending;
       records_used = late.new.records_used;
     } }

@@ -1,7 +1,7 @@
 // A chip with its memory and its output, some samples late. What each access of the bus asks is inlined into it.
 ghost use Rattle.std.specs.Prelude.{ℕ, ◌≡◌, ◌&&◌, ◌+◌, ◌-◌, ◌*◌, ◌^◌, ◌<◌, ◌≤◌, ◌++◌, ◌∷◌, [], ◌==◌, true, false, length, if◌then◌else◌, ◌||◌, not};
 ghost use Rattle.aram_core.specs.Memory.{byte_at, with_byte};
-ghost use Rattle.chip_form.specs.Samples.{samples, AddsSamples, next_count, count_after};
+ghost use Rattle.chip_form.specs.Samples.{samples, AddsSamples, count_after};
 ghost use Rattle.lag_bus.specs.Book.{may_be_read, may_be_written, cause_of_read, cause_of_write};
 ghost use Rattle.lag_bus.specs.Held.{IsMemoryAlone};
 ghost use Rattle.lag_bus.specs.Late.{late_with_sample, AreWritesWithin, AreReadsWithin};
@@ -17,10 +17,7 @@ use aram_core::{Aram, page_of};
 use chip_form::Chip;
 use lock_step::{writes_port, writes_register};
 use std::marker::Model;
-use trace_form::{EventRing, Frames, Record, Records};
-
-/// The most events that wait for pending samples.
-const EVENT_ROOM: usize = 256;
+use trace_form::{EVENT_ROOM, EventRing, Frames, Record, Records};
 
 /// A chip, its memory and its output, with samples that are counted and not made yet. Of its reach that is asked which an access
 /// needs, and what was found is kept until it may be another.
@@ -123,7 +120,7 @@ fn make_samples<C: Chip>(
     ensures made { let made = samples C.meaning.sample n (C.sample chip.old) (C.state chip.old) memory.old in
         AddsSamples mask made (C.state chip.new) memory.new frames.old frames.new [] voice_records.new }
     ensures sample { C.sample chip.new ≡ C.sample chip.old + n }
-    ensures batches { C.batches chip.new ≡ (if n == 0 then C.batches chip.old else next_count (C.batches chip.old)) }
+    ensures batches { C.batches chip.new ≡ (if n == 0 then C.batches chip.old else count_after (C.batches chip.old) 1) }
     ensures total { C.total chip.new ≡ count_after (C.total chip.old) n }
 {
     voice_records.clear();
@@ -332,7 +329,8 @@ impl<C: Chip> LateChip<C> {
 
     /// Where nothing is ready to be drained, the room is taken by what pending samples and events will be alone.
     pub fn holds_only_what_waits(&self)
-        ensures frames { let late = self.now in NoneIsReady late.pending (late.made - late.pending) late.frames late.records → late.frames_used ≡ late.pending }
+        ensures frames { let late = self.now in
+            NoneIsReady late.pending (late.made - late.pending) late.frames late.records → late.frames_used ≡ late.pending }
         ensures records { let late = self.now in
             NoneIsReady late.pending (late.made - late.pending) late.frames late.records → late.records_used ≡ late.events + 8 * late.pending }
     {
@@ -356,7 +354,7 @@ impl<C: Chip> LateChip<C> {
           pending = 0;
           events = 0;
           reach = C.meaning.reach self.old.chip self.old.memory;
-          batches = if self.old.pending == 0 then self.old.batches else next_count self.old.batches;
+          batches = if self.old.pending == 0 then self.old.batches else count_after self.old.batches 1;
           total = count_after self.old.total self.old.pending;
           records_used = length self.old.records;
         } }

@@ -37,7 +37,8 @@ pub record IsCounting {B : Type 0} (bus : BusMeaning B) (emits : Emits B) : Type
 pub record IsFrameEach {B : Type 0} (bus : BusMeaning B) (frames : B → List Frame) : Type 0 where
   pub read_frames : (b : B) (at : ℕ) → length (frames (bus.read b at).1) ≡ length (frames b)
   pub write_frames : (b : B) (at value : ℕ) → length (frames (bus.write b at value)) ≡ length (frames b)
-  pub pass_frames : (b : B) (cycles : ℕ) → cycles ≤ CYCLES_PER_SAMPLE → length (frames (bus.pass b cycles)) + bus.made b ≡ length (frames b) + bus.made (bus.pass b cycles)
+  pub pass_frames : (b : B) (cycles : ℕ) → cycles ≤ CYCLES_PER_SAMPLE
+      → length (frames (bus.pass b cycles)) + bus.made b ≡ length (frames b) + bus.made (bus.pass b cycles)
 
 -- what a bus is at rest doesn't depend on what was emitted, nor does what its chip made and has pending
 pub record IsBeside {B : Type 0} (emits : Emits B) : Type 0 where

@@ -76,7 +76,8 @@ module _ {S : Type 0} (chip : ChipMeaning S) where
   }
 
   frames_of_pass : (m : Machine S) (cycles : ℕ) (b : Bool) → crosses_sample m.clock cycles ≡ b → cycles ≤ CYCLES_PER_SAMPLE
-      → length (machine_after_pass m cycles (if b then after_sample chip m else m)).frames + m.clock / CYCLES_PER_SAMPLE ≡ length m.frames + (m.clock + cycles) / CYCLES_PER_SAMPLE
+      → length (machine_after_pass m cycles (if b then after_sample chip m else m)).frames + m.clock / CYCLES_PER_SAMPLE
+      ≡ length m.frames + (m.clock + cycles) / CYCLES_PER_SAMPLE
   frames_of_pass m cycles true crosses few =
       let one = length-append m.frames (after_sample chip (drained_machine m)).frames in
       let more : m.clock / CYCLES_PER_SAMPLE < (m.clock + cycles) / CYCLES_PER_SAMPLE = grind (arith, nat_tests) in

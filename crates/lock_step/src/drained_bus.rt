@@ -35,7 +35,8 @@ pub trait DrainedBus: Bus {
         ensures some { Self.means.clock self.old < Self.means.clock self.new };
 
     /// Makes at once whole rounds of the loop at which the processor stands, as far as they do nothing but wait and none comes
-    /// to the end of a run to so many samples.
+    /// to the end of a run to so many samples. How many it makes is free, down to none: no clause says it, and step by step
+    /// they leave the same.
     fn wait(&mut self, cpu: &Cpu, samples: u32)
         requires more { Self.means.made self.old < samples }
         requires few { samples ≤ most_frames }

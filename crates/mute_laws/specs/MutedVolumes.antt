@@ -32,7 +32,8 @@ SamplesStayAlike =
 -- all other registers read the same
 abbrev pub ReadsStayAlike : Type 0
 ReadsStayAlike =
-    (s t : ChipState) (address : ℕ) → AreAlike s t → is_muted_volume s.muted (address % 0x80) ≡ false → register_read s address ≡ register_read t address
+    (s t : ChipState) (address : ℕ) → AreAlike s t → is_muted_volume s.muted (address % 0x80) ≡ false
+    → register_read s address ≡ register_read t address
 
 -- a write of both keeps them alike
 abbrev pub WritesStayAlike : Type 0
@@ -41,4 +42,5 @@ WritesStayAlike = (s t : ChipState) (address byte : ℕ) → AreAlike s t → Ar
 -- and so does a write of such a volume of one of them
 abbrev pub MutedWritesStayAlike : Type 0
 MutedWritesStayAlike =
-    (s t : ChipState) (address byte : ℕ) → AreAlike s t → address < 0x80 → is_muted_volume s.muted address ≡ true → AreAlike s (register_write t address byte)
+    (s t : ChipState) (address byte : ℕ) → AreAlike s t → address < 0x80 → is_muted_volume s.muted address ≡ true
+    → AreAlike s (register_write t address byte)

@@ -11,6 +11,9 @@ pub struct Frame {
     pub right: i16,
 }
 
+/// The frames of a second.
+pub const SAMPLE_RATE: u32 = 32000;
+
 /// The most samples of a batch, in which the S-DSP makes its samples: a row has a place for each of them.
 pub const BATCH_SIZE: usize = 64;
 

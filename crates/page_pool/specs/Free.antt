@@ -1,5 +1,5 @@
--- The free slots, and how they are linked: each names the next one in its own bytes.
-use Rattle.std.specs.Prelude.{◌≡◌, ◌≢◌, ℕ, zero, suc, ◌+◌, ◌*◌, ◌<◌, ◌≤◌, if◌then◌else◌, List, [], ◌∷◌, length, map, slice_index}
+-- The free slots, and how they are linked: each that was made names the next one in its own bytes.
+use Rattle.std.specs.Prelude.{◌≡◌, ◌≢◌, ℕ, zero, suc, ◌+◌, ◌*◌, ◌<◌, ◌≤◌, if◌then◌else◌, List, [], ◌∷◌, ◌++◌, length, map, replicate, slice_index}
 use Rattle.page_pool.specs.declared.slot.Slot.{Slot}
 use Rattle.page_pool.specs.Pool.{most_pages, free_slot, slot_at, is_free, free_slots}
 
@@ -9,6 +9,10 @@ seen_slot slot = if is_free slot then free_slot else slot
 
 abbrev pub seen_slots : List Slot → List Slot
 seen_slots slots = map seen_slot slots
+
+-- and of a pool: the slots that were made, and behind them those that nobody took yet
+abbrev pub seen_pool : (made : List Slot) → (unmade : ℕ) → List Slot
+seen_pool made unmade = seen_slots made ++ replicate unmade free_slot
 
 -- the number that a free slot names: its first two bytes, low byte first
 unfoldable pub next_of : Slot → ℕ
@@ -31,8 +35,13 @@ IsChain slots first (suc n) =
     let next = next_of (slot_at slots first) in
     (first < length slots) × ((slot_at slots first).owners ≡ 0) × (IsApart first (chain slots next n) × IsChain slots next n)
 
--- what a pool keeps of its slots: all free ones stand in one chain
+-- all free ones of the slots that were made stand in one chain
 pub record IsLinked (slots : List Slot) (first free : ℕ) : Type 0 where
-  pub few : length slots ≤ most_pages
   pub all : free ≡ free_slots slots
   pub chained : IsChain slots first free
+
+-- what a pool keeps of its slots: the list of those that were made has room for the others
+pub record IsPooled (made : List Slot) (unmade first free room : ℕ) : Type 0 where
+  pub few : length made + unmade ≤ most_pages
+  pub fits : length made + unmade ≤ room
+  pub linked : IsLinked made first free

@@ -3,14 +3,16 @@
 use Rattle.std.specs.Prelude.{◌≡◌, ℕ, ◌+◌, ◌-◌, ◌<◌, Bool, ◌==◌, if◌then◌else◌, List, [], slice_index_or, slice_set}
 use Rattle.std.specs.List.{count_by}
 use Rattle.page_pool.specs.declared.slot.Slot.{Slot}
+use Rattle.page_pool.specs.declared.pool.TheConstants.{MOST_PAGES}
+use Rattle.page_pool.specs.declared.slot.TheConstants.{PAGE_SIZE}
 
 -- the bytes of a page
 abbrev pub page_size : ℕ
-page_size = 256
+page_size = PAGE_SIZE
 
 -- the most pages of a pool: their numbers have 16 bits
 abbrev pub most_pages : ℕ
-most_pages = 65536
+most_pages = MOST_PAGES
 
 -- the most owners of a page that may get one more
 abbrev pub most_owners : ℕ

@@ -1,11 +1,15 @@
 // The pool, and the pages that it hands out.
-ghost use Rattle.std.specs.Prelude.{◌≡◌, ◌+◌, ◌<◌, ◌≤◌, ◌↔◌, length, replicate, IfOk, IfSome, IfNone, IsNone};
+ghost use Rattle.std.specs.Prelude.{◌≡◌, ◌+◌, ◌<◌, ◌≤◌, ◌↔◌, ◌++◌, ◌∷◌, [], length, replicate, vec_len, vec_capacity, IfOk, IfSome, IfNone, IsNone};
+ghost use Rattle.std.specs.Vec.{SameBlock};
 ghost use Rattle.page_pool.specs.Pool.{page_size, most_pages, most_owners, free_slot, slot_at, free_slots, after_take, after_share, after_give};
 
 use crate::OutOfMemory;
 use crate::slot::Slot;
 use std::alloc::Global;
 use std::marker::Model;
+
+/// The most pages of a pool: their numbers have 16 bits.
+pub const MOST_PAGES: u32 = 65_536;
 
 /// A page that a pool handed out, seen as the number of its slot, 0 to 65,535.
 #[derive(Clone, Copy, Debug, PartialEq, Eq)]
@@ -23,25 +27,36 @@ impl Model for Page {
     ghost inverse = { λ n. record { slot = n } };
 }
 
-/// A pool of slots of 256 bytes, each with a number of owners. Only `new` takes memory. A call never changes the bytes of a
-/// slot that keeps an owner.
+/// A pool of slots of 256 bytes, each with a number of owners. Only `new` takes memory: room for all slots, each of which is
+/// made when it is first taken. A call never changes the bytes of a slot that keeps an owner.
 #[derive(Drop)]
 pub struct PagePool {
     slots: Vec<Slot>,
+    unmade: u32,
     first: u16,
     free: u32,
 }
 
 impl Model for PagePool {
-    ghost use Rattle.std.specs.Prelude.{List};
+    ghost use Rattle.std.specs.Prelude.{List, vec_capacity};
     ghost use Rattle.page_pool.specs.declared.slot.Slot.{Slot};
-    ghost use Rattle.page_pool.specs.Free.{seen_slots, IsLinked};
+    ghost use Rattle.page_pool.specs.Free.{seen_pool, IsPooled};
 
     ghost Value = { List Slot };
 
-    ghost view = { λ p. seen_slots p.slots.items };
+    ghost view = { λ p. seen_pool p.slots.items p.unmade };
 
-    ghost invariant = { λ p. IsLinked p.slots.items p.first p.free };
+    ghost invariant = { λ p. IsPooled p.slots.items p.unmade p.first p.free (vec_capacity p.slots) };
+}
+
+/// Adds a slot, for which there is room: the block of the list stays.
+fn add_slot(slots: &mut Vec<Slot>, slot: Slot)
+    requires { vec_len slots.old < vec_capacity slots.old }
+    ensures items { slots.new.items ≡ slots.old.items ++ slot ∷ [] }
+    ensures block { SameBlock slots.old slots.new }
+{
+    let end = slots.len();
+    let _ = slots.insert(end, slot);
 }
 
 impl PagePool {
@@ -51,15 +66,13 @@ impl PagePool {
         requires few { pages ≤ most_pages }
         ensures { IfOk result (λ pool. pool ≡ replicate pages free_slot) }
     {
-        let mut pool = PagePool {
-            slots: vec![in alloc; Slot::owned(); pages as usize]?,
+        let slots = Vec::with_capacity(alloc, pages as usize)?;
+        Ok(PagePool {
+            slots,
+            unmade: pages,
             first: 0,
             free: 0,
-        };
-        for slot in 0..pages {
-            pool.give(Page { slot: slot as u16 });
-        }
-        Ok(pool)
+        })
     }
 
     /// Puts 256 bytes into a free slot, for one owner; None exactly where no slot is free.
@@ -70,14 +83,22 @@ impl PagePool {
         ensures was_free { IfSome result (λ page. (page < length self.old) × (slot_at self.old page ≡ free_slot)) }
         ensures holds { IfSome result (λ page. self.new ≡ after_take self.old page bytes.now) }
     {
-        if self.free == 0 {
+        if self.free > 0 {
+            let page = Page { slot: self.first };
+            let slot = &mut self.slots[usize::from(self.first)];
+            self.first = slot.next();
+            slot.hold(bytes);
+            self.free -= 1;
+            return Some(page);
+        }
+        if self.unmade == 0 {
             return None;
         }
-        let page = Page { slot: self.first };
-        let slot = &mut self.slots[usize::from(self.first)];
-        self.first = slot.next();
-        slot.hold(bytes);
-        self.free -= 1;
+        let page = Page {
+            slot: self.slots.len() as u16,
+        };
+        add_slot(&mut self.slots, Slot::held(bytes));
+        self.unmade -= 1;
         Some(page)
     }
 
@@ -120,6 +141,6 @@ impl PagePool {
     pub fn free(&self) -> u32
         ensures { result ≡ free_slots self.now }
     {
-        self.free
+        self.free + self.unmade
     }
 }

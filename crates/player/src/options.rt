@@ -2,6 +2,12 @@
 ghost use Rattle.std.specs.Prelude.{◌≡◌};
 ghost use Rattle.player.specs.Options.{are_in_range};
 
+use cut_form::PAGE_COUNT;
+use page_pool::MOST_PAGES;
+
+/// The most seconds between two marks: an hour.
+pub(crate) const MOST_MARK_SECONDS: u32 = 3600;
+
 /// What a player is opened with beside its tune, as C lays it out.
 #[repr(C)]
 #[derive(Clone, Copy, Debug, PartialEq, Eq)]
@@ -20,6 +26,8 @@ impl PlayerOptions {
     pub fn are_in_range(&self) -> bool
         ensures { result ≡ are_in_range self.now }
     {
-        self.pages >= 256 && self.pages <= 65536 && self.mark_seconds <= 3600
+        self.pages >= PAGE_COUNT as u32
+            && self.pages <= MOST_PAGES
+            && self.mark_seconds <= MOST_MARK_SECONDS
     }
 }

@@ -25,6 +25,7 @@ use cut_server::CutServer;
 use dsp_core::Dsp;
 use dsp_state::registers::Registers;
 use gauss_table::GaussTable;
+use num_fix::SAMPLE_RATE;
 use spc_form::{Length, SpcFile, Tag, read_spc};
 use std::alloc::Global;
 use std::marker::Model;
@@ -66,7 +67,7 @@ impl Player {
         Ok(Player {
             server,
             file,
-            spacing: 32_000 * options.mark_seconds,
+            spacing: SAMPLE_RATE * options.mark_seconds,
             frames,
         })
     }
@@ -139,11 +140,21 @@ impl Player {
         self.server.work()
     }
 
+    /// The S-DSP that plays. It made the frames that `made` tells, its next sample is that at the position, and its state is that of the
+    /// run's there.
+    pub fn chip(&self) -> &Dsp
+        ensures made { result.now.total ≡ made_of self.now }
+        ensures position { result.now.sample ≡ position_of self.now }
+        ensures state { result.now.state ≡ chip_here self.now }
+    {
+        self.server.chip()
+    }
+
     /// The 128 registers of the S-DSP at the position: those that the run's last step before it left.
     pub fn registers(&self) -> &Registers
         ensures { result.now ≡ (chip_here self.now).registers }
     {
-        &self.server.chip().state().registers
+        &self.chip().state().registers
     }
 
     /// What shows of a voice, 0 to 7, at the position.
@@ -151,7 +162,7 @@ impl Player {
         requires { number < 8 }
         ensures { result ≡ shown_voice (chip_here self.now) number }
     {
-        shown_voice(self.server.chip().state(), number)
+        shown_voice(self.chip().state(), number)
     }
 
     /// Goes to a frame, at most an hour: from the position, or from the last mark up to it. It makes at most the frames from any mark up

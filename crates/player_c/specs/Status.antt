@@ -17,7 +17,7 @@ status_of OutOfMemory = 7
 abbrev pub out_of_memory : ℕ
 out_of_memory = 7
 
--- no player is open, and a number is out of its range
+-- A handle has no player, which is so of none that C gets. A number is out of its range.
 abbrev pub not_open : ℕ
 not_open = 16
 

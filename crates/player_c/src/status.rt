@@ -10,7 +10,7 @@ pub(crate) const OK: u32 = 0;
 /// There is not enough memory.
 pub(crate) const OUT_OF_MEMORY: u32 = 7;
 
-/// No player is open.
+/// A handle has no player. C never gets this answer, since each handle that `spcwave_open` gives has one.
 pub(crate) const NOT_OPEN: u32 = 16;
 
 /// A number is out of its range.

@@ -9,7 +9,9 @@
 -- Agree: what a voice's step reads.
 -- OnChains: a voice stays on its chains.
 -- ChainPages: what a voice on its chains reads lies on their pages.
+-- Same: two memories that have the same bytes where voices on their chains can look.
 -- Voices: the same of all voices.
+-- ByBytes: samples whose cells have no byte that a voice can read in them.
 -- Starts: a byte put off the read pages leaves the reach as it is.
 pub mod Registers
 pub mod Keys
@@ -21,6 +23,8 @@ pub mod Within
 pub mod PageSets
 pub mod Agree
 pub mod OnChains
+pub mod Same
 pub mod ChainPages
 pub mod Voices
+pub mod ByBytes
 pub mod Starts

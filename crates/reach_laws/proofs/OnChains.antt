@@ -1,5 +1,5 @@
 -- A voice stays on its chains.
-use Rattle.std.proofs.Common.{◌≡◌, ◌≢◌, ℕ, suc, ◌+◌, ◌-◌, ◌%◌, ◌<◌, ◌≤◌, List, Bool, true, false, ◌==◌, pos, if◌then◌else◌, ◌⊎◌, inl, inr, refl, sym, ◌∙◌, arith, rules}
+use Rattle.std.proofs.Common.{◌≡◌, ◌≢◌, ℕ, suc, ◌+◌, ◌-◌, ◌%◌, ◌<◌, List, Bool, true, false, ◌==◌, pos, if◌then◌else◌, ◌⊎◌, inl, inr, refl, sym, ◌∙◌, arith, rules}
 use Rattle.aram_core.specs.Memory.{byte_at}
 use Rattle.brr_decode.specs.Header.{next_block}
 use Rattle.voice_unit.specs.declared.interface.VoiceRegs.{VoiceRegs}
@@ -23,10 +23,6 @@ on_first memory start j voice same group =
 pub same_group : {memory : List ℕ} {start : ChainStart} {j : ℕ} {voice : VoiceState} (other : VoiceState) → IsOnChain memory start j voice
     → other.block ≡ voice.block → other.offset ≡ voice.offset → IsOnChain memory start j other
 same_group other p block offset = record { index = p.index; block = block ∙ p.block; group = rw offset p.group; pace = rw offset p.pace }
-
--- no voice comes beyond block 16
-pub index_small : {memory : List ℕ} {start : ChainStart} {j : ℕ} {voice : VoiceState} (p : IsOnChain memory start j voice) → j ≤ 64 → p.index ≤ 16
-index_small p few = omega (arith, p.pace)
 
 pub one_later : {memory : List ℕ} {start : ChainStart} {j : ℕ} {voice : VoiceState} → IsOnChain memory start j voice → IsOnChain memory start (j + 1) voice
 one_later p = record { index = p.index; block = p.block; group = p.group; pace = omega (arith, p.pace) }

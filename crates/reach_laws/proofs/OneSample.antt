@@ -29,7 +29,7 @@ use Rattle.reach_laws.proofs.EchoPlace.{length-next_echo}
 use Rattle.echo_unit.proofs.OffCell.{IsOffCell, byte_at-echo_memory, echo_memory_still}
 use Rattle.reach_laws.proofs.EchoPages.{off_window, after_reading_apart, next_echo_apart, echo_memory_apart}
 use Rattle.reach_laws.proofs.ReachOfChip.{pages_of_echo, writes_echo, unread_by_voices, unread_by_echo, unwritten_by_echo, voices_unwritten}
-use Rattle.reach_laws.proofs.Voices.{FindTheSame, voices_at_start, voices_stay, voices_apart}
+use Rattle.reach_laws.proofs.Voices.{FindTheSame, all_same, voices_at_start, voices_stay, voices_apart}
 
 -- After j samples from a start, over a memory: the registers but those of results are as they were, no key-on waits that did
 -- not wait, the echo stands at a cell of the window, and the bytes off the write pages are as they were. Where the reach of
@@ -53,7 +53,7 @@ stays_at_start s memory valid = record {
   voices = λ clear. voices_at_start s memory valid;
 }
 
-sample_is : (k : ℕ) (s : ChipState) (memory : List ℕ) → sample k s memory ≡ rest_of_sample k (before_voices s k) memory
+pub sample_is : (k : ℕ) (s : ChipState) (memory : List ℕ) → sample k s memory ≡ rest_of_sample k (before_voices s k) memory
 unfolding sample
 sample_is k s memory = refl
 
@@ -69,13 +69,13 @@ stays_polled start before j k s memory stays = record {
 }
 
 -- what the voices find in the sample that follows
-finds : (start : ChipState) (before : List ℕ) (j k : ℕ) (s : ChipState) (memory : List ℕ) → StaysInReach start before j s memory → (chip_reach start before).entangled ≡ false
-    → FindTheSame start before 0 start.hidden.voices (shared_input (before_voices s k) memory k)
-finds start before j k s memory stays clear =
+finds : (start : ChipState) (before : List ℕ) (j k : ℕ) (s : ChipState) (memory : List ℕ) → j ≤ 64 → StaysInReach start before j s memory → (chip_reach start before).entangled ≡ false
+    → FindTheSame start before j 0 start.hidden.voices (shared_input (before_voices s k) memory k)
+finds start before j k s memory few stays clear =
     let now : StaysInReach start before j (before_voices s k) memory = stays_polled start before j k s memory stays in
     record {
       registers = now.inputs;
-      bytes = λ at there. stays.bytes at (voices_unwritten start before (page_of at) clear there);
+      bytes = all_same start before j 0 start.hidden.voices memory before few (λ at there. stays.bytes at (voices_unwritten start before (page_of at) clear there));
       keyed = λ v keyed. let parts = and_parts (k % 2 == 0) (has_bit (before_voices s k).hidden.taken v) keyed in stays.waiting v (taken_waited s k v parts.0 parts.1);
     }
 
@@ -143,7 +143,7 @@ stays_in_reach start before j k s memory few stays = rw (sample_is k s memory) n
       cell = is_at_cell-next_echo now.hidden.echo regs memory held.cell;
       length = length-next_echo now.hidden.echo regs memory start.hidden.echo.length (slice_index start.registers EDL) edl held.length;
       bytes = λ at none. writes_off start before j now memory (sent_frame (all_volumes now.registers now.muted) answers) at held none ∙ held.bytes at none;
-      voices = λ clear. voices_stay start before j 0 (pos 0) (shared_input now memory k) start.hidden.voices now.hidden.voices (finds start before j k s memory stays clear) few (held.voices clear);
+      voices = λ clear. voices_stay start before j 0 (pos 0) (shared_input now memory k) start.hidden.voices now.hidden.voices (finds start before j k s memory (omega arith) stays clear) (held.voices clear);
     }
 
 -- a byte put off the read pages of a reach that isn't entangled changes nothing of what one sample does
@@ -167,7 +167,7 @@ reads_in_reach start before j k s memory at value few stays clear none =
 
     results : results_from (record (shared_input now memory k) { memory = with_byte memory at value }) 0 (pos 0) now.hidden.voices ≡ results_from (shared_input now memory k) 0 (pos 0) now.hidden.voices
     results =
-        voices_apart start before j 0 (pos 0) (shared_input now memory k) start.hidden.voices now.hidden.voices at value (finds start before j k s memory stays clear) (omega arith) (held.voices clear)
+        voices_apart start before j 0 (pos 0) (shared_input now memory k) start.hidden.voices now.hidden.voices at value (finds start before j k s memory (omega arith) stays clear) (omega arith) (held.voices clear)
         (unread_by_voices start before (page_of at) none)
 
     same : rest_of_sample k now (with_byte memory at value) ≡ record (rest_of_sample k now memory) { memory = with_byte (rest_of_sample k now memory).memory at value }

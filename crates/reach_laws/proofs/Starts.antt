@@ -12,9 +12,10 @@ use Rattle.reach_map.specs.declared.ChainStart.{ChainStart}
 use Rattle.reach_map.specs.Reach.{chain, block_pages, chain_pages, entry_pages, voice_pages, window_pages, reach}
 use Rattle.dsp_state.specs.declared.registers.TheConstants.{FLG}
 use Rattle.dsp_state.specs.declared.state.ChipState.{ChipState}
-use Rattle.dsp_state.specs.Reach.{entries_from, voice_starts, starts_from, chip_window, chip_reach}
+use Rattle.dsp_state.specs.Reach.{voice_entry, entries_from, voice_starts, starts_from, chip_window, chip_reach}
 use Rattle.reach_laws.proofs.PageSets.{at_page, in_left, in_right}
-use Rattle.reach_laws.proofs.ChainPages.{bytes_have, own_pages, AgreeOn, agree_put, start_same, loop_same}
+use Rattle.reach_laws.proofs.Same.{AreSameFor, start_same, loop_same}
+use Rattle.reach_laws.proofs.ChainPages.{bytes_have, own_pages, AgreeOn, agree_put, same_for}
 use Rattle.reach_laws.proofs.ReachOfChip.{unread_by_voices}
 use Rattle.reach_laws.proofs.Voices.{voice_pages_from, first_agree, rest_agree}
 
@@ -54,7 +55,9 @@ voice_pages_same memory m starts entries same =
 voice_starts_same : (s : ChipState) (memory m : List ℕ) (v : ℕ) (voice : VoiceState) → AgreeOn (own_pages s memory v voice) m memory
     → voice_starts s m v voice ≡ voice_starts s memory v voice
 unfolding start_word loop_word
-voice_starts_same s memory m v voice same = rw (start_same s memory v voice m memory same, loop_same s memory v voice m memory same) refl
+voice_starts_same s memory m v voice same =
+    let bytes : AreSameFor s memory 0 v voice m memory = same_for s memory 0 v voice m memory (omega arith) same in
+    rw (start_same (voice_entry s.registers v) m memory bytes.entry, loop_same (voice_entry s.registers v) m memory bytes.entry) refl
 
 -- where the voices from v on can be
 pub starts_from_same : (s : ChipState) (memory m : List ℕ) (v : ℕ) (voices : List VoiceState) → AgreeOn (voice_pages_from s memory v voices) m memory

@@ -1,5 +1,5 @@
 -- All voices stay on their chains, and read nothing but the pages of their entries and chains.
-use Rattle.std.proofs.Common.{◌≡◌, ◌≢◌, ℕ, ◌+◌, ◌*◌, ◌%◌, ◌<◌, ◌≤◌, List, [], ◌∷◌, ◌++◌, length, map, flat_map, true, false, ◌&&◌, ◌==◌, inl, inr, refl, ap, sym, ◌∙◌, arith, slice_index, ℤ}
+use Rattle.std.proofs.Common.{◌≡◌, ◌≢◌, ℕ, ◌+◌, ◌*◌, ◌%◌, ◌≤◌, List, [], ◌∷◌, ◌++◌, length, map, flat_map, true, false, ◌&&◌, ◌==◌, inl, inr, refl, ap, sym, ◌∙◌, arith, slice_index, ℤ}
 use Rattle.std.specs.List.{list_all}
 use Rattle.std.proofs.lemmas.Bool.{and_parts, or_right}
 use Rattle.std.proofs.lemmas.Bool.Decides.{nat_tests}
@@ -21,10 +21,11 @@ use Rattle.voice_unit.specs.Voice.{is_at_group}
 use Rattle.echo_unit.specs.Echo.{is_at_cell}
 use Rattle.dsp_state.specs.Valid.{is_valid}
 use Rattle.reach_laws.specs.Chain.{StaysOnChains, AllStayOnChains}
-use Rattle.reach_laws.proofs.PageSets.{at_page, in_left, in_right, in_either}
+use Rattle.reach_laws.proofs.PageSets.{in_left, in_right, in_either}
 use Rattle.reach_laws.proofs.Agree.{voice_result_same}
 use Rattle.reach_laws.proofs.OnChains.{on_first, SeesTheSame, step_on_chains}
-use Rattle.reach_laws.proofs.ChainPages.{own_pages, block_in, AgreeOn, agree_put, start_same, loop_same, agrees}
+use Rattle.reach_laws.proofs.Same.{AreSameFor, AllSameFor, at_address, start_same, loop_same, block_same, agrees}
+use Rattle.reach_laws.proofs.ChainPages.{own_pages, AgreeOn, agree_put, same_for}
 
 -- the pages of the voices from v on
 abbrev pub voice_pages_from : ChipState → List ℕ → (v : ℕ) → (olds : List VoiceState) → List ℕ
@@ -58,11 +59,11 @@ rest_in memory starts rest entry entries p h =
           (ap (λ (pages : List ℕ). has_page pages p) (sym chains) ∙ in_right (flat_map (chain_pages memory) starts) (flat_map (chain_pages memory) rest) p c)
     ]
 
--- What the voices from v on find in a sample as it was when the reach was taken: the registers but those that samples write,
--- the bytes on their pages, and key-ons of no voice but those that waited.
-pub record FindTheSame (s : ChipState) (memory : List ℕ) (v : ℕ) (olds : List VoiceState) (shared : SharedInput) : Type 0 where
+-- What the voices from v on find after j samples as it was when the reach was taken: the registers but those that samples write,
+-- the bytes where they can look, and key-ons of no voice but those that waited.
+pub record FindTheSame (s : ChipState) (memory : List ℕ) (j v : ℕ) (olds : List VoiceState) (shared : SharedInput) : Type 0 where
   pub registers : (address : ℕ) → is_result address ≡ false → slice_index shared.registers address ≡ slice_index s.registers address
-  pub bytes : AgreeOn (voice_pages_from s memory v olds) shared.memory memory
+  pub bytes : AllSameFor s memory j v olds shared.memory memory
   pub keyed : (u : ℕ) → (shared.common.is_poll && has_bit shared.common.taken u) ≡ true → has_bit s.hidden.waiting u ≡ true
 
 -- the bytes of all but the first
@@ -72,19 +73,21 @@ rest_agree s memory v old olds m n same at some =
     same at (rest_in memory (voice_starts s memory v old) (starts_from s memory (v + 1) olds) (voice_entry s.registers v) (entries_from s.registers (v + 1) olds) (page_of at) some)
 
 -- the same of the rest of the voices
-rest_find : (s : ChipState) (memory : List ℕ) (v : ℕ) (old : VoiceState) (olds : List VoiceState) (shared : SharedInput)
-    → FindTheSame s memory v (old ∷ olds) shared → FindTheSame s memory (v + 1) olds shared
-rest_find s memory v old olds shared find = record {
-  registers = find.registers;
-  bytes = rest_agree s memory v old olds shared.memory memory find.bytes;
-  keyed = find.keyed;
-}
+rest_find : (s : ChipState) (memory : List ℕ) (j v : ℕ) (old : VoiceState) (olds : List VoiceState) (shared : SharedInput)
+    → FindTheSame s memory j v (old ∷ olds) shared → FindTheSame s memory j (v + 1) olds shared
+rest_find s memory j v old olds shared find = record { registers = find.registers; bytes = find.bytes.1; keyed = find.keyed }
 
 -- the bytes of the first of them
 pub first_agree : (s : ChipState) (memory : List ℕ) (v : ℕ) (old : VoiceState) (olds : List VoiceState) (m n : List ℕ)
     → AgreeOn (voice_pages_from s memory v (old ∷ olds)) m n → AgreeOn (own_pages s memory v old) m n
 first_agree s memory v old olds m n same at some =
     same at (first_in memory (voice_starts s memory v old) (starts_from s memory (v + 1) olds) (voice_entry s.registers v) (entries_from s.registers (v + 1) olds) (page_of at) some)
+
+-- memories that agree on the pages of the voices have the same bytes where they can look
+pub all_same : (s : ChipState) (memory : List ℕ) (j v : ℕ) (olds : List VoiceState) (m n : List ℕ) → j ≤ 64 → AgreeOn (voice_pages_from s memory v olds) m n → AllSameFor s memory j v olds m n
+all_same s memory j v [] m n few same = tt
+all_same s memory j v (old ∷ olds) m n few same =
+    (same_for s memory j v old m n few (first_agree s memory v old olds m n same), all_same s memory j (v + 1) olds m n few (rest_agree s memory v old olds m n same))
 
 is_result-srcn : (v : ℕ) → is_result (16 * v + SRCN) ≡ false
 is_result-srcn v =
@@ -93,66 +96,63 @@ is_result-srcn v =
     rw (register, other) refl
 
 -- the entry of a voice
-entry_same : (s : ChipState) (memory : List ℕ) (v : ℕ) (previous : ℤ) (olds : List VoiceState) (shared : SharedInput) → FindTheSame s memory v olds shared
+entry_same : (s : ChipState) (memory : List ℕ) (j v : ℕ) (previous : ℤ) (olds : List VoiceState) (shared : SharedInput) → FindTheSame s memory j v olds shared
     → entry_address (voice_in shared.registers shared.common v previous).dir (voice_regs shared.registers v).srcn ≡ voice_entry s.registers v
 unfolding voice_in voice_regs
-entry_same s memory v previous olds shared find = rw (find.registers DIR refl, find.registers (16 * v + SRCN) (is_result-srcn v)) refl
+entry_same s memory j v previous olds shared find = rw (find.registers DIR refl, find.registers (16 * v + SRCN) (is_result-srcn v)) refl
 
 -- what a voice on its chains finds
 first_sees : (s : ChipState) (memory : List ℕ) (j v : ℕ) (previous : ℤ) (old new : VoiceState) (olds : List VoiceState) (shared : SharedInput)
-    → FindTheSame s memory v (old ∷ olds) shared → StaysOnChains s memory j v old new → j ≤ 64
+    → FindTheSame s memory j v (old ∷ olds) shared → StaysOnChains s memory j v old new
     → SeesTheSame s memory v old new (voice_regs shared.registers v) (voice_in shared.registers shared.common v previous) shared.memory
 unfolding start_word loop_word voice_in
-first_sees s memory j v previous old new olds shared find stays few =
-    let entry = entry_same s memory v previous (old ∷ olds) shared find in
-    let pages : List ℕ = own_pages s memory v old in
-    let same : AgreeOn pages shared.memory memory = first_agree s memory v old olds shared.memory memory find.bytes in
-    let block0 : page_of (new.block + 0) ≡ page_of new.block = ap page_of (omega arith) in
+first_sees s memory j v previous old new olds shared find stays =
+    let entry = entry_same s memory j v previous (old ∷ olds) shared find in
+    let same : AreSameFor s memory j v old shared.memory memory = find.bytes.0 in
     record {
-      start = rw entry (start_same s memory v old shared.memory memory same);
-      loop = rw entry (loop_same s memory v old shared.memory memory same);
-      header = same new.block (at_page pages _ _ block0 (block_in s memory j v old new 0 stays few (omega arith)));
+      start = rw entry (start_same (voice_entry s.registers v) shared.memory memory same.entry);
+      loop = rw entry (loop_same (voice_entry s.registers v) shared.memory memory same.entry);
+      header = at_address shared.memory memory (new.block + 0) new.block (omega arith) (block_same s memory j v old new shared.memory memory 0 stays same (omega arith));
       keyed = λ keyed. rw (find.keyed v keyed) refl;
     }
 
 -- one sample keeps the voices on their chains
-pub voices_stay : (s : ChipState) (memory : List ℕ) (j v : ℕ) (previous : ℤ) (shared : SharedInput) (olds news : List VoiceState) → FindTheSame s memory v olds shared → j < 64
+pub voices_stay : (s : ChipState) (memory : List ℕ) (j v : ℕ) (previous : ℤ) (shared : SharedInput) (olds news : List VoiceState) → FindTheSame s memory j v olds shared
     → AllStayOnChains s memory j v olds news
     → AllStayOnChains s memory (j + 1) v olds (map (λ (result : VoiceResult). result.voice) (results_from shared v previous news))
 unfolding voice_result
-voices_stay s memory j v previous shared [] [] find few stay = tt
-voices_stay s memory j v previous shared [] (new ∷ news) find few stay = absurd stay
-voices_stay s memory j v previous shared (old ∷ olds) [] find few stay = absurd stay
-voices_stay s memory j v previous shared (old ∷ olds) (new ∷ news) find few stay =
-    let sees = first_sees s memory j v previous old new olds shared find stay.0 (omega arith) in (
+voices_stay s memory j v previous shared [] [] find stay = tt
+voices_stay s memory j v previous shared [] (new ∷ news) find stay = absurd stay
+voices_stay s memory j v previous shared (old ∷ olds) [] find stay = absurd stay
+voices_stay s memory j v previous shared (old ∷ olds) (new ∷ news) find stay =
+    let sees = first_sees s memory j v previous old new olds shared find stay.0 in (
       step_on_chains s memory shared.memory j v shared.counter old new (voice_regs shared.registers v) (voice_in shared.registers shared.common v previous) sees stay.0,
-      voices_stay s memory j (v + 1) (voice_result shared v previous new).answer.out shared olds news (rest_find s memory v old olds shared find) few stay.1,
+      voices_stay s memory j (v + 1) (voice_result shared v previous new).answer.out shared olds news (rest_find s memory j v old olds shared find) stay.1,
     )
 
--- memories that agree on the pages of the voices give them the same results
-pub results_same : (s : ChipState) (memory : List ℕ) (j v : ℕ) (previous : ℤ) (shared : SharedInput) (m : List ℕ) (olds news : List VoiceState) → FindTheSame s memory v olds shared → j ≤ 64
-    → AllStayOnChains s memory j v olds news → AgreeOn (voice_pages_from s memory v olds) m shared.memory
+-- memories that have the same bytes where the voices can look give them the same results
+pub results_same : (s : ChipState) (memory : List ℕ) (j v : ℕ) (previous : ℤ) (shared : SharedInput) (m : List ℕ) (olds news : List VoiceState) → FindTheSame s memory j v olds shared
+    → AllStayOnChains s memory j v olds news → AllSameFor s memory j v olds m shared.memory
     → results_from (record shared { memory = m }) v previous news ≡ results_from shared v previous news
-results_same s memory j v previous shared m [] [] find few stay same = refl
-results_same s memory j v previous shared m [] (new ∷ news) find few stay same = absurd stay
-results_same s memory j v previous shared m (old ∷ olds) [] find few stay same = absurd stay
-results_same s memory j v previous shared m (old ∷ olds) (new ∷ news) find few stay same =
-    let entry = entry_same s memory v previous (old ∷ olds) shared find in
-    let sees = first_sees s memory j v previous old new olds shared find stay.0 few in
-    let agree = agrees s memory j v old new (voice_regs shared.registers v) (voice_in shared.registers shared.common v previous) m shared.memory entry sees stay.0 few
-    (first_agree s memory v old olds m shared.memory same) in
+results_same s memory j v previous shared m [] [] find stay same = refl
+results_same s memory j v previous shared m [] (new ∷ news) find stay same = absurd stay
+results_same s memory j v previous shared m (old ∷ olds) [] find stay same = absurd stay
+results_same s memory j v previous shared m (old ∷ olds) (new ∷ news) find stay same =
+    let entry = entry_same s memory j v previous (old ∷ olds) shared find in
+    let sees = first_sees s memory j v previous old new olds shared find stay.0 in
+    let agree = agrees s memory j v old new (voice_regs shared.registers v) (voice_in shared.registers shared.common v previous) m shared.memory entry sees stay.0 same.0 in
     let first : voice_result (record shared { memory = m }) v previous new ≡ voice_result shared v previous new = voice_result_same shared m v previous new agree in
     let rest : results_from (record shared { memory = m }) (v + 1) (voice_result shared v previous new).answer.out news ≡ results_from shared (v + 1) (voice_result shared v previous new).answer.out news =
-    results_same s memory j (v + 1) (voice_result shared v previous new).answer.out shared m olds news (rest_find s memory v old olds shared find) few stay.1
-    (rest_agree s memory v old olds m shared.memory same) in
+    results_same s memory j (v + 1) (voice_result shared v previous new).answer.out shared m olds news (rest_find s memory j v old olds shared find) stay.1 same.1 in
     rw first (ap (λ (results : List VoiceResult). voice_result shared v previous new ∷ results) rest)
 
--- a byte that is put elsewhere gives the voices the same results
-pub voices_apart : (s : ChipState) (memory : List ℕ) (j v : ℕ) (previous : ℤ) (shared : SharedInput) (olds news : List VoiceState) (at value : ℕ) → FindTheSame s memory v olds shared → j ≤ 64
+-- a byte that is put off their pages gives the voices the same results
+pub voices_apart : (s : ChipState) (memory : List ℕ) (j v : ℕ) (previous : ℤ) (shared : SharedInput) (olds news : List VoiceState) (at value : ℕ) → FindTheSame s memory j v olds shared → j ≤ 64
     → AllStayOnChains s memory j v olds news → has_page (voice_pages_from s memory v olds) (page_of at) ≡ false
     → results_from (record shared { memory = with_byte shared.memory at value }) v previous news ≡ results_from shared v previous news
 voices_apart s memory j v previous shared olds news at value find few stay none =
-    results_same s memory j v previous shared (with_byte shared.memory at value) olds news find few stay (agree_put (voice_pages_from s memory v olds) shared.memory at value none)
+    results_same s memory j v previous shared (with_byte shared.memory at value) olds news find stay
+    (all_same s memory j v olds (with_byte shared.memory at value) shared.memory few (agree_put (voice_pages_from s memory v olds) shared.memory at value none))
 
 -- when the reach is taken, each voice stands in the first block of its own chain
 all_at_start : (s : ChipState) (memory : List ℕ) (v : ℕ) (voices : List VoiceState) → list_all is_at_group voices ≡ true → AllStayOnChains s memory 0 v voices voices

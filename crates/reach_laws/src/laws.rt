@@ -7,6 +7,7 @@ ghost use Rattle.dsp_state.specs.Results.{is_result};
 ghost use Rattle.dsp_state.specs.Sample.{sample};
 ghost use Rattle.dsp_state.specs.Valid.{is_valid};
 ghost use Rattle.reach_laws.specs.Chain.{VoicesStayOnChains};
+ghost use Rattle.reach_laws.specs.CellsMiss.{VoicesStayByBytes};
 
 /// Samples change memory on the pages of the echo's window alone, and only while echo writes are on: on write pages of the reach.
 pub fn samples_write_inside_the_window()
@@ -25,7 +26,9 @@ pub fn registers_stay_but_for_results()
     ensures { RegistersStay sample register_read is_result (λ n s. true) }
 {}
 
-/// From a valid state whose echo can't write what its voices read, each voice stays on its chains for 64 samples.
+/// From a valid state whose echo can't write what its voices read, each voice stays on its chains for 64 samples; and for n samples, where the
+/// cells that the echo writes in them have no byte that a voice can read in them.
 pub fn voices_stay_on_their_chains()
-    ensures { VoicesStayOnChains }
+    ensures pages { VoicesStayOnChains }
+    ensures bytes { VoicesStayByBytes }
 {}

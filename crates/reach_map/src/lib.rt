@@ -5,6 +5,7 @@ mod pages;
 mod voices;
 
 ghost use Rattle.std.specs.Prelude.{◌≡◌, ◌≤◌, length};
+ghost use Rattle.aram_core.specs.declared.aram.TheConstants.{MEMORY_SIZE};
 ghost use Rattle.reach_map.specs.Reach.{reach};
 
 use crate::pages::window_pages;
@@ -41,7 +42,7 @@ pub fn reach(
     requires starts { length starts.now ≤ 16 }
     requires entries { length entries.now ≤ 8 }
     requires some { 1 ≤ window.len }
-    requires most { window.len ≤ 0x10000 }
+    requires most { window.len ≤ MEMORY_SIZE }
     ensures { result ≡ reach memory.now starts.now entries.now window writes_on }
 {
     let voices = voice_pages(memory, starts, entries);

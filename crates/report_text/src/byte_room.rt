@@ -9,22 +9,21 @@ use std::marker::Model;
 /// How many bytes there is room for.
 const ROOM: usize = 131072;
 
-/// Up to 131,072 bytes, so that adding some takes no memory.
+/// Up to 131,072 bytes, so that adding some takes no memory. Room that isn't used is never written.
 #[derive(Drop)]
 pub struct ByteRoom {
     bytes: Vec<u8>,
-    len: usize,
 }
 
 impl Model for ByteRoom {
-    ghost use Rattle.std.specs.Prelude.{◌≡◌, ◌≤◌, List, ℕ, take, vec_len};
+    ghost use Rattle.std.specs.Prelude.{◌≤◌, List, ℕ, vec_len, vec_capacity};
     ghost use Rattle.report_text.specs.Room.{room_size};
 
     ghost Value = { List ℕ };
 
-    ghost view = { λ room. take room.len room.bytes.items };
+    ghost view = { λ room. room.bytes.items };
 
-    ghost invariant = { λ room. (vec_len room.bytes ≡ room_size) × (room.len ≤ room_size) };
+    ghost invariant = { λ room. (room_size ≤ vec_capacity room.bytes) × (vec_len room.bytes ≤ room_size) };
 }
 
 impl ByteRoom {
@@ -32,8 +31,8 @@ impl ByteRoom {
     pub fn new(alloc: Global) -> Result<ByteRoom, OutOfMemory>
         ensures { IfOk result (λ room. room ≡ []) }
     {
-        let bytes = vec![in alloc; 0u8; ROOM]?;
-        Ok(ByteRoom { bytes, len: 0 })
+        let bytes = Vec::with_capacity(alloc, ROOM)?;
+        Ok(ByteRoom { bytes })
     }
 
     /// Whether there is room for so many more.
@@ -41,14 +40,14 @@ impl ByteRoom {
         requires { more ≤ room_size }
         ensures { (result ≡ true) ↔ (length self.now + more ≤ room_size) }
     {
-        self.len + more <= ROOM
+        self.bytes.len() + more <= ROOM
     }
 
     /// Drops all bytes.
     pub fn clear(&mut self)
         ensures { self.new ≡ [] }
     {
-        self.len = 0;
+        self.bytes.clear();
     }
 
     /// Adds bytes at the end.
@@ -56,16 +55,14 @@ impl ByteRoom {
         requires { length self.old + length piece.now ≤ room_size }
         ensures { self.new ≡ self.old ++ piece.now }
     {
-        let end = self.len + piece.len();
-        self.bytes[self.len..end].copy_from_slice(piece);
-        self.len = end;
+        let _ = self.bytes.extend_from_slice(piece);
     }
 
     /// The bytes.
     pub fn as_slice(&self) -> &[u8]
         ensures { result.now ≡ self.now }
     {
-        &self.bytes[..self.len]
+        self.bytes.as_slice()
     }
 }
 

@@ -8,6 +8,9 @@ ghost use Rattle.snd_host.specs.declared.calls.ReadRefusal.TheVariants.{Failed a
 use crate::{Failed, Host, OutFile, OutOfMemory};
 use std::alloc::Global;
 
+/// The most bytes that are read by one call.
+pub const MOST_READ_AT_ONCE: usize = 4096;
+
 /// Writes all of the piece, or a prefix of it where a write fails.
 pub fn write_all<H: Host>(host: &mut H, out: OutFile, piece: &[u8]) -> Result<(), Failed>
     requires { IsOpen (H.state host.old).ended out.0 }
@@ -83,9 +86,9 @@ pub fn read_whole<H: Host>(
 {
     let file = host.open_in(name)?;
     let mut bytes = Vec::new(alloc);
-    let mut buffer = [0u8; 4096];
+    let mut buffer = [0u8; MOST_READ_AT_ONCE];
     'reading: while bytes.len() <= limit {
-        let room = (limit + 1 - bytes.len()).min(4096);
+        let room = (limit + 1 - bytes.len()).min(MOST_READ_AT_ONCE);
         let count = host.read(file, &mut buffer[..room])?;
         if count == 0 {
             return Ok(bytes);

@@ -35,7 +35,7 @@ impl DripHost {
 impl Host for DripHost {
     ghost use Rattle.std.specs.Prelude.{◌≢◌, ◌-◌, ◌+◌, ◌<◌, [], ◌∷◌, ◌++◌, false, true, length, take, drop, Some, None, IsSome, IsOk, IfOk, OnOk, OnErr, is_err, slice_get, slice_index, slice_set};
     ghost use Rattle.snd_host.specs.OpenedInputs.{Opens, ReadsMore};
-    ghost use Rattle.snd_host.specs.Host.{IfTold, HasCause, CountsWrite, EndsByWrite, IsOpen, ChangesInputs, ChangesOutputs, KeepsRooms, Writes, most_outputs, longest_name};
+    ghost use Rattle.snd_host.specs.Host.{IfTold, HasCause, CountsWrite, EndsByWrite, IsOpen, ChangesInputs, ChangesOutputs, KeepsRooms, Writes, most_outputs, longest_output_name};
     ghost use Rattle.snd_host.specs.Memory.{tells_each_lem, CountsCall};
 
     ghost state = { drip_state };
@@ -98,7 +98,7 @@ impl Host for DripHost {
         ensures cause { HasCause (drip_state self.old).faults.outputs (drip_state self.new).faults.outputs result }
         ensures last { (drip_state self.new).failed_last ≡ is_err result }
         ensures steady { IfTold (drip_state self.old).steady (λ rooms.
-            length (drip_state self.old).ended + 2 < length rooms → length name.now ≤ longest_name → IsOk result) }
+            length (drip_state self.old).ended + 2 < length rooms → length name.now ≤ longest_output_name → IsOk result) }
         ensures rooms { KeepsRooms (drip_state self.old) (drip_state self.new) }
         ensures counted { CountsCall (inside self.old) (inside self.new) }
     {

@@ -1,7 +1,7 @@
 // The outside as the program sees it: inputs that are read by name, and outputs that are written in order.
 ghost use Rattle.std.specs.Prelude.{◌≡◌, ◌≢◌, ◌+◌, ◌-◌, ◌<◌, ◌≤◌, ℕ, List, [], ◌∷◌, ◌++◌, length, take, drop, true, false, Option, Some, IsSome, IsOk, IfOk, OnOk, OnErr, is_err, slice_get, slice_index, slice_set};
 ghost use Rattle.snd_host.specs.OpenedInputs.{Opens, ReadsMore};
-ghost use Rattle.snd_host.specs.Host.{HostState, Given, IfTold, HasCause, CountsWrite, EndsByWrite, IsOpen, ChangesInputs, ChangesOutputs, KeepsRooms, Writes, most_outputs, longest_name};
+ghost use Rattle.snd_host.specs.Host.{HostState, Given, IfTold, HasCause, CountsWrite, EndsByWrite, IsOpen, ChangesInputs, ChangesOutputs, KeepsRooms, Writes, most_outputs, longest_output_name};
 
 /// A call of the host that failed.
 #[derive(Clone, Copy, Debug, PartialEq, Eq)]
@@ -14,6 +14,9 @@ pub struct InFile(pub u32);
 /// An output by its number: 0 is the report, 1 the complaint, and the created ones follow.
 #[derive(Clone, Copy, Debug, PartialEq, Eq)]
 pub struct OutFile(pub u32);
+
+/// The bytes of the longest name of an output that a steady host takes.
+pub const LONGEST_OUTPUT_NAME: usize = 200;
 
 /// Where a program reads its inputs and writes its outputs.
 ///
@@ -77,7 +80,7 @@ pub trait Host {
         ensures last { (state self.new).failed_last ≡ is_err result }
         // A steady host fails only past its rooms or at a name that is longer than the longest.
         ensures steady { IfTold (state self.old).steady (λ rooms.
-            length (state self.old).ended + 2 < length rooms → length name.now ≤ longest_name → IsOk result) }
+            length (state self.old).ended + 2 < length rooms → length name.now ≤ longest_output_name → IsOk result) }
         ensures rooms { KeepsRooms (state self.old) (state self.new) };
 
     /// Adds the first bytes of the piece to the output, at least one where there is one.

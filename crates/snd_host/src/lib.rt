@@ -9,7 +9,7 @@ mod keeping;
 mod memory;
 mod readings;
 
-pub use calls::{ReadRefusal, read_whole, write_all};
+pub use calls::{MOST_READ_AT_ONCE, ReadRefusal, read_whole, write_all};
 pub use drip::DripHost;
 pub use host::{Failed, Host, InFile, OutFile};
 pub use memory::MemHost;

@@ -1,9 +1,10 @@
 // A host in memory, whose calls fail where a test wants it.
 ghost use Rattle.std.specs.Prelude.{◌≡◌, ◌+◌, ◌≤◌, vec_len, vec_capacity, string_bytes, string_capacity, []};
 ghost use Rattle.std.specs.VecDeque.{deque_len};
-ghost use Rattle.snd_host.specs.Host.{longest_name};
+ghost use Rattle.snd_host.specs.Host.{longest_output_name};
 
 use crate::files::{bytes_of, copy_front, count_call, find_file};
+use crate::host::LONGEST_OUTPUT_NAME;
 use crate::keeping::with_reading;
 use crate::readings::{Reading, Readings};
 use crate::{Failed, Host, InFile, OutFile, OutOfMemory};
@@ -33,7 +34,7 @@ struct Spare {
     bytes: Vec<u8>,
     room: usize,
     ghost unnamed: { string_bytes name ≡ [] },
-    ghost name_room: { longest_name ≤ string_capacity name },
+    ghost name_room: { longest_output_name ≤ string_capacity name },
     ghost empty: { bytes.items ≡ [] },
     ghost room_reserved: { room ≤ vec_capacity bytes },
 }
@@ -100,7 +101,7 @@ impl Spare {
         ensures { IfOk result (λ spare. spare.room ≡ room) }
     {
         Ok(Spare {
-            name: String::with_capacity(alloc, 200)?,
+            name: String::with_capacity(alloc, LONGEST_OUTPUT_NAME)?,
             bytes: Vec::with_capacity(alloc, room)?,
             room,
         })
@@ -119,7 +120,7 @@ impl Spare {
 
     /// An output of this name, with this room.
     fn into_slot(self, name: &str) -> Slot
-        requires { length name.now ≤ longest_name }
+        requires { length name.now ≤ longest_output_name }
         ensures name { string_bytes result.name ≡ name.now }
         ensures empty { result.sink.bytes.items ≡ [] }
         ensures room { result.sink.room ≡ self.room }
@@ -357,15 +358,15 @@ impl Host for MemHost {
         ensures cause { HasCause (memory_state self.old).faults.outputs (memory_state self.new).faults.outputs result }
         ensures last { (memory_state self.new).failed_last ≡ is_err result }
         ensures steady { IfTold (memory_state self.old).steady (λ rooms.
-            length (memory_state self.old).ended + 2 < length rooms → length name.now ≤ longest_name → IsOk result) }
+            length (memory_state self.old).ended + 2 < length rooms → length name.now ≤ longest_output_name → IsOk result) }
         ensures rooms { KeepsRooms (memory_state self.old) (memory_state self.new) }
         // It fails exactly where its number is listed, no room is left or the name is too long.
-        ensures fails { is_err result ≡ (is_listed self.old || is_full self.old || nat_lt longest_name (length name.now)) }
+        ensures fails { is_err result ≡ (is_listed self.old || is_full self.old || nat_lt longest_output_name (length name.now)) }
         ensures counted { CountsCall self.old self.new }
         ensures rooms_kept { rooms_of self.new ≡ rooms_of self.old }
     {
         let fails = count_call(&mut self.calls, self.failing.as_slice());
-        if fails || name.len() > 200 || self.spare.is_empty() {
+        if fails || name.len() > LONGEST_OUTPUT_NAME || self.spare.is_empty() {
             self.out_faults = self.out_faults.saturating_add(1);
             self.failed_last = true;
             return Err(Failed);

@@ -5,6 +5,9 @@ ghost use Rattle.snd_host.specs.OpenedInputs.{most_told};
 use crate::OutOfMemory;
 use std::alloc::Global;
 
+/// How many readings a host is sure to tell.
+pub(crate) const MOST_TOLD: usize = 16;
+
 /// A file that was opened, by its place, and how far it was read.
 #[derive(Clone, Copy)]
 pub(crate) struct Reading {
@@ -24,7 +27,7 @@ impl Readings {
     pub(crate) fn reserve(alloc: Global) -> Result<Readings, OutOfMemory>
         ensures { IfOk result (λ readings. readings.list.items ≡ []) }
     {
-        let list = Vec::with_capacity(alloc, 16)?;
+        let list = Vec::with_capacity(alloc, MOST_TOLD)?;
         Ok(Readings { list })
     }
 }

@@ -13,7 +13,8 @@ ghost use Rattle.spc700_alu.specs.declared.bits.BitKind.{BitKind};
 
 /// To set or clear a flag changes that flag alone.
 pub fn flags_change_alone()
-    ensures { (psw i j : ℕ) (on : Bool) → psw < 256 → i < 8 → j < 8 → flag (2 ^ j) (with_flag (2 ^ i) on psw) ≡ (if i == j then on else flag (2 ^ j) psw) }
+    ensures { (psw i j : ℕ) (on : Bool) → psw < 256 → i < 8 → j < 8
+        → flag (2 ^ j) (with_flag (2 ^ i) on psw) ≡ (if i == j then on else flag (2 ^ j) psw) }
 {}
 
 /// Each operation leaves the flags that it doesn't name: the mask is that of the flags that stay.

@@ -1,6 +1,7 @@
 -- An instruction as its line shows it, and its bytes at an address (own: which operand's bytes come first is that of the
 -- SPC700; Anomie's SPC700 Doc, the instruction list).
 use Rattle.std.specs.Prelude.{ℕ, zero, suc, ◌+◌, ◌-◌, ◌*◌, ◌/◌, ◌%◌, nat_lt, nat_le, ◌||◌, Bool, List, [], ◌∷◌, ◌++◌, length, drop, Option, Some, None, if◌then◌else◌}
+use Rattle.aram_core.specs.declared.aram.TheConstants.{MEMORY_SIZE}
 use Rattle.spc700_table.specs.declared.OpRow.{OpRow}
 use Rattle.spc700_table.specs.declared.Form.{Form}
 use Rattle.spc700_table.specs.Opcodes.{row_of, is_distance, operand_bytes, length_of, is_in_text_order}
@@ -9,7 +10,7 @@ use Rattle.spc700_asm.specs.declared.instruction.Instruction.{Instruction}
 
 -- where the memory ends
 abbrev pub memory_end : ℕ
-memory_end = 0x10000
+memory_end = MEMORY_SIZE
 
 -- where the bytes of each operand begin, after the opcode
 abbrev pub first_place : OpRow → ℕ

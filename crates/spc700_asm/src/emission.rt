@@ -253,7 +253,8 @@ fn push_line(out: &mut Vec<u8>, names: &Names, at: u32, line: &[u8]) -> Result<u
     requires at { at ≤ memory_end }
     requires fine { IsFine at (statement_of line.now) }
     ensures bytes { (labels : Labels) → Holds names.now labels → OnOk result (AddsLine labels at line.now out.old.items out.new.items) }
-    ensures fault { (labels : Labels) → Holds names.now labels → IfErr result (λ error. IsBytesFault error (line_bytes labels at (statement_of line.now))) }
+    ensures fault { (labels : Labels) → Holds names.now labels
+        → IfErr result (λ error. IsBytesFault error (line_bytes labels at (statement_of line.now))) }
     ensures next { IfOk result (λ next. next ≡ at + size_of_line (statement_of line.now)) }
     ensures within { IfOk result (λ next. next ≤ memory_end) }
 {

@@ -4,10 +4,11 @@ ghost use Rattle.spc700_table.specs.Opcodes.{row_of, is_distance, operand_bytes,
 ghost use Rattle.spc700_table.specs.Branches.{branch_target};
 ghost use Rattle.spc700_asm.specs.Instructions.{memory_end, first_place, second_place, number_at, number_in_line, instruction_in, instruction_at};
 
+use aram_core::MEMORY_SIZE;
 use spc700_table::{Form, OpRow, branch_target, byte_count, is_in_text_order, length, row};
 
 /// Where the memory ends.
-pub(crate) const MEMORY_END: u32 = 0x1_0000;
+pub(crate) const MEMORY_END: u32 = MEMORY_SIZE as u32;
 
 /// An instruction: its opcode, and the number that stands in the line for each operand: the target of a branch, of a bit of
 /// memory the word of address and bit, and 0 where there is no number.

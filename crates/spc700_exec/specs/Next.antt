@@ -31,8 +31,8 @@ by_action read write end (WriteAt at value) = write at value
 by_action read write end (Ends cpu time) = end cpu time
 
 -- a machine that asks what comes next after each access, at most n times
-abbrev pub driven_outcome : {S : Type 0} → (n : ℕ) → BusMeaning S → (start made : ℕ) → (List ℕ → ℕ → Action) → (got : List ℕ) → (puts : ℕ)
-    → S → Option (Cpu × S)
+abbrev pub driven_outcome : {S : Type 0} → (n : ℕ) → BusMeaning S → (start made : ℕ) → (List ℕ → ℕ → Action)
+    → (got : List ℕ) → (puts : ℕ) → S → Option (Cpu × S)
 driven_outcome zero bus start made ask got puts s = None
 driven_outcome (suc n) bus start made ask got puts s =
     by_action

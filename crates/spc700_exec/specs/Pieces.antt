@@ -78,7 +78,7 @@ after_word_push bus sp value s =
     after_write bus (0x100 + sp_after_push sp) (value % 0x100) (after_write bus (0x100 + sp) (value / 0x100) s)
 
 -- n more accesses and a pass may be made
-pub record HasRoom {S : Type 0} (n : ℕ) (bus : BusMeaning S) (s : S) : Type 0 where
+pub record HasAccessesLeft {S : Type 0} (n : ℕ) (bus : BusMeaning S) (s : S) : Type 0 where
   pub calls : bus.calls s + 2 * n < most_calls
   pub samples : bus.clock s + n < CYCLES_PER_SAMPLE * most_samples_of_bus
 

@@ -5,14 +5,14 @@
 
 ghost use Rattle.std.specs.Prelude.{◌≡◌};
 ghost use Rattle.spc700_exec.specs.Bus.{byte_read, after_read, after_write};
-ghost use Rattle.spc700_exec.specs.Pieces.{HasRoom, IsWithin};
+ghost use Rattle.spc700_exec.specs.Pieces.{HasAccessesLeft, IsWithin};
 
 use crate::bus::Bus;
 
 /// The byte at an address.
 #[inline(always)]
 pub fn read<B: Bus>(bus: &mut B, at: u16) -> u8
-    requires { HasRoom 1 B.means bus.old }
+    requires { HasAccessesLeft 1 B.means bus.old }
     ensures byte { result ≡ byte_read B.means at bus.old }
     ensures bus { bus.new ≡ after_read B.means at bus.old }
     ensures within { IsWithin 1 B.means bus.old bus.new }
@@ -24,7 +24,7 @@ pub fn read<B: Bus>(bus: &mut B, at: u16) -> u8
 /// Writes a byte to an address.
 #[inline(always)]
 pub fn write<B: Bus>(bus: &mut B, at: u16, value: u8)
-    requires { HasRoom 1 B.means bus.old }
+    requires { HasAccessesLeft 1 B.means bus.old }
     ensures bus { bus.new ≡ after_write B.means at value bus.old }
     ensures within { IsWithin 1 B.means bus.old bus.new }
 {

@@ -5,7 +5,7 @@ ghost use Rattle.spc700_table.specs.Opcodes.{row_of};
 ghost use Rattle.spc700_exec.specs.declared.cpu.Cpu.{Cpu};
 ghost use Rattle.spc700_exec.specs.Script.{after_rest};
 ghost use Rattle.spc700_exec.specs.Instruction.{instruction};
-ghost use Rattle.spc700_exec.specs.Pieces.{HasRoom, IsInstruction, IsWholeInstruction, access_count, halts};
+ghost use Rattle.spc700_exec.specs.Pieces.{HasAccessesLeft, IsInstruction, IsWholeInstruction, access_count, halts};
 
 use crate::bus::{Bus, CYCLES_PER_SAMPLE};
 
@@ -34,7 +34,7 @@ fn access_count(op: u8) -> u8
 // In line as its caller is.
 #[inline(always)]
 fn pass_rest<B: Bus>(bus: &mut B, cycles: u8, passed: u8)
-    requires room { HasRoom 1 B.means bus.old }
+    requires room { HasAccessesLeft 1 B.means bus.old }
     requires few { cycles ≤ CYCLES_PER_SAMPLE }
     ensures { bus.new ≡ after_rest B.means cycles passed bus.old }
 {
@@ -47,7 +47,7 @@ fn pass_rest<B: Bus>(bus: &mut B, cycles: u8, passed: u8)
 // In line in the arm of the opcode, where the rest is a constant.
 #[inline(always)]
 pub fn end_instruction<B: Bus>(bus: &mut B, op: u8, cycles: u8)
-    requires room { HasRoom 1 B.means bus.old }
+    requires room { HasAccessesLeft 1 B.means bus.old }
     requires few { cycles ≤ CYCLES_PER_SAMPLE }
     ensures rest { bus.new ≡ after_rest B.means cycles (access_count (row_of op)) bus.old }
     ensures whole { (before after : Cpu) (old : B) → halts (row_of op).kind ≡ false

@@ -4,7 +4,7 @@ ghost use Rattle.std.specs.Prelude.{◌≡◌, ℕ, false};
 ghost use Rattle.spc700_table.specs.Opcodes.{row_of};
 ghost use Rattle.spc700_exec.specs.Operations.{Operation, operation_of};
 ghost use Rattle.spc700_exec.specs.Instruction.{line_of};
-ghost use Rattle.spc700_exec.specs.Pieces.{HasRoom, IsRow, IsInstruction, IsWholeInstruction, halts};
+ghost use Rattle.spc700_exec.specs.Pieces.{HasAccessesLeft, IsRow, IsInstruction, IsWholeInstruction, halts};
 
 use crate::access_counts::end_instruction;
 use crate::bus::Bus;
@@ -19,7 +19,7 @@ pub trait Execute: Copy {
 
     /// Makes the accesses of the instruction, and gives its cycles.
     fn execute<B: Bus>(self, cpu: &mut Cpu, bus: &mut B, row: OpRow) -> u8
-        requires room { HasRoom 12 B.means bus.old }
+        requires room { HasAccessesLeft 12 B.means bus.old }
         requires row { IsRow row }
         ensures { IsInstruction B.means (line_of (operation self) row cpu.old) bus.old cpu.new result bus.new };
 }
@@ -37,7 +37,7 @@ fn fitting_row(op: u8) -> OpRow
 // In line in the arm of the opcode, where the row and the rest of the cycles are constants.
 #[inline(always)]
 pub fn execute_whole<B: Bus, E: Execute>(cpu: &mut Cpu, bus: &mut B, op: u8, operation: E)
-    requires room { HasRoom 12 B.means bus.old }
+    requires room { HasAccessesLeft 12 B.means bus.old }
     requires runs { halts (row_of op).kind ≡ false }
     requires is { operation_of (row_of op).kind (row_of op).first (row_of op).second ≡ E.operation operation }
     ensures { (opcode : ℕ) → opcode ≡ op → IsWholeInstruction B.means (row_of opcode) cpu.old bus.old cpu.new bus.new }

@@ -4,7 +4,7 @@ ghost use Rattle.std.specs.Prelude.{◌≡◌, ◌+◌, ◌-◌, ◌%◌, ℕ};
 ghost use Rattle.spc700_table.specs.Opcodes.{row_of};
 ghost use Rattle.spc700_exec.specs.Operations as operations;
 ghost use Rattle.spc700_exec.specs.Operations.{operation_of};
-ghost use Rattle.spc700_exec.specs.Pieces.{HasRoom, IsWholeInstruction};
+ghost use Rattle.spc700_exec.specs.Pieces.{HasAccessesLeft, IsWholeInstruction};
 
 use crate::access_counts::end_instruction;
 use crate::bus::{Bus, CYCLES_PER_SAMPLE};
@@ -153,7 +153,7 @@ fn halt_cycles<B: Bus>(bus: &B) -> u8
 /// SLEEP and STOP, whole: the processor halts for good.
 #[inline(always)]
 pub fn halt<B: Bus>(cpu: &mut Cpu, bus: &mut B, op: u8)
-    requires room { HasRoom 12 B.means bus.old }
+    requires room { HasAccessesLeft 12 B.means bus.old }
     requires halts { operation_of (row_of op).kind (row_of op).first (row_of op).second ≡ operations.Halt }
     ensures { (opcode : ℕ) → opcode ≡ op → IsWholeInstruction B.means (row_of opcode) cpu.old bus.old cpu.new bus.new }
 {

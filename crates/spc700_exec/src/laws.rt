@@ -14,7 +14,8 @@ use crate::bus::Bus;
 
 /// A machine that asks what comes next after each access makes the step.
 pub fn asking_makes_the_step<B: Bus>(_bus: &B)
-    ensures { (cpu : Cpu) (s : B) → (n : ℕ) × (driven_outcome n B.means (B.means.clock s) 0 (next_action cpu) [] 0 s ≡ Some (step_outcome B.means cpu s)) }
+    ensures { (cpu : Cpu) (s : B)
+        → (n : ℕ) × (driven_outcome n B.means (B.means.clock s) 0 (next_action cpu) [] 0 s ≡ Some (step_outcome B.means cpu s)) }
 {}
 
 /// After its opcode an instruction makes the reads and writes of the table of accesses, in order, whatever the bytes: with

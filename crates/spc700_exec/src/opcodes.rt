@@ -5,7 +5,7 @@
 
 ghost use Rattle.std.specs.Prelude.{◌≡◌, ◌+◌, ◌<◌};
 ghost use Rattle.spc700_table.specs.Opcodes.{row_of};
-ghost use Rattle.spc700_exec.specs.Pieces.{HasRoom, IsWholeInstruction};
+ghost use Rattle.spc700_exec.specs.Pieces.{HasAccessesLeft, IsWholeInstruction};
 
 use crate::bits::{BitInPlace, BitToCarry, TestAndClear, TestAndSet};
 use crate::branches::{BranchAlways, BranchIfDifferent, BranchOnBit, BranchOnFlag, CountDown};
@@ -36,7 +36,7 @@ macro_rules! instruction_of {
 /// The opcodes 0x00 to 0x0F.
 #[inline]
 fn from_00<B: Bus>(cpu: &mut Cpu, bus: &mut B, low: u8)
-    requires room { HasRoom 12 B.means bus.old }
+    requires room { HasAccessesLeft 12 B.means bus.old }
     requires digit { low < 16 }
     ensures { IsWholeInstruction B.means (row_of (0x00 + low)) cpu.old bus.old cpu.new bus.new }
 {
@@ -57,7 +57,7 @@ fn from_00<B: Bus>(cpu: &mut Cpu, bus: &mut B, low: u8)
 /// The opcodes 0x10 to 0x1F.
 #[inline]
 fn from_10<B: Bus>(cpu: &mut Cpu, bus: &mut B, low: u8)
-    requires room { HasRoom 12 B.means bus.old }
+    requires room { HasAccessesLeft 12 B.means bus.old }
     requires digit { low < 16 }
     ensures { IsWholeInstruction B.means (row_of (0x10 + low)) cpu.old bus.old cpu.new bus.new }
 {
@@ -78,7 +78,7 @@ fn from_10<B: Bus>(cpu: &mut Cpu, bus: &mut B, low: u8)
 /// The opcodes 0x20 to 0x2F.
 #[inline]
 fn from_20<B: Bus>(cpu: &mut Cpu, bus: &mut B, low: u8)
-    requires room { HasRoom 12 B.means bus.old }
+    requires room { HasAccessesLeft 12 B.means bus.old }
     requires digit { low < 16 }
     ensures { IsWholeInstruction B.means (row_of (0x20 + low)) cpu.old bus.old cpu.new bus.new }
 {
@@ -99,7 +99,7 @@ fn from_20<B: Bus>(cpu: &mut Cpu, bus: &mut B, low: u8)
 /// The opcodes 0x30 to 0x3F.
 #[inline]
 fn from_30<B: Bus>(cpu: &mut Cpu, bus: &mut B, low: u8)
-    requires room { HasRoom 12 B.means bus.old }
+    requires room { HasAccessesLeft 12 B.means bus.old }
     requires digit { low < 16 }
     ensures { IsWholeInstruction B.means (row_of (0x30 + low)) cpu.old bus.old cpu.new bus.new }
 {
@@ -120,7 +120,7 @@ fn from_30<B: Bus>(cpu: &mut Cpu, bus: &mut B, low: u8)
 /// The opcodes 0x40 to 0x4F.
 #[inline]
 fn from_40<B: Bus>(cpu: &mut Cpu, bus: &mut B, low: u8)
-    requires room { HasRoom 12 B.means bus.old }
+    requires room { HasAccessesLeft 12 B.means bus.old }
     requires digit { low < 16 }
     ensures { IsWholeInstruction B.means (row_of (0x40 + low)) cpu.old bus.old cpu.new bus.new }
 {
@@ -141,7 +141,7 @@ fn from_40<B: Bus>(cpu: &mut Cpu, bus: &mut B, low: u8)
 /// The opcodes 0x50 to 0x5F.
 #[inline]
 fn from_50<B: Bus>(cpu: &mut Cpu, bus: &mut B, low: u8)
-    requires room { HasRoom 12 B.means bus.old }
+    requires room { HasAccessesLeft 12 B.means bus.old }
     requires digit { low < 16 }
     ensures { IsWholeInstruction B.means (row_of (0x50 + low)) cpu.old bus.old cpu.new bus.new }
 {
@@ -162,7 +162,7 @@ fn from_50<B: Bus>(cpu: &mut Cpu, bus: &mut B, low: u8)
 /// The opcodes 0x60 to 0x6F.
 #[inline]
 fn from_60<B: Bus>(cpu: &mut Cpu, bus: &mut B, low: u8)
-    requires room { HasRoom 12 B.means bus.old }
+    requires room { HasAccessesLeft 12 B.means bus.old }
     requires digit { low < 16 }
     ensures { IsWholeInstruction B.means (row_of (0x60 + low)) cpu.old bus.old cpu.new bus.new }
 {
@@ -183,7 +183,7 @@ fn from_60<B: Bus>(cpu: &mut Cpu, bus: &mut B, low: u8)
 /// The opcodes 0x70 to 0x7F.
 #[inline]
 fn from_70<B: Bus>(cpu: &mut Cpu, bus: &mut B, low: u8)
-    requires room { HasRoom 12 B.means bus.old }
+    requires room { HasAccessesLeft 12 B.means bus.old }
     requires digit { low < 16 }
     ensures { IsWholeInstruction B.means (row_of (0x70 + low)) cpu.old bus.old cpu.new bus.new }
 {
@@ -203,7 +203,7 @@ fn from_70<B: Bus>(cpu: &mut Cpu, bus: &mut B, low: u8)
 /// The opcodes 0x80 to 0x8F.
 #[inline]
 fn from_80<B: Bus>(cpu: &mut Cpu, bus: &mut B, low: u8)
-    requires room { HasRoom 12 B.means bus.old }
+    requires room { HasAccessesLeft 12 B.means bus.old }
     requires digit { low < 16 }
     ensures { IsWholeInstruction B.means (row_of (0x80 + low)) cpu.old bus.old cpu.new bus.new }
 {
@@ -224,7 +224,7 @@ fn from_80<B: Bus>(cpu: &mut Cpu, bus: &mut B, low: u8)
 /// The opcodes 0x90 to 0x9F.
 #[inline]
 fn from_90<B: Bus>(cpu: &mut Cpu, bus: &mut B, low: u8)
-    requires room { HasRoom 12 B.means bus.old }
+    requires room { HasAccessesLeft 12 B.means bus.old }
     requires digit { low < 16 }
     ensures { IsWholeInstruction B.means (row_of (0x90 + low)) cpu.old bus.old cpu.new bus.new }
 {
@@ -245,7 +245,7 @@ fn from_90<B: Bus>(cpu: &mut Cpu, bus: &mut B, low: u8)
 /// The opcodes 0xA0 to 0xAF.
 #[inline]
 fn from_a0<B: Bus>(cpu: &mut Cpu, bus: &mut B, low: u8)
-    requires room { HasRoom 12 B.means bus.old }
+    requires room { HasAccessesLeft 12 B.means bus.old }
     requires digit { low < 16 }
     ensures { IsWholeInstruction B.means (row_of (0xA0 + low)) cpu.old bus.old cpu.new bus.new }
 {
@@ -266,7 +266,7 @@ fn from_a0<B: Bus>(cpu: &mut Cpu, bus: &mut B, low: u8)
 /// The opcodes 0xB0 to 0xBF.
 #[inline]
 fn from_b0<B: Bus>(cpu: &mut Cpu, bus: &mut B, low: u8)
-    requires room { HasRoom 12 B.means bus.old }
+    requires room { HasAccessesLeft 12 B.means bus.old }
     requires digit { low < 16 }
     ensures { IsWholeInstruction B.means (row_of (0xB0 + low)) cpu.old bus.old cpu.new bus.new }
 {
@@ -287,7 +287,7 @@ fn from_b0<B: Bus>(cpu: &mut Cpu, bus: &mut B, low: u8)
 /// The opcodes 0xC0 to 0xCF.
 #[inline]
 fn from_c0<B: Bus>(cpu: &mut Cpu, bus: &mut B, low: u8)
-    requires room { HasRoom 12 B.means bus.old }
+    requires room { HasAccessesLeft 12 B.means bus.old }
     requires digit { low < 16 }
     ensures { IsWholeInstruction B.means (row_of (0xC0 + low)) cpu.old bus.old cpu.new bus.new }
 {
@@ -307,7 +307,7 @@ fn from_c0<B: Bus>(cpu: &mut Cpu, bus: &mut B, low: u8)
 /// The opcodes 0xD0 to 0xDF.
 #[inline]
 fn from_d0<B: Bus>(cpu: &mut Cpu, bus: &mut B, low: u8)
-    requires room { HasRoom 12 B.means bus.old }
+    requires room { HasAccessesLeft 12 B.means bus.old }
     requires digit { low < 16 }
     ensures { IsWholeInstruction B.means (row_of (0xD0 + low)) cpu.old bus.old cpu.new bus.new }
 {
@@ -327,7 +327,7 @@ fn from_d0<B: Bus>(cpu: &mut Cpu, bus: &mut B, low: u8)
 /// The opcodes 0xE0 to 0xEF.
 #[inline]
 fn from_e0<B: Bus>(cpu: &mut Cpu, bus: &mut B, low: u8)
-    requires room { HasRoom 12 B.means bus.old }
+    requires room { HasAccessesLeft 12 B.means bus.old }
     requires digit { low < 16 }
     ensures { IsWholeInstruction B.means (row_of (0xE0 + low)) cpu.old bus.old cpu.new bus.new }
 {
@@ -347,7 +347,7 @@ fn from_e0<B: Bus>(cpu: &mut Cpu, bus: &mut B, low: u8)
 /// The opcodes 0xF0 to 0xFF.
 #[inline]
 fn from_f0<B: Bus>(cpu: &mut Cpu, bus: &mut B, low: u8)
-    requires room { HasRoom 12 B.means bus.old }
+    requires room { HasAccessesLeft 12 B.means bus.old }
     requires digit { low < 16 }
     ensures { IsWholeInstruction B.means (row_of (0xF0 + low)) cpu.old bus.old cpu.new bus.new }
 {
@@ -366,7 +366,7 @@ fn from_f0<B: Bus>(cpu: &mut Cpu, bus: &mut B, low: u8)
 /// The instruction of an opcode, once it was read, by the high digit of the opcode. The rest of its cycles passes.
 #[inline(always)]
 pub fn instruct<B: Bus>(cpu: &mut Cpu, bus: &mut B, op: u8)
-    requires room { HasRoom 12 B.means bus.old }
+    requires room { HasAccessesLeft 12 B.means bus.old }
     ensures { IsWholeInstruction B.means (row_of op) cpu.old bus.old cpu.new bus.new }
 {
     match op / 16 {

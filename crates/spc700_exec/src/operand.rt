@@ -6,7 +6,7 @@ ghost use Rattle.std.specs.Prelude.{◌≡◌, ◌+◌, ◌/◌, ◌%◌, ◌^�
 ghost use Rattle.spc700_table.specs.Opcodes.{operand_bytes};
 ghost use Rattle.spc700_exec.specs.Bus.{byte_read, after_read};
 ghost use Rattle.spc700_exec.specs.Operands.{with_next_pc, direct, next_in_page, fetched_bytes, named, addressed, both_addressed, loaded, stored, address_of, bit_of};
-ghost use Rattle.spc700_exec.specs.Pieces.{HasRoom, IsWithin, Gives, GivesValue, GivesCpu, word_read, after_word, after_word_write, in_page, pointer_of, word_followed, after_pointer, FormFits, OperandFits};
+ghost use Rattle.spc700_exec.specs.Pieces.{HasAccessesLeft, IsWithin, Gives, GivesValue, GivesCpu, word_read, after_word, after_word_write, in_page, pointer_of, word_followed, after_pointer, FormFits, OperandFits};
 
 use crate::access::{read, write};
 use crate::bus::Bus;
@@ -47,7 +47,7 @@ pub struct Both {
 /// The byte at PC, and PC goes on.
 #[inline(always)]
 pub fn fetch<B: Bus>(cpu: &mut Cpu, bus: &mut B) -> u8
-    requires { HasRoom 1 B.means bus.old }
+    requires { HasAccessesLeft 1 B.means bus.old }
     ensures byte { result ≡ byte_read B.means cpu.old.pc bus.old }
     ensures bus { bus.new ≡ after_read B.means cpu.old.pc bus.old }
     ensures cpu { cpu.new ≡ with_next_pc cpu.old }
@@ -61,7 +61,7 @@ pub fn fetch<B: Bus>(cpu: &mut Cpu, bus: &mut B) -> u8
 /// So many bytes at PC as a number, low byte first, and PC goes on.
 #[inline(always)]
 fn fetch_bytes<B: Bus>(cpu: &mut Cpu, bus: &mut B, count: u8) -> u16
-    requires room { HasRoom 2 B.means bus.old }
+    requires room { HasAccessesLeft 2 B.means bus.old }
     requires few { count ≤ 2 }
     ensures gives { Gives B.means (fetched_bytes count cpu.old) bus.old result cpu.new bus.new }
     ensures fits { result < 0x100 ^ count }
@@ -80,7 +80,7 @@ fn fetch_bytes<B: Bus>(cpu: &mut Cpu, bus: &mut B, count: u8) -> u16
 /// The word at two addresses, low then high.
 #[inline(always)]
 fn read_word<B: Bus>(bus: &mut B, at_low: u16, at_high: u16) -> u16
-    requires { HasRoom 2 B.means bus.old }
+    requires { HasAccessesLeft 2 B.means bus.old }
     ensures word { result ≡ word_read B.means at_low at_high bus.old }
     ensures bus { bus.new ≡ after_word B.means at_low at_high bus.old }
     ensures within { IsWithin 2 B.means bus.old bus.new }
@@ -152,7 +152,7 @@ fn pointer_of(cpu: &Cpu, form: Form, bytes: u16) -> Option<Pointer>
 // Every pointer is read in one place, whatever the form: so what addresses an operand is small enough to be inlined.
 #[inline(always)]
 fn follow<B: Bus>(bus: &mut B, pointer: Option<Pointer>, bytes: u16) -> u16
-    requires { HasRoom 2 B.means bus.old }
+    requires { HasAccessesLeft 2 B.means bus.old }
     ensures word { result ≡ word_followed B.means pointer bytes bus.old }
     ensures bus { bus.new ≡ after_pointer B.means pointer bus.old }
     ensures within { IsWithin 2 B.means bus.old bus.new }
@@ -166,7 +166,7 @@ fn follow<B: Bus>(bus: &mut B, pointer: Option<Pointer>, bytes: u16) -> u16
 /// The word whose low byte is at an address and whose high byte is at the next one of its page.
 #[inline(always)]
 fn read_word_in_page<B: Bus>(bus: &mut B, at: u16) -> u16
-    requires { HasRoom 2 B.means bus.old }
+    requires { HasAccessesLeft 2 B.means bus.old }
     ensures word { result ≡ word_read B.means at (next_in_page at) bus.old }
     ensures bus { bus.new ≡ after_word B.means at (next_in_page at) bus.old }
     ensures within { IsWithin 2 B.means bus.old bus.new }
@@ -177,7 +177,7 @@ fn read_word_in_page<B: Bus>(bus: &mut B, at: u16) -> u16
 /// The operand that a form names by the bytes after the opcode. Those of a pointer are read here.
 #[inline(always)]
 fn name<B: Bus>(cpu: &mut Cpu, bus: &mut B, form: Form, bytes: u16) -> Operand
-    requires room { HasRoom 2 B.means bus.old }
+    requires room { HasAccessesLeft 2 B.means bus.old }
     requires form { FormFits form }
     requires bytes { bytes < 0x100 ^ operand_bytes form }
     ensures gives { Gives B.means (named form bytes cpu.old) bus.old result cpu.new bus.new }
@@ -218,7 +218,7 @@ fn name<B: Bus>(cpu: &mut Cpu, bus: &mut B, form: Form, bytes: u16) -> Operand
 // The bytes are read in one place, whatever the form: so it is small enough to be inlined.
 #[inline(always)]
 pub fn address<B: Bus>(cpu: &mut Cpu, bus: &mut B, form: Form) -> Operand
-    requires room { HasRoom 4 B.means bus.old }
+    requires room { HasAccessesLeft 4 B.means bus.old }
     requires form { FormFits form }
     ensures gives { Gives B.means (addressed form cpu.old) bus.old result cpu.new bus.new }
     ensures fits { OperandFits result }
@@ -240,7 +240,7 @@ fn chosen<T: Copy>(test: bool, one: T, other: T) -> T
 // Each operand is addressed in one place, whichever comes first.
 #[inline(always)]
 pub fn address_both<B: Bus>(cpu: &mut Cpu, bus: &mut B, row: OpRow) -> Both
-    requires room { HasRoom 8 B.means bus.old }
+    requires room { HasAccessesLeft 8 B.means bus.old }
     requires first { FormFits row.first }
     requires second { FormFits row.second }
     ensures gives { Gives B.means (both_addressed row cpu.old) bus.old result cpu.new bus.new }
@@ -259,7 +259,7 @@ pub fn address_both<B: Bus>(cpu: &mut Cpu, bus: &mut B, row: OpRow) -> Both
 /// The byte of an operand.
 #[inline(always)]
 pub fn load<B: Bus>(cpu: &Cpu, bus: &mut B, operand: Operand) -> u8
-    requires { HasRoom 1 B.means bus.old }
+    requires { HasAccessesLeft 1 B.means bus.old }
     ensures gives { GivesValue B.means (loaded operand cpu.now) bus.old result bus.new }
     ensures within { IsWithin 1 B.means bus.old bus.new }
 {
@@ -278,7 +278,7 @@ pub fn load<B: Bus>(cpu: &Cpu, bus: &mut B, operand: Operand) -> u8
 /// Puts a byte into an operand.
 #[inline(always)]
 pub fn store<B: Bus>(cpu: &mut Cpu, bus: &mut B, operand: Operand, value: u8)
-    requires { HasRoom 1 B.means bus.old }
+    requires { HasAccessesLeft 1 B.means bus.old }
     ensures gives { GivesCpu B.means (stored operand value cpu.old) bus.old cpu.new bus.new }
     ensures within { IsWithin 1 B.means bus.old bus.new }
 {
@@ -320,7 +320,7 @@ pub fn bit_number(operand: Operand) -> u8
 /// The word of an operand, low then high.
 #[inline(always)]
 pub fn load_word<B: Bus>(bus: &mut B, operand: Operand) -> u16
-    requires { HasRoom 2 B.means bus.old }
+    requires { HasAccessesLeft 2 B.means bus.old }
     ensures word { result ≡ word_read B.means (address_of operand) (next_in_page (address_of operand)) bus.old }
     ensures bus { bus.new ≡ after_word B.means (address_of operand) (next_in_page (address_of operand)) bus.old }
     ensures within { IsWithin 2 B.means bus.old bus.new }
@@ -331,7 +331,7 @@ pub fn load_word<B: Bus>(bus: &mut B, operand: Operand) -> u16
 /// Puts a word into an operand, low then high.
 #[inline(always)]
 pub fn store_word<B: Bus>(bus: &mut B, operand: Operand, value: u16)
-    requires { HasRoom 2 B.means bus.old }
+    requires { HasAccessesLeft 2 B.means bus.old }
     ensures bus { bus.new ≡ after_word_write B.means (address_of operand) (next_in_page (address_of operand)) value bus.old }
     ensures within { IsWithin 2 B.means bus.old bus.new }
 {

@@ -5,7 +5,7 @@
 ghost use Rattle.std.specs.Prelude.{◌≡◌, ◌+◌, ◌-◌, ◌/◌, ◌%◌};
 ghost use Rattle.spc700_exec.specs.Bus.{byte_read, after_read, after_write};
 ghost use Rattle.spc700_exec.specs.Operands.{sp_after_push, sp_after_pop};
-ghost use Rattle.spc700_exec.specs.Pieces.{HasRoom, IsWithin, word_read, after_word, after_word_push};
+ghost use Rattle.spc700_exec.specs.Pieces.{HasAccessesLeft, IsWithin, word_read, after_word, after_word_push};
 
 use crate::access::{read, write};
 use crate::bus::Bus;
@@ -14,7 +14,7 @@ use crate::cpu::Cpu;
 /// Pushes a byte.
 #[inline(always)]
 pub fn push<B: Bus>(cpu: &mut Cpu, bus: &mut B, value: u8)
-    requires { HasRoom 1 B.means bus.old }
+    requires { HasAccessesLeft 1 B.means bus.old }
     ensures bus { bus.new ≡ after_write B.means (0x100 + cpu.old.sp) value bus.old }
     ensures cpu { cpu.new ≡ record cpu.old { sp = sp_after_push cpu.old.sp } }
     ensures within { IsWithin 1 B.means bus.old bus.new }
@@ -26,7 +26,7 @@ pub fn push<B: Bus>(cpu: &mut Cpu, bus: &mut B, value: u8)
 /// Pushes a word, high then low.
 #[inline(always)]
 pub fn push_word<B: Bus>(cpu: &mut Cpu, bus: &mut B, value: u16)
-    requires { HasRoom 2 B.means bus.old }
+    requires { HasAccessesLeft 2 B.means bus.old }
     ensures bus { bus.new ≡ after_word_push B.means cpu.old.sp value bus.old }
     ensures cpu { cpu.new ≡ record cpu.old { sp = sp_after_push (sp_after_push cpu.old.sp) } }
     ensures within { IsWithin 2 B.means bus.old bus.new }
@@ -38,7 +38,7 @@ pub fn push_word<B: Bus>(cpu: &mut Cpu, bus: &mut B, value: u16)
 /// Pops a byte.
 #[inline(always)]
 pub fn pop<B: Bus>(cpu: &mut Cpu, bus: &mut B) -> u8
-    requires { HasRoom 1 B.means bus.old }
+    requires { HasAccessesLeft 1 B.means bus.old }
     ensures byte { result ≡ byte_read B.means (0x100 + sp_after_pop cpu.old.sp) bus.old }
     ensures bus { bus.new ≡ after_read B.means (0x100 + sp_after_pop cpu.old.sp) bus.old }
     ensures cpu { cpu.new ≡ record cpu.old { sp = sp_after_pop cpu.old.sp } }
@@ -51,7 +51,7 @@ pub fn pop<B: Bus>(cpu: &mut Cpu, bus: &mut B) -> u8
 /// Pops a word, low then high.
 #[inline(always)]
 pub fn pop_word<B: Bus>(cpu: &mut Cpu, bus: &mut B) -> u16
-    requires { HasRoom 2 B.means bus.old }
+    requires { HasAccessesLeft 2 B.means bus.old }
     ensures word { let sp = sp_after_pop cpu.old.sp in result ≡ word_read B.means (0x100 + sp) (0x100 + sp_after_pop sp) bus.old }
     ensures bus { let sp = sp_after_pop cpu.old.sp in bus.new ≡ after_word B.means (0x100 + sp) (0x100 + sp_after_pop sp) bus.old }
     ensures cpu { cpu.new ≡ record cpu.old { sp = sp_after_pop (sp_after_pop cpu.old.sp) } }

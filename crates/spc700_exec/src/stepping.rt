@@ -5,7 +5,7 @@
 ghost use Rattle.std.specs.Prelude.{◌≡◌, false, ◌+◌, ◌-◌, ◌<◌, ◌≤◌};
 ghost use Rattle.spc700_exec.specs.Bus.{most_calls_before_step, most_samples_of_bus};
 ghost use Rattle.spc700_exec.specs.Instruction.{step_outcome};
-ghost use Rattle.spc700_exec.specs.Pieces.{HasRoom};
+ghost use Rattle.spc700_exec.specs.Pieces.{HasAccessesLeft};
 
 use crate::bus::{Bus, CYCLES_PER_SAMPLE};
 use crate::cpu::Cpu;
@@ -16,7 +16,7 @@ use crate::operand::fetch;
 // In line in the step.
 #[inline(always)]
 fn advance_awake<B: Bus>(cpu: &mut Cpu, bus: &mut B)
-    requires room { HasRoom 13 B.means bus.old }
+    requires room { HasAccessesLeft 13 B.means bus.old }
     requires awake { cpu.old.halted ≡ false }
     ensures { (cpu.new, bus.new) ≡ step_outcome B.means cpu.old bus.old }
 {
@@ -28,7 +28,7 @@ fn advance_awake<B: Bus>(cpu: &mut Cpu, bus: &mut B)
 // In line in the step.
 #[inline(always)]
 fn advance<B: Bus>(cpu: &mut Cpu, bus: &mut B)
-    requires { HasRoom 13 B.means bus.old }
+    requires { HasAccessesLeft 13 B.means bus.old }
     ensures { (cpu.new, bus.new) ≡ step_outcome B.means cpu.old bus.old }
 {
     if cpu.halted {

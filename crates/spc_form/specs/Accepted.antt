@@ -2,6 +2,7 @@
 use Rattle.std.specs.Prelude.{ℕ, ◌+◌, ◌-◌, ◌==◌, ◌&&◌, Bool, List, [], ◌∷◌, ◌++◌, length, take, replicate, codes, Option, Some, None, Result, Ok, Err, nat_le, if◌then◌else◌}
 use Rattle.std.specs.Option.{option_map}
 use Rattle.num_fix.specs.Limits.{most_input}
+use Rattle.spc_form.specs.declared.parts.TheConstants.{KEPT_LENGTH}
 use Rattle.spc_form.specs.declared.reading.SpcRefusal.{SpcRefusal}
 use Rattle.spc_form.specs.declared.reading.SpcRefusal.TheVariants.{Length, Signature}
 
@@ -15,7 +16,7 @@ greatest_length = most_input
 
 -- how many bytes are kept of a file
 abbrev pub kept_length : ℕ
-kept_length = 66048
+kept_length = KEPT_LENGTH
 
 abbrev pub is_spc_length : ℕ → Bool
 is_spc_length n = nat_le least_length n && nat_le n greatest_length

@@ -1,9 +1,10 @@
 -- The ID666 tags in their text form (fields: SPC file format text v0.30; the rule of the length is own).
-use Rattle.std.specs.Prelude.{ℕ, ◌+◌, ◌*◌, ◌==◌, List, take, drop, slice_index, Bool, ◌&&◌, nat_lt, if◌then◌else◌, Option, Some, None, unwrap_or}
+use Rattle.std.specs.Prelude.{ℕ, ◌+◌, ◌*◌, ◌==◌, List, take, drop, Bool, ◌&&◌, nat_lt, if◌then◌else◌, Option, Some, None, unwrap_or}
 use Rattle.std.specs.List.{before_first, list_all, prefix_len}
 use Rattle.std.specs.Char.{is_ascii_digit}
 use Rattle.text_form.specs.Decimals.{decimal_value}
-use Rattle.spc_form.specs.Layout.{part_of}
+use Rattle.num_fix.specs.declared.TheConstants.{SAMPLE_RATE}
+use Rattle.spc_form.specs.Layout.{part_of, tag_mark_of}
 use Rattle.spc_form.specs.declared.tags.Tag.{Tag}
 use Rattle.spc_form.specs.declared.tags.Tag.TheVariants.{Title, Game, Dumper, Comments, Date, Seconds, Fade, Artist}
 use Rattle.spc_form.specs.declared.tags.Length.{Length}
@@ -42,11 +43,11 @@ number_in text =
 
 -- the byte 23h says that there are tags
 abbrev pub has_tags : (file : List ℕ) → Bool
-has_tags file = slice_index file 0x23 == 0x1A
+has_tags file = tag_mark_of file == 0x1A
 
 -- the length of some seconds and a fade of some milliseconds, in frames, of which there are 32,000 a second
 abbrev pub length_of_times : (seconds milliseconds : ℕ) → Length
-length_of_times seconds milliseconds = record { frames = 32000 * seconds + 32 * milliseconds; fade = 32 * milliseconds }
+length_of_times seconds milliseconds = record { frames = SAMPLE_RATE * seconds + 32 * milliseconds; fade = 32 * milliseconds }
 
 -- three minutes, where the tags give no length
 abbrev pub default_length : Length

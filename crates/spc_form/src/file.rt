@@ -1,10 +1,13 @@
 // A file and its fields.
-ghost use Rattle.std.specs.Prelude.{◌≡◌, None, length, slice_index};
-ghost use Rattle.spc_form.specs.Layout.{pc_of, memory_of, dsp_of, extra_of, dsp_size, rom_size};
+ghost use Rattle.std.specs.Prelude.{◌≡◌, None, length};
+ghost use Rattle.spc_form.specs.Layout.{tag_mark_of, minor_of, pc_of, a_of, x_of, y_of, psw_of, sp_of, memory_of, dsp_of, extra_of, dsp_size, rom_size};
 ghost use Rattle.spc_form.specs.Tags.{text_of};
 ghost use Rattle.spc_form.specs.Accepted.{signature, first_difference, kept_length};
 
-use crate::parts::{DSP_PLACE, DSP_SIZE, EXTRA_PLACE, MEMORY_PLACE, ROM_SIZE, part};
+use crate::parts::{
+    A_PLACE, DSP_PLACE, DSP_SIZE, EXTRA_PLACE, MEMORY_PLACE, MINOR_PLACE, PC_PLACE, PSW_PLACE,
+    ROM_SIZE, SP_PLACE, TAG_MARK_PLACE, X_PLACE, Y_PLACE, part,
+};
 use aram_core::MEMORY_SIZE;
 use byteorder::{ByteOrder, LittleEndian};
 use std::marker::Model;
@@ -40,56 +43,56 @@ impl SpcFile {
     pub fn pc(&self) -> u16
         ensures { result ≡ pc_of self.now }
     {
-        LittleEndian::read_u16(&self.as_slice()[0x25..])
+        LittleEndian::read_u16(&self.as_slice()[PC_PLACE..])
     }
 
     /// The register A.
     pub fn a(&self) -> u8
-        ensures { result ≡ slice_index self.now 0x27 }
+        ensures { result ≡ a_of self.now }
     {
-        self.as_slice()[0x27]
+        self.as_slice()[A_PLACE]
     }
 
     /// The register X.
     pub fn x(&self) -> u8
-        ensures { result ≡ slice_index self.now 0x28 }
+        ensures { result ≡ x_of self.now }
     {
-        self.as_slice()[0x28]
+        self.as_slice()[X_PLACE]
     }
 
     /// The register Y.
     pub fn y(&self) -> u8
-        ensures { result ≡ slice_index self.now 0x29 }
+        ensures { result ≡ y_of self.now }
     {
-        self.as_slice()[0x29]
+        self.as_slice()[Y_PLACE]
     }
 
     /// The status byte PSW.
     pub fn psw(&self) -> u8
-        ensures { result ≡ slice_index self.now 0x2A }
+        ensures { result ≡ psw_of self.now }
     {
-        self.as_slice()[0x2A]
+        self.as_slice()[PSW_PLACE]
     }
 
     /// The low byte of the stack pointer.
     pub fn sp(&self) -> u8
-        ensures { result ≡ slice_index self.now 0x2B }
+        ensures { result ≡ sp_of self.now }
     {
-        self.as_slice()[0x2B]
+        self.as_slice()[SP_PLACE]
     }
 
     /// The minor number of the format's version.
     pub fn minor(&self) -> u8
-        ensures { result ≡ slice_index self.now 0x24 }
+        ensures { result ≡ minor_of self.now }
     {
-        self.as_slice()[0x24]
+        self.as_slice()[MINOR_PLACE]
     }
 
     /// 1Ah where the file has tags, 1Bh where it has none.
     pub fn tag_mark(&self) -> u8
-        ensures { result ≡ slice_index self.now 0x23 }
+        ensures { result ≡ tag_mark_of self.now }
     {
-        self.as_slice()[0x23]
+        self.as_slice()[TAG_MARK_PLACE]
     }
 
     /// The memory, 65,536 bytes.

@@ -9,6 +9,7 @@ mod state;
 mod tags;
 
 pub use file::SpcFile;
+pub use parts::{DSP_PLACE, KEPT_LENGTH, MEMORY_PLACE};
 pub use reading::{GREATEST_LENGTH, SpcRefusal, read_spc, write_spc};
 pub use state::{OpenState, opening};
 pub use std::alloc::AllocError as OutOfMemory;

@@ -2,6 +2,33 @@
 ghost use Rattle.std.specs.Prelude.{◌≡◌, ◌+◌, ◌≤◌, length};
 ghost use Rattle.spc_form.specs.Layout.{part_of};
 
+/// The bytes of a file: what is kept of one, and what is written.
+pub const KEPT_LENGTH: usize = 66048;
+
+/// Where the byte stands that says whether there are tags.
+pub const TAG_MARK_PLACE: usize = 0x23;
+
+/// Where the minor number of the version stands.
+pub const MINOR_PLACE: usize = 0x24;
+
+/// Where the program counter begins, low byte first.
+pub const PC_PLACE: usize = 0x25;
+
+/// Where the register A stands.
+pub const A_PLACE: usize = 0x27;
+
+/// Where the register X stands.
+pub const X_PLACE: usize = 0x28;
+
+/// Where the register Y stands.
+pub const Y_PLACE: usize = 0x29;
+
+/// Where the status byte PSW stands.
+pub const PSW_PLACE: usize = 0x2A;
+
+/// Where the low byte of the stack pointer stands.
+pub const SP_PLACE: usize = 0x2B;
+
 /// Where the memory begins.
 pub const MEMORY_PLACE: usize = 0x100;
 

@@ -3,6 +3,7 @@ ghost use Rattle.std.specs.Prelude.{◌≡◌, ◌≤◌, ◌⊎◌, length, vec
 ghost use Rattle.spc_form.specs.Accepted.{signature, first_difference, padded_to, kept_length, spc_file};
 ghost use Rattle.spc_form.specs.declared.reading.SpcRefusal.TheVariants.{OutOfMemory as MemoryRefusal};
 
+use crate::parts::KEPT_LENGTH;
 use crate::{OutOfMemory, SpcFile};
 use std::alloc::Global;
 use thiserror::Error;
@@ -12,9 +13,6 @@ pub const GREATEST_LENGTH: usize = 1048576;
 
 /// The least length: that of a file whose last 128 bytes are missing.
 const LEAST_LENGTH: usize = 65920;
-
-/// How many bytes are kept of a file.
-const KEPT_LENGTH: usize = 66048;
 
 /// What a file begins with.
 const SIGNATURE: [u8; 27] = *b"SNES-SPC700 Sound File Data";

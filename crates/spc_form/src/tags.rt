@@ -7,6 +7,7 @@ ghost use Rattle.spc_form.specs.Tags.{most_told_frames, field_start, field_size,
 
 use crate::SpcFile;
 use crate::parts::part;
+use num_fix::SAMPLE_RATE;
 use text_form::{decimal_value, place_of};
 
 /// The tags of a file (SPC file format text v0.30).
@@ -124,7 +125,7 @@ fn length_of_numbers(seconds: Option<u32>, fade: Option<u32>) -> Length
         Some(seconds) if seconds != 0 => {
             let fade = 32 * fade.unwrap_or(0);
             Length {
-                frames: 32000 * seconds + fade,
+                frames: SAMPLE_RATE * seconds + fade,
                 fade,
             }
         }

@@ -16,12 +16,12 @@ use Rattle.exit_status.specs.declared.status.Status.{Status}
 use Rattle.exit_status.specs.declared.status.Status.TheVariants as statuses
 use Rattle.command_line.specs.Command.{Command, usage}
 use Rattle.spcwave.specs.Answers.{answer_of, inputs_of}
-use Rattle.exit_status.specs.Statuses.{status_of, answer_status, plain_end}
+use Rattle.exit_status.specs.Statuses.{status_of, answer_status, end_without_numbers}
 use Rattle.exit_status.specs.Lines.{end_line, refusal_line}
 use Rattle.spcwave.specs.RunClauses as clause
 
 -- a status without numbers tells its end
-plain_is : (r p : Option (Refusal Cause)) → plain_end (status_of r) ≡ Some p → r ≡ p
+plain_is : (r p : Option (Refusal Cause)) → end_without_numbers (status_of r) ≡ Some p → r ≡ p
 plain_is None p h = cc
 plain_is (Some Usage) p h = cc
 plain_is (Some ReadFault) p h = cc
@@ -51,7 +51,7 @@ input_end cause a (inr (inr (inl wrong))) = absurd (cc)
 input_end cause a (inr (inr (inr wrong))) = absurd (cc)
 
 -- with the numbers of the answer
-line_end : (r : Option (Refusal Cause)) (a : Answer Cause) → IsEnd r a → unwrap_or (plain_end (status_of r)) (refusal_of a) ≡ r
+line_end : (r : Option (Refusal Cause)) (a : Answer Cause) → IsEnd r a → unwrap_or (end_without_numbers (status_of r)) (refusal_of a) ≡ r
 line_end None a end = refl
 line_end (Some Usage) a end = refl
 line_end (Some ReadFault) a end = refl
@@ -72,14 +72,14 @@ line_end (Some (Input (Script line))) a end = input_end (Script line) a end
 -- an end that has the status of the answer is the answer's
 same_end : (r : Option (Refusal Cause)) (a : Answer Cause) → IsEnd r a → status_of r ≡ answer_status a → r ≡ refusal_of a
 same_end r a (inl same) equal = same
-same_end r a (inr (inl is)) equal = is ∙ sym (plain_is (refusal_of a) (Some ReadFault) (ap plain_end (sym equal ∙ ap status_of is)))
-same_end r a (inr (inr (inl is))) equal = is ∙ sym (plain_is (refusal_of a) (Some WriteFault) (ap plain_end (sym equal ∙ ap status_of is)))
-same_end r a (inr (inr (inr is))) equal = is ∙ sym (plain_is (refusal_of a) (Some OutOfMemory) (ap plain_end (sym equal ∙ ap status_of is)))
+same_end r a (inr (inl is)) equal = is ∙ sym (plain_is (refusal_of a) (Some ReadFault) (ap end_without_numbers (sym equal ∙ ap status_of is)))
+same_end r a (inr (inr (inl is))) equal = is ∙ sym (plain_is (refusal_of a) (Some WriteFault) (ap end_without_numbers (sym equal ∙ ap status_of is)))
+same_end r a (inr (inr (inr is))) equal = is ∙ sym (plain_is (refusal_of a) (Some OutOfMemory) (ap end_without_numbers (sym equal ∙ ap status_of is)))
 
 module _ (command : Command) (r : Option (Refusal Cause)) (x z : HostState) (status : Status) (is : status ≡ status_of r)
     (o : Obeys refusal_line (answer_of command) (inputs_of command) r x z) (misread : (r ≡ Some Usage) ↔ (command ≡ usage)) where
-  end_of : (p : Option (Refusal Cause)) (s : Status) → plain_end s ≡ Some p → status ≡ s → r ≡ p
-  end_of p s plain same = plain_is r p (ap plain_end (sym is ∙ same) ∙ plain)
+  end_of : (p : Option (Refusal Cause)) (s : Status) → end_without_numbers s ≡ Some p → status ≡ s → r ≡ p
+  end_of p s plain same = plain_is r p (ap end_without_numbers (sym is ∙ same) ∙ plain)
 
   status_is : (p : Option (Refusal Cause)) → r ≡ p → status ≡ status_of p
   status_is p same = is ∙ ap status_of same
@@ -107,8 +107,8 @@ module _ (command : Command) (r : Option (Refusal Cause)) (x z : HostState) (sta
   complains_of end same = subst (λ (e : Option (Refusal Cause)). Complains (end_line e) x z) same
       (complains (end_line r) o.report o.complaint o.outputs o.ended x z o.made o.complains)
 
-  line_is : (files : Files) → x.holds ≡ Some files → r ≡ unwrap_or (plain_end status) (refusal_of (answer_of command files))
-  line_is files told = sym (ap (λ (s : Status). unwrap_or (plain_end s) (refusal_of (answer_of command files))) is ∙ line_end r (answer_of command files) (truthful files told))
+  line_is : (files : Files) → x.holds ≡ Some files → r ≡ unwrap_or (end_without_numbers status) (refusal_of (answer_of command files))
+  line_is files told = sym (ap (λ (s : Status). unwrap_or (end_without_numbers s) (refusal_of (answer_of command files))) is ∙ line_end r (answer_of command files) (truthful files told))
 
   refused_is : (p : Refusal Cause) → r ≡ Some p → p ≢ WriteFault → LeavesNothing x z
   refused_is p same other = nothing (λ none. some_none p (sym same ∙ none)) (λ write. other (inside p WriteFault (sym same ∙ write)))
@@ -151,7 +151,7 @@ module _ (command : Command) (r : Option (Refusal Cause)) (x z : HostState) (sta
     accepted = λ same files told. ap status_of ((o.answered files told).written (end_of (Some WriteFault) statuses.WriteFault refl same)).0;
     leaves = λ same files told.
         let written = (o.answered files told).written (end_of (Some WriteFault) statuses.WriteFault refl same) in
-        record { report = o.report; outputs = o.outputs; flags = o.ended; leaves = left; reported = written.1; begun = written.2; ended_whole = (o.answered files told).ended_whole };
+        record { report = o.report; outputs = o.outputs; flags = o.ended; leaves = left; reported = written.1; begun = written.2; ended_whole = (o.answered files told).ended_whole; in_order = o.causes.in_order };
   }
 
   pub memory : clause.Memory command x z status
@@ -204,7 +204,7 @@ module _ (command : Command) (r : Option (Refusal Cause)) (x z : HostState) (sta
   pub completes_complaint : clause.CompletesComplaint command x z status
   completes_complaint = record {
     calm = λ rooms steady files told. calm_with rooms steady _ (line_is files told);
-    calm_plain = λ rooms steady end plain. calm_with rooms steady end (plain_is r end (ap plain_end (sym is) ∙ plain));
+    calm_plain = λ rooms steady end plain. calm_with rooms steady end (plain_is r end (ap end_without_numbers (sym is) ∙ plain));
   }
 
   pub untold : clause.Untold command x z status
@@ -214,5 +214,5 @@ module _ (command : Command) (r : Option (Refusal Cause)) (x z : HostState) (sta
     unwritten = λ other. o.causes.calm_outputs (λ same. other (status_is _ same));
     refused = λ not_ok not_write. nothing (λ none. not_ok (status_is _ none)) (λ write. not_write (status_is _ write));
     report_last = reports_behind_ended o.report o.complaint o.outputs o.ended x z o.made o.causes.report_last;
-    complaint = λ end plain. complains_of end (plain_is r end (ap plain_end (sym is) ∙ plain));
+    complaint = λ end plain. complains_of end (plain_is r end (ap end_without_numbers (sym is) ∙ plain));
   }

@@ -11,7 +11,7 @@ use Rattle.exit_status.specs.declared.status.Status.{Status}
 use Rattle.exit_status.specs.declared.status.Status.TheVariants as statuses
 use Rattle.command_line.specs.Command.{Command, usage}
 use Rattle.spcwave.specs.Answers.{answer_of, inputs_of}
-use Rattle.exit_status.specs.Statuses.{answer_status, plain_end}
+use Rattle.exit_status.specs.Statuses.{answer_status, end_without_numbers}
 use Rattle.exit_status.specs.Lines.{end_line, status_line}
 
 -- a run is begun on a host on which fewer outputs were created than this: what it creates is far below what is left
@@ -59,7 +59,8 @@ pub record ReadsInputs (command : Command) (old new : HostState) (status : Statu
 -- Every status but those three is the answer's.
 abbrev pub IsTruthful : Command → HostState → Status → Type 0
 IsTruthful command old status = IfTold old.holds (λ files.
-    (status ≡ answer_status (answer_of command files)) ⊎ (status ≡ statuses.ReadFault) ⊎ (status ≡ statuses.WriteFault) ⊎ (status ≡ statuses.OutOfMemory))
+    (status ≡ answer_status (answer_of command files)) ⊎ (status ≡ statuses.ReadFault)
+    ⊎ (status ≡ statuses.WriteFault) ⊎ (status ≡ statuses.OutOfMemory))
 
 -- Where no count of faults rose, the status is the answer's, or there was no memory.
 abbrev pub CompletesCalmly : Command → HostState → HostState → Status → Type 0
@@ -87,7 +88,7 @@ pub record CompletesComplaint (command : Command) (old new : HostState) (status 
   pub calm : IfTold old.steady (λ rooms. IfTold old.holds (λ files.
       length (status_line status (answer_of command files)) ≤ slice_index rooms 1 → new.faults.notes ≡ old.faults.notes))
   -- A status without numbers has its line, whatever is told of the inputs.
-  pub calm_plain : IfTold old.steady (λ rooms. IfTold (plain_end status) (λ end.
+  pub calm_plain : IfTold old.steady (λ rooms. IfTold (end_without_numbers status) (λ end.
       length (end_line end) ≤ slice_index rooms 1 → new.faults.notes ≡ old.faults.notes))
 
 -- What holds on every host, whether it tells anything or not.
@@ -102,7 +103,7 @@ pub record Untold (command : Command) (old new : HostState) (status : Status) : 
   -- The report comes last: where it grew, all outputs that were created are ended.
   pub report_last : ReportsAfterEnded old new
   -- A status without numbers has its line.
-  pub complaint : IfTold (plain_end status) (λ end. Complains (end_line end) old new)
+  pub complaint : IfTold (end_without_numbers status) (λ end. Complains (end_line end) old new)
 
 -- What a run does: all of this.
 pub record IsRun (command : Command) (old new : HostState) (status : Status) : Type 0 where

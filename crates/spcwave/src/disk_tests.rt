@@ -1,4 +1,4 @@
-// A decoding over real files, whose bytes are known, and a render over them, beside the same over a host in memory.
+// A decoding and a rip over real files, whose bytes are known, and a render over them, beside the same over a host in memory.
 ghost use Rattle.std.specs.Prelude.{◌≡◌, [], IfOk};
 ghost use Rattle.snd_host.specs.Memory.{memory_state};
 
@@ -12,7 +12,9 @@ use std::process::Abort;
 use std::rt::{Env, Files};
 use std::test::Fail;
 use std::{env, fs};
-use test_support::{BLOCK, BLOCK_WAV, Outcome, straight_table};
+use test_support::{
+    BLOCK, BLOCK_WAV, DSP, FIVE, MEMORY, Outcome, Pieces, STEADY_WAV, file_of, straight_table,
+};
 
 /// The room for a trace of eight voices over a thousand samples: 8,000 lines of at most 28 bytes, and a few of what the program
 /// writes.
@@ -32,10 +34,10 @@ struct Names {
     complaint: String,
 }
 
-/// The names of the real files of a decoding.
+/// The names of the real files of a decoding, or of a rip of one sample.
 #[derive(Drop)]
-struct BlockNames {
-    block: String,
+struct SoundNames {
+    input: String,
     wave: String,
     report: String,
     complaint: String,
@@ -64,12 +66,12 @@ fn names_of(alloc: Global, front: &str) -> Result<Names, Fail> {
     })
 }
 
-fn block_names_of(alloc: Global, front: &str) -> Result<BlockNames, Fail> {
-    Ok(BlockNames {
-        block: name_of(alloc, front, "-block.brr")?,
-        wave: name_of(alloc, front, "-block.wav")?,
-        report: name_of(alloc, front, "-block.report")?,
-        complaint: name_of(alloc, front, "-block.complaint")?,
+fn sound_names_of(alloc: Global, front: &str, ends: (&str, &str)) -> Result<SoundNames, Fail> {
+    Ok(SoundNames {
+        input: name_of(alloc, front, ends.0)?,
+        wave: name_of(alloc, front, ends.1)?,
+        report: name_of(alloc, front, "-sound.report")?,
+        complaint: name_of(alloc, front, "-sound.complaint")?,
     })
 }
 
@@ -229,10 +231,14 @@ fn a_render_over_real_files_is_that_in_memory(rt: HostRuntime) -> Result<(), Fai
     Ok(())
 }
 
-/// Decodes the block of a real file.
-fn decode_on_disk<R: Files>(alloc: Global, files: &R, names: &BlockNames) -> Result<Status, Fail> {
-    fs::write(files, names.block.as_str(), BLOCK)?;
-    let words = list_words(alloc, &["brr", names.block.as_str(), names.wave.as_str()])?;
+/// Runs these words over the real files of a sound.
+fn run_for_sound<R: Files>(
+    alloc: Global,
+    files: &R,
+    names: &SoundNames,
+    words: &[&str],
+) -> Result<Status, Fail> {
+    let words = list_words(alloc, words)?;
     run_on_disk(
         alloc,
         files,
@@ -242,21 +248,32 @@ fn decode_on_disk<R: Files>(alloc: Global, files: &R, names: &BlockNames) -> Res
     )
 }
 
-/// Whether the real files hold the known sound file, its report and no complaint.
-fn hold_the_block<R: Files + AllocGlobal>(files: &R, names: &BlockNames) -> Result<bool, Fail> {
+/// Whether the real files hold this sound file, this report and no complaint.
+fn hold_the_sound<R: Files + AllocGlobal>(
+    files: &R,
+    names: &SoundNames,
+    wave: &[u8],
+    report: &[u8],
+) -> Result<bool, Fail> {
     Ok(
-        fs::read(files, names.wave.as_str())?.as_slice() == BLOCK_WAV
-            && fs::read(files, names.report.as_str())?.as_slice()
-                == b"blocks 1 samples 16\n".as_slice()
+        fs::read(files, names.wave.as_str())?.as_slice() == wave
+            && fs::read(files, names.report.as_str())?.as_slice() == report
             && fs::read(files, names.complaint.as_str())?.is_empty(),
     )
 }
 
-fn remove_block<R: Files>(files: &R, names: &BlockNames) -> Result<(), Fail> {
-    for name in [&names.block, &names.wave, &names.report, &names.complaint] {
+fn remove_sound<R: Files>(files: &R, names: &SoundNames) -> Result<(), Fail> {
+    for name in [&names.input, &names.wave, &names.report, &names.complaint] {
         fs::remove_file(files, name.as_str())?;
     }
     Ok(())
+}
+
+/// Decodes the block of a real file.
+fn decode_on_disk<R: Files>(alloc: Global, files: &R, names: &SoundNames) -> Result<Status, Fail> {
+    fs::write(files, names.input.as_str(), BLOCK)?;
+    let words = ["brr", names.input.as_str(), names.wave.as_str()];
+    run_for_sound(alloc, files, names, &words)
 }
 
 /// The known bytes of the sound file are those of the rules, not of a run.
@@ -264,10 +281,52 @@ fn remove_block<R: Files>(files: &R, names: &BlockNames) -> Result<(), Fail> {
 fn a_block_is_decoded_over_real_files(rt: HostRuntime) -> Result<(), Fail> {
     let alloc = rt.alloc();
     let front = front_of(alloc, &rt, std::process::id(rt.process()))?;
-    let names = block_names_of(alloc, front.as_str())?;
+    let names = sound_names_of(alloc, front.as_str(), ("-block.brr", "-block.wav"))?;
     let ended = decode_on_disk(alloc, &rt, &names)?;
-    let held = hold_the_block(&rt, &names)?;
-    remove_block(&rt, &names)?;
+    let held = hold_the_sound(&rt, &names, BLOCK_WAV, b"blocks 1 samples 16\n")?;
+    remove_sound(&rt, &names)?;
+    assert!(rt; ended == Status::Ok && held);
+    Ok(())
+}
+
+/// The last entry of the directory, for the sample of the first, and the registers SRCN of all voices, which name it.
+const LAST: Pieces = &[
+    (MEMORY + 0x05FC, b"\x00\x05\x00\x05"),
+    (DSP + 0x04, b"\xff"),
+    (DSP + 0x14, b"\xff"),
+    (DSP + 0x24, b"\xff"),
+    (DSP + 0x34, b"\xff"),
+    (DSP + 0x44, b"\xff"),
+    (DSP + 0x54, b"\xff"),
+    (DSP + 0x64, b"\xff"),
+    (DSP + 0x74, b"\xff"),
+];
+
+/// What is reported on it.
+const LAST_REPORT: &[u8] = b"entry ff start 0500 blocks 1 loop 0 worst 0 squares 0\nentries 1\n";
+
+/// Rips a tune in a real file, whose voices name the last entry alone; the name of its output begins with a text.
+fn rip_on_disk<R: Files>(
+    alloc: Global,
+    files: &R,
+    names: &SoundNames,
+    front: &str,
+) -> Result<Status, Fail> {
+    let tune = file_of(alloc, 66048, FIVE, LAST)?;
+    fs::write(files, names.input.as_str(), tune.as_slice())?;
+    let words = ["rip", names.input.as_str(), front];
+    run_for_sound(alloc, files, names, &words)
+}
+
+/// An output is named by its entry in two small digits.
+#[test]
+fn an_entry_is_ripped_into_a_file_of_its_name(rt: HostRuntime) -> Result<(), Fail> {
+    let alloc = rt.alloc();
+    let front = front_of(alloc, &rt, std::process::id(rt.process()))?;
+    let names = sound_names_of(alloc, front.as_str(), ("-rip.spc", "ff.wav"))?;
+    let ended = rip_on_disk(alloc, &rt, &names, front.as_str())?;
+    let held = hold_the_sound(&rt, &names, STEADY_WAV, LAST_REPORT)?;
+    remove_sound(&rt, &names)?;
     assert!(rt; ended == Status::Ok && held);
     Ok(())
 }

@@ -225,13 +225,13 @@ fn what_is_given_instead_of_words(rt: HostRuntime) -> Result<(), Fail> {
 
 /// Looks at what the word that asks for help tells.
 fn look_at_help(rt: &impl Abort, outcome: &Outcome, word: &str) {
-    let begins = outcome.report().starts_with(
-        b"spcwave renders SPC music, as the Super Nintendo plays it",
-    );
+    let begins = outcome
+        .report()
+        .starts_with(b"spcwave renders SPC music files to WAV files.");
     assert!(rt; outcome.status() == Status::Ok && begins, "{word}");
 }
 
-/// The whole text stands in the tests of its command.
+/// That it has a line for each command is seen where the command is tried by itself.
 #[test]
 fn help_is_told(rt: HostRuntime) -> Result<(), Fail> {
     for word in ["help", "--help"] {

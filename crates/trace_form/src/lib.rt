@@ -6,8 +6,8 @@ mod record;
 mod ring;
 mod text;
 
-pub use lists::{Frames, Records};
+pub use lists::{FRAME_ROOM, Frames, RECORD_ROOM, Records};
 pub use record::Record;
-pub use ring::{EventRing, Full};
+pub use ring::{EVENT_ROOM, EventRing, Full};
 pub use std::alloc::AllocError as OutOfMemory;
 pub use text::{LINE_SIZE, TraceLine, line};

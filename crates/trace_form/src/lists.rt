@@ -7,7 +7,13 @@ use num_fix::Frame;
 use std::alloc::Global;
 use std::marker::Model;
 
-/// Up to 128 frames, in the order in which they were made.
+/// The frames that there is room for.
+pub const FRAME_ROOM: usize = 128;
+
+/// The records that there is room for.
+pub const RECORD_ROOM: usize = 1344;
+
+/// Frames, in the order in which they were made.
 #[derive(Drop)]
 pub struct Frames {
     items: Vec<Frame>,
@@ -26,11 +32,11 @@ impl Model for Frames {
 }
 
 impl Frames {
-    /// No frames, and room for 128.
+    /// No frames, and room for as many as there can be.
     pub fn new(alloc: Global) -> Result<Frames, OutOfMemory>
         ensures { IfOk result (λ frames. frames ≡ []) }
     {
-        let items = Vec::with_capacity(alloc, 128)?;
+        let items = Vec::with_capacity(alloc, FRAME_ROOM)?;
         Ok(Frames { items })
     }
 
@@ -38,7 +44,7 @@ impl Frames {
     pub fn room(&self) -> usize
         ensures { result + length self.now ≡ frame_room }
     {
-        128 - self.items.len()
+        FRAME_ROOM - self.items.len()
     }
 
     /// Adds a frame.
@@ -73,7 +79,7 @@ impl Frames {
     }
 }
 
-/// Up to 1,344 records, in the order of the events.
+/// Records, in the order of the events.
 #[derive(Drop)]
 pub struct Records {
     items: Vec<Record>,
@@ -92,11 +98,11 @@ impl Model for Records {
 }
 
 impl Records {
-    /// No records, and room for 1,344.
+    /// No records, and room for as many as there can be.
     pub fn new(alloc: Global) -> Result<Records, OutOfMemory>
         ensures { IfOk result (λ records. records ≡ []) }
     {
-        let items = Vec::with_capacity(alloc, 1344)?;
+        let items = Vec::with_capacity(alloc, RECORD_ROOM)?;
         Ok(Records { items })
     }
 
@@ -104,7 +110,7 @@ impl Records {
     pub fn room(&self) -> usize
         ensures { result + length self.now ≡ record_room }
     {
-        1344 - self.items.len()
+        RECORD_ROOM - self.items.len()
     }
 
     /// Adds a record.

@@ -7,11 +7,14 @@ use circular_buffer::HeapCircularBuffer;
 use std::alloc::Global;
 use std::marker::Model;
 
-/// The ring holds 256 records, and takes no more.
+/// The events that wait in the ring at most.
+pub const EVENT_ROOM: usize = 256;
+
+/// The ring holds as many records as it has room for, and takes no more.
 #[derive(Clone, Copy, Debug, PartialEq, Eq)]
 pub struct Full;
 
-/// Up to 256 records, from the front, where the oldest is, to the back.
+/// Records, from the front, where the oldest is, to the back.
 #[derive(Drop)]
 pub struct EventRing {
     items: HeapCircularBuffer<Record>,
@@ -34,7 +37,7 @@ impl EventRing {
     pub fn new(alloc: Global) -> Result<EventRing, OutOfMemory>
         ensures { IfOk result (λ ring. ring ≡ []) }
     {
-        let items = HeapCircularBuffer::with_capacity(alloc, 256)?;
+        let items = HeapCircularBuffer::with_capacity(alloc, EVENT_ROOM)?;
         Ok(EventRing { items })
     }
 

@@ -2,10 +2,12 @@
 -- Groups: a voice stands at a group of its block, and a step takes it from group to group.
 -- AtRest: a step of a voice at rest.
 -- Played: one sample more of a voice over a batch.
+-- Bending: the bend of a pitch by the double of the pitch.
 pub mod Twelve
 pub mod Groups
 pub mod AtRest
 pub mod Played
+pub mod Bending
 -- Silence: at level 0 a voice puts out 0. Glided: lanes that let their voice glide.
 pub mod Silence
 pub mod Glided

@@ -19,65 +19,65 @@ bit-bound true v x below = rw (doubled v) (omega (arith, below))
 bit-bound false v x below = rw (doubled v) (omega (arith, below))
 
 -- the bit of a voice in the sample that reads a group which ends a block with its end bit
-pub mark_one : (loops : List ℕ) (at q j v : ℕ) (memory : List ℕ) (place : Place) (ways : ℕ → ℕ) (n group : ℕ) → MoveOn ways n → q < n → j < n → Reads ways group q → is_end memory place ≡ true
+pub mark_one : (loops : List ℕ) (at q j v : ℕ) (memory : List ℕ) (place : Place) (points : ℕ → ℕ) (n group : ℕ) → MoveOn points n → q < n → j < n → Reads points group q → is_end memory place ≡ true
     → at + q < length loops
-    → slice_index (slice_set loops (at + q) (slice_index loops (at + q) + 2 ^ v)) (at + j) ≡ slice_index loops (at + j) + bit_if (ends_in memory place ways group j) v
-mark_one loops at q j v memory place ways n group moves early below reads ends within = by (j == q) refl
+    → slice_index (slice_set loops (at + q) (slice_index loops (at + q) + 2 ^ v)) (at + j) ≡ slice_index loops (at + j) + bit_if (ends_in memory place points group j) v
+mark_one loops at q j v memory place points n group moves early below reads ends within = by (j == q) refl
   where
     by : (b : Bool) → (j == q) ≡ b
-        → slice_index (slice_set loops (at + q) (slice_index loops (at + q) + 2 ^ v)) (at + j) ≡ slice_index loops (at + j) + bit_if (ends_in memory place ways group j) v
+        → slice_index (slice_set loops (at + q) (slice_index loops (at + q) + 2 ^ v)) (at + j) ≡ slice_index loops (at + j) + bit_if (ends_in memory place points group j) v
     by true e =
         let here : j ≡ q = grind (arith, nat_tests, e) in
-        rw (here, is_read-same ways group q reads, ends) (get_or-set_same loops (at + q) (slice_index loops (at + q) + 2 ^ v) 0 within)
+        rw (here, is_read-same points group q reads, ends) (get_or-set_same loops (at + q) (slice_index loops (at + q) + 2 ^ v) 0 within)
     by false e =
         let other : j ≢ q = grind (arith, nat_tests, e) in
         let apart : at + j ≢ at + q = λ same. other (omega (arith, same)) in
         let none : slice_index loops (at + j) ≡ slice_index loops (at + j) + 0 = omega arith in
-        rw (is_read-other ways n group q j moves early below reads other) (get_or-set_other loops (at + q) (at + j) (slice_index loops (at + q) + 2 ^ v) 0 apart ∙ none)
+        rw (is_read-other points n group q j moves early below reads other) (get_or-set_other loops (at + q) (at + j) (slice_index loops (at + q) + 2 ^ v) 0 apart ∙ none)
 
 -- a group that isn't the last of its block ends none
-pub no_end : (memory : List ℕ) (place : Place) (ways : ℕ → ℕ) (group j v x : ℕ) → place.offset ≢ 7 → x ≡ x + bit_if (ends_in memory place ways group j) v
-no_end memory place ways group j v x other =
+pub no_end : (memory : List ℕ) (place : Place) (points : ℕ → ℕ) (group j v x : ℕ) → place.offset ≢ 7 → x ≡ x + bit_if (ends_in memory place points group j) v
+no_end memory place points group j v x other =
     let test : (place.offset == 7) ≡ false = grind (arith, nat_tests, other) in
-    let none : ends_in memory place ways group j ≡ false = rw test (and_right (is_read_in ways group j) false refl) in
+    let none : ends_in memory place points group j ≡ false = rw test (and_right (is_read_in points group j) false refl) in
     rw none (omega arith)
 
-module _ (memory : List ℕ) (loop_to : ℕ) (first : Place) (ways : ℕ → ℕ) (v : ℕ) where
+module _ (memory : List ℕ) (loop_to : ℕ) (first : Place) (points : ℕ → ℕ) (v : ℕ) where
   -- what is marked in sample j once so many groups are read
   abbrev pub marked : (groups j : ℕ) → Bool
-  marked groups j = nat_lt (groups_before ways j) groups && loops_in memory loop_to first ways j
+  marked groups j = nat_lt (groups_before points j) groups && loops_in memory loop_to first points j
 
   pub marked-none : (j : ℕ) → marked 0 j ≡ false
-  marked-none j = by (nat_lt (groups_before ways j) 0) refl
+  marked-none j = by (nat_lt (groups_before points j) 0) refl
     where
-      by : (b : Bool) → nat_lt (groups_before ways j) 0 ≡ b → (b && loops_in memory loop_to first ways j) ≡ false
+      by : (b : Bool) → nat_lt (groups_before points j) 0 ≡ b → (b && loops_in memory loop_to first points j) ≡ false
       by false e = refl
-      by true e = absurd (let below : groups_before ways j < 0 = grind (arith, nat_tests, e) in omega arith)
+      by true e = absurd (let below : groups_before points j < 0 = grind (arith, nat_tests, e) in omega arith)
 
   -- nothing is marked where no group is read yet
-  pub marked-later : (groups j : ℕ) → groups ≤ groups_before ways j → marked groups j ≡ false
-  marked-later groups j late = by (nat_lt (groups_before ways j) groups) refl
+  pub marked-later : (groups j : ℕ) → groups ≤ groups_before points j → marked groups j ≡ false
+  marked-later groups j late = by (nat_lt (groups_before points j) groups) refl
     where
-      by : (b : Bool) → nat_lt (groups_before ways j) groups ≡ b → (b && loops_in memory loop_to first ways j) ≡ false
+      by : (b : Bool) → nat_lt (groups_before points j) groups ≡ b → (b && loops_in memory loop_to first points j) ≡ false
       by false e = refl
-      by true e = absurd (let below : groups_before ways j < groups = grind (arith, nat_tests, e) in omega (arith, late))
+      by true e = absurd (let below : groups_before points j < groups = grind (arith, nat_tests, e) in omega (arith, late))
 
   -- one group more
-  pub marked-more : (d j : ℕ) → bit_if (marked d j) v + bit_if (is_read_in ways d j && is_end memory (place_after memory loop_to first d)) v ≡ bit_if (marked (d + 1) j) v
+  pub marked-more : (d j : ℕ) → bit_if (marked d j) v + bit_if (is_read_in points d j && is_end memory (place_after memory loop_to first d)) v ≡ bit_if (marked (d + 1) j) v
   marked-more d j = by (nat_lt g d) refl (nat_lt d g) refl
     where
       g : ℕ
-      g = groups_before ways j
+      g = groups_before points j
 
       loops : Bool
-      loops = loops_in memory loop_to first ways j
+      loops = loops_in memory loop_to first points j
 
       other : (b : Bool) → nat_lt g d ≡ b → nat_lt g (d + 1) ≡ b → g ≢ d
-          → bit_if (marked d j) v + bit_if (is_read_in ways d j && is_end memory (place_after memory loop_to first d)) v ≡ bit_if (marked (d + 1) j) v
-      other b now soon apart = rw (is_read-elsewhere ways d j apart, now, soon) (omega arith)
+          → bit_if (marked d j) v + bit_if (is_read_in points d j && is_end memory (place_after memory loop_to first d)) v ≡ bit_if (marked (d + 1) j) v
+      other b now soon apart = rw (is_read-elsewhere points d j apart, now, soon) (omega arith)
 
       by : (b : Bool) → nat_lt g d ≡ b → (c : Bool) → nat_lt d g ≡ c
-          → bit_if (marked d j) v + bit_if (is_read_in ways d j && is_end memory (place_after memory loop_to first d)) v ≡ bit_if (marked (d + 1) j) v
+          → bit_if (marked d j) v + bit_if (is_read_in points d j && is_end memory (place_after memory loop_to first d)) v ≡ bit_if (marked (d + 1) j) v
       by true e c f =
           let below : g < d = grind (arith, nat_tests, e) in
           let soon : nat_lt g (d + 1) ≡ true = grind (arith, nat_tests, below) in
@@ -94,19 +94,19 @@ module _ (memory : List ℕ) (loop_to : ℕ) (first : Place) (ways : ℕ → ℕ
           rw (e, soon, ← same) (omega arith)
 
   -- all is marked in the samples before which fewer groups are read than in all
-  pub marked-all : (n j : ℕ) → MoveOn ways n → j < n → marked (groups_before ways n) j ≡ loops_in memory loop_to first ways j
-  marked-all n j moves below = by (is_read_in ways g j) refl
+  pub marked-all : (n j : ℕ) → MoveOn points n → j < n → marked (groups_before points n) j ≡ loops_in memory loop_to first points j
+  marked-all n j moves below = by (is_read_in points g j) refl
     where
       g : ℕ
-      g = groups_before ways j
+      g = groups_before points j
 
-      by : (b : Bool) → is_read_in ways g j ≡ b
-          → (nat_lt g (groups_before ways n) && (b && is_end memory (place_after memory loop_to first g))) ≡ (b && is_end memory (place_after memory loop_to first g))
-      by false e = and_right (nat_lt g (groups_before ways n)) false refl
+      by : (b : Bool) → is_read_in points g j ≡ b
+          → (nat_lt g (groups_before points n) && (b && is_end memory (place_after memory loop_to first g))) ≡ (b && is_end memory (place_after memory loop_to first g))
+      by false e = and_right (nat_lt g (groups_before points n)) false refl
       by true e =
-          let parts = and_parts (g == g) (groups_before ways (j + 1) == g + 1) e in
-          let after : groups_before ways (j + 1) ≡ g + 1 = grind (arith, nat_tests, parts.1) in
-          let rise = groups_before-rise ways n moves (j + 1) n (omega (arith, below)) (omega arith) in
-          let less : g < groups_before ways n = omega (arith, after, rise) in
-          let test : nat_lt g (groups_before ways n) ≡ true = grind (arith, nat_tests, less) in
+          let parts = and_parts (g == g) (groups_before points (j + 1) == g + 1) e in
+          let after : groups_before points (j + 1) ≡ g + 1 = grind (arith, nat_tests, parts.1) in
+          let rise = groups_before-rise points n moves (j + 1) n (omega (arith, below)) (omega arith) in
+          let less : g < groups_before points n = omega (arith, after, rise) in
+          let test : nat_lt g (groups_before points n) ≡ true = grind (arith, nat_tests, less) in
           rw test refl

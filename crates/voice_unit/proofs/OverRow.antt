@@ -13,9 +13,9 @@ use Rattle.envelope.specs.Envelope.{EnvelopeState}
 use Rattle.voice_unit.specs.Directory.{loop_word}
 use Rattle.voice_unit.specs.Batch.{steps, answer_of_step}
 use Rattle.voice_unit.specs.Plain.{PlaysPlainly}
-use Rattle.voice_unit.specs.Play.{Lane, IsOnItsWay, voice_at, answer_at}
+use Rattle.voice_unit.specs.Play.{Lane, IsPlayedSoFar, voice_at, answer_at}
 use Rattle.voice_unit.specs.Rest.{IsSilent, IsAtRest}
-use Rattle.voice_unit.specs.Row.{AreWays, place_after, groups_before, is_end, is_read_in, loops_in, PlaysOn, row_of, place_of, StandsAt}
+use Rattle.voice_unit.specs.Row.{ArePoints, place_after, groups_before, is_end, is_read_in, loops_in, PlaysOn, row_of, place_of, StandsAt}
 use Rattle.voice_unit.specs.Track.{MoveOn}
 use Rattle.voice_unit.specs.OutsOverRow.{sounding_at, out_in_stretch}
 use Rattle.voice_unit.specs.Voice.{is_silencing, VoiceState, pitch_of, interpolation, output, source_sample, needs_group, is_at_last_group, after_reading, after_pitch, voice_step}
@@ -28,10 +28,10 @@ use Rattle.voice_unit.proofs.Counting.{moves_on, groups_before-more, groups_befo
 use Rattle.voice_unit.proofs.RowOfVoice.{plays_row, reads_row}
 
 -- an interpolation looks at four samples of a row
-interpolation-same : (table xs ys : List ℤ) (way : ℕ) → ((k : ℕ) → k < way / 0x1000 + 4 → number_at xs k ≡ number_at ys k) → interpolation table xs way ≡ interpolation table ys way
+interpolation-same : (table xs ys : List ℤ) (point : ℕ) → ((k : ℕ) → k < point / 0x1000 + 4 → number_at xs k ≡ number_at ys k) → interpolation table xs point ≡ interpolation table ys point
 unfolding interpolation
-interpolation-same table xs ys way same =
-    let m : ℕ = way / 0x1000 in
+interpolation-same table xs ys point same =
+    let m : ℕ = point / 0x1000 in
     rw (same m (omega arith), same (m + 1) (omega arith), same (m + 2) (omega arith), same (m + 3) (omega arith)) refl
 
 -- what a voice puts out: noise, or what its samples give
@@ -56,40 +56,40 @@ same_voice a b samples position place delay envelope =
     ∙ ap (λ (x : EnvelopeState). record { samples = b.samples; position = b.position; block = b.block; offset = b.offset; delay = b.delay; envelope = x }) envelope
 
 -- what is so where a voice has come to so many groups
-reads_a_group : (ways : ℕ → ℕ) (j now : ℕ) → now + 0x4000 * groups_before ways j ≡ ways j → now < 0x8000
-    → nat_le 0x4000 now ≡ is_read_in ways (groups_before ways j) j
-reads_a_group ways j now stands within = by (nat_le 0x4000 now) refl
+reads_a_group : (points : ℕ → ℕ) (j now : ℕ) → now + 0x4000 * groups_before points j ≡ points j → now < 0x8000
+    → nat_le 0x4000 now ≡ is_read_in points (groups_before points j) j
+reads_a_group points j now stands within = by (nat_le 0x4000 now) refl
   where
     g : ℕ
-    g = groups_before ways j
+    g = groups_before points j
 
-    same : (b : Bool) → (g == g) ≡ true → (groups_before ways (j + 1) == g + 1) ≡ b → b ≡ ((g == g) && (groups_before ways (j + 1) == g + 1))
+    same : (b : Bool) → (g == g) ≡ true → (groups_before points (j + 1) == g + 1) ≡ b → b ≡ ((g == g) && (groups_before points (j + 1) == g + 1))
     same b e f = rw (e, f) refl
 
-    by : (b : Bool) → nat_le 0x4000 now ≡ b → b ≡ is_read_in ways g j
+    by : (b : Bool) → nat_le 0x4000 now ≡ b → b ≡ is_read_in points g j
     by true e =
         let late : 0x4000 ≤ now = grind (arith, nat_tests, e) in
-        let next : groups_before ways (j + 1) ≡ g + 1 = groups_before-more ways j ∙ omega (arith, stands, within, late) in
+        let next : groups_before points (j + 1) ≡ g + 1 = groups_before-more points j ∙ omega (arith, stands, within, late) in
         same true (eq-eqb g g refl) (eq-eqb _ _ next)
     by false e =
         let early : now < 0x4000 = grind (arith, nat_tests, e) in
-        let next : groups_before ways (j + 1) ≡ g = groups_before-more ways j ∙ omega (arith, stands, early) in
-        let other : groups_before ways (j + 1) ≢ g + 1 = λ is. absurd (omega (arith, next, is)) in
-        let test : (groups_before ways (j + 1) == g + 1) ≡ false = grind (arith, nat_tests, other) in
+        let next : groups_before points (j + 1) ≡ g = groups_before-more points j ∙ omega (arith, stands, early) in
+        let other : groups_before points (j + 1) ≢ g + 1 = λ is. absurd (omega (arith, next, is)) in
+        let test : (groups_before points (j + 1) == g + 1) ≡ false = grind (arith, nat_tests, other) in
         same false (eq-eqb g g refl) test
 
--- the last of three tests grouped the other way
+-- the last of three tests grouped the other way round
 regrouped : (a b c : Bool) → (a && b && c) ≡ (a && (b && c))
 regrouped true b c = refl
 regrouped false b c = refl
 
 module _ (own : VoiceView) (lane : Lane) (n m rest : ℕ) (before loops : List ℕ) (outs : List ℤ) (voice : VoiceState)
-    (way : IsOnItsWay own lane n rest before loops outs voice) (twelve : length voice.samples ≡ 12) (low : voice.position < 0x8000)
+    (so_far : IsPlayedSoFar own lane n rest before loops outs voice) (twelve : length voice.samples ≡ 12) (low : voice.position < 0x8000)
     (heard : ℕ → ℕ) (noise : (j : ℕ) → (lane.inputs j).noise ≡ heard j)
     (glides : (j : ℕ) → j < m → PlaysPlainly own (lane.inputs (n + j))) (some : 0 < m) (resting : m ≤ rest)
-    (ways : ℕ → ℕ) (by_pitch : AreWays (λ j. pitch_of lane.regs (lane.inputs (n + j))) m voice.position ways)
-    (quiet : (j : ℕ) → j < m → 0 < groups_before ways j
-    → is_silencing own.reset (byte_at lane.memory (place_after lane.memory (loop_word own.dir lane.regs.srcn lane.memory) (place_of voice) (groups_before ways j)).block) ≡ true
+    (points : ℕ → ℕ) (by_pitch : ArePoints (λ j. pitch_of lane.regs (lane.inputs (n + j))) m voice.position points)
+    (quiet : (j : ℕ) → j < m → 0 < groups_before points j
+    → is_silencing own.reset (byte_at lane.memory (place_after lane.memory (loop_word own.dir lane.regs.srcn lane.memory) (place_of voice) (groups_before points j)).block) ≡ true
     → IsSilent voice.envelope) where
   abbrev koff : Bool
   koff = has_bit own.koff own.voice
@@ -98,7 +98,7 @@ module _ (own : VoiceView) (lane : Lane) (n m rest : ℕ) (before loops : List �
   loop_to = loop_word own.dir lane.regs.srcn lane.memory
 
   abbrev g : ℕ → ℕ
-  g j = groups_before ways j
+  g j = groups_before points j
 
   abbrev there : ℕ → Place
   there d = place_after lane.memory loop_to (place_of voice) d
@@ -109,12 +109,12 @@ module _ (own : VoiceView) (lane : Lane) (n m rest : ℕ) (before loops : List �
 
   on : (j : ℕ) → voice_at lane (n + j) ≡ s j
   unfolding steps
-  on zero = let none : n + 0 ≡ n = omega arith in rw none (sym way.played.voice_is)
+  on zero = let none : n + 0 ≡ n = omega arith in rw none (sym so_far.played.voice_is)
   on (suc j) = rw add-suc (ap (λ (v : VoiceState). voice_step v lane.regs (lane.inputs (n + j)) lane.memory (counter_at (lane.k + (n + j)))) (on j))
 
-  plays_on : PlaysOn lane.regs (λ i. lane.inputs (n + i)) own.dir m ways voice
+  plays_on : PlaysOn lane.regs (λ i. lane.inputs (n + i)) own.dir m points voice
   plays_on = record {
-    delay = way.at_rest.delay (omega (arith, some, resting));
+    delay = so_far.at_rest.delay (omega (arith, some, resting));
     twelve = twelve;
     position = low;
     stands = by_pitch;
@@ -122,11 +122,11 @@ module _ (own : VoiceView) (lane : Lane) (n m rest : ℕ) (before loops : List �
     same_dir = λ j below. (glides j below).dir;
   }
 
-  on_and_on : MoveOn ways m
-  on_and_on = moves_on (λ j. pitch_of lane.regs (lane.inputs (n + j))) m voice.position ways low by_pitch
+  on_and_on : MoveOn points m
+  on_and_on = moves_on (λ j. pitch_of lane.regs (lane.inputs (n + j))) m voice.position points low by_pitch
 
-  stands : (j : ℕ) → j ≤ m → StandsAt lane.regs own.dir lane.memory voice (g j) (ways j) (s j)
-  stands j few = reads_row lane.regs (λ i. lane.inputs (n + i)) own.dir m lane.memory (λ i. counter_at (lane.k + (n + i))) ways voice j plays_on few
+  stands : (j : ℕ) → j ≤ m → StandsAt lane.regs own.dir lane.memory voice (g j) (points j) (s j)
+  stands j few = reads_row lane.regs (λ i. lane.inputs (n + i)) own.dir m lane.memory (λ i. counter_at (lane.k + (n + i))) points voice j plays_on few
 
   abbrev Rests : ℕ → Type 0
   Rests j = IsAtRest own.reset koff lane.regs lane.memory (lane.k + (n + j)) (rest - j) (s j)
@@ -160,7 +160,7 @@ module _ (own : VoiceView) (lane : Lane) (n m rest : ℕ) (before loops : List �
   silent_at j below loud = by (g j) refl
     where
       by : (d : ℕ) → g j ≡ d → IsSilent voice.envelope
-      by zero e = way.at_rest.silencing (omega (arith, some, resting)) (rw e at loud)
+      by zero e = so_far.at_rest.silencing (omega (arith, some, resting)) (rw e at loud)
       by (suc d) e = quiet j below (omega (arith, e)) loud
 
   rests : (j : ℕ) → j < m → Rests j × ((s j).envelope ≡ voice.envelope)
@@ -168,7 +168,7 @@ module _ (own : VoiceView) (lane : Lane) (n m rest : ℕ) (before loops : List �
   rests zero below =
       let none : n + 0 ≡ n = omega arith in
       let all : rest - 0 ≡ rest = omega arith in
-      (rw (none, all) way.at_rest, refl)
+      (rw (none, all) so_far.at_rest, refl)
   rests (suc j) below =
       let now = rests j (omega (arith, below)) in
       let same : (s (suc j)).envelope ≡ voice.envelope = rw add-one at (same_on j (omega (arith, below)) now.0 now.1) in
@@ -179,17 +179,17 @@ module _ (own : VoiceView) (lane : Lane) (n m rest : ℕ) (before loops : List �
   -- what sample j gives
   out_is : (j : ℕ) → j < m → (row : List ℤ) → take (12 + 4 * g m) row ≡ row_of lane.regs own.dir lane.memory voice (g m)
       → (answer_at lane (n + j)).out
-      ≡ out_in_stretch (has_bit own.non own.voice) (heard (n + j)) lane.table row (ways j) voice.envelope.level
+      ≡ out_in_stretch (has_bit own.non own.voice) (heard (n + j)) lane.table row (points j) voice.envelope.level
   unfolding answer_of_step
   out_is j below row is =
       let plain = glides j below in
       let now = rests j below in
       let at : IsAtRest (lane.inputs (n + j)).reset (lane.inputs (n + j)).koff lane.regs lane.memory (lane.k + (n + j)) (rest - j) (s j) = rw (plain.reset, plain.koff) now.0 in
       let gave = out_at_rest lane.regs (lane.inputs (n + j)) lane.memory (lane.k + (n + j)) (rest - j) (s j) at (omega (arith, below, resting)) plain.unkeyed lane.table in
-      let rise = groups_before-rise ways m on_and_on j m (omega (arith, below)) (omega arith) in
+      let rise = groups_before-rise points m on_and_on j m (omega (arith, below)) (omega arith) in
       let more : (g m - g j) + g j ≡ g m = omega (arith, rise) in
-      let at_row = rw more at (plays_row lane.regs (λ i. lane.inputs (n + i)) own.dir m lane.memory (λ i. counter_at (lane.k + (n + i))) ways voice lane.table j (g m - g j) plays_on (omega (arith, below))) in
-      let total : ℕ = ways j in
+      let at_row = rw more at (plays_row lane.regs (λ i. lane.inputs (n + i)) own.dir m lane.memory (λ i. counter_at (lane.k + (n + i))) points voice lane.table j (g m - g j) plays_on (omega (arith, below))) in
+      let total : ℕ = points j in
       let here : (s j).position + 0x4000 * g j ≡ total = (stands j (omega (arith, below))).position in
       let inside : (s j).position < 0x8000 = (stands j (omega (arith, below))).within in
       let same : interpolation lane.table (row_of lane.regs own.dir lane.memory voice (g m)) total ≡ interpolation lane.table row total =
@@ -211,7 +211,7 @@ module _ (own : VoiceView) (lane : Lane) (n m rest : ℕ) (before loops : List �
   pub last_level : (answer_at lane (n + m - 1)).level ≡ voice.envelope.level
   last_level = let last : n + m - 1 ≡ n + (m - 1) = omega (arith, some) in rw last (level_is (m - 1) (omega (arith, some)))
 
-  looped_is : (j : ℕ) → j < m → (answer_at lane (n + j)).looped ≡ loops_in lane.memory loop_to (place_of voice) ways j
+  looped_is : (j : ℕ) → j < m → (answer_at lane (n + j)).looped ≡ loops_in lane.memory loop_to (place_of voice) points j
   unfolding answer_of_step
   looped_is j below =
       let plain = glides j below in
@@ -219,29 +219,29 @@ module _ (own : VoiceView) (lane : Lane) (n m rest : ℕ) (before loops : List �
       let at : IsAtRest (lane.inputs (n + j)).reset (lane.inputs (n + j)).koff lane.regs lane.memory (lane.k + (n + j)) (rest - j) (s j) = rw (plain.reset, plain.koff) now.0 in
       let marked = looped_at_rest lane.regs (lane.inputs (n + j)) lane.memory (lane.k + (n + j)) (rest - j) (s j) at (omega (arith, below, resting)) plain.unkeyed lane.table in
       let here = stands j (omega (arith, below)) in
-      let needs = reads_a_group ways j (s j).position here.position here.within in
+      let needs = reads_a_group points j (s j).position here.position here.within in
       rw (on j) (marked ∙ regrouped (needs_group (s j)) (is_at_last_group (s j)) (has_end (byte_at lane.memory (s j).block))
-      ∙ ap (λ (b : Bool). b && is_end lane.memory (place_of (s j))) needs ∙ ap (λ (p : Place). is_read_in ways (g j) j && is_end lane.memory p) here.place)
+      ∙ ap (λ (b : Bool). b && is_end lane.memory (place_of (s j))) needs ∙ ap (λ (p : Place). is_read_in points (g j) j && is_end lane.memory p) here.place)
 
   -- what the stretch leaves
   pub glided_over : (now : VoiceState) (left : ℕ) (after : List ℕ) (given row : List ℤ) → take (12 + 4 * g m) row ≡ row_of lane.regs own.dir lane.memory voice (g m)
-      → now.samples ≡ drop (4 * g m) (row_of lane.regs own.dir lane.memory voice (g m)) → now.position + 0x4000 * g m ≡ ways m
+      → now.samples ≡ drop (4 * g m) (row_of lane.regs own.dir lane.memory voice (g m)) → now.position + 0x4000 * g m ≡ points m
       → place_of now ≡ there (g m) → now.delay ≡ voice.delay → now.envelope ≡ voice.envelope
       → ((left ≡ 0) ⊎ ((left ≡ rest - m) × (0 < g m → is_silencing own.reset (byte_at lane.memory (there (g m)).block) ≡ true → IsSilent voice.envelope)))
       → ((j : ℕ) → j < n → number_at given j ≡ number_at outs j)
       → ((j : ℕ) → j < m → number_at given (n + j)
-      ≡ out_in_stretch (has_bit own.non own.voice) (heard (n + j)) lane.table row (ways j) voice.envelope.level)
+      ≡ out_in_stretch (has_bit own.non own.voice) (heard (n + j)) lane.table row (points j) voice.envelope.level)
       → ((j : ℕ) → j < n → slice_index after j ≡ slice_index loops j)
-      → ((j : ℕ) → j < m → slice_index after (n + j) ≡ slice_index loops (n + j) + (if loops_in lane.memory loop_to (place_of voice) ways j then 2 ^ own.voice else 0))
+      → ((j : ℕ) → j < m → slice_index after (n + j) ≡ slice_index loops (n + j) + (if loops_in lane.memory loop_to (place_of voice) points j then 2 ^ own.voice else 0))
       → ((j : ℕ) → n + m ≤ j → slice_index after j ≡ slice_index loops j)
-      → IsOnItsWay own lane (n + m) left before after given now
+      → IsPlayedSoFar own lane (n + m) left before after given now
   unfolding place_after
   glided_over now left after given row is samples position place delay envelope ends outs_before outs_then loops_before loops_then loops_later = record {
     played = record {
       voice_is = voice_is ∙ sym (on m);
       outs_are = λ j below. outs_by j (nat_lt j n) refl below;
       loops_are = λ j below. loops_by j (nat_lt j n) refl below;
-      others = λ j above. loops_later j above ∙ way.played.others j (omega (arith, above));
+      others = λ j above. loops_later j above ∙ so_far.played.others j (omega (arith, above));
     };
     at_rest = rw voice_is (elim ends [
       | inl none ↦ rw none (no_rest own.reset koff lane.regs lane.memory (lane.k + (n + m)) (s m))
@@ -258,33 +258,33 @@ module _ (own : VoiceView) (lane : Lane) (n m rest : ℕ) (before loops : List �
       same : (s m).envelope ≡ voice.envelope
       same = rw all at (same_on (m - 1) last (rests (m - 1) last).0 (rests (m - 1) last).1)
 
-      here : StandsAt lane.regs own.dir lane.memory voice (g m) (ways m) (s m)
+      here : StandsAt lane.regs own.dir lane.memory voice (g m) (points m) (s m)
       here = stands m (omega arith)
 
       voice_is : now ≡ s m
       voice_is = same_voice now (s m) (samples ∙ sym here.last) (omega (arith, position, here.position)) (place ∙ sym here.place)
-          (delay ∙ way.at_rest.delay (omega (arith, some, resting)) ∙ sym here.delay) (envelope ∙ sym same)
+          (delay ∙ so_far.at_rest.delay (omega (arith, some, resting)) ∙ sym here.delay) (envelope ∙ sym same)
 
       silent_after : (0 < g m → is_silencing own.reset (byte_at lane.memory (there (g m)).block) ≡ true → IsSilent voice.envelope)
           → is_silencing own.reset (byte_at lane.memory (s m).block) ≡ true → IsSilent (s m).envelope
       silent_after heard loud = rw same (by (g m) refl)
         where
           by : (d : ℕ) → g m ≡ d → IsSilent voice.envelope
-          by zero e = way.at_rest.silencing (omega (arith, some, resting)) (rw e at (rw (block_is m (omega arith)) at loud))
+          by zero e = so_far.at_rest.silencing (omega (arith, some, resting)) (rw e at (rw (block_is m (omega arith)) at loud))
           by (suc d) e = heard (omega (arith, e)) (rw (block_is m (omega arith)) at loud)
 
       outs_by : (j : ℕ) (b : Bool) → nat_lt j n ≡ b → j < n + m → number_at given j ≡ (answer_at lane j).out
-      outs_by j true e below = let old : j < n = grind (arith, nat_tests, e) in outs_before j old ∙ way.played.outs_are j old
+      outs_by j true e below = let old : j < n = grind (arith, nat_tests, e) in outs_before j old ∙ so_far.played.outs_are j old
       outs_by j false e below =
           let new : n ≤ j = grind (arith, nat_tests, e) in
           let part : n + (j - n) ≡ j = omega arith in
           rw part at (outs_then (j - n) (omega (arith, below)) ∙ sym (out_is (j - n) (omega (arith, below)) row is))
 
       loops_by : (j : ℕ) (b : Bool) → nat_lt j n ≡ b → j < n + m → slice_index after j ≡ slice_index before j + (if (answer_at lane j).looped then 2 ^ own.voice else 0)
-      loops_by j true e below = let old : j < n = grind (arith, nat_tests, e) in loops_before j old ∙ way.played.loops_are j old
+      loops_by j true e below = let old : j < n = grind (arith, nat_tests, e) in loops_before j old ∙ so_far.played.loops_are j old
       loops_by j false e below =
           let new : n ≤ j = grind (arith, nat_tests, e) in
           let part : n + (j - n) ≡ j = omega arith in
           let marked = ap (λ (b : Bool). slice_index loops (n + (j - n)) + (if b then 2 ^ own.voice else 0)) (sym (looped_is (j - n) (omega (arith, below)))) in
-          let earlier = ap (λ (b : ℕ). b + (if (answer_at lane (n + (j - n))).looped then 2 ^ own.voice else 0)) (way.played.others (n + (j - n)) (omega arith)) in
+          let earlier = ap (λ (b : ℕ). b + (if (answer_at lane (n + (j - n))).looped then 2 ^ own.voice else 0)) (so_far.played.others (n + (j - n)) (omega arith)) in
           rw part at (loops_then (j - n) (omega (arith, below)) ∙ marked ∙ earlier)

@@ -12,7 +12,7 @@ use Rattle.voice_unit.specs.declared.interface.VoiceRegs.{VoiceRegs}
 use Rattle.voice_unit.specs.declared.interface.VoiceIn.{VoiceIn}
 use Rattle.voice_unit.specs.declared.row.Place.{Place}
 use Rattle.voice_unit.specs.Batch.{steps}
-use Rattle.voice_unit.specs.Row.{next_place, place_after, kept_row, next_way, groups_before, PlaysOn, row_of, place_of, StandsAt}
+use Rattle.voice_unit.specs.Row.{next_place, place_after, kept_row, next_point, groups_before, PlaysOn, row_of, place_of, StandsAt}
 
 -- the end of a list doesn't look at what stands before its last samples
 from_end-append : (xs s : List ℤ) (k : ℕ) → k < length s → sample_from_end (xs ++ s) k ≡ sample_from_end s k
@@ -152,10 +152,10 @@ next-same part voice header loop_to same = by (voice.offset == 7)
     by false = same voice.block (voice.offset + 2)
 
 -- one step more
-read_on : (memory : List ℕ) (loop_to : ℕ) (first : Place) (samples : List ℤ) (d way pitch : ℕ) (voice : VoiceState) → 2 ≤ length samples
-    → IsAt memory loop_to first samples d way voice → IsAt memory loop_to first samples (way / 0x4000) (next_way way pitch) (read_step memory loop_to pitch voice)
+read_on : (memory : List ℕ) (loop_to : ℕ) (first : Place) (samples : List ℤ) (d point pitch : ℕ) (voice : VoiceState) → 2 ≤ length samples
+    → IsAt memory loop_to first samples d point voice → IsAt memory loop_to first samples (point / 0x4000) (next_point point pitch) (read_step memory loop_to pitch voice)
 unfolding after_pitch after_reading after_decoding place_after
-read_on memory loop_to first samples d way pitch voice two at = by (needs_group voice) refl
+read_on memory loop_to first samples d point pitch voice two at = by (needs_group voice) refl
   where
     header : ℕ
     header = byte_at memory voice.block
@@ -173,15 +173,15 @@ read_on memory loop_to first samples d way pitch voice two at = by (needs_group 
         ∙ ap (λ (s : List ℤ). drop 4 (with_group s (byte_at memory there.block) (byte_at memory (there.block + there.offset)) (byte_at memory (there.block + there.offset + 1)))) at.last
         ∙ drop-kept_row memory loop_to first samples d two
 
-    -- what is left of a way, where so many groups are read of it
-    part : voice.position % 0x4000 ≡ way % 0x4000
+    -- what is left up to a point, where so many groups are read before it
+    part : voice.position % 0x4000 ≡ point % 0x4000
     part = omega (arith, at.position)
 
     by : (b : Bool) → needs_group voice ≡ b
-        → IsAt memory loop_to first samples (way / 0x4000) (next_way way pitch) (after_pitch (if b then at_next_group decoded header loop_to else voice) pitch)
+        → IsAt memory loop_to first samples (point / 0x4000) (next_point point pitch) (after_pitch (if b then at_next_group decoded header loop_to else voice) pitch)
     by true needs =
         let late : 0x4000 ≤ voice.position = grind (arith, nat_tests) in
-        let same : suc d ≡ way / 0x4000 = omega (arith, at.position, at.within, late) in
+        let same : suc d ≡ point / 0x4000 = omega (arith, at.position, at.within, late) in
         rw (← same) record {
           last = next-same (λ (w : VoiceState). w.samples) decoded header loop_to (λ block offset. refl) ∙ newest;
           place = next-place memory loop_to decoded ∙ ap (next_place memory loop_to) at.place;
@@ -190,7 +190,7 @@ read_on memory loop_to first samples d way pitch voice two at = by (needs_group 
         }
     by false needs =
         let early : voice.position < 0x4000 = grind (arith, nat_tests) in
-        let same : d ≡ way / 0x4000 = omega (arith, at.position, early) in
+        let same : d ≡ point / 0x4000 = omega (arith, at.position, early) in
         rw (← same) record { last = at.last; place = at.place; position = rw part (omega arith); within = omega arith }
 
 -- a step of a voice that plays on
@@ -218,15 +218,15 @@ still_none r i memory loop_to pitch counter voice none unkeyed = by (needs_group
     by false = zero_left
 
 -- silencing, keys and the envelope leave it where it stands
-enveloped : {memory : List ℕ} {loop_to : ℕ} {first : Place} {samples : List ℤ} {d way : ℕ} (r : VoiceRegs) (i : VoiceIn) (header counter : ℕ) (voice : VoiceState)
-    → IsAt memory loop_to first samples d way voice → IsAt memory loop_to first samples d way (after_envelope voice r i header counter)
+enveloped : {memory : List ℕ} {loop_to : ℕ} {first : Place} {samples : List ℤ} {d point : ℕ} (r : VoiceRegs) (i : VoiceIn) (header counter : ℕ) (voice : VoiceState)
+    → IsAt memory loop_to first samples d point voice → IsAt memory loop_to first samples d point (after_envelope voice r i header counter)
 unfolding after_envelope
 enveloped r i header counter voice at = record { last = at.last; place = at.place; position = at.position; within = at.within }
 
-module _ (r : VoiceRegs) (inputs : ℕ → VoiceIn) (dir n : ℕ) (memory : List ℕ) (counters ways : ℕ → ℕ) (voice : VoiceState) (plays : PlaysOn r inputs dir n ways voice) where
+module _ (r : VoiceRegs) (inputs : ℕ → VoiceIn) (dir n : ℕ) (memory : List ℕ) (counters points : ℕ → ℕ) (voice : VoiceState) (plays : PlaysOn r inputs dir n points voice) where
   at_step : (j : ℕ) → j ≤ n
       → ((steps r inputs memory counters voice j).delay ≡ 0)
-      × IsAt memory (loop_word dir r.srcn memory) (place_of voice) voice.samples (groups_before ways j) (ways j) (steps r inputs memory counters voice j)
+      × IsAt memory (loop_word dir r.srcn memory) (place_of voice) voice.samples (groups_before points j) (points j) (steps r inputs memory counters voice j)
   unfolding kept_row place_after groups_before steps
   at_step zero few = (plays.delay, record { last = refl; place = refl; position = omega (arith, plays.stands.first); within = plays.position })
   at_step (suc j) few =
@@ -238,9 +238,9 @@ module _ (r : VoiceRegs) (inputs : ℕ → VoiceIn) (dir n : ℕ) (memory : List
       step_reads r (inputs j) memory (counters j) now before.0
       ∙ ap (λ (at : ℕ). read_step memory (loop_word at r.srcn memory) pitch after) (plays.same_dir j (omega (arith, few))) in
       let one : suc j ≡ j + 1 = omega arith in
-      let further : ways (suc j) ≡ next_way (ways j) pitch = ap ways one ∙ plays.stands.next j (omega (arith, few)) in
+      let further : points (suc j) ≡ next_point (points j) pitch = ap points one ∙ plays.stands.next j (omega (arith, few)) in
       let here = enveloped r (inputs j) (byte_at memory now.block) (counters j) now before.1 in
-      let read = read_on memory (loop_word dir r.srcn memory) (place_of voice) voice.samples (groups_before ways j) (ways j) pitch after
+      let read = read_on memory (loop_word dir r.srcn memory) (place_of voice) voice.samples (groups_before points j) (points j) pitch after
       (omega (arith, plays.twelve)) here in (
         ap (λ (w : VoiceState). w.delay) same ∙ still_none r (inputs j) memory (loop_word dir r.srcn memory) pitch (counters j) now before.0 (plays.unkeyed j (omega (arith, few))),
         rw (same, further) read,
@@ -274,17 +274,17 @@ plays_at memory loop_to first samples d total more voice table twelve at =
     ) refl
 
 -- what a voice plays in sample j is read off the row
-pub plays_row : (r : VoiceRegs) (inputs : ℕ → VoiceIn) (dir n : ℕ) (memory : List ℕ) (counters ways : ℕ → ℕ) (voice : VoiceState) (table : List ℤ) (j more : ℕ)
-    → PlaysOn r inputs dir n ways voice → j ≤ n
+pub plays_row : (r : VoiceRegs) (inputs : ℕ → VoiceIn) (dir n : ℕ) (memory : List ℕ) (counters points : ℕ → ℕ) (voice : VoiceState) (table : List ℤ) (j more : ℕ)
+    → PlaysOn r inputs dir n points voice → j ≤ n
     → interpolation table (steps r inputs memory counters voice j).samples (steps r inputs memory counters voice j).position
-    ≡ interpolation table (row_of r dir memory voice (more + groups_before ways j)) (ways j)
-plays_row r inputs dir n memory counters ways voice table j more plays few =
-    plays_at memory (loop_word dir r.srcn memory) (place_of voice) voice.samples (groups_before ways j) (ways j) more
-    (steps r inputs memory counters voice j) table plays.twelve (at_step r inputs dir n memory counters ways voice plays j few).1
+    ≡ interpolation table (row_of r dir memory voice (more + groups_before points j)) (points j)
+plays_row r inputs dir n memory counters points voice table j more plays few =
+    plays_at memory (loop_word dir r.srcn memory) (place_of voice) voice.samples (groups_before points j) (points j) more
+    (steps r inputs memory counters voice j) table plays.twelve (at_step r inputs dir n memory counters points voice plays j few).1
 
 -- where it stands then
-pub reads_row : (r : VoiceRegs) (inputs : ℕ → VoiceIn) (dir n : ℕ) (memory : List ℕ) (counters ways : ℕ → ℕ) (voice : VoiceState) (j : ℕ)
-    → PlaysOn r inputs dir n ways voice → j ≤ n → StandsAt r dir memory voice (groups_before ways j) (ways j) (steps r inputs memory counters voice j)
-reads_row r inputs dir n memory counters ways voice j plays few =
-    let at = at_step r inputs dir n memory counters ways voice plays j few in
+pub reads_row : (r : VoiceRegs) (inputs : ℕ → VoiceIn) (dir n : ℕ) (memory : List ℕ) (counters points : ℕ → ℕ) (voice : VoiceState) (j : ℕ)
+    → PlaysOn r inputs dir n points voice → j ≤ n → StandsAt r dir memory voice (groups_before points j) (points j) (steps r inputs memory counters voice j)
+reads_row r inputs dir n memory counters points voice j plays few =
+    let at = at_step r inputs dir n memory counters points voice plays j few in
     record { delay = at.0; last = at.1.last; place = at.1.place; position = at.1.position; within = at.1.within }

@@ -28,11 +28,13 @@ abbrev pub lane_inputs : VoiceView → BatchRows → (previous : List ℤ) → �
 lane_inputs lane rows previous j = lane_input lane rows (number_at previous j) j
 
 -- a voice after so many steps, by the rows of its inputs and of counters
-unfoldable pub steps : VoiceRegs → (inputs : ℕ → VoiceIn) → (memory : List ℕ) → (counters : ℕ → ℕ) → VoiceState → (samples : ℕ) → VoiceState
+unfoldable pub steps : VoiceRegs → (inputs : ℕ → VoiceIn) → (memory : List ℕ) → (counters : ℕ → ℕ)
+    → VoiceState → (samples : ℕ) → VoiceState
 steps r inputs memory counters voice zero = voice
 steps r inputs memory counters voice (suc j) = voice_step (steps r inputs memory counters voice j) r (inputs j) memory (counters j)
 
 -- what its step in sample j gives
-unfoldable pub answer_of_step : VoiceRegs → (inputs : ℕ → VoiceIn) → (memory : List ℕ) → (table : List ℤ) → (counters : ℕ → ℕ) → VoiceState → (j : ℕ) → VoiceOut
+unfoldable pub answer_of_step : VoiceRegs → (inputs : ℕ → VoiceIn) → (memory : List ℕ) → (table : List ℤ)
+    → (counters : ℕ → ℕ) → VoiceState → (j : ℕ) → VoiceOut
 answer_of_step r inputs memory table counters voice j =
     voice_answer (steps r inputs memory counters voice j) r (inputs j) memory table (counters j)

@@ -4,7 +4,7 @@ use Rattle.num_fix.specs.declared.TheConstants.{BATCH_SIZE}
 use Rattle.aram_core.specs.Memory.{byte_at}
 use Rattle.voice_unit.specs.Voice.{is_silencing}
 use Rattle.voice_unit.specs.Row.{IsGroup, place_after, groups_before, ends_in, loops_in}
-use Rattle.voice_unit.specs.Track.{IsTrack, way_at}
+use Rattle.voice_unit.specs.Track.{IsTrack, point_at}
 use Rattle.voice_unit.specs.declared.course.Course.{Course}
 use Rattle.voice_unit.specs.declared.course.Stretch.{Stretch}
 use Rattle.voice_unit.specs.declared.row.Place.{Place}
@@ -18,21 +18,21 @@ pub record IsCourse (course : Course) (n : ℕ) : Type 0 where
 
 -- the group that is next in sample j
 abbrev pub place_at : Course → (memory : List ℕ) → (j : ℕ) → Place
-place_at course memory j = place_after memory course.loop_to course.first (groups_before (way_at course.track) j)
+place_at course memory j = place_after memory course.loop_to course.first (groups_before (point_at course.track) j)
 
 -- sample j reads a group, after so many others, that ends a block which has its end bit
 abbrev pub ends_at : Course → (memory : List ℕ) → Place → (group j : ℕ) → Bool
-ends_at course memory place group j = ends_in memory place (way_at course.track) group j
+ends_at course memory place group j = ends_in memory place (point_at course.track) group j
 
 -- the voice loops in sample j
 abbrev pub loops_at : Course → (memory : List ℕ) → (j : ℕ) → Bool
-loops_at course memory j = loops_in memory course.loop_to course.first (way_at course.track) j
+loops_at course memory j = loops_in memory course.loop_to course.first (point_at course.track) j
 
 -- a stretch of n samples at most: the groups that it reads, and the one that follows
 pub record IsStretch (course : Course) (memory : List ℕ) (n : ℕ) (stretch : Stretch) : Type 0 where
   pub some : 0 < stretch.samples
   pub few : stretch.samples ≤ n
-  pub groups : stretch.groups ≡ groups_before (way_at course.track) stretch.samples
+  pub groups : stretch.groups ≡ groups_before (point_at course.track) stretch.samples
   pub few_groups : stretch.groups ≤ BATCH_SIZE
   pub next : stretch.next ≡ place_after memory course.loop_to course.first stretch.groups
   pub group : IsGroup stretch.next

@@ -8,6 +8,7 @@ use Rattle.gauss_table.specs.ShortTaps.{short_mix}
 use Rattle.gauss_table.specs.declared.short_taps.ShortTaps.{ShortTaps}
 use Rattle.gauss_table.specs.declared.taps.Taps.{Taps}
 use Rattle.voice_unit.specs.Voice.{interpolation}
+use Rattle.voice_unit.specs.declared.short_sounding.TheConstants.{AT_ONCE}
 
 -- the interpolation that comes of four taps; of none, 0
 abbrev pub mixed : Option Taps → ℤ
@@ -32,14 +33,14 @@ abbrev pub sounding_at : (level : ℕ) → (sample : ℤ) → ℤ
 sounding_at level sample = clear_bit0 (scaled sample (pos level) 11)
 
 -- what a sample that stands so far in a row of kept samples puts out at a level
-abbrev pub out_over_row : (table row : List ℤ) → (way level : ℕ) → ℤ
-out_over_row table row way level = sounding_at level (interpolation table row way)
+abbrev pub out_over_row : (table row : List ℤ) → (point level : ℕ) → ℤ
+out_over_row table row point level = sounding_at level (interpolation table row point)
 
 -- what a sample of a stretch puts out: noise at a level where the voice plays that, else what stands in the row
-abbrev pub out_in_stretch : (noisy : Bool) → (noise : ℕ) → (table row : List ℤ) → (way level : ℕ) → ℤ
-out_in_stretch noisy noise table row way level =
-    if noisy then sounding_at level (wrap16 (pos (2 * noise))) else out_over_row table row way level
+abbrev pub out_in_stretch : (noisy : Bool) → (noise : ℕ) → (table row : List ℤ) → (point level : ℕ) → ℤ
+out_in_stretch noisy noise table row point level =
+    if noisy then sounding_at level (wrap16 (pos (2 * noise))) else out_over_row table row point level
 
--- each of eight numbers is the factor of a level
+-- each number of a row, as many as are put at once, is the factor of a level
 abbrev pub AreFactorsOfLevel : (level : ℕ) → List ℤ → Type 0
-AreFactorsOfLevel level factors = (i : ℕ) → i < 8 → number_at factors i ≡ factor_of (pos level)
+AreFactorsOfLevel level factors = (i : ℕ) → i < AT_ONCE → number_at factors i ≡ factor_of (pos level)

@@ -62,6 +62,6 @@ abbrev pub Glides : (own : VoiceView) → (lane : Lane) → (from end : ℕ) →
 Glides own lane from end = (j : ℕ) → from ≤ j → j < end → PlaysPlainly own (lane.inputs j)
 
 -- what n samples of the voice of a row leave, which then rests for so many
-pub record IsOnItsWay (own : VoiceView) (lane : Lane) (n rest : ℕ) (before loops : List ℕ) (outs : List ℤ) (voice : VoiceState) : Type 0 where
+pub record IsPlayedSoFar (own : VoiceView) (lane : Lane) (n rest : ℕ) (before loops : List ℕ) (outs : List ℤ) (voice : VoiceState) : Type 0 where
   pub played : IsPlayed lane own.voice n before loops outs voice
   pub at_rest : IsAtRest own.reset (has_bit own.koff own.voice) lane.regs lane.memory (lane.k + n) rest voice

@@ -3,25 +3,25 @@ use Rattle.std.specs.Prelude.{ℕ, ◌+◌, ◌*◌, ◌/◌, ◌<◌, ◌≤◌
 use Rattle.voice_unit.specs.declared.track.Track.{Track}
 
 -- how far sample j stands where each stands a pitch after the one before
-abbrev pub steady_ways : (position pitch : ℕ) → (j : ℕ) → ℕ
-steady_ways position pitch j = position + j * pitch
+abbrev pub steady_points : (position pitch : ℕ) → (j : ℕ) → ℕ
+steady_points position pitch j = position + j * pitch
 
 -- how far sample j stands
-unfoldable pub way_at : Track → (j : ℕ) → ℕ
-way_at track j = if track.bent then slice_index track.ways.now j else steady_ways track.position track.pitch j
+unfoldable pub point_at : Track → (j : ℕ) → ℕ
+point_at track j = if track.bent then slice_index track.points.now j else steady_points track.position track.pitch j
 
 -- the pitches of a batch from one of its samples on
 abbrev pub pitches_from : (pitches : List ℕ) → (at : ℕ) → (j : ℕ) → ℕ
 pitches_from pitches at j = slice_index pitches (at + j)
 
 -- n samples, and the one after them, stand one after another, and each reads one group at most
-pub record MoveOn (ways : ℕ → ℕ) (n : ℕ) : Type 0 where
-  pub first : ways 0 < 0x8000
-  pub rise : (j : ℕ) → j < n → ways j ≤ ways (j + 1)
-  pub near : (j : ℕ) → j < n → ways (j + 1) < 0x4000 * (ways j / 0x4000) + 0x8000
+pub record MoveOn (points : ℕ → ℕ) (n : ℕ) : Type 0 where
+  pub first : points 0 < 0x8000
+  pub rise : (j : ℕ) → j < n → points j ≤ points (j + 1)
+  pub near : (j : ℕ) → j < n → points (j + 1) < 0x4000 * (points j / 0x4000) + 0x8000
 
 -- the bounds of a track of n samples
 pub record IsTrack (track : Track) (n : ℕ) : Type 0 where
   pub position : track.position < 0x8000
   pub pitch : track.pitch < 0x4000
-  pub moves : MoveOn (way_at track) n
+  pub moves : MoveOn (point_at track) n

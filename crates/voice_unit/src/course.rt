@@ -2,7 +2,7 @@
 
 ghost use Rattle.std.specs.Prelude.{◌≡◌, ◌<◌, ◌≤◌, ◌+◌, ◌*◌, ◌^◌, ◌-◌, ℕ, true, false, slice_index, take};
 ghost use Rattle.voice_unit.specs.Row.{IsGroup, next_place, last_of, kept_row, groups_before};
-ghost use Rattle.voice_unit.specs.Track.{way_at};
+ghost use Rattle.voice_unit.specs.Track.{point_at};
 ghost use Rattle.voice_unit.specs.Course.{IsCourse, IsStretch, AreLoopsMarked, LeavesSounding, place_at, ends_at, loops_at};
 
 use crate::play::mark_loop;
@@ -69,8 +69,8 @@ impl<'a> Course<'a> {
     )
         requires course { IsCourse self.now n }
         requires few { at + n ≤ BATCH_SIZE }
-        requires read { group < groups_before (way_at self.now.track) n }
-        requires lower { (j : ℕ) → j < n → groups_before (way_at self.now.track) j ≡ group → slice_index loops.old (at + j) < 2 ^ self.now.voice }
+        requires read { group < groups_before (point_at self.now.track) n }
+        requires lower { (j : ℕ) → j < n → groups_before (point_at self.now.track) j ≡ group → slice_index loops.old (at + j) < 2 ^ self.now.voice }
         ensures { AreLoopsMarked at n self.now.voice (ends_at self.now memory.now place.now group) loops.old loops.new }
     {
         if is_end(place, memory) {
@@ -98,8 +98,8 @@ impl<'a> Course<'a> {
     ) -> NextBlock
         requires course { IsCourse self.now n }
         requires few { at + n ≤ BATCH_SIZE }
-        requires read { group < groups_before (way_at self.now.track) n }
-        requires lower { (j : ℕ) → j < n → groups_before (way_at self.now.track) j ≡ group → slice_index loops.old (at + j) < 2 ^ self.now.voice }
+        requires read { group < groups_before (point_at self.now.track) n }
+        requires lower { (j : ℕ) → j < n → groups_before (point_at self.now.track) j ≡ group → slice_index loops.old (at + j) < 2 ^ self.now.voice }
         ensures first { result.first ≡ next_place memory.now self.now.loop_to (last_of block) }
         ensures group { IsGroup result.first }
         ensures quiet { result.woken ≡ false → LeavesSounding self.now memory.now result.first.block }

@@ -1,20 +1,21 @@
-//! Samples in which a voice at rest plays on over the row of its kept samples: nothing changes its envelope or its pitch.
+//! How a voice glides: while its envelope rests and no key is taken, the samples of a stretch differ in their places alone, so that
+//! they are read off one row of kept samples at one level.
 
 ghost use Rattle.std.specs.Prelude.{◌≡◌, ◌<◌, ◌≤◌, ◌+◌, ◌-◌, ◌*◌, ◌^◌, ℕ, List, true, false, slice_index};
 ghost use Rattle.num_fix.specs.Arithmetic.{has_bit};
 ghost use Rattle.voice_unit.specs.Directory.{loop_word};
 ghost use Rattle.voice_unit.specs.Rest.{IsSilent};
 ghost use Rattle.voice_unit.specs.Course.{IsCourse};
-ghost use Rattle.voice_unit.specs.Row.{AreWays, place_of};
+ghost use Rattle.voice_unit.specs.Row.{ArePoints, place_of};
 ghost use Rattle.voice_unit.specs.Track.{MoveOn, pitches_from};
 ghost use Rattle.voice_unit.specs.Voice.{is_modulated};
-ghost use Rattle.voice_unit.specs.Play.{Lane, IsLaneOver, Glides, IsOnItsWay, answer_at};
+ghost use Rattle.voice_unit.specs.Play.{Lane, IsLaneOver, Glides, IsPlayedSoFar, answer_at};
 
 use crate::batch::{PlayedRows, VoiceReads, VoiceView};
 use crate::course::{Course, Stretch};
 use crate::directory::loop_word;
 use crate::rest::is_silent;
-use crate::track::{Track, WAYS, put_ways};
+use crate::track::{POINTS, Track, put_points};
 use crate::voice::Voice;
 use crate::workspace::Workspace;
 use num_fix::{BATCH_SIZE, has_bit};
@@ -52,37 +53,37 @@ pub(crate) struct Glided {
 
 impl Voice {
     /// Puts how far n samples from sample `at` on stand, where the voice is bent.
-    fn put_ways(
+    fn put_points(
         &self,
         at: u8,
         n: u8,
         seen: &VoiceView,
         pitches: &[u16; BATCH_SIZE],
-        ways: &mut [u32; WAYS],
+        points: &mut [u32; POINTS],
     )
         requires few { at + n ≤ BATCH_SIZE }
         requires voice { seen.now.voice < 8 }
-        ensures ways { is_modulated seen.now.pmon seen.now.voice ≡ true → AreWays (pitches_from pitches.now at) n self.now.position (slice_index ways.new) }
-        ensures moves { is_modulated seen.now.pmon seen.now.voice ≡ true → MoveOn (slice_index ways.new) n }
+        ensures points { is_modulated seen.now.pmon seen.now.voice ≡ true → ArePoints (pitches_from pitches.now at) n self.now.position (slice_index points.new) }
+        ensures moves { is_modulated seen.now.pmon seen.now.voice ≡ true → MoveOn (slice_index points.new) n }
     {
         if !seen.is_bent() {
             return;
         }
-        put_ways(ways, pitches, self.position(), at, n);
+        put_points(points, pitches, self.position(), at, n);
     }
 
     /// What the voice goes by in a stretch of n samples.
-    fn course<'a>(&self, n: u8, reads: &VoiceReads, ways: &'a [u32; WAYS]) -> Course<'a>
+    fn course<'a>(&self, n: u8, reads: &VoiceReads, points: &'a [u32; POINTS]) -> Course<'a>
         requires voice { reads.now.seen.voice < 8 }
         requires pitch { reads.now.regs.pitch < 0x4000 }
-        requires ways { is_modulated reads.now.seen.pmon reads.now.seen.voice ≡ true → MoveOn (slice_index ways.now) n }
+        requires points { is_modulated reads.now.seen.pmon reads.now.seen.voice ≡ true → MoveOn (slice_index points.now) n }
         ensures voice { result.voice ≡ reads.now.seen.voice }
         ensures first { result.first ≡ place_of self.now }
         ensures loop_to { result.loop_to ≡ loop_word reads.now.seen.dir reads.now.regs.srcn reads.now.memory.now }
         ensures position { result.track.position ≡ self.now.position }
         ensures pitch { result.track.pitch ≡ reads.now.regs.pitch }
         ensures bent { result.track.bent ≡ is_modulated reads.now.seen.pmon reads.now.seen.voice }
-        ensures ways { result.track.ways.now ≡ ways.now }
+        ensures points { result.track.points.now ≡ points.now }
         ensures level { result.level ≡ self.now.envelope.level }
         ensures reset { result.reset ≡ reads.now.seen.reset }
         ensures silent { result.silent ≡ true → IsSilent self.now.envelope }
@@ -98,7 +99,7 @@ impl Voice {
                 position: self.position(),
                 pitch: reads.regs.pitch,
                 bent: reads.seen.is_bent(),
-                ways,
+                points,
             },
             level: self.level(),
             reset: reads.seen.reset,
@@ -125,19 +126,19 @@ impl Voice {
         requires lower { (i : ℕ) → at ≤ i → i < BATCH_SIZE → slice_index made.old.loops i < 2 ^ reads.now.seen.voice }
         ensures from { at ≤ result.at }
         ensures to { result.at ≤ at + n }
-        ensures way { (lane : Lane) (before : List ℕ) → IsLaneOver reads.now work.old.pitches lane
-            → Glides reads.now.seen lane at (at + n) → IsOnItsWay reads.now.seen lane at rest before made.old.loops made.old.outs self.old
-            → IsOnItsWay reads.now.seen lane result.at result.rest before made.new.loops made.new.outs self.new }
+        ensures so_far { (lane : Lane) (before : List ℕ) → IsLaneOver reads.now work.old.pitches lane
+            → Glides reads.now.seen lane at (at + n) → IsPlayedSoFar reads.now.seen lane at rest before made.old.loops made.old.outs self.old
+            → IsPlayedSoFar reads.now.seen lane result.at result.rest before made.new.loops made.new.outs self.new }
         ensures pitches { work.new.pitches ≡ work.old.pitches }
         ensures level { (lane : Lane) (before : List ℕ) → IsLaneOver reads.now work.old.pitches lane
-            → Glides reads.now.seen lane at (at + n) → IsOnItsWay reads.now.seen lane at rest before made.old.loops made.old.outs self.old
+            → Glides reads.now.seen lane at (at + n) → IsPlayedSoFar reads.now.seen lane at rest before made.old.loops made.old.outs self.old
             → self.new.envelope.level ≡ (answer_at lane (result.at - 1)).level }
         ensures later { (i : ℕ) → result.at ≤ i → slice_index made.new.loops i ≡ slice_index made.old.loops i }
         ensures before { (i : ℕ) → i < at → slice_index made.new.loops i ≡ slice_index made.old.loops i }
         ensures lower { (i : ℕ) → at ≤ i → i < BATCH_SIZE → slice_index made.new.loops i < 2 ^ (reads.now.seen.voice + 1) }
     {
-        self.put_ways(at, n, &reads.seen, &work.pitches, &mut work.ways);
-        let course = self.course(n, reads, &work.ways);
+        self.put_points(at, n, &reads.seen, &work.pitches, &mut work.points);
+        let course = self.course(n, reads, &work.points);
         self.begin_row(&mut work.row);
         let stretch = course.read_stretch(
             at,
@@ -181,12 +182,12 @@ impl Voice {
         requires before { (i : ℕ) → i < BATCH_SIZE → slice_index made.old.loops i < 2 ^ (reads.now.seen.voice + 1) }
         ensures from { j ≤ result.at }
         ensures to { result.at ≤ end }
-        ensures way { (lane : Lane) (before : List ℕ) → IsLaneOver reads.now work.old.pitches lane
-            → Glides reads.now.seen lane j end → IsOnItsWay reads.now.seen lane j rest before made.old.loops made.old.outs self.old
-            → IsOnItsWay reads.now.seen lane result.at result.rest before made.new.loops made.new.outs self.new }
+        ensures so_far { (lane : Lane) (before : List ℕ) → IsLaneOver reads.now work.old.pitches lane
+            → Glides reads.now.seen lane j end → IsPlayedSoFar reads.now.seen lane j rest before made.old.loops made.old.outs self.old
+            → IsPlayedSoFar reads.now.seen lane result.at result.rest before made.new.loops made.new.outs self.new }
         ensures pitches { work.new.pitches ≡ work.old.pitches }
         ensures level { (lane : Lane) (before : List ℕ) → IsLaneOver reads.now work.old.pitches lane
-            → Glides reads.now.seen lane j end → IsOnItsWay reads.now.seen lane j rest before made.old.loops made.old.outs self.old
+            → Glides reads.now.seen lane j end → IsPlayedSoFar reads.now.seen lane j rest before made.old.loops made.old.outs self.old
             → j < result.at → self.new.envelope.level ≡ (answer_at lane (result.at - 1)).level }
         ensures later { (i : ℕ) → result.at ≤ i → slice_index made.new.loops i ≡ slice_index made.old.loops i }
         ensures lower { (i : ℕ) → i < BATCH_SIZE → slice_index made.new.loops i < 2 ^ (reads.now.seen.voice + 1) }

@@ -1,8 +1,8 @@
 //! Samples at a level, and the pitch of a voice, bent by samples of the voice before.
 
-ghost use Rattle.std.specs.Prelude.{◌≡◌, ◌<◌, ◌≤◌, pos, unsigned_abs, ◌+ℤ◌};
+ghost use Rattle.std.specs.Prelude.{◌≡◌, ◌<◌, ◌≤◌, ◌*◌, pos, unsigned_abs, ◌+ℤ◌};
 ghost use Rattle.num_fix.specs.Arithmetic.{scaled, floor_shift, high_byte};
-ghost use Rattle.voice_unit.specs.Voice.{pitch_of};
+ghost use Rattle.voice_unit.specs.Voice.{bent_pitch, pitch_of};
 
 use crate::interface::{VoiceIn, VoiceRegs};
 use num_fix::scaled;
@@ -25,6 +25,16 @@ pub fn bent_pitch(pitch: u16, previous: i16) -> u16
 {
     let bend = scaled(previous >> 5, pitch as i16, 10);
     (i32::from(pitch) + bend) as u16
+}
+
+/// A pitch bent so, by its double: one multiplication of 16-bit numbers.
+pub(crate) fn bent_by_double(pitch: u16, double: i16, previous: i16) -> u16
+    requires pitch { pitch < 0x4000 }
+    requires double { double ≡ pos (2 * pitch) }
+    ensures { result ≡ bent_pitch pitch previous }
+{
+    let bend = scaled((previous >> 5) * 32, double, 16) as i16;
+    (pitch as i16 + bend) as u16
 }
 
 /// The pitch of a voice.

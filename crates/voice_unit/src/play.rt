@@ -5,7 +5,7 @@ ghost use Rattle.rate_clock.specs.Counter.{counter_at};
 ghost use Rattle.voice_unit.specs.Rest.{IsAtRest};
 ghost use Rattle.voice_unit.specs.Voice.{VoiceState};
 ghost use Rattle.voice_unit.specs.OneSample.{IsStep, IsPlayedSample};
-ghost use Rattle.voice_unit.specs.Play.{IsPlayed, IsOnItsWay, answer_at, lane_of};
+ghost use Rattle.voice_unit.specs.Play.{IsPlayed, IsPlayedSoFar, answer_at, lane_of};
 
 use crate::batch::{PlayedRows, VoiceReads};
 use crate::glide::Glided;
@@ -105,8 +105,8 @@ impl Voice {
         requires lower { (j : ℕ) → j < BATCH_SIZE → slice_index made.old.loops j < 2 ^ reads.now.seen.voice }
         ensures from { n - 1 ≤ result.at }
         ensures to { result.at ≤ n }
-        ensures way { (k : ℕ) → reads.now.clock ≡ counter_at k → let lane = lane_of reads.now previous.now self.old k in
-            IsOnItsWay reads.now.seen lane result.at result.rest made.old.loops made.new.loops made.new.outs self.new }
+        ensures so_far { (k : ℕ) → reads.now.clock ≡ counter_at k → let lane = lane_of reads.now previous.now self.old k in
+            IsPlayedSoFar reads.now.seen lane result.at result.rest made.old.loops made.new.loops made.new.outs self.new }
         ensures level { (k : ℕ) → reads.now.clock ≡ counter_at k → result.at ≡ n
             → self.new.envelope.level ≡ (answer_at (lane_of reads.now previous.now self.old k) (n - 1)).level }
         ensures others { (j : ℕ) → result.at ≤ j → slice_index made.new.loops j ≡ slice_index made.old.loops j }

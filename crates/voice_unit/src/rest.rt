@@ -1,4 +1,4 @@
-//! One sample of a voice over a batch, with a shorter way for a voice whose envelope rests.
+//! One sample of a voice over a batch, in a shorter form for a voice whose envelope rests.
 
 ghost use Rattle.std.specs.Prelude.{◌≡◌, ◌<◌, ◌+◌, ℕ, true, false};
 ghost use Rattle.aram_core.specs.Memory.{byte_at};

@@ -5,33 +5,36 @@ ghost use Rattle.num_fix.specs.Arithmetic.{scaled};
 ghost use Rattle.num_fix.specs.SignedWords.{number_at};
 ghost use Rattle.gauss_table.specs.Factors.{AreFactors, factor_of};
 ghost use Rattle.gauss_table.specs.Interpolation.{mix_of};
-ghost use Rattle.voice_unit.specs.Track.{IsTrack, way_at};
+ghost use Rattle.voice_unit.specs.Track.{IsTrack, point_at};
 ghost use Rattle.voice_unit.specs.Voice.{interpolation};
 ghost use Rattle.voice_unit.specs.OutsOverRow.{AreFactorsOfLevel, short_mixed_at, sounding_at};
 
 use crate::row::ROW_SIZE;
-use crate::sounding::WAY_END;
-use crate::track::{Track, WAYS};
+use crate::sounding::POINT_END;
+use crate::track::{POINTS, Track};
 use gauss_table::{
     Factors, Products, ShortTaps, factor_of, product_by_high_factor, product_by_low_factor,
 };
 use num_fix::{BATCH_SIZE, clear_bit0};
 
-/// The last sample of a batch that seven follow.
-pub(crate) const LAST_OF_EIGHT: u8 = BATCH_SIZE as u8 - 8;
+/// How many samples are put at a level at once.
+pub(crate) const AT_ONCE: usize = 8;
+
+/// The last sample of a batch with which so many can begin.
+pub(crate) const LAST_OF_EIGHT: u8 = (BATCH_SIZE - AT_ONCE) as u8;
 
 /// Half of 2,048, at which a level would be a whole.
 pub(crate) const HALF_LEVEL: u16 = 0x400;
 
-/// What four samples give at a place of a row of kept samples, on a way in 65,536ths of a sample.
+/// What four samples give at a point of a row of kept samples, in 65,536ths of a sample.
 #[tactic(auto, unfolding(crate::specs::Voice::interpolation))]
-fn products_at(row: &[i16; ROW_SIZE], way: u32, factors: &[Factors; 256]) -> Products
-    requires { way < WAY_END }
-    ensures { (table : List ℤ) (place : ℕ) → AreFactors table factors.now → way ≡ 0x10 * place
+fn products_at(row: &[i16; ROW_SIZE], point: u32, factors: &[Factors; 256]) -> Products
+    requires { point < POINT_END }
+    ensures { (table : List ℤ) (place : ℕ) → AreFactors table factors.now → point ≡ 0x10 * place
         → mix_of result.oldest result.older result.newer result.newest ≡ interpolation table row.now place }
 {
-    let m = (way / 0x10000) as usize;
-    let i = (way / 0x100 % 0x100) as u8;
+    let m = (point / 0x10000) as usize;
+    let i = (point / 0x100 % 0x100) as u8;
     Products::at(factors, i, row[m], row[m + 1], row[m + 2], row[m + 3])
 }
 
@@ -44,27 +47,27 @@ fn put_products(taps: &mut [ShortTaps; BATCH_SIZE], j: usize, products: &Product
     taps[j].put(products);
 }
 
-/// Puts the taps of two samples, which stand so far on the way. Two have eight products, which are made at once.
+/// Puts the taps of two samples, which stand at these points. Two have eight products, which are made at once.
 /// Inlined, so that the loops over it keep their numbers in registers.
 #[inline(always)]
 fn put_two(
     taps: &mut [ShortTaps; BATCH_SIZE],
     j: usize,
     row: &[i16; ROW_SIZE],
-    way: u32,
+    point: u32,
     next: u32,
     factors: &[Factors; 256],
 )
     requires few { j + 2 ≤ BATCH_SIZE }
-    requires way { way < WAY_END }
-    requires next { next < WAY_END }
-    ensures first { (table : List ℤ) (place : ℕ) → AreFactors table factors.now → way ≡ 0x10 * place
+    requires point { point < POINT_END }
+    requires next { next < POINT_END }
+    ensures first { (table : List ℤ) (place : ℕ) → AreFactors table factors.now → point ≡ 0x10 * place
         → short_mixed_at taps.new j ≡ interpolation table row.now place }
     ensures second { (table : List ℤ) (place : ℕ) → AreFactors table factors.now → next ≡ 0x10 * place
         → short_mixed_at taps.new (j + 1) ≡ interpolation table row.now place }
     ensures before { (i : ℕ) → i < j → short_mixed_at taps.new i ≡ short_mixed_at taps.old i }
 {
-    let first = products_at(row, way, factors);
+    let first = products_at(row, point, factors);
     let second = products_at(row, next, factors);
     put_products(taps, j, &first);
     put_products(taps, j + 1, &second);
@@ -87,18 +90,18 @@ fn take_short_taps(
         → short_mixed_at taps.new j ≡ interpolation table row.now (position + j * pitch) }
 {
     let step = 0x10 * u32::from(pitch);
-    let mut way = 0x10 * u32::from(position);
+    let mut point = 0x10 * u32::from(position);
     for c in 0..(usize::from(n) + 3) / 4 {
-        put_two(taps, 4 * c, row, way, way + step, factors);
+        put_two(taps, 4 * c, row, point, point + step, factors);
         put_two(
             taps,
             4 * c + 2,
             row,
-            way + 2 * step,
-            way + 3 * step,
+            point + 2 * step,
+            point + 3 * step,
             factors,
         );
-        way += 4 * step;
+        point += 4 * step;
     }
 }
 
@@ -108,21 +111,28 @@ fn take_short_bent_taps(
     n: u8,
     row: &[i16; ROW_SIZE],
     factors: &[Factors; 256],
-    ways: &[u32; WAYS],
+    points: &[u32; POINTS],
 )
     requires few { n ≤ BATCH_SIZE }
-    requires within { (j : ℕ) → j ≤ n → 0x10 * slice_index ways.now j < WAY_END }
+    requires within { (j : ℕ) → j ≤ n → 0x10 * slice_index points.now j < POINT_END }
     ensures { (table : List ℤ) → AreFactors table factors.now → (j : ℕ) → j < n
-        → short_mixed_at taps.new j ≡ interpolation table row.now (slice_index ways.now j) }
+        → short_mixed_at taps.new j ≡ interpolation table row.now (slice_index points.now j) }
 {
     for c in 0..(usize::from(n) + 1) / 2 {
         let j = 2 * c;
-        put_two(taps, j, row, 0x10 * ways[j], 0x10 * ways[j + 1], factors);
+        put_two(
+            taps,
+            j,
+            row,
+            0x10 * points[j],
+            0x10 * points[j + 1],
+            factors,
+        );
     }
 }
 
 /// The taps of n samples of a track.
-#[tactic(auto, unfolding(crate::specs::Track::way_at))]
+#[tactic(auto, unfolding(crate::specs::Track::point_at))]
 pub(crate) fn take_short_track_taps(
     taps: &mut [ShortTaps; BATCH_SIZE],
     n: u8,
@@ -133,27 +143,28 @@ pub(crate) fn take_short_track_taps(
     requires few { n ≤ BATCH_SIZE }
     requires track { IsTrack track.now n }
     ensures { (table : List ℤ) → AreFactors table factors.now → (j : ℕ) → j < n
-        → short_mixed_at taps.new j ≡ interpolation table row.now (way_at track.now j) }
+        → short_mixed_at taps.new j ≡ interpolation table row.now (point_at track.now j) }
 {
     if track.bent {
-        take_short_bent_taps(taps, n, row, factors, track.ways);
+        take_short_bent_taps(taps, n, row, factors, track.points);
         return;
     }
     take_short_taps(taps, n, row, factors, track.position, track.pitch);
 }
 
 /// The factor of a level eight times, so that 16-bit numbers meet 16-bit numbers.
-pub(crate) fn factors_of_level(level: u16) -> [i16; 8]
+pub(crate) fn factors_of_level(level: u16) -> [i16; AT_ONCE]
     requires { level ≤ 0x7ff }
     ensures { AreFactorsOfLevel level result }
 {
     let factor = factor_of(level as i16);
-    [factor; 8]
+    [factor; AT_ONCE]
 }
 
 /// A sample at a level by the level's factor. From half the greatest level on the factor has wrapped.
 fn product_at_level(factor: i16, loud: bool, sample: i16) -> i16
-    ensures { (level : ℕ) → level ≤ 0x7ff → factor ≡ factor_of (pos level) → loud ≡ nat_le 0x400 level → result ≡ scaled (pos level) sample 11 }
+    ensures { (level : ℕ) → level ≤ 0x7ff → factor ≡ factor_of (pos level) → loud ≡ nat_le HALF_LEVEL level
+        → result ≡ scaled (pos level) sample 11 }
 {
     if loud {
         product_by_high_factor(factor, sample)
@@ -166,15 +177,15 @@ fn product_at_level(factor: i16, loud: bool, sample: i16) -> i16
 fn eight_at_level(
     taps: &[ShortTaps; BATCH_SIZE],
     from: usize,
-    factors: &[i16; 8],
+    factors: &[i16; AT_ONCE],
     loud: bool,
-) -> [i16; 8]
-    requires { from + 8 ≤ BATCH_SIZE }
-    ensures { (level : ℕ) → level ≤ 0x7ff → AreFactorsOfLevel level factors.now → loud ≡ nat_le 0x400 level → (k : ℕ) → k < 8
+) -> [i16; AT_ONCE]
+    requires { from + AT_ONCE ≤ BATCH_SIZE }
+    ensures { (level : ℕ) → level ≤ 0x7ff → AreFactorsOfLevel level factors.now → loud ≡ nat_le HALF_LEVEL level → (k : ℕ) → k < AT_ONCE
         → number_at result k ≡ sounding_at level (short_mixed_at taps.now (from + k)) }
 {
-    let mut eight = [0; 8];
-    for k in 0..8usize {
+    let mut eight = [0; AT_ONCE];
+    for k in 0..AT_ONCE {
         let product = product_at_level(factors[k], loud, taps[from + k].mixed());
         eight[k] = clear_bit0(product);
     }
@@ -182,12 +193,12 @@ fn eight_at_level(
 }
 
 /// Puts eight outputs from a place on.
-fn put_eight(outs: &mut [i16; BATCH_SIZE], at: usize, eight: &[i16; 8])
-    requires { at + 8 ≤ BATCH_SIZE }
-    ensures outs { (k : ℕ) → k < 8 → number_at outs.new (at + k) ≡ number_at eight.now k }
+fn put_eight(outs: &mut [i16; BATCH_SIZE], at: usize, eight: &[i16; AT_ONCE])
+    requires { at + AT_ONCE ≤ BATCH_SIZE }
+    ensures outs { (k : ℕ) → k < AT_ONCE → number_at outs.new (at + k) ≡ number_at eight.now k }
     ensures before { (i : ℕ) → i < at → number_at outs.new i ≡ number_at outs.old i }
 {
-    for k in 0..8usize {
+    for k in 0..AT_ONCE {
         outs[at + k] = eight[k];
     }
 }
@@ -200,19 +211,19 @@ pub(crate) fn put_short(
     at: u8,
     n: u8,
     taps: &[ShortTaps; BATCH_SIZE],
-    factors: &[i16; 8],
+    factors: &[i16; AT_ONCE],
     loud: bool,
 )
     requires few { at + n ≤ BATCH_SIZE }
     requires early { at ≤ LAST_OF_EIGHT }
-    ensures outs { (level : ℕ) → level ≤ 0x7ff → AreFactorsOfLevel level factors.now → loud ≡ nat_le 0x400 level → (j : ℕ) → j < n
+    ensures outs { (level : ℕ) → level ≤ 0x7ff → AreFactorsOfLevel level factors.now → loud ≡ nat_le HALF_LEVEL level → (j : ℕ) → j < n
         → number_at outs.new (at + j) ≡ sounding_at level (short_mixed_at taps.now j) }
     ensures before { (i : ℕ) → i < at → number_at outs.new i ≡ number_at outs.old i }
 {
     let begin = usize::from(at);
     let last = usize::from(LAST_OF_EIGHT - at);
-    for c in 0..(usize::from(n) + 7) / 8 {
-        let from = (8 * c).min(last);
+    for c in 0..(usize::from(n) + AT_ONCE - 1) / AT_ONCE {
+        let from = (AT_ONCE * c).min(last);
         let eight = eight_at_level(taps, from, factors, loud);
         put_eight(outs, begin + from, &eight);
     }

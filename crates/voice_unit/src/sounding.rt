@@ -7,7 +7,7 @@ ghost use Rattle.gauss_table.specs.Interpolation.{mix_of};
 ghost use Rattle.gauss_table.specs.Quads.{AreQuads};
 ghost use Rattle.voice_unit.specs.Course.{IsCourse};
 ghost use Rattle.voice_unit.specs.Voice.{interpolation};
-ghost use Rattle.voice_unit.specs.Track.{IsTrack, way_at};
+ghost use Rattle.voice_unit.specs.Track.{IsTrack, point_at};
 ghost use Rattle.voice_unit.specs.OutsOverRow.{mixed_at, sounding_at, out_in_stretch};
 
 use crate::batch::VoiceReads;
@@ -17,23 +17,23 @@ use crate::row::ROW_SIZE;
 use crate::short_sounding::{
     HALF_LEVEL, LAST_OF_EIGHT, factors_of_level, put_short, take_short_track_taps,
 };
-use crate::track::{Track, WAYS};
+use crate::track::{POINTS, Track};
 use crate::workspace::TapRows;
 use gauss_table::{GaussTable, Quad, Taps};
 use num_fix::{BATCH_SIZE, clear_bit0, wrap16};
 
-/// The way to the last four samples of a row, in 65,536ths of a sample.
-pub(crate) const WAY_END: u32 = 0x10000 * (ROW_SIZE as u32 - 4);
+/// The point of the last four samples of a row, in 65,536ths of a sample.
+pub(crate) const POINT_END: u32 = 0x10000 * (ROW_SIZE as u32 - 4);
 
-/// The taps at a place of a row of kept samples, on a way in 65,536ths of a sample, so that the place of the weights is a byte of it.
+/// The taps at a point of a row of kept samples, in 65,536ths of a sample, so that the place of the weights is a byte of it.
 #[tactic(auto, unfolding(crate::specs::Voice::interpolation))]
-fn taps_at(row: &[i16; ROW_SIZE], way: u32, quads: &[Quad; 256]) -> Taps
-    requires { way < WAY_END }
-    ensures { (table : List ℤ) (place : ℕ) → AreQuads table quads.now → way ≡ 0x10 * place
+fn taps_at(row: &[i16; ROW_SIZE], point: u32, quads: &[Quad; 256]) -> Taps
+    requires { point < POINT_END }
+    ensures { (table : List ℤ) (place : ℕ) → AreQuads table quads.now → point ≡ 0x10 * place
         → mix_of result.oldest result.older result.newer result.newest ≡ interpolation table row.now place }
 {
-    let m = (way / 0x10000) as usize;
-    let i = (way / 0x100 % 0x100) as u8;
+    let m = (point / 0x10000) as usize;
+    let i = (point / 0x100 % 0x100) as u8;
     Taps::at(quads, i, row[m], row[m + 1], row[m + 2], row[m + 3])
 }
 
@@ -53,10 +53,10 @@ fn take_taps(
 {
     let quads = table.quads();
     let step = 0x10 * u32::from(pitch);
-    let mut way = 0x10 * u32::from(position);
+    let mut point = 0x10 * u32::from(position);
     for j in 0..usize::from(n) {
-        taps[j] = taps_at(row, way, quads);
-        way += step;
+        taps[j] = taps_at(row, point, quads);
+        point += step;
     }
 }
 
@@ -67,21 +67,21 @@ fn take_bent_taps(
     n: u8,
     row: &[i16; ROW_SIZE],
     table: &GaussTable,
-    ways: &[u32; WAYS],
+    points: &[u32; POINTS],
 )
     requires few { n ≤ BATCH_SIZE }
-    requires within { (j : ℕ) → j < n → 0x10 * slice_index ways.now j < WAY_END }
-    ensures { (j : ℕ) → j < n → mixed_at taps.new j ≡ interpolation table.now row.now (slice_index ways.now j) }
+    requires within { (j : ℕ) → j < n → 0x10 * slice_index points.now j < POINT_END }
+    ensures { (j : ℕ) → j < n → mixed_at taps.new j ≡ interpolation table.now row.now (slice_index points.now j) }
 {
     let quads = table.quads();
     for j in 0..usize::from(n) {
-        taps[j] = taps_at(row, 0x10 * ways[j], quads);
+        taps[j] = taps_at(row, 0x10 * points[j], quads);
     }
 }
 
 /// The taps of n samples of a track.
 #[inline(always)]
-#[tactic(auto, unfolding(crate::specs::Track::way_at))]
+#[tactic(auto, unfolding(crate::specs::Track::point_at))]
 fn take_track_taps(
     taps: &mut [Taps; BATCH_SIZE],
     n: u8,
@@ -91,10 +91,10 @@ fn take_track_taps(
 )
     requires few { n ≤ BATCH_SIZE }
     requires track { IsTrack track.now n }
-    ensures { (j : ℕ) → j < n → mixed_at taps.new j ≡ interpolation table.now row.now (way_at track.now j) }
+    ensures { (j : ℕ) → j < n → mixed_at taps.new j ≡ interpolation table.now row.now (point_at track.now j) }
 {
     if track.bent {
-        take_bent_taps(taps, n, row, table, track.ways);
+        take_bent_taps(taps, n, row, table, track.points);
         return;
     }
     take_taps(taps, n, row, table, track.position, track.pitch);
@@ -155,7 +155,7 @@ impl<'a> Course<'a> {
         requires few { at + n ≤ BATCH_SIZE }
         ensures outs { (j : ℕ) → j < n
             → number_at outs.new (at + j) ≡ out_in_stretch self.now.noisy (slice_index reads.now.rows.now.noise (at + j))
-            reads.now.table.now row.now (way_at self.now.track j) self.now.level }
+            reads.now.table.now row.now (point_at self.now.track j) self.now.level }
         ensures before { (i : ℕ) → i < at → number_at outs.new i ≡ number_at outs.old i }
     {
         if self.level == 0 {

@@ -1,18 +1,18 @@
 //! How far the samples of a stretch stand in the row of kept samples.
 
-ghost use Rattle.std.specs.Prelude.{◌≡◌, ◌<◌, ◌≤◌, ◌+◌, ◌*◌, ℕ, true, slice_index};
+ghost use Rattle.std.specs.Prelude.{◌≡◌, ◌<◌, ◌≤◌, ◌+◌, ◌*◌, ℕ, pos, true, slice_index};
 ghost use Rattle.num_fix.specs.SignedWords.{number_at};
 ghost use Rattle.voice_unit.specs.Voice.{bent_pitch, is_modulated};
-ghost use Rattle.voice_unit.specs.Row.{AreWays, groups_before, next_way};
-ghost use Rattle.voice_unit.specs.Track.{IsTrack, MoveOn, pitches_from, steady_ways, way_at};
+ghost use Rattle.voice_unit.specs.Row.{ArePoints, groups_before, next_point};
+ghost use Rattle.voice_unit.specs.Track.{IsTrack, MoveOn, pitches_from, steady_points, point_at};
 
 use crate::batch::VoiceView;
 use crate::course::Stretch;
-use crate::level::bent_pitch;
+use crate::level::bent_by_double;
 use num_fix::BATCH_SIZE;
 
 /// Places for how far the samples of a batch stand, and the one after them.
-pub(crate) const WAYS: usize = BATCH_SIZE + 1;
+pub(crate) const POINTS: usize = BATCH_SIZE + 1;
 
 /// The greatest pitch that leads no position to its end at 7FFFh.
 const GREATEST_FREE_PITCH: u16 = 0x4000;
@@ -28,7 +28,15 @@ pub(crate) struct Track<'a> {
     /// The pitch is bent by the voice before.
     pub bent: bool,
     /// Where it is bent: how far each sample stands, and the one after the last.
-    pub ways: &'a [u32; WAYS],
+    pub points: &'a [u32; POINTS],
+}
+
+/// The double of a pitch for each sample of a batch, so that 16-bit numbers meet 16-bit numbers.
+fn doubles_of(pitch: u16) -> [i16; BATCH_SIZE]
+    requires { pitch < 0x4000 }
+    ensures { (j : ℕ) → j < BATCH_SIZE → number_at result j ≡ pos (2 * pitch) }
+{
+    [2 * pitch as i16; BATCH_SIZE]
 }
 
 /// The pitches of a batch, bent by the outputs of the voice before.
@@ -36,8 +44,9 @@ fn put_pitches(pitches: &mut [u16; BATCH_SIZE], pitch: u16, previous: &[i16; BAT
     requires { pitch < 0x4000 }
     ensures { (j : ℕ) → j < BATCH_SIZE → slice_index pitches.new j ≡ bent_pitch pitch (number_at previous.now j) }
 {
+    let doubles = doubles_of(pitch);
     for j in 0..BATCH_SIZE {
-        pitches[j] = bent_pitch(pitch, previous[j]);
+        pitches[j] = bent_by_double(pitch, doubles[j], previous[j]);
     }
 }
 
@@ -73,18 +82,18 @@ fn are_free(pitches: &[u16; BATCH_SIZE]) -> bool
 }
 
 /// How far the next sample stands, a pitch after one that stands so far.
-fn next_way(way: u32, pitch: u16) -> u32
-    requires { way < 0x1000000 }
-    ensures value { result ≡ next_way way pitch }
-    ensures bound { result ≤ way + 0x7fff }
+fn next_point(point: u32, pitch: u16) -> u32
+    requires { point < 0x1000000 }
+    ensures value { result ≡ next_point point pitch }
+    ensures bound { result ≤ point + 0x7fff }
 {
-    let begun = way % 0x4000;
-    way - begun + (begun + u32::from(pitch)).min(0x7fff)
+    let begun = point % 0x4000;
+    point - begun + (begun + u32::from(pitch)).min(0x7fff)
 }
 
 /// How far n samples stand from sample `at` on, the first at a position, where a pitch may lead to its end.
-fn put_clamped_ways(
-    ways: &mut [u32; WAYS],
+fn put_clamped_points(
+    points: &mut [u32; POINTS],
     pitches: &[u16; BATCH_SIZE],
     position: u16,
     at: u8,
@@ -92,20 +101,20 @@ fn put_clamped_ways(
 )
     requires few { at + n ≤ BATCH_SIZE }
     requires position { position < 0x8000 }
-    ensures { AreWays (pitches_from pitches.now at) n position (slice_index ways.new) }
+    ensures { ArePoints (pitches_from pitches.now at) n position (slice_index points.new) }
 {
     let from = usize::from(at);
-    let mut way = u32::from(position);
-    ways[0] = way;
+    let mut point = u32::from(position);
+    points[0] = point;
     for j in 0..usize::from(n) {
-        way = next_way(way, pitches[from + j]);
-        ways[j + 1] = way;
+        point = next_point(point, pitches[from + j]);
+        points[j + 1] = point;
     }
 }
 
 /// How far n samples stand from sample `at` on, the first at a position, where no pitch leads to its end.
-fn put_summed_ways(
-    ways: &mut [u32; WAYS],
+fn put_summed_points(
+    points: &mut [u32; POINTS],
     pitches: &[u16; BATCH_SIZE],
     position: u16,
     at: u8,
@@ -114,21 +123,21 @@ fn put_summed_ways(
     requires few { at + n ≤ BATCH_SIZE }
     requires position { position < 0x8000 }
     requires free { (j : ℕ) → j < BATCH_SIZE → slice_index pitches.now j ≤ 0x4000 }
-    ensures { AreWays (pitches_from pitches.now at) n position (slice_index ways.new) }
+    ensures { ArePoints (pitches_from pitches.now at) n position (slice_index points.new) }
 {
     let from = usize::from(at);
-    let mut way = u32::from(position);
-    ways[0] = way;
+    let mut point = u32::from(position);
+    points[0] = point;
     for j in 0..usize::from(n) {
-        way += u32::from(pitches[from + j]);
-        ways[j + 1] = way;
+        point += u32::from(pitches[from + j]);
+        points[j + 1] = point;
     }
 }
 
 /// How far n samples stand from sample `at` on, the first at a position, by the pitches of a batch. It stands apart, since few voices are bent.
 #[inline(never)]
-pub(crate) fn put_ways(
-    ways: &mut [u32; WAYS],
+pub(crate) fn put_points(
+    points: &mut [u32; POINTS],
     pitches: &[u16; BATCH_SIZE],
     position: u16,
     at: u8,
@@ -136,12 +145,12 @@ pub(crate) fn put_ways(
 )
     requires few { at + n ≤ BATCH_SIZE }
     requires position { position < 0x8000 }
-    ensures { AreWays (pitches_from pitches.now at) n position (slice_index ways.new) }
+    ensures { ArePoints (pitches_from pitches.now at) n position (slice_index points.new) }
 {
     if are_free(pitches) {
-        put_summed_ways(ways, pitches, position, at, n);
+        put_summed_points(points, pitches, position, at, n);
     } else {
-        put_clamped_ways(ways, pitches, position, at, n);
+        put_clamped_points(points, pitches, position, at, n);
     }
 }
 
@@ -150,10 +159,10 @@ fn steady_sample(position: u16, pitch: u16, group: u8, n: u8) -> u8
     requires position { position < 0x8000 }
     requires pitch { pitch < 0x4000 }
     requires few { n ≤ BATCH_SIZE }
-    requires read { group < groups_before (steady_ways position pitch) n }
+    requires read { group < groups_before (steady_points position pitch) n }
     ensures within { result < n }
-    ensures before { groups_before (steady_ways position pitch) result ≡ group }
-    ensures after { groups_before (steady_ways position pitch) (result + 1) ≡ group + 1 }
+    ensures before { groups_before (steady_points position pitch) result ≡ group }
+    ensures after { groups_before (steady_points position pitch) (result + 1) ≡ group + 1 }
 {
     let end = 0x4000 * (u32::from(group) + 1);
     let from = u32::from(position);
@@ -165,17 +174,17 @@ fn steady_sample(position: u16, pitch: u16, group: u8, n: u8) -> u8
 
 /// The sample of n that reads the group after so many others, by how far each stands. It stands apart, since few voices are bent.
 #[inline(never)]
-fn sample_on_way(ways: &[u32; WAYS], group: u8, n: u8) -> u8
+fn sample_on_point(points: &[u32; POINTS], group: u8, n: u8) -> u8
     requires few { n ≤ BATCH_SIZE }
-    requires moves { MoveOn (slice_index ways.now) n }
-    requires read { group < groups_before (slice_index ways.now) n }
+    requires moves { MoveOn (slice_index points.now) n }
+    requires read { group < groups_before (slice_index points.now) n }
     ensures within { result < n }
-    ensures before { groups_before (slice_index ways.now) result ≡ group }
-    ensures after { groups_before (slice_index ways.now) (result + 1) ≡ group + 1 }
+    ensures before { groups_before (slice_index points.now) result ≡ group }
+    ensures after { groups_before (slice_index points.now) (result + 1) ≡ group + 1 }
 {
     let end = 0x4000 * (u32::from(group) + 1);
     for j in 0..n {
-        if ways[usize::from(j)] >= end {
+        if points[usize::from(j)] >= end {
             return j;
         }
     }
@@ -184,15 +193,15 @@ fn sample_on_way(ways: &[u32; WAYS], group: u8, n: u8) -> u8
 
 impl<'a> Track<'a> {
     /// How far sample `j` stands.
-    #[tactic(auto, unfolding(crate::specs::Track::way_at))]
-    fn way(&self, j: u8) -> u32
+    #[tactic(auto, unfolding(crate::specs::Track::point_at))]
+    fn point(&self, j: u8) -> u32
         requires position { self.now.position < 0x8000 }
         requires pitch { self.now.pitch < 0x4000 }
         requires few { j ≤ BATCH_SIZE }
-        ensures { result ≡ way_at self.now j }
+        ensures { result ≡ point_at self.now j }
     {
         if self.bent {
-            self.ways[usize::from(j)]
+            self.points[usize::from(j)]
         } else {
             u32::from(self.position) + u32::from(j) * u32::from(self.pitch)
         }
@@ -203,24 +212,24 @@ impl<'a> Track<'a> {
         requires track { IsTrack self.now n }
         requires some { 0 < n }
         requires few { n ≤ BATCH_SIZE }
-        ensures value { result ≡ groups_before (way_at self.now) n }
+        ensures value { result ≡ groups_before (point_at self.now) n }
         ensures few { result ≤ BATCH_SIZE }
     {
-        (self.way(n - 1) / 0x4000) as u8
+        (self.point(n - 1) / 0x4000) as u8
     }
 
     /// The sample of n that reads the group after so many others.
-    #[tactic(auto, unfolding(crate::specs::Track::way_at))]
+    #[tactic(auto, unfolding(crate::specs::Track::point_at))]
     pub(crate) fn reading_sample(&self, group: u8, n: u8) -> u8
         requires track { IsTrack self.now n }
         requires few { n ≤ BATCH_SIZE }
-        requires read { group < groups_before (way_at self.now) n }
+        requires read { group < groups_before (point_at self.now) n }
         ensures within { result < n }
-        ensures before { groups_before (way_at self.now) result ≡ group }
-        ensures after { groups_before (way_at self.now) (result + 1) ≡ group + 1 }
+        ensures before { groups_before (point_at self.now) result ≡ group }
+        ensures after { groups_before (point_at self.now) (result + 1) ≡ group + 1 }
     {
         if self.bent {
-            sample_on_way(self.ways, group, n)
+            sample_on_point(self.points, group, n)
         } else {
             steady_sample(self.position, self.pitch, group, n)
         }
@@ -231,10 +240,10 @@ impl<'a> Track<'a> {
         requires track { IsTrack self.now stretch.now.samples }
         requires some { 0 < stretch.now.samples }
         requires few { stretch.now.samples ≤ BATCH_SIZE }
-        requires groups { stretch.now.groups ≡ groups_before (way_at self.now) stretch.now.samples }
-        ensures value { result + 0x4000 * stretch.now.groups ≡ way_at self.now stretch.now.samples }
+        requires groups { stretch.now.groups ≡ groups_before (point_at self.now) stretch.now.samples }
+        ensures value { result + 0x4000 * stretch.now.groups ≡ point_at self.now stretch.now.samples }
         ensures within { result < 0x8000 }
     {
-        (self.way(stretch.samples) - 0x4000 * u32::from(stretch.groups)) as u16
+        (self.point(stretch.samples) - 0x4000 * u32::from(stretch.groups)) as u16
     }
 }

@@ -1,7 +1,7 @@
 //! What a voice works with over a batch.
 
 use crate::row::ROW_SIZE;
-use crate::track::WAYS;
+use crate::track::POINTS;
 use brr_decode::{BlockMemory, OutOfMemory};
 use gauss_table::{GaussTable, ShortTaps, Taps};
 use num_fix::BATCH_SIZE;
@@ -24,7 +24,7 @@ pub struct Workspace {
     /// The pitches of a voice in a batch, where they are bent.
     pub(crate) pitches: [u16; BATCH_SIZE],
     /// How far the samples of such a voice stand in the row, and the one after them.
-    pub(crate) ways: [u32; WAYS],
+    pub(crate) points: [u32; POINTS],
     pub(crate) blocks: BlockMemory,
 }
 
@@ -39,7 +39,7 @@ impl Workspace {
                 short_taps: [ShortTaps::silent(); BATCH_SIZE],
             },
             pitches: [0; BATCH_SIZE],
-            ways: [0; WAYS],
+            points: [0; POINTS],
             blocks: BlockMemory::new(alloc)?,
         })
     }

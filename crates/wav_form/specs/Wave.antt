@@ -4,6 +4,7 @@ use Rattle.std.specs.List.{flat_map}
 use Rattle.std.specs.Int.{w16, cast_unsigned}
 use Rattle.byteorder.specs.Endian.{little_bytes}
 use Rattle.num_fix.specs.declared.Frame.{Frame}
+use Rattle.num_fix.specs.declared.TheConstants.{SAMPLE_RATE}
 
 -- the bytes of a frame: one sample of two bytes for each channel
 abbrev pub frame_size : (channels : ℕ) → ℕ
@@ -12,7 +13,7 @@ frame_size channels = 2 * channels
 -- the fields of the `fmt ` chunk: format 1 is PCM, then channels, rate, byte rate, block align and bits
 abbrev pub format_fields : (channels : ℕ) → List ℕ
 format_fields channels =
-    little_bytes 2 1 ++ little_bytes 2 channels ++ little_bytes 4 32000 ++ little_bytes 4 (32000 * frame_size channels)
+    little_bytes 2 1 ++ little_bytes 2 channels ++ little_bytes 4 SAMPLE_RATE ++ little_bytes 4 (SAMPLE_RATE * frame_size channels)
     ++ little_bytes 2 (frame_size channels) ++ little_bytes 2 16
 
 -- the 44 bytes before so many frames

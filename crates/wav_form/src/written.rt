@@ -4,7 +4,7 @@ ghost use Rattle.num_fix.specs.Limits.{most_frames};
 ghost use Rattle.wav_form.specs.Wave.{header_of, frame_bytes};
 
 use byteorder::{ByteOrder, LittleEndian};
-use num_fix::Frame;
+use num_fix::{Frame, SAMPLE_RATE};
 
 /// The 44 bytes before the frames of a file: PCM of 16 bits at 32,000 frames a second (RIFF/WAVE).
 #[tactic(auto, unfolding(crate::specs::Wave::header_of))]
@@ -20,7 +20,7 @@ pub fn header(channels: u16, frames: u32) -> [u8; 44]
         *b"RIFF\0\0\0\0WAVEfmt \x10\0\0\0\x01\0\0\0\x00\x7d\0\0\0\0\0\0\0\0\x10\0data\0\0\0\0";
     LittleEndian::write_u32(&mut bytes[4..], 36 + size);
     LittleEndian::write_u16(&mut bytes[22..], channels);
-    LittleEndian::write_u32(&mut bytes[28..], 32000 * frame_size);
+    LittleEndian::write_u32(&mut bytes[28..], SAMPLE_RATE * frame_size);
     LittleEndian::write_u16(&mut bytes[32..], 2 * channels);
     LittleEndian::write_u32(&mut bytes[40..], size);
     bytes

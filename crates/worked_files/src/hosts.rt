@@ -87,6 +87,25 @@ fn outputs_take_what_they_have_room_for(rt: HostRuntime) -> Result<(), Fail> {
     Ok(())
 }
 
+/// A name of so many bytes.
+fn name_of(alloc: Global, bytes: u32) -> Result<String, Fail> {
+    let mut name = String::new(alloc);
+    for _ in 0..bytes {
+        name.push_str("n")?;
+    }
+    Ok(name)
+}
+
+#[test]
+fn outputs_have_names_of_200_bytes(rt: HostRuntime) -> Result<(), Fail> {
+    for (bytes, wanted) in [(200, Ok(FIRST)), (201, Err(Failed))] {
+        let mut host = five_bytes(rt.alloc(), &[], &[0, 0, 0])?;
+        let name = name_of(rt.alloc(), bytes)?;
+        assert!(rt; host.create(name.as_str()) == wanted, "{bytes}");
+    }
+    Ok(())
+}
+
 /// Writes twice to the report, and answers as the second write did.
 fn second_write(host: &mut MemHost) -> Result<usize, Failed>
     requires none_yet { calls_of host.old ≡ 0 }

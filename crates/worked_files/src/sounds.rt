@@ -50,41 +50,35 @@ fn joined(alloc: Global, parts: [&[u8]; 3]) -> Result<Vec<u8>, Fail> {
     Ok(file)
 }
 
+/// What a file begins with, and a chunk that is passed over.
+const START: &[u8] = b"RIFF\xAA\xAA\xAA\xAAWAVELIST\x03\0\0\0abc\0";
+
+/// The format of one channel, and that of two.
+const MONO: &[u8] = b"fmt \x10\0\0\0\x01\0\x01\0\x44\xAC\0\0\x88\x58\x01\0\x02\0\x10\0";
+
+const STEREO: &[u8] = b"fmt \x10\0\0\0\x01\0\x02\0\x44\xAC\0\0\x10\xB1\x02\0\x04\0\x10\0";
+
+/// Two samples, the same in a stream whose length wasn't known, and a chunk that is cut off.
+const SAMPLES: &[u8] = b"data\x04\0\0\0\x01\0\xFF\xFF";
+
+const STREAMED: &[u8] = b"data\xFF\xFF\xFF\xFF\x01\0\xFF\xFF\x07";
+
+const CUT: &[u8] = b"LIST\x05\0\0\0abcd";
+
 #[test]
 fn samples_of_files_with_one_channel(rt: HostRuntime) -> Result<(), Fail> {
-    let start = b"RIFF\xAA\xAA\xAA\xAAWAVELIST\x03\0\0\0abc\0";
-    let mono = b"fmt \x10\0\0\0\x01\0\x01\0\x44\xAC\0\0\x88\x58\x01\0\x02\0\x10\0";
-    let stereo = b"fmt \x10\0\0\0\x01\0\x02\0\x44\xAC\0\0\x10\xB1\x02\0\x04\0\x10\0";
-    let samples = b"data\x04\0\0\0\x01\0\xFF\xFF";
-    let streamed = b"data\xFF\xFF\xFF\xFF\x01\0\xFF\xFF\x07";
-    let cut = b"LIST\x05\0\0\0abcd";
     for (parts, wanted) in [
+        ([START, MONO, SAMPLES], None),
+        ([START, MONO, STREAMED], None),
+        ([START, STEREO, SAMPLES], Some(WavRefusal::Format)),
+        ([START, SAMPLES, MONO], Some(WavRefusal::NoFormat)),
         (
-            [start.as_slice(), mono.as_slice(), samples.as_slice()],
-            None,
-        ),
-        (
-            [start.as_slice(), mono.as_slice(), streamed.as_slice()],
-            None,
-        ),
-        (
-            [start.as_slice(), stereo.as_slice(), samples.as_slice()],
-            Some(WavRefusal::Format),
-        ),
-        (
-            [start.as_slice(), samples.as_slice(), mono.as_slice()],
-            Some(WavRefusal::NoFormat),
-        ),
-        (
-            [start.as_slice(), mono.as_slice(), b"\0\0\0".as_slice()],
+            [START, MONO, b"\0\0\0".as_slice()],
             Some(WavRefusal::NoData),
         ),
+        ([START, MONO, CUT], Some(WavRefusal::Cut(48))),
         (
-            [start.as_slice(), mono.as_slice(), cut.as_slice()],
-            Some(WavRefusal::Cut(48)),
-        ),
-        (
-            [b"RIFX".as_slice(), mono.as_slice(), samples.as_slice()],
+            [b"RIFX".as_slice(), MONO, SAMPLES],
             Some(WavRefusal::NotWave),
         ),
     ] {

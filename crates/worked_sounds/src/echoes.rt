@@ -1,6 +1,7 @@
 use aram_core::Aram;
 use echo_unit::{Echo, EchoRegs, SumRows, Window};
 use num_fix::Frame;
+use std::alloc::Global;
 use std::test::Fail;
 
 fn both(value: i16) -> Frame {
@@ -135,23 +136,10 @@ fn each_of_eight_taps_meets_its_coefficient(rt: HostRuntime) -> Result<(), Fail>
     Ok(())
 }
 
-// The same words in eight cells that follow each other, and a batch over them: its eighth frame is the last of the steps above.
-#[test]
-fn a_batch_goes_from_cell_to_cell(rt: HostRuntime) -> Result<(), Fail> {
-    let zeros = vec![in rt.alloc(); 0u8; 65536]?;
-    let mut memory = Aram::from_image(rt.alloc(), &zeros)?;
-    let mut echo = Echo::new();
-    let regs = EchoRegs {
-        esa: 0x20,
-        edl: 1,
-        flg: 0x20,
-        efb: 0,
-        mvol_l: 0,
-        mvol_r: 0,
-        evol_l: 0x7F,
-        evol_r: 0x7F,
-        fir: [0x01, 0x02, 0x04, 0x08, 0x10, 0x20, 0x40, 0x7F],
-    };
+/// A memory with the same words in eight cells that follow each other.
+fn memory_of_cells(alloc: Global) -> Result<Aram, Fail> {
+    let zeros = vec![in alloc; 0u8; 65536]?;
+    let mut memory = Aram::from_image(alloc, &zeros)?;
     for (address, low, high) in [
         (0x2000u16, 0x80, 0x00),
         (0x2002, 0x80, 0xFF),
@@ -173,6 +161,25 @@ fn a_batch_goes_from_cell_to_cell(rt: HostRuntime) -> Result<(), Fail> {
         memory.put(address, low);
         memory.put(address.wrapping_add(1), high);
     }
+    Ok(memory)
+}
+
+// A batch over these cells: its eighth frame is the last of the steps above.
+#[test]
+fn a_batch_goes_from_cell_to_cell(rt: HostRuntime) -> Result<(), Fail> {
+    let mut memory = memory_of_cells(rt.alloc())?;
+    let mut echo = Echo::new();
+    let regs = EchoRegs {
+        esa: 0x20,
+        edl: 1,
+        flg: 0x20,
+        efb: 0,
+        mvol_l: 0,
+        mvol_r: 0,
+        evol_l: 0x7F,
+        evol_r: 0x7F,
+        fir: [0x01, 0x02, 0x04, 0x08, 0x10, 0x20, 0x40, 0x7F],
+    };
     let none = SumRows {
         main_left: [0; 64],
         main_right: [0; 64],

@@ -1,12 +1,12 @@
-use Rattle.std.proofs.Common.{rules, ◌≡◌, ◌⊎◌, inl, inr, ℕ, ◌+◌, [], ◌∷◌, true, drop, get_or, length, slice_index_or, refl, ap, arith}
+use Rattle.std.proofs.Common.{rules, ◌≡◌, ◌≤◌, ◌⊎◌, inl, inr, ℕ, ◌+◌, [], ◌∷◌, true, drop, get_or, length, slice_index_or, refl, ap, arith}
 use Rattle.std.proofs.lemmas.List.{drop_more}
 use Rattle.std.proofs.Math.ListN.{drop_of_length-le}
 use Rattle.voice_unit.specs.Voice.{VoiceState}
 use Rattle.reach_map.specs.declared.Window.{Window}
 use Rattle.dsp_state.specs.Reach.{chip_window}
 use Rattle.dsp_state.specs.declared.state.ChipState.{ChipState}
-use Rattle.batch_rows.specs.Afar.{window_from, IsVoiceApart}
-use Rattle.batch_rows.proofs.Afar.{voices_apart, none_apart, apart_from_afar}
+use Rattle.batch_rows.specs.Afar.{window_from, far_pages_of_chip, IsVoiceApart}
+use Rattle.batch_rows.proofs.Afar.{voices_apart, none_apart, shorter, apart_from_afar}
 use Rattle.batch_rows.proofs.far.is_apart_from_afar.Goals as goal
 
 pub loop-v-init : goal.loop-v-init
@@ -19,10 +19,10 @@ loop-v-preserved c =
     let d : VoiceState = c.index-state-from.result in
     let eight : length s.hidden.voices ≡ 8 = search rules in
     let off : c.is_voice_off.result ≡ true = search rules in
-    let this : IsVoiceApart s c.args.memory.now v (get_or s.hidden.voices v d) (slice_index_or s.registers 109 0) c.window-window.result.len = rw c.from.ensures at (c.is_voice_off.ensures off) in
+    let this : IsVoiceApart s c.args.memory.now v (get_or s.hidden.voices v d) (slice_index_or s.registers 109 0) c.whole_pages-len.result = rw c.from.ensures at (c.is_voice_off.ensures off) in
     let split : drop v s.hidden.voices ≡ get_or s.hidden.voices v d ∷ drop (v + 1) s.hidden.voices = drop_more s.hidden.voices v d (omega (arith, eight)) in
     record {
-      rest = λ rest. c.loop-v.invariant.rest (rw split (voices_apart s c.args.memory.now v (get_or s.hidden.voices v d) (drop (v + 1) s.hidden.voices) (slice_index_or s.registers 109 0) c.window-window.result.len this rest));
+      rest = λ rest. c.loop-v.invariant.rest (rw split (voices_apart s c.args.memory.now v (get_or s.hidden.voices v d) (drop (v + 1) s.hidden.voices) (slice_index_or s.registers 109 0) c.whole_pages-len.result this rest));
       eight = inr eight;
     }
 
@@ -36,6 +36,7 @@ returns c is_so =
     let last : c.loop-v.v ≡ 8 = omega arith in
     let eight : length s.hidden.voices ≡ 8 = eight_of c.loop-v.v (length s.hidden.voices) last c.loop-v.invariant.eight in
     let none : drop c.loop-v.v s.hidden.voices ≡ [] = drop_of_length-le s.hidden.voices (omega (arith, eight, last)) in
-    let all = c.loop-v.invariant.rest (rw none (none_apart (window_from (slice_index_or s.registers 109 0) c.window-window.result.len))) in
+    let all = c.loop-v.invariant.rest (rw none (none_apart (window_from (slice_index_or s.registers 109 0) c.whole_pages-len.result))) in
     let len : c.window-window.result.len ≡ (chip_window s).len = ap (λ (w : Window). w.len) c.window-window.ensures.window in
-    apart_from_afar s c.args.memory.now (rw len at all)
+    let fits : (chip_window s).len ≤ c.whole_pages-len.result = rw len at c.whole_pages-len.ensures.least in
+    apart_from_afar s c.args.memory.now (shorter (far_pages_of_chip s c.args.memory.now) (slice_index_or s.registers 109 0) (chip_window s).len c.whole_pages-len.result fits all)

@@ -5,7 +5,7 @@ use Rattle.batch_rows.proofs.far.is_apart_from_afar.Given as goal
 
 abbrev pub invariant-loop-v : goal.invariant-loop-v
 invariant-loop-v l = record {
-  rest : AreApart (far_voice_pages (starts_from l.state l.memory l.v (drop l.v l.state.hidden.voices)) (entries_from l.state.registers l.v (drop l.v l.state.hidden.voices))) (window_from l.esa l.window.len)
-      → AreApart (far_voice_pages (starts_from l.state l.memory 0 l.state.hidden.voices) (entries_from l.state.registers 0 l.state.hidden.voices)) (window_from l.esa l.window.len);
+  rest : AreApart (far_voice_pages (starts_from l.state l.memory l.v (drop l.v l.state.hidden.voices)) (entries_from l.state.registers l.v (drop l.v l.state.hidden.voices))) (window_from l.esa l.len)
+      → AreApart (far_voice_pages (starts_from l.state l.memory 0 l.state.hidden.voices) (entries_from l.state.registers 0 l.state.hidden.voices)) (window_from l.esa l.len);
   eight : (l.v ≡ 0) ⊎ (length l.state.hidden.voices ≡ 8);
 }

@@ -18,3 +18,6 @@ returns-then-idle-clause-noise c j below =
 pub returns-then-idle-clause-taken : goal.returns-then-idle-clause-taken
 returns-then-idle-clause-taken c j below =
     rw (c.idle_rows.ensures.kon, get_or-replicate {A = ℕ} 64 j 0 0 (omega (arith, below, c.requires.few))) (omega arith)
+
+pub step_keys_alone-requires-clause-quiet : goal.step_keys_alone-requires-clause-quiet
+step_keys_alone-requires-clause-quiet c = rw c.requires.rate at (c.is_noise_still-still.ensures c.args.number c.requires.clock c.if-still.true)

@@ -1,4 +1,4 @@
-use Rattle.voice_unit.proofs.Glided.{unbent_ways}
+use Rattle.voice_unit.proofs.Glided.{unbent_points}
 use Rattle.voice_unit.proofs.RowOfVoice.{plays_row, reads_row}
 use Rattle.voice_unit.proofs.laws.kept_rows.Goals as goal
 
@@ -9,4 +9,4 @@ pub returns-clause-stands : goal.returns-clause-stands
 returns-clause-stands c = reads_row
 
 pub returns-clause-unbent : goal.returns-clause-unbent
-returns-clause-unbent c = unbent_ways
+returns-clause-unbent c = unbent_points

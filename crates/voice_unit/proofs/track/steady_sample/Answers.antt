@@ -1,11 +1,11 @@
 use Rattle.std.proofs.Common.{arith}
-use Rattle.voice_unit.specs.Track.{steady_ways}
+use Rattle.voice_unit.specs.Track.{steady_points}
 use Rattle.voice_unit.proofs.Counting.{first_of, moves, reads_at_once, reader}
 use Rattle.voice_unit.proofs.track.steady_sample.Goals as goal
 
 pub returns-then-from-end-clause-within : goal.returns-then-from-end-clause-within
 returns-then-from-end-clause-within c =
-    first_of (steady_ways c.args.position c.args.pitch) c.args.n c.args.group c.requires.read
+    first_of (steady_points c.args.position c.args.pitch) c.args.n c.args.group c.requires.read
 
 pub returns-then-from-end-clause-before : goal.returns-then-from-end-clause-before
 returns-then-from-end-clause-before c =

@@ -16,4 +16,4 @@ pub returns-clause-room : goal.returns-clause-room
 returns-clause-room g c =
     let live = live_checkpoints c.self.inside.table in
     rw (← c.self.view_is)
-    (c.make_room.ensures.room ∙ ap (λ pages. room_made (length live - 1) (length c.self.inside.table.pool) pages (record { live = live; gave = 0 })) (pages_here _ _ _ _ _ c.self.invariant c.memory.result.now c.memory.ensures))
+    (c.make_room.ensures.room ∙ ap (λ pages. room_made (length live - 1) (length c.self.inside.table.pool) pages (record { live = live; gave = 0 })) (pages_here c.self.invariant c.memory.result.now c.memory.ensures))

@@ -1,16 +1,14 @@
 use Rattle.std.proofs.Common.{◌+◌, ◌∙◌, arith, ap, length}
 use Rattle.render_core.specs.RenderState.{frames_to_come}
-use Rattle.cut_server.proofs.Renders.{Arrives, arrives}
+use Rattle.cut_server.proofs.Renders.{arrives}
 use Rattle.cut_server.proofs.Serving.{serving_on, tune_kept_on, aimed_few, frames_played}
 use Rattle.cut_server.proofs.server.CutServer.play.Goals as goal
-
-there : (g : _) (c : goal.After-self-1 g) → Arrives g.C.Chip.meaning g.C.Chip.saving c.self.inside.render c.run_out_into.new.render (c.self.inside.position + c.args.most)
-there g c = arrives g.C.Chip.meaning g.C.Chip.saving c.self.inside.render c.aim.new.self c.run_out_into.new.render _ c.self.invariant.handed_over c.aim.ensures c.run_out_into.ensures.out
 
 pub invariant_of-self : goal.invariant_of-self
 invariant_of-self g c =
     let within = rw (← c.self.view_is) at c.requires.within in
-    serving_on g.met.C.Chip.saves_lawfully c.self.invariant _ (omega arith) (omega (arith, c.self.invariant.served.position, within)) _ (there g c) c.run_out_into.ensures.done
+    let there = arrives g.C.Chip.meaning g.C.Chip.saving c.self.inside.render c.aim.new.self c.run_out_into.new.render (c.self.inside.position + c.args.most) c.self.invariant.handed_over c.aim.ensures c.run_out_into.ensures.out in
+    serving_on g.met.C.Chip.saves_lawfully c.self.invariant _ (omega arith) (omega (arith, c.self.invariant.served.position, within)) _ there c.run_out_into.ensures.done (omega arith)
 
 pub returns-clause-frames : goal.returns-clause-frames
 returns-clause-frames g c =
@@ -18,7 +16,9 @@ returns-clause-frames g c =
     (ap (frames_to_come g.C.Chip.meaning) c.aim.ensures ∙ frames_played g.met.C.Chip.saves_lawfully c.self.invariant c.args.most)
 
 pub returns-clause-tune : goal.returns-clause-tune
-returns-clause-tune g c = rw (← c.self.view_is) (tune_kept_on g.met.C.Chip.saves_lawfully c.self.invariant _ _ (there g c))
+returns-clause-tune g c =
+    let there = arrives g.C.Chip.meaning g.C.Chip.saving c.self.inside.render c.aim.new.self c.run_out_into.new.render (c.self.inside.position + c.args.most) c.self.invariant.handed_over c.aim.ensures c.run_out_into.ensures.out in
+    rw (← c.self.view_is) (tune_kept_on g.met.C.Chip.saves_lawfully c.self.invariant _ _ there)
 
 pub run_out_into-requires : goal.run_out_into-requires
 run_out_into-requires g c =

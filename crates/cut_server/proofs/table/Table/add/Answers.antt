@@ -22,7 +22,7 @@ pub invariant_of-self : goal.invariant_of-self
 invariant_of-self g c =
     let few = rw (← c.self.view_is) at c.requires.few in
     let placed = rw (c.newest_pages.ensures, c.deref.ensures.value) at c.place_all-pages.ensures.placed in (
-      omega (arith, c.push_mark.ensures.capacity, c.self.invariant.0),
+      omega (arith, c.push_mark.ensures.block.1.0, c.self.invariant.0),
       rw c.push_mark.ensures.items (kept_added c.self.invariant.1 _ c.args.memory.now _ placed c.place_all-pages.ensures.whole (omega (arith, few, length-map c.self.inside.marks.items (λ mark. mark.sample)))),
     )
 

@@ -1,7 +1,8 @@
-use Rattle.std.proofs.Common.{refl, sym}
+use Rattle.std.proofs.Common.{rules, refl, sym, arith, append_assoc}
 use Rattle.std.proofs.lemmas.List.{append-nil}
+use Rattle.std.proofs.lemmas.List.Elements.{filter-append}
 use Rattle.chip_form.proofs.OneMoreSample.{samples_none}
-use Rattle.batch_rows.proofs.NoRecords.{no_records}
+use Rattle.dsp_core.proofs.Batches.{samples_after, settings_of-samples, frames_fit, records_fit}
 use Rattle.dsp_core.proofs.dsp.Dsp.advance.Goals as goal
 
 pub returns-then-n-eq0-clause-state : goal.returns-then-n-eq0-clause-state
@@ -16,5 +17,35 @@ returns-then-n-eq0-clause-frames c = rw (c.if-n-eq0.true, samples_none) (sym (ap
 pub returns-then-n-eq0-clause-records : goal.returns-then-n-eq0-clause-records
 returns-then-n-eq0-clause-records c = rw (c.if-n-eq0.true, samples_none) (sym (append-nil c.args.records.now))
 
-pub returns-then-mask-eq0-clause-records : goal.returns-then-mask-eq0-clause-records
-returns-then-mask-eq0-clause-records c = rw (c.if-mask-eq0.true, no_records) (sym (append-nil c.args.records.now))
+pub samples-init : goal.samples-init
+samples-init c = record {
+  most = omega arith;
+  state = rw samples_none refl;
+  sample = omega arith;
+  settings = search rules;
+  batches = refl;
+  total = refl;
+  memory = rw samples_none refl;
+  frames = rw samples_none (sym (append-nil c.args.frames.now));
+  records = rw samples_none (sym (append-nil c.args.records.now));
+}
+
+pub samples-preserved : goal.samples-preserved
+samples-preserved c = record {
+  most = omega (arith, c.make_some-made.ensures.few);
+  state = rw (samples_after, c.make_some-made.ensures.chip, c.samples.invariant.state, c.samples.invariant.memory, c.samples.invariant.sample) refl;
+  sample = rw (c.make_some-made.ensures.chip) (omega (arith, c.samples.invariant.sample));
+  settings = rw (c.make_some-made.ensures.chip, settings_of-samples) c.samples.invariant.settings;
+  batches = rw (c.make_some-made.ensures.chip) c.samples.invariant.batches;
+  total = rw (c.make_some-made.ensures.chip) c.samples.invariant.total;
+  memory = rw (samples_after, c.make_some-made.ensures.memory, c.samples.invariant.state, c.samples.invariant.memory, c.samples.invariant.sample) refl;
+  frames = rw (samples_after, c.make_some-made.ensures.frames, c.samples.invariant.state, c.samples.invariant.memory, c.samples.invariant.sample, c.samples.invariant.frames, append_assoc) refl;
+  records = rw (samples_after, filter-append, c.make_some-made.ensures.records, c.samples.invariant.state, c.samples.invariant.memory, c.samples.invariant.sample, c.samples.invariant.records, append_assoc) refl;
+}
+
+pub make_some-made-requires-clause-frame_room : goal.make_some-made-requires-clause-frame_room
+make_some-made-requires-clause-frame_room c = frames_fit _ _ c.args.n c.samples.made _ _ _ c.samples.invariant.frames c.requires.frame_room c.samples-test.true
+
+pub make_some-made-requires-clause-record_room : goal.make_some-made-requires-clause-record_room
+make_some-made-requires-clause-record_room c =
+    records_fit _ _ c.args.mask c.args.n c.samples.made _ _ _ (rw c.read_settings-settings.ensures.chip c.self.invariant.valid) c.samples.invariant.records c.requires.record_room c.samples-test.true

@@ -1,7 +1,7 @@
 use Rattle.std.proofs.Common.{◌≡◌, ◌+◌, ◌-◌, ◌<◌, ◌≤◌, nat_lt, ℕ, Bool, true, false, List, take, slice_index, refl, sym, ap, ◌∙◌, arith}
 use Rattle.std.proofs.lemmas.Bool.Decides.{nat_tests}
 use Rattle.voice_unit.specs.Row.{groups_left, groups_before, loops_in}
-use Rattle.voice_unit.specs.Track.{way_at}
+use Rattle.voice_unit.specs.Track.{point_at}
 use Rattle.voice_unit.specs.declared.row.Place.{Place}
 use Rattle.voice_unit.proofs.Counting.{fewer, groups_before-rise}
 use Rattle.voice_unit.proofs.LoopBits.{bit_if, marked, marked-none, marked-later, marked-all}
@@ -16,7 +16,7 @@ blocks-2-init c = record {
   there = sym (place_after-zero _ _ _);
   group = c.requires.course.group;
   marks = λ j below.
-      let none = marked-none c.args.memory.now c.args.self.now.loop_to c.args.self.now.first (way_at c.args.self.now.track) c.args.self.now.voice j in
+      let none = marked-none c.args.memory.now c.args.self.now.loop_to c.args.self.now.first (point_at c.args.self.now.track) c.args.self.now.voice j in
       rw none (omega arith);
   before = λ i below. refl;
   later = λ i above. refl;
@@ -42,7 +42,7 @@ blocks-2-preserved c =
           (λ e few. rw c.from.ensures at (c.read_rest.ensures loop_to e few)) left (omega arith);
       there = c.next_block-next.ensures.first ∙ sym (after_block memory loop_to first d at there group left all);
       group = c.next_block-next.ensures.group;
-      marks = λ j below. marks_with_block memory loop_to first d at there group left all (way_at c.args.self.now.track) c.args.self.now.voice j _ _ _
+      marks = λ j below. marks_with_block memory loop_to first d at there group left all (point_at c.args.self.now.track) c.args.self.now.voice j _ _ _
           (c.next_block-next.ensures.loops.marks j below) (c.blocks-2.invariant.marks j below);
       before = λ i below. c.next_block-next.ensures.loops.before_it i below ∙ c.blocks-2.invariant.before i below;
       later = λ i above. c.next_block-next.ensures.loops.later i above ∙ c.blocks-2.invariant.later i above;
@@ -86,22 +86,22 @@ returns-then-count-d-clause-loops c = record {
 }
   where
     marks : (j : ℕ) → j < c.args.n → slice_index c.blocks-2.loops (c.args.at + j) ≡ slice_index c.args.loops.now (c.args.at + j)
-        + bit_if (loops_in c.args.memory.now c.args.self.now.loop_to c.args.self.now.first (way_at c.args.self.now.track) j) c.args.self.now.voice
+        + bit_if (loops_in c.args.memory.now c.args.self.now.loop_to c.args.self.now.first (point_at c.args.self.now.track) j) c.args.self.now.voice
     marks j below =
         let d : ℕ = c.blocks-2.d in
         let v : ℕ = c.args.self.now.voice in
         let e : ℕ = c.groups_in-count.result - d in
         let few : e < groups_left c.blocks-2.place = rw c.groups_left-left.ensures.value at c.if-count-d.true in
-        let done : groups_before (way_at c.args.self.now.track) c.args.n ≡ d + e = omega (arith, c.groups_in-count.ensures.value, c.blocks-2.invariant.few) in
-        let through = marked-through c.args.memory.now c.args.self.now.loop_to c.args.self.now.first c.blocks-2.place (way_at c.args.self.now.track) v d j e
+        let done : groups_before (point_at c.args.self.now.track) c.args.n ≡ d + e = omega (arith, c.groups_in-count.ensures.value, c.blocks-2.invariant.few) in
+        let through = marked-through c.args.memory.now c.args.self.now.loop_to c.args.self.now.first c.blocks-2.place (point_at c.args.self.now.track) v d j e
         c.blocks-2.invariant.group c.blocks-2.invariant.there few in
-        let all = rw done at (marked-all c.args.memory.now c.args.self.now.loop_to c.args.self.now.first (way_at c.args.self.now.track) v c.args.n j c.requires.course.track.moves below) in
+        let all = rw done at (marked-all c.args.memory.now c.args.self.now.loop_to c.args.self.now.first (point_at c.args.self.now.track) v c.args.n j c.requires.course.track.moves below) in
         c.blocks-2.invariant.marks j below ∙ ap (λ (x : ℕ). slice_index c.args.loops.now (c.args.at + j) + x) (sym through)
         ∙ ap (λ (b : Bool). slice_index c.args.loops.now (c.args.at + j) + bit_if b v) all
 
 pub returns-then-count-d-clause-quiet : goal.returns-then-count-d-clause-quiet
 returns-then-count-d-clause-quiet c awake j below loud =
-    let rise = groups_before-rise (way_at c.args.self.now.track) c.args.n c.requires.course.track.moves j c.args.n (omega (arith, below)) (omega arith) in
+    let rise = groups_before-rise (point_at c.args.self.now.track) c.args.n c.requires.course.track.moves j c.args.n (omega (arith, below)) (omega arith) in
     quiet_in_block c.args.memory.now c.args.self.now.loop_to c.args.self.now.first c.blocks-2.d c.blocks-2.place c.blocks-2.invariant.there c.blocks-2.invariant.group
     c.groups_left-left.result c.groups_left-left.ensures.value c.args.self.now.reset c.args.self.now.silent (c.blocks-2.invariant.quiet awake) _
     (omega (arith, rise, c.groups_in-count.ensures.value, c.blocks-2.invariant.few, c.if-count-d.true)) loud
@@ -131,8 +131,8 @@ returns-then-next-clause-loops c = record {
   later = λ i above. later i above;
 }
   where
-    ways : ℕ → ℕ
-    ways = way_at c.args.self.now.track
+    points : ℕ → ℕ
+    points = point_at c.args.self.now.track
 
     v : ℕ
     v = c.args.self.now.voice
@@ -143,20 +143,20 @@ returns-then-next-clause-loops c = record {
     q : ℕ
     q = c.reading_sample-last.result
 
-    after : groups_before ways (q + 1) ≡ d
+    after : groups_before points (q + 1) ≡ d
     after = omega (arith, c.reading_sample-last.ensures.after, c.groups_left-left.ensures.some)
 
     grown : (j : ℕ) → j < c.args.n → slice_index c.next_block-next.new.loops (c.args.at + j) ≡ slice_index c.args.loops.now (c.args.at + j)
-        + bit_if (marked c.args.memory.now c.args.self.now.loop_to c.args.self.now.first ways v d j) v
+        + bit_if (marked c.args.memory.now c.args.self.now.loop_to c.args.self.now.first points v d j) v
     grown j within = marks_with_block c.args.memory.now c.args.self.now.loop_to c.args.self.now.first c.blocks-2.d c.blocks-2.place c.blocks-2.invariant.there c.blocks-2.invariant.group
-        c.groups_left-left.result c.groups_left-left.ensures.value ways v j _ _ _ (c.next_block-next.ensures.loops.marks j within) (c.blocks-2.invariant.marks j within)
+        c.groups_left-left.result c.groups_left-left.ensures.value points v j _ _ _ (c.next_block-next.ensures.loops.marks j within) (c.blocks-2.invariant.marks j within)
 
     marks : (j : ℕ) → j < q + 1 → slice_index c.next_block-next.new.loops (c.args.at + j) ≡ slice_index c.args.loops.now (c.args.at + j)
-        + bit_if (loops_in c.args.memory.now c.args.self.now.loop_to c.args.self.now.first ways j) v
+        + bit_if (loops_in c.args.memory.now c.args.self.now.loop_to c.args.self.now.first points j) v
     marks j below =
         let within : j < c.args.n = omega (arith, below, c.reading_sample-last.ensures.within) in
-        let all = rw after at (marked-all c.args.memory.now c.args.self.now.loop_to c.args.self.now.first ways v (q + 1) j
-        (fewer ways c.args.n (q + 1) (omega (arith, c.reading_sample-last.ensures.within)) c.requires.course.track.moves) below) in
+        let all = rw after at (marked-all c.args.memory.now c.args.self.now.loop_to c.args.self.now.first points v (q + 1) j
+        (fewer points c.args.n (q + 1) (omega (arith, c.reading_sample-last.ensures.within)) c.requires.course.track.moves) below) in
         grown j within ∙ ap (λ (b : Bool). slice_index c.args.loops.now (c.args.at + j) + bit_if b v) all
 
     later : (i : ℕ) → c.args.at + (q + 1) ≤ i → slice_index c.next_block-next.new.loops i ≡ slice_index c.args.loops.now i
@@ -167,8 +167,8 @@ returns-then-next-clause-loops c = record {
             let below : i < c.args.at + c.args.n = grind (arith, nat_tests, e) in
             let part : c.args.at + (i - c.args.at) ≡ i = omega (arith, above) in
             let within : i - c.args.at < c.args.n = omega (arith, below, above) in
-            let rise = groups_before-rise ways c.args.n c.requires.course.track.moves (q + 1) (i - c.args.at) (omega (arith, above)) (omega (arith, within)) in
-            let none = marked-later c.args.memory.now c.args.self.now.loop_to c.args.self.now.first ways v d (i - c.args.at) (omega (arith, rise, after)) in
+            let rise = groups_before-rise points c.args.n c.requires.course.track.moves (q + 1) (i - c.args.at) (omega (arith, above)) (omega (arith, within)) in
+            let none = marked-later c.args.memory.now c.args.self.now.loop_to c.args.self.now.first points v d (i - c.args.at) (omega (arith, rise, after)) in
             let old : ℕ = slice_index c.args.loops.now (c.args.at + (i - c.args.at)) in
             let more : old + 0 ≡ old = omega arith in
             let kept = rw none at (grown (i - c.args.at) within) ∙ more in
@@ -179,7 +179,7 @@ returns-then-next-clause-loops c = record {
 
 pub returns-then-next-clause-quiet : goal.returns-then-next-clause-quiet
 returns-then-next-clause-quiet c awake j below loud =
-    let rise = groups_before-rise (way_at c.args.self.now.track) c.args.n c.requires.course.track.moves j c.reading_sample-last.result (omega (arith, below))
+    let rise = groups_before-rise (point_at c.args.self.now.track) c.args.n c.requires.course.track.moves j c.reading_sample-last.result (omega (arith, below))
     (omega (arith, c.reading_sample-last.ensures.within)) in
     quiet_in_block c.args.memory.now c.args.self.now.loop_to c.args.self.now.first c.blocks-2.d c.blocks-2.place c.blocks-2.invariant.there c.blocks-2.invariant.group
     c.groups_left-left.result c.groups_left-left.ensures.value c.args.self.now.reset c.args.self.now.silent (c.blocks-2.invariant.quiet awake) _
@@ -194,15 +194,15 @@ returns-clause-loops c = record {
 }
   where
     marks : (j : ℕ) → j < c.args.n → slice_index c.blocks-2.loops (c.args.at + j) ≡ slice_index c.args.loops.now (c.args.at + j)
-        + bit_if (loops_in c.args.memory.now c.args.self.now.loop_to c.args.self.now.first (way_at c.args.self.now.track) j) c.args.self.now.voice
+        + bit_if (loops_in c.args.memory.now c.args.self.now.loop_to c.args.self.now.first (point_at c.args.self.now.track) j) c.args.self.now.voice
     marks j below =
         let d : ℕ = c.blocks-2.d in
         let v : ℕ = c.args.self.now.voice in
-        let done : groups_before (way_at c.args.self.now.track) c.args.n ≡ d = omega (arith, c.groups_in-count.ensures.value, c.blocks-2-test.false, c.blocks-2.invariant.few) in
-        let all = rw done at (marked-all c.args.memory.now c.args.self.now.loop_to c.args.self.now.first (way_at c.args.self.now.track) v c.args.n j c.requires.course.track.moves below) in
+        let done : groups_before (point_at c.args.self.now.track) c.args.n ≡ d = omega (arith, c.groups_in-count.ensures.value, c.blocks-2-test.false, c.blocks-2.invariant.few) in
+        let all = rw done at (marked-all c.args.memory.now c.args.self.now.loop_to c.args.self.now.first (point_at c.args.self.now.track) v c.args.n j c.requires.course.track.moves below) in
         c.blocks-2.invariant.marks j below ∙ ap (λ (b : Bool). slice_index c.args.loops.now (c.args.at + j) + bit_if b v) all
 
 pub returns-clause-quiet : goal.returns-clause-quiet
 returns-clause-quiet c awake j below loud =
-    let rise = groups_before-rise (way_at c.args.self.now.track) c.args.n c.requires.course.track.moves j c.args.n (omega (arith, below)) (omega arith) in
+    let rise = groups_before-rise (point_at c.args.self.now.track) c.args.n c.requires.course.track.moves j c.args.n (omega (arith, below)) (omega arith) in
     c.blocks-2.invariant.quiet awake _ (omega (arith, rise, c.groups_in-count.ensures.value, c.blocks-2-test.false, c.blocks-2.invariant.few)) loud

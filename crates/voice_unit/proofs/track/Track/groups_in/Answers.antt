@@ -1,17 +1,17 @@
 use Rattle.std.proofs.Common.{◌≡◌, ◌≤◌, ◌+◌, ◌-◌, ◌/◌, sym, arith}
 use Rattle.voice_unit.specs.Row.{groups_before}
-use Rattle.voice_unit.specs.Track.{way_at}
+use Rattle.voice_unit.specs.Track.{point_at}
 use Rattle.voice_unit.proofs.Counting.{groups_before-more, few_groups}
 use Rattle.voice_unit.proofs.track.Track.groups_in.Goals as goal
 
-read : (c : goal.After-way) → c.way.result / 0x4000 ≡ groups_before (way_at c.args.self.now) c.args.n
+read : (c : goal.After-point) → c.point.result / 0x4000 ≡ groups_before (point_at c.args.self.now) c.args.n
 read c =
     let all : c.args.n - 1 + 1 ≡ c.args.n = omega (arith, c.requires.some) in
-    let more = rw all at (groups_before-more (way_at c.args.self.now) (c.args.n - 1)) in
-    rw c.way.ensures (sym more)
+    let more = rw all at (groups_before-more (point_at c.args.self.now) (c.args.n - 1)) in
+    rw c.point.ensures (sym more)
 
-few : (c : goal.After-way) → groups_before (way_at c.args.self.now) c.args.n ≤ c.args.n
-few c = few_groups (way_at c.args.self.now) c.args.n c.requires.track.moves c.args.n (omega arith)
+few : (c : goal.After-point) → groups_before (point_at c.args.self.now) c.args.n ≤ c.args.n
+few c = few_groups (point_at c.args.self.now) c.args.n c.requires.track.moves c.args.n (omega arith)
 
 pub overflow_cast-result : goal.overflow_cast-result
 overflow_cast-result c = omega (arith, read c, few c, c.requires.few)

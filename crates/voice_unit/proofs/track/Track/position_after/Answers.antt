@@ -1,20 +1,20 @@
 use Rattle.std.proofs.Common.{◌≡◌, ◌<◌, ◌≤◌, ◌+◌, ◌*◌, ◌-◌, ℕ, arith}
-use Rattle.voice_unit.specs.Track.{way_at}
+use Rattle.voice_unit.specs.Track.{point_at}
 use Rattle.voice_unit.proofs.Counting.{after_from, after_to}
 use Rattle.voice_unit.proofs.track.Track.position_after.Goals as goal
 
 -- where the samples have come to
-record IsAfter (way groups : ℕ) : Type 0 where
-  from : 0x4000 * groups ≤ way
-  to : way < 0x4000 * groups + 0x8000
+record IsAfter (point groups : ℕ) : Type 0 where
+  from : 0x4000 * groups ≤ point
+  to : point < 0x4000 * groups + 0x8000
 
-is_after : (c : goal.After-from) → IsAfter c.way.result c.from.result
+is_after : (c : goal.After-from) → IsAfter c.point.result c.from.result
 is_after c =
     let last : c.args.stretch.now.samples - 1 + 1 ≡ c.args.stretch.now.samples = omega (arith, c.requires.some) in
     let below : c.args.stretch.now.samples - 1 < c.args.stretch.now.samples = omega (arith, c.requires.some) in
-    let from = rw last at (after_from (way_at c.args.self.now) c.args.stretch.now.samples c.requires.track.moves (c.args.stretch.now.samples - 1) below) in
-    let to = rw last at (after_to (way_at c.args.self.now) c.args.stretch.now.samples c.requires.track.moves (c.args.stretch.now.samples - 1) below) in
-    rw (c.way.ensures, c.from.ensures, c.requires.groups) (record { from = from; to = to })
+    let from = rw last at (after_from (point_at c.args.self.now) c.args.stretch.now.samples c.requires.track.moves (c.args.stretch.now.samples - 1) below) in
+    let to = rw last at (after_to (point_at c.args.self.now) c.args.stretch.now.samples c.requires.track.moves (c.args.stretch.now.samples - 1) below) in
+    rw (c.point.ensures, c.from.ensures, c.requires.groups) (record { from = from; to = to })
 
 pub overflow_sub-result : goal.overflow_sub-result
 overflow_sub-result c = (is_after c).from
@@ -23,7 +23,7 @@ pub overflow_cast-result : goal.overflow_cast-result
 overflow_cast-result c = omega (arith, (is_after c).from, (is_after c).to)
 
 pub returns-clause-value : goal.returns-clause-value
-returns-clause-value c = omega (arith, (is_after c).from, c.way.ensures, c.from.ensures)
+returns-clause-value c = omega (arith, (is_after c).from, c.point.ensures, c.from.ensures)
 
 pub returns-clause-within : goal.returns-clause-within
 returns-clause-within c = omega (arith, (is_after c).to)

@@ -24,12 +24,12 @@ returns-clause-played c k at =
     let input : c.input-input.result ≡ lane_inputs c.args.reads.now.seen c.args.reads.now.rows.now c.args.previous.now j = rw whole at (rw place at c.input-input.ensures.value) in
     let out : to_z w16 (of_z w16 c.play_last-answer.result.out) ≡ c.play_last-answer.result.out = search rules in
     let here : c.play_row-glided.result.at ≡ j = omega (arith, c.play_row-glided.ensures.from, c.play_row-glided.ensures.to, c.if-glided-n.false, c.requires.some) in
-    let way = rw here at (c.play_row-glided.ensures.way k at) in
-    let step = rw input at (c.play_last-answer.ensures k at (rw input way.at_rest)) in
+    let so_far = rw here at (c.play_row-glided.ensures.so_far k at) in
+    let step = rw input at (c.play_last-answer.ensures k at (rw input so_far.at_rest)) in
     rw (← all, place, out, c.mark_loop.ensures) (one_more_played
     (lane_of c.args.reads.now c.args.previous.now c.args.self.now k) c.args.reads.now.seen.voice j
     c.args.made.now.loops c.play_row-glided.new.made.loops c.play_row-glided.new.made.outs c.play_row-glided.new.self c.play_last-answer.new.self c.play_last-answer.result.out c.play_last-answer.result.looped
-    way.played (search rules) (search rules)
+    so_far.played (search rules) (search rules)
     step.voice (ap (λ (answer : VoiceOut). answer.out) step.answer_is) (ap (λ (answer : VoiceOut). answer.looped) step.answer_is))
 
 pub returns-clause-last : goal.returns-clause-last
@@ -40,9 +40,9 @@ returns-clause-last c k at =
     let whole : to_z w16 (of_z w16 (number_at c.args.previous.now j)) ≡ number_at c.args.previous.now j = search rules in
     let input : c.input-input.result ≡ lane_inputs c.args.reads.now.seen c.args.reads.now.rows.now c.args.previous.now j = rw whole at (rw place at c.input-input.ensures.value) in
     let here : c.play_row-glided.result.at ≡ j = omega (arith, c.play_row-glided.ensures.from, c.play_row-glided.ensures.to, c.if-glided-n.false, c.requires.some) in
-    let way = rw here at (c.play_row-glided.ensures.way k at) in
-    let step = rw input at (c.play_last-answer.ensures k at (rw input way.at_rest)) in
-    rw way.played.voice_is at step.answer_is
+    let so_far = rw here at (c.play_row-glided.ensures.so_far k at) in
+    let step = rw input at (c.play_last-answer.ensures k at (rw input so_far.at_rest)) in
+    rw so_far.played.voice_is at step.answer_is
 
 pub returns-clause-lower : goal.returns-clause-lower
 returns-clause-lower c j below =
@@ -53,12 +53,12 @@ returns-clause-lower c j below =
     rw c.mark_loop.ensures (with_loop-bound c.play_row-glided.new.made.loops last c.args.reads.now.seen.voice j c.play_last-answer.result.looped (search rules) own (c.play_row-glided.ensures.lower j below))
 
 pub returns-then-glided-n-clause-played : goal.returns-then-glided-n-clause-played
-returns-then-glided-n-clause-played c k at = let way = rw c.if-glided-n.true at (c.play_row-glided.ensures.way k at) in way.played
+returns-then-glided-n-clause-played c k at = let so_far = rw c.if-glided-n.true at (c.play_row-glided.ensures.so_far k at) in so_far.played
 
 pub returns-then-glided-n-clause-last : goal.returns-then-glided-n-clause-last
 returns-then-glided-n-clause-last c k at =
     let all : c.args.n ≡ c.args.n - 1 + 1 = omega (arith, c.requires.some) in
     let whole : c.play_row-glided.result.at ≡ c.args.n = c.if-glided-n.true in
-    let way = rw whole at (c.play_row-glided.ensures.way k at) in
-    c.glided_answer.ensures k c.args.made.now.loops c.args.self.now (rw all at way.played)
+    let so_far = rw whole at (c.play_row-glided.ensures.so_far k at) in
+    c.glided_answer.ensures k c.args.made.now.loops c.args.self.now (rw all at so_far.played)
     (c.requires.lower (c.args.n - 1) (omega (arith, c.requires.some, c.requires.few))) (c.play_row-glided.ensures.level k at whole)

@@ -7,7 +7,7 @@ use Rattle.rate_clock.specs.Counter.{counter_at}
 use Rattle.voice_unit.specs.Batch.{lane_input, lane_inputs}
 use Rattle.voice_unit.specs.Rest.{IsAtRest}
 use Rattle.voice_unit.specs.OneSample.{IsPlayedSample}
-use Rattle.voice_unit.specs.Play.{IsOnItsWay, lane_of}
+use Rattle.voice_unit.specs.Play.{IsPlayedSoFar, lane_of}
 use Rattle.voice_unit.proofs.AtRest.{no_rest}
 use Rattle.voice_unit.proofs.Glided.{lane_glides}
 use Rattle.voice_unit.proofs.Played.{none_played, one_more_played, with_loop-other, with_loop-bound, doubled}
@@ -15,7 +15,7 @@ use Rattle.voice_unit.proofs.voice.Voice.play_row.Goals as goal
 
 pub samples-init : goal.samples-init
 samples-init c = record {
-  way = λ k at. record {
+  so_far = λ k at. record {
     played = none_played (lane_of c.args.reads.now c.args.previous.now c.args.self.now k) c.args.reads.now.seen.voice c.args.made.now.loops c.args.made.now.outs;
     at_rest =
         let none : k + 0 ≡ k = omega arith in
@@ -37,18 +37,18 @@ samples-preserved c =
     let from : j ≤ to = c.glide-glided.ensures.from in
     let below : to < c.args.n = omega (arith, c.if-last-to.false) in
     let place : c.from-place.result ≡ to = c.from-place.ensures in
-    let way : (k : ℕ) → c.args.reads.now.clock ≡ counter_at k
-    → IsOnItsWay c.args.reads.now.seen (lane_of c.args.reads.now c.args.previous.now c.args.self.now k)
+    let so_far : (k : ℕ) → c.args.reads.now.clock ≡ counter_at k
+    → IsPlayedSoFar c.args.reads.now.seen (lane_of c.args.reads.now c.args.previous.now c.args.self.now k)
     to c.glide-glided.result.rest c.args.made.now.loops c.glide-glided.new.made.loops c.glide-glided.new.made.outs c.glide-glided.new.self =
-    λ k at. c.glide-glided.ensures.way _ c.args.made.now.loops (record { regs = refl; bent = c.samples.invariant.bent; memory = refl; table = refl; noise = λ i. refl })
+    λ k at. c.glide-glided.ensures.so_far _ c.args.made.now.loops (record { regs = refl; bent = c.samples.invariant.bent; memory = refl; table = refl; noise = λ i. refl })
     (lane_glides c.args.reads.now c.args.previous.now c.args.self.now k c.samples.j c.end_from-end.result
     (λ i since below. c.plain_samples-plain.ensures i (omega (arith, below, c.end_from-end.ensures.to, c.requires.few)) (c.end_from-end.ensures.plain i since below)))
-    (c.samples.invariant.way k at) in
+    (c.samples.invariant.so_far k at) in
     let whole : to_z w16 (of_z w16 (number_at c.args.previous.now to)) ≡ number_at c.args.previous.now to = search rules in
     let input : c.input-input.result ≡ lane_inputs c.args.reads.now.seen c.args.reads.now.rows.now c.args.previous.now to = rw whole at (rw place at c.input-input.ensures.value) in
     let at_rest : (k : ℕ) → c.args.reads.now.clock ≡ counter_at k
     → IsAtRest c.input-input.result.reset c.input-input.result.koff c.args.reads.now.regs c.args.reads.now.memory.now (k + to) c.glide-glided.result.rest c.glide-glided.new.self =
-    λ k at. rw input (way k at).at_rest in
+    λ k at. rw input (so_far k at).at_rest in
     let sample : (k : ℕ) → c.args.reads.now.clock ≡ counter_at k
     → IsPlayedSample c.args.reads.now.regs (lane_inputs c.args.reads.now.seen c.args.reads.now.rows.now c.args.previous.now to) c.args.reads.now.memory.now c.args.reads.now.table.now (k + to)
     c.glide-glided.new.self c.play_sample-played.result c.play_sample-played.new.self =
@@ -59,13 +59,13 @@ samples-preserved c =
     let loops_long : length c.glide-glided.new.made.loops ≡ 64 = search rules in
     let within_loops : to < length c.glide-glided.new.made.loops = rw loops_long (omega (arith, below, c.requires.few)) in
     record {
-      way = λ k at.
+      so_far = λ k at.
           let further : k + (to + 1) ≡ k + to + 1 = omega arith in
           record {
             played = rw (place, out, c.mark_loop.ensures) (one_more_played
                 (lane_of c.args.reads.now c.args.previous.now c.args.self.now k) c.args.reads.now.seen.voice to
                 c.args.made.now.loops c.glide-glided.new.made.loops c.glide-glided.new.made.outs c.glide-glided.new.self c.play_sample-played.new.self c.play_sample-played.result.out c.play_sample-played.result.looped
-                (way k at).played within_outs within_loops
+                (so_far k at).played within_outs within_loops
                 (sample k at).voice (sample k at).out (sample k at).looped);
             at_rest = rw further (sample k at).rest;
           };
@@ -85,22 +85,22 @@ samples-preserved c =
 pub samples-smaller : goal.samples-smaller
 samples-smaller c = omega (arith, c.samples-test.true, c.glide-glided.ensures.from, c.glide-glided.ensures.to, c.end_from-end.ensures.to)
 
-pub returns-clause-way : goal.returns-clause-way
-returns-clause-way c k at = c.samples.invariant.way k at
+pub returns-clause-so_far : goal.returns-clause-so_far
+returns-clause-so_far c k at = c.samples.invariant.so_far k at
 
-pub returns-then-last-eq0-clause-way : goal.returns-then-last-eq0-clause-way
-returns-then-last-eq0-clause-way c k at = record {
+pub returns-then-last-eq0-clause-so_far : goal.returns-then-last-eq0-clause-so_far
+returns-then-last-eq0-clause-so_far c k at = record {
   played = none_played (lane_of c.args.reads.now c.args.previous.now c.args.self.now k) c.args.reads.now.seen.voice c.args.made.now.loops c.args.made.now.outs;
   at_rest = no_rest c.args.reads.now.seen.reset (has_bit c.args.reads.now.seen.koff c.args.reads.now.seen.voice) c.args.reads.now.regs c.args.reads.now.memory.now (k + 0) c.args.self.now;
 }
 
-pub returns-then-last-to-clause-way : goal.returns-then-last-to-clause-way
+pub returns-then-last-to-clause-so_far : goal.returns-then-last-to-clause-so_far
 unfolding lane_input
-returns-then-last-to-clause-way c k at =
-    c.glide-glided.ensures.way _ c.args.made.now.loops (record { regs = refl; bent = c.samples.invariant.bent; memory = refl; table = refl; noise = λ i. refl })
+returns-then-last-to-clause-so_far c k at =
+    c.glide-glided.ensures.so_far _ c.args.made.now.loops (record { regs = refl; bent = c.samples.invariant.bent; memory = refl; table = refl; noise = λ i. refl })
     (lane_glides c.args.reads.now c.args.previous.now c.args.self.now k c.samples.j c.end_from-end.result
     (λ i since below. c.plain_samples-plain.ensures i (omega (arith, below, c.end_from-end.ensures.to, c.requires.few)) (c.end_from-end.ensures.plain i since below)))
-    (c.samples.invariant.way k at)
+    (c.samples.invariant.so_far k at)
 
 pub returns-then-last-to-clause-level : goal.returns-then-last-to-clause-level
 unfolding lane_input
@@ -108,5 +108,5 @@ returns-then-last-to-clause-level c k at all =
     let level = c.glide-glided.ensures.level _ c.args.made.now.loops (record { regs = refl; bent = c.samples.invariant.bent; memory = refl; table = refl; noise = λ i. refl })
     (lane_glides c.args.reads.now c.args.previous.now c.args.self.now k c.samples.j c.end_from-end.result
     (λ i since below. c.plain_samples-plain.ensures i (omega (arith, below, c.end_from-end.ensures.to, c.requires.few)) (c.end_from-end.ensures.plain i since below)))
-    (c.samples.invariant.way k at) (omega (arith, all, c.samples-test.true)) in
+    (c.samples.invariant.so_far k at) (omega (arith, all, c.samples-test.true)) in
     rw all at level

@@ -1,14 +1,14 @@
 use Rattle.std.proofs.Common.{◌≡◌, ℕ, true, ◌+◌, ◌-◌, ◌≤◌, ◌<◌, ◌^◌, length, slice_index}
 use Rattle.num_fix.specs.SignedWords.{number_at}
 use Rattle.rate_clock.specs.Counter.{counter_at}
-use Rattle.voice_unit.specs.Play.{IsOnItsWay, lane_of}
+use Rattle.voice_unit.specs.Play.{IsPlayedSoFar, lane_of}
 use Rattle.voice_unit.specs.Voice.{is_modulated, bent_pitch}
 use Rattle.voice_unit.proofs.voice.Voice.play_row.Given as goal
 
 abbrev pub invariant-samples : goal.invariant-samples
 invariant-samples l = record {
-  way : (k : ℕ) → l.reads.clock ≡ counter_at k
-      → IsOnItsWay l.reads.seen (lane_of l.reads l.previous l.initial.self k) l.j l.rest l.initial.made.loops l.made.loops l.made.outs l.self;
+  so_far : (k : ℕ) → l.reads.clock ≡ counter_at k
+      → IsPlayedSoFar l.reads.seen (lane_of l.reads l.previous l.initial.self k) l.j l.rest l.initial.made.loops l.made.loops l.made.outs l.self;
   within : l.j ≤ l.last;
   later : (j : ℕ) → l.j ≤ j → slice_index l.made.loops j ≡ slice_index l.initial.made.loops j;
   lower : (j : ℕ) → j < 64 → slice_index l.made.loops j < 2 ^ (l.reads.seen.voice + 1);

@@ -4,17 +4,17 @@ use Rattle.aram_core.specs.Memory.{byte_at}
 use Rattle.voice_unit.specs.Directory.{loop_word}
 use Rattle.voice_unit.specs.Rest.{IsSilent}
 use Rattle.voice_unit.specs.Row.{place_after, groups_before, loops_in, place_of}
-use Rattle.voice_unit.specs.Track.{way_at}
+use Rattle.voice_unit.specs.Track.{point_at}
 use Rattle.voice_unit.specs.Voice.{is_silencing, VoiceState}
 use Rattle.voice_unit.proofs.LoopBits.{bit-bound}
-use Rattle.voice_unit.proofs.Glided.{track_ways}
+use Rattle.voice_unit.proofs.Glided.{track_points}
 use Rattle.voice_unit.proofs.Played.{doubled}
 use Rattle.voice_unit.proofs.PartsOfRow.{last_twelve}
 use Rattle.voice_unit.proofs.OverRow.{glided_over, last_level}
 use Rattle.voice_unit.proofs.voice.Voice.play_stretch.Goals as goal
 
-pub returns-clause-way : goal.returns-clause-way
-returns-clause-way c plays before over glides way =
+pub returns-clause-so_far : goal.returns-clause-so_far
+returns-clause-so_far c plays before over glides so_far =
     let regs = over.regs in
     let memory = over.memory in
     let table = over.table in
@@ -22,12 +22,12 @@ returns-clause-way c plays before over glides way =
     let row : List ℤ = c.read_stretch-stretch.new.row in
     let m : ℕ = c.read_stretch-stretch.result.samples in
     let few : m ≤ c.args.n = c.read_stretch-stretch.ensures.stretch.few in
-    let ways : ℕ → ℕ = way_at c.course-course.result.track in
+    let points : ℕ → ℕ = point_at c.course-course.result.track in
     let groups = c.read_stretch-stretch.ensures.stretch.groups in
     let next = rw (c.course-course.ensures.loop_to, c.course-course.ensures.first, ← memory, ← regs) at c.read_stretch-stretch.ensures.stretch.next in
     let kept = rw (c.course-course.ensures.loop_to, c.course-course.ensures.first, c.begin_row.ensures.row, ← memory, ← regs) at c.read_stretch-stretch.ensures.row in
     let awake : is_silencing c.course-course.result.reset (byte_at c.args.reads.now.memory.now c.course-course.result.first.block) ≡ true → c.course-course.result.silent ≡ true =
-    λ loud. c.course-course.ensures.all_silent (way.at_rest.silencing (omega (arith, c.requires.some, c.requires.resting))
+    λ loud. c.course-course.ensures.all_silent (so_far.at_rest.silencing (omega (arith, c.requires.some, c.requires.resting))
     (rw (c.course-course.ensures.reset, c.course-course.ensures.first, ← memory) at loud)) in
     let quiet = rw (c.course-course.ensures.reset, c.course-course.ensures.loop_to, c.course-course.ensures.first, ← memory, ← regs) at (c.read_stretch-stretch.ensures.quiet awake) in
     let marks = rw (c.course-course.ensures.voice, c.course-course.ensures.loop_to, c.course-course.ensures.first, ← memory, ← regs) at c.read_stretch-stretch.ensures.loops.marks in
@@ -37,12 +37,12 @@ returns-clause-way c plays before over glides way =
     let twelve = ap (λ (w : VoiceState). w.samples) c.go_to.ensures ∙ last_twelve row (4 * c.read_stretch-stretch.result.groups) ∙ ap (drop (4 * c.read_stretch-stretch.result.groups)) kept in
     let ends : (b : Bool) → c.read_stretch-stretch.result.woken ≡ b
     → (c.rest_after.result ≡ 0) ⊎ ((c.rest_after.result ≡ c.args.rest - m)
-    × (0 < groups_before ways m
-    → is_silencing c.args.reads.now.seen.reset (byte_at plays.memory (place_after plays.memory (loop_word c.args.reads.now.seen.dir plays.regs.srcn plays.memory) (place_of v) (groups_before ways m)).block) ≡ true
+    × (0 < groups_before points m
+    → is_silencing c.args.reads.now.seen.reset (byte_at plays.memory (place_after plays.memory (loop_word c.args.reads.now.seen.dir plays.regs.srcn plays.memory) (place_of v) (groups_before points m)).block) ≡ true
     → IsSilent v.envelope)) = λ b. elim b as (λ b. c.read_stretch-stretch.result.woken ≡ b
     → (c.rest_after.result ≡ 0) ⊎ ((c.rest_after.result ≡ c.args.rest - m)
-    × (0 < groups_before ways m
-    → is_silencing c.args.reads.now.seen.reset (byte_at plays.memory (place_after plays.memory (loop_word c.args.reads.now.seen.dir plays.regs.srcn plays.memory) (place_of v) (groups_before ways m)).block) ≡ true
+    × (0 < groups_before points m
+    → is_silencing c.args.reads.now.seen.reset (byte_at plays.memory (place_after plays.memory (loop_word c.args.reads.now.seen.dir plays.regs.srcn plays.memory) (place_of v) (groups_before points m)).block) ≡ true
     → IsSilent v.envelope))) [
       | true ↦ λ e. inl (c.rest_after.ensures.woken e)
       | false ↦ λ e. inr (
@@ -50,12 +50,12 @@ returns-clause-way c plays before over glides way =
         λ some loud. c.course-course.ensures.silent (rw (c.course-course.ensures.reset, next, groups, ← memory) at (c.read_stretch-stretch.ensures.goes_on awake e) loud),
       )
     ] in
-    glided_over c.args.reads.now.seen plays c.args.at m c.args.rest before c.args.made.now.loops c.args.made.now.outs v way c.begin_row.ensures.twelve
+    glided_over c.args.reads.now.seen plays c.args.at m c.args.rest before c.args.made.now.loops c.args.made.now.outs v so_far c.begin_row.ensures.twelve
     (rw c.course-course.ensures.position at c.course-course.ensures.course.track.position)
     (slice_index c.args.reads.now.rows.now.noise) over.noise (λ j below. glides (c.args.at + j) (omega arith) (omega (arith, below, few))) c.read_stretch-stretch.ensures.stretch.some (omega (arith, few, c.requires.resting))
-    (way_at c.course-course.result.track)
-    (track_ways c.args.reads.now c.args.work.now.pitches plays c.course-course.result.track c.args.at c.args.n c.read_stretch-stretch.result.samples c.args.self.now.position c.put_ways.new.ways
-    over glides c.requires.few few c.requires.pitch c.course-course.ensures.position c.course-course.ensures.pitch c.course-course.ensures.bent c.course-course.ensures.ways c.put_ways.ensures.ways)
+    (point_at c.course-course.result.track)
+    (track_points c.args.reads.now c.args.work.now.pitches plays c.course-course.result.track c.args.at c.args.n c.read_stretch-stretch.result.samples c.args.self.now.position c.put_points.new.points
+    over glides c.requires.few few c.requires.pitch c.course-course.ensures.position c.course-course.ensures.pitch c.course-course.ensures.bent c.course-course.ensures.points c.put_points.ensures.points)
     (λ j below some loud. c.course-course.ensures.silent (quiet j below loud))
     c.go_to.new.self c.rest_after.result c.read_stretch-stretch.new.loops c.sound.new.outs row
     (rw groups at kept) (rw groups at twelve) position
@@ -64,20 +64,20 @@ returns-clause-way c plays before over glides way =
     c.sound.ensures.before outs c.read_stretch-stretch.ensures.loops.before_it marks c.read_stretch-stretch.ensures.loops.later
 
 pub returns-clause-level : goal.returns-clause-level
-returns-clause-level c plays before over glides way =
+returns-clause-level c plays before over glides so_far =
     let regs = over.regs in
     let memory = over.memory in
     let few : c.read_stretch-stretch.result.samples ≤ c.args.n = c.read_stretch-stretch.ensures.stretch.few in
     let awake : is_silencing c.course-course.result.reset (byte_at c.args.reads.now.memory.now c.course-course.result.first.block) ≡ true → c.course-course.result.silent ≡ true =
-    λ loud. c.course-course.ensures.all_silent (way.at_rest.silencing (omega (arith, c.requires.some, c.requires.resting))
+    λ loud. c.course-course.ensures.all_silent (so_far.at_rest.silencing (omega (arith, c.requires.some, c.requires.resting))
     (rw (c.course-course.ensures.reset, c.course-course.ensures.first, ← memory) at loud)) in
     let quiet = rw (c.course-course.ensures.reset, c.course-course.ensures.loop_to, c.course-course.ensures.first, ← memory, ← regs) at (c.read_stretch-stretch.ensures.quiet awake) in
-    let same = last_level c.args.reads.now.seen plays c.args.at c.read_stretch-stretch.result.samples c.args.rest before c.args.made.now.loops c.args.made.now.outs c.args.self.now way c.begin_row.ensures.twelve
+    let same = last_level c.args.reads.now.seen plays c.args.at c.read_stretch-stretch.result.samples c.args.rest before c.args.made.now.loops c.args.made.now.outs c.args.self.now so_far c.begin_row.ensures.twelve
     (rw c.course-course.ensures.position at c.course-course.ensures.course.track.position)
     (slice_index c.args.reads.now.rows.now.noise) over.noise (λ j below. glides (c.args.at + j) (omega arith) (omega (arith, below, few))) c.read_stretch-stretch.ensures.stretch.some (omega (arith, few, c.requires.resting))
-    (way_at c.course-course.result.track)
-    (track_ways c.args.reads.now c.args.work.now.pitches plays c.course-course.result.track c.args.at c.args.n c.read_stretch-stretch.result.samples c.args.self.now.position c.put_ways.new.ways
-    over glides c.requires.few few c.requires.pitch c.course-course.ensures.position c.course-course.ensures.pitch c.course-course.ensures.bent c.course-course.ensures.ways c.put_ways.ensures.ways)
+    (point_at c.course-course.result.track)
+    (track_points c.args.reads.now c.args.work.now.pitches plays c.course-course.result.track c.args.at c.args.n c.read_stretch-stretch.result.samples c.args.self.now.position c.put_points.new.points
+    over glides c.requires.few few c.requires.pitch c.course-course.ensures.position c.course-course.ensures.pitch c.course-course.ensures.bent c.course-course.ensures.points c.put_points.ensures.points)
     (λ j below some loud. c.course-course.ensures.silent (quiet j below loud)) in
     ap (λ (w : VoiceState). w.envelope.level) c.go_to.ensures ∙ sym same
 
@@ -90,7 +90,7 @@ returns-clause-lower c i from below = by (nat_lt i (c.args.at + c.read_stretch-s
         let part : c.args.at + (i - c.args.at) ≡ i = omega (arith, from) in
         let old : slice_index c.args.made.now.loops (c.args.at + (i - c.args.at)) < 2 ^ c.args.reads.now.seen.voice = rw part (c.requires.lower i from below) in
         let made = rw c.course-course.ensures.voice at (c.read_stretch-stretch.ensures.loops.marks (i - c.args.at) (omega (arith, early, from))) in
-        let more = bit-bound (loops_in c.args.reads.now.memory.now c.course-course.result.loop_to c.course-course.result.first (way_at c.course-course.result.track) (i - c.args.at))
+        let more = bit-bound (loops_in c.args.reads.now.memory.now c.course-course.result.loop_to c.course-course.result.first (point_at c.course-course.result.track) (i - c.args.at))
         c.args.reads.now.seen.voice _ old in
         rw (← part) (rw made more)
     by false e =
