@@ -2,8 +2,9 @@
  *
  * The sound: the frames that spcwave_play gives are, whatever was sought, marked or played before, frames [position, position + given)
  * of the run of the machine that the file opens over the table, with the muted voices of its options, its processor and S-DSP in lock
- * step. The library is proved to do what each comment below says, but for time and memory, which are measured, where its caller keeps the
- * following. Of what a caller owes nothing is checked; an option, a frame or a voice out of its range is answered with OUT_OF_RANGE.
+ * step. The contracts of its functions are proved, and say what each comment below says of what a call answers, writes and changes, where its
+ * caller keeps the following. Time and memory are measured; that this header declares what the library exports, and spcwave_table.h, are
+ * tested. Of what a caller owes nothing is checked; an option, a frame or a voice out of its range is answered with OUT_OF_RANGE.
  *
  * You owe:
  *  - to each call that takes a player, a handle that spcwave_open gave and spcwave_close hasn't taken back. No two calls may use one at once. It
@@ -94,7 +95,7 @@ uint32_t spcwave_version(void);
 uint32_t spcwave_open(spcwave_player **player, const uint8_t *spc, size_t spc_length, const uint8_t *table, size_t table_length,
                       const spcwave_options *options);
 
-/* Gives the memory of the player and of its handle back. Afterwards `*player` is no handle; it isn't set to NULL. */
+/* Gives the memory of the player and of its handle back. Afterwards `*player` is no handle, and may hold anything. */
 void spcwave_close(spcwave_player **player);
 
 /* Plays: writes min(count, MOST - position) frames, moves the position behind them, and tells how many. Frames of the

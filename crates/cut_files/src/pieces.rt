@@ -96,6 +96,16 @@ impl<C: Chip> CutFiles<C> {
         })
     }
 
+    /// The chip of the server that plays. Once all cuts are played, the report tells the samples that it made.
+    pub fn chip(&self) -> &C
+        ensures made { C.total result.now ≡ (book_of self.now.server).made }
+        ensures position { C.sample result.now ≡ (book_of self.now.server).position }
+        ensures told { work_of self.now ≡ 0 → report_of C.meaning C.saving self.now
+            ≡ cuts_report self.now.cuts (record (book_of self.now.server) { made = C.total result.now }) }
+    {
+        self.server.chip()
+    }
+
     /// Begins the next cut, if there is one: goes to it, and takes a checkpoint where there is room for it. Answers whether
     /// there is none.
     fn begin(&mut self) -> bool

@@ -1,7 +1,7 @@
 -- What a host of real files is at a moment, and which bytes its files are known to hold. A file that doesn't know its bytes has None.
 use Rattle.std.specs.Prelude.{◌≡◌, ◌≢◌, ℕ, zero, suc, List, Option, None, Some, Result, slice_get}
 use Rattle.std.specs.Option.{option_map}
-use Rattle.std.specs.Io.KnownBytes.{ReadConsumes, WriteAppends}
+use Rattle.std.specs.Io.KnownBytes.{Keeps, ReadConsumes, WriteAppends}
 use Rattle.snd_host.specs.Host.{HostState}
 use Rattle.disk_host.specs.Untold.{untold_state}
 use Rattle.disk_host.specs.Created.{flags_of}
@@ -42,3 +42,8 @@ pub record WritesOn {R O E F D X : Type 0} (files : Tells F) (report : Tells O) 
     (old new : DiskHost R O E F D) (result : Result ℕ X) : Type 0 where
   pub added : WriteAppends (held_by files report complaint old number) (held_by files report complaint new number) result piece
   pub others : (other : ℕ) → other ≢ number → held_by files report complaint new other ≡ held_by files report complaint old other
+
+-- Every output holds the bytes that it held.
+abbrev pub HoldsStay : {R O E F D : Type 0} → Tells F → Tells O → Tells E → (old new : DiskHost R O E F D) → Type 0
+HoldsStay files report complaint old new =
+    (number : ℕ) → Keeps (held_by files report complaint old number) (held_by files report complaint new number)

@@ -3,7 +3,7 @@ ghost use Rattle.std.specs.Prelude.{◌≡◌, ◌≢◌, ◌<◌, ℕ, ◌≤�
 ghost use Rattle.disk_host.specs.Untold.{untold_state};
 ghost use Rattle.disk_host.specs.Created.{flags_of};
 ghost use Rattle.disk_host.specs.Held.{told_at, held_by};
-ghost use Rattle.std.specs.Io.KnownBytes.{ReadConsumes, WriteAppends};
+ghost use Rattle.std.specs.Io.KnownBytes.{Keeps, ReadConsumes, WriteAppends};
 
 use snd_host::{Failed, Host, InFile, MOST_READ_AT_ONCE, OutFile};
 use std::alloc::Global;
@@ -110,6 +110,7 @@ fn write_created<F: Write>(
 fn end_created<F: Write>(created: &mut Vec<Created<F>>, place: usize) -> Result<(), Failed>
     ensures ended { OnOk result (flags_of created.new.items ≡ slice_set (flags_of created.old.items) place true) }
     ensures not_ended { OnErr result (flags_of created.new.items ≡ flags_of created.old.items) }
+    ensures bytes { (other : ℕ) → Keeps (told_at F.contents created.old.items other) (told_at F.contents created.new.items other) }
 {
     let Some(output) = created.get_mut(place) else {
         return Err(Failed);
@@ -122,16 +123,32 @@ fn end_created<F: Write>(created: &mut Vec<Created<F>>, place: usize) -> Result<
 }
 
 impl<'r, R: Files, O: Write + Drop, E: Write + Drop> Host for DiskHost<'r, R, O, E> {
-    ghost use Rattle.std.specs.Prelude.{Some, IsSome, IsOk, is_err, take, slice_index};
-    ghost use Rattle.snd_host.specs.OpenedInputs.{ReadsMore};
-    ghost use Rattle.snd_host.specs.Host.{IfTold, HasCause, CountsWrite, EndsByWrite, IsOpen, ChangesInputs, Writes};
-    ghost use Rattle.disk_host.specs.Held.{disk_state, ReadsOn, WritesOn};
+    ghost use Rattle.std.specs.Prelude.{◌+◌, ◌-◌, ◌++◌, ◌∷◌, Some, IsSome, IsOk, is_err, take, slice_get, slice_index};
+    ghost use Rattle.snd_host.specs.OpenedInputs.{Opens, ReadsMore};
+    ghost use Rattle.snd_host.specs.Host.{IfTold, HasCause, CountsWrite, EndsByWrite, IsOpen, ChangesInputs, ChangesOutputs, KeepsRooms, Writes, most_outputs, longest_output_name};
+    ghost use Rattle.disk_host.specs.Held.{disk_state, ReadsOn, WritesOn, HoldsStay};
 
     ghost state = { disk_state };
 
     ghost tells_each = { λ host given told. absurd (Prim.cc) };
 
-    fn open_in(&mut self, name: &str) -> Result<InFile, Failed> {
+    fn open_in(&mut self, name: &str) -> Result<InFile, Failed>
+        ensures current { IfOk result (λ file. (disk_state self.new).current ≡ Some file.0) }
+        ensures fresh { IfOk result (λ file. (disk_state self.old).current ≢ Some file.0) }
+        ensures none_current { OnErr result ((disk_state self.new).current ≡ None) }
+        ensures there { OnOk result (IfTold (disk_state self.old).holds (λ files. IsSome (files name.now))) }
+        ensures left { OnOk result (IfTold (disk_state self.old).holds (λ files. (disk_state self.new).left ≡ files name.now)) }
+        ensures opened { OnOk result (Opens (record { name = name.now; read = 0 } ∷ []) (disk_state self.old) (disk_state self.new)) }
+        ensures not_opened { OnErr result (Opens [] (disk_state self.old) (disk_state self.new)) }
+        ensures others { ChangesInputs (disk_state self.old) (disk_state self.new) }
+        ensures cause { HasCause (disk_state self.old).faults.inputs (disk_state self.new).faults.inputs result }
+        ensures last { (disk_state self.new).failed_last ≡ is_err result }
+        // A steady host fails only at a name that is not there.
+        ensures steady { IsSome (disk_state self.old).steady →
+            IfTold (disk_state self.old).holds (λ files. IsSome (files name.now) → IsOk result) }
+        // No output changes.
+        ensures held { HoldsStay R.File.contents O.contents E.contents self.old self.new }
+    {
         self.input = None;
         let Ok(file) = fs::open(self.files, name) else {
             self.in_faults = self.in_faults.saturating_add(1);
@@ -164,6 +181,7 @@ impl<'r, R: Files, O: Write + Drop, E: Write + Drop> Host for DiskHost<'r, R, O,
         ensures steady { IsSome (disk_state self.old).steady → IsOk result }
         // Where the file knows its bytes, these are the next ones, and none come only at its end.
         ensures bytes { ReadsOn R.File.remaining buf.new self.old self.new result }
+        ensures held { HoldsStay R.File.contents O.contents E.contents self.old self.new }
     {
         if let Some(file) = &mut self.input {
             if let Ok(count) = read_some(file, buf) {
@@ -176,7 +194,25 @@ impl<'r, R: Files, O: Write + Drop, E: Write + Drop> Host for DiskHost<'r, R, O,
         Err(Failed)
     }
 
-    fn create(&mut self, name: &str) -> Result<OutFile, Failed> {
+    fn create(&mut self, name: &str) -> Result<OutFile, Failed>
+        requires { length (disk_state self.old).ended < most_outputs }
+        ensures number { IfOk result (λ file. file.0 ≡ length (disk_state self.old).ended + 2) }
+        ensures ended { OnOk result ((disk_state self.new).ended ≡ (disk_state self.old).ended ++ false ∷ []) }
+        ensures created { OnOk result (IfTold (disk_state self.old).given (λ given. (disk_state self.new).given ≡
+            Some (record given { created = given.created ++ record { name = name.now; bytes = [] } ∷ [] }))) }
+        ensures not_ended { OnErr result ((disk_state self.new).ended ≡ (disk_state self.old).ended) }
+        ensures not_created { OnErr result ((disk_state self.new).given ≡ (disk_state self.old).given) }
+        ensures others { ChangesOutputs (disk_state self.old) (disk_state self.new) }
+        ensures notes { (disk_state self.new).faults.notes ≡ (disk_state self.old).faults.notes }
+        ensures cause { HasCause (disk_state self.old).faults.outputs (disk_state self.new).faults.outputs result }
+        ensures last { (disk_state self.new).failed_last ≡ is_err result }
+        // A steady host fails only past its rooms or at a name that is longer than the longest.
+        ensures steady { IfTold (disk_state self.old).steady (λ rooms.
+            length (disk_state self.old).ended + 2 < length rooms → length name.now ≤ longest_output_name → IsOk result) }
+        ensures rooms { KeepsRooms (disk_state self.old) (disk_state self.new) }
+        // No output changes.
+        ensures held { HoldsStay R.File.contents O.contents E.contents self.old self.new }
+    {
         let number = self.created.len() as u32 + 2;
         // The room for an output is taken first: where there is none, no file is made.
         if self.created.reserve(1).is_ok() {
@@ -225,7 +261,21 @@ impl<'r, R: Files, O: Write + Drop, E: Write + Drop> Host for DiskHost<'r, R, O,
         Err(Failed)
     }
 
-    fn finish(&mut self, file: OutFile) -> Result<(), Failed> {
+    fn finish(&mut self, file: OutFile) -> Result<(), Failed>
+        requires created { 2 ≤ file.0 }
+        requires open_yet { slice_get (disk_state self.old).ended (file.0 - 2) ≡ Some false }
+        ensures ended { OnOk result ((disk_state self.new).ended ≡ slice_set (disk_state self.old).ended (file.0 - 2) true) }
+        ensures not_ended { OnErr result ((disk_state self.new).ended ≡ (disk_state self.old).ended) }
+        ensures given { (disk_state self.new).given ≡ (disk_state self.old).given }
+        ensures others { ChangesOutputs (disk_state self.old) (disk_state self.new) }
+        ensures notes { (disk_state self.new).faults.notes ≡ (disk_state self.old).faults.notes }
+        ensures cause { HasCause (disk_state self.old).faults.outputs (disk_state self.new).faults.outputs result }
+        ensures last { (disk_state self.new).failed_last ≡ is_err result }
+        ensures steady { IsSome (disk_state self.old).steady → IsOk result }
+        ensures rooms { KeepsRooms (disk_state self.old) (disk_state self.new) }
+        // No output changes.
+        ensures held { HoldsStay R.File.contents O.contents E.contents self.old self.new }
+    {
         if end_created(&mut self.created, (file.0 - 2) as usize).is_ok() {
             self.failed_last = false;
             return Ok(());

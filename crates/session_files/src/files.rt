@@ -120,6 +120,14 @@ impl<C: Chip> SessionFiles<C> {
         })
     }
 
+    /// The chip of the server that plays. It made the samples that the replies tell.
+    pub fn chip(&self) -> &C
+        ensures made { C.total result.now ≡ (book_of self.now.player.server).made }
+        ensures position { C.sample result.now ≡ (book_of self.now.player.server).position }
+    {
+        self.player.chip()
+    }
+
     /// Whether all lines are answered and played.
     fn is_finished(&self) -> bool
         ensures finished { result ≡ is_finished self.now }

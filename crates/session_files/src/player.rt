@@ -47,6 +47,14 @@ impl<C: Chip> Player<C> {
         }
     }
 
+    /// The chip of the server that plays.
+    pub(crate) fn chip(&self) -> &C
+        ensures made { C.total result.now ≡ (book_of self.now.server).made }
+        ensures position { C.sample result.now ≡ (book_of self.now.server).position }
+    {
+        self.server.chip()
+    }
+
     /// How many frames of the last line are still to be played.
     pub(crate) fn left(&self) -> u32
         ensures left { result ≡ self.now.left }
