@@ -63,7 +63,8 @@ impl Voice {
     )
         requires few { at + n ≤ BATCH_SIZE }
         requires voice { seen.now.voice < 8 }
-        ensures points { is_modulated seen.now.pmon seen.now.voice ≡ true → ArePoints (pitches_from pitches.now at) n self.now.position (slice_index points.new) }
+        ensures points { is_modulated seen.now.pmon seen.now.voice ≡ true →
+            ArePoints (pitches_from pitches.now at) n self.now.position (slice_index points.new) }
         ensures moves { is_modulated seen.now.pmon seen.now.voice ≡ true → MoveOn (slice_index points.new) n }
     {
         if !seen.is_bent() {
