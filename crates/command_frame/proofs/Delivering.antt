@@ -45,6 +45,7 @@ then_report {T = T} {U = U} {E = E} outputs report a b c x (Ok y) d w =
       begun = d.begun;
       ended = d.ended;
       made = after {T = T} {E = E} outputs a b c x d report w.wrote;
+      even = d.even;
       ok = (refl, d.ok.1, d.ok.2);
       part = tt;
       ended_whole = ended_are_whole_as d.begun outputs d.ended d.ok.1;
@@ -63,6 +64,7 @@ then_report {T = T} {U = U} {E = E} outputs report a b c x (Err e) d w =
       begun = d.begun;
       ended = d.ended;
       made = after {T = T} {E = E} outputs a b c x d w.part.part w.part.wrote;
+      even = d.even;
       ok = tt;
       part = (w.part.prefix, subst (λ (l : List Output). IsBegun l outputs) (sym d.ok.1) (begun_all outputs));
       ended_whole = ended_are_whole_as d.begun outputs d.ended d.ok.1;
@@ -89,6 +91,7 @@ no_outputs a x = record {
   begun = [];
   ended = [];
   made = gains_nothing a a refl refl refl;
+  even = refl;
   ok = (refl, refl, refl);
   part = tt;
   ended_whole = tt;

@@ -1,6 +1,7 @@
 pub mod Delivering
 pub mod Leaving
 pub mod Listing
+pub mod Making
 pub mod Obeying
 pub mod Places
 pub mod Standing

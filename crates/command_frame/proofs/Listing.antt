@@ -1,18 +1,14 @@
 -- Outputs that are written one after another.
-use Rattle.std.proofs.Common.{◌≡◌, ℕ, suc, ◌+◌, Bool, true, List, [], ◌∷◌, ◌++◌, length, get_or, Some, refl, sym, ◌∙◌, ap, subst, arith, append_assoc, length-append}
+use Rattle.std.proofs.Common.{◌≡◌, ℕ, ◌+◌, Bool, true, List, [], ◌∷◌, ◌++◌, length, get_or, Some, refl, sym, ◌∙◌, ap, subst, arith, append_assoc, length-append}
 use Rattle.std.proofs.lemmas.List.{append-nil}
 use Rattle.snd_host.specs.Host.{HostState, Output, next_count, IsPrefix}
 use Rattle.command_frame.specs.Delivery.{Gains, IsBegun, EndedAreWhole, HaveRooms, all_ended}
 use Rattle.command_frame.specs.Stream.{AreDone, Stops}
-use Rattle.command_frame.proofs.Places.{in_order_after}
+use Rattle.command_frame.proofs.Places.{in_order_after, length-all_ended}
 
 all_ended-append : (xs ys : List Output) → all_ended (xs ++ ys) ≡ all_ended xs ++ all_ended ys
 all_ended-append [] ys = refl
 all_ended-append (x ∷ xs) ys = ap (λ (l : List Bool). true ∷ l) (all_ended-append xs ys)
-
-length-all_ended : (xs : List Output) → length (all_ended xs) ≡ length xs
-length-all_ended [] = refl
-length-all_ended (x ∷ xs) = ap suc (length-all_ended xs)
 
 gains_then : (xs ys : List Output) (us vs : List Bool) (a b c : HostState) → Gains [] [] xs us a b → Gains [] [] ys vs b c → Gains [] [] (xs ++ ys) (us ++ vs) a c
 gains_then xs ys us vs a b c one two = record {
@@ -98,6 +94,7 @@ stops_then xs ys more a b c report one two e =
       begun = xs ++ d.begun;
       ended = all_ended xs ++ d.ended;
       made = gains_then xs d.begun (all_ended xs) d.ended a b c one.made (subst (λ (l : List ℕ). Gains l [] d.begun d.ended b c) (nothing_of d.reported d.part.0) d.made);
+      even = length-append (all_ended xs) d.ended ∙ omega (arith, length-all_ended xs, d.even, length-append xs d.begun);
       ok = tt;
       part = (record { rest = report; split = refl }, begun_after xs d.begun ys more d.part.1);
       ended_whole = whole_after xs d.begun d.ended ys more d.part.1 d.ended_whole;

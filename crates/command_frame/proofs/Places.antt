@@ -145,6 +145,10 @@ get_set_other (f ∷ flags) zero (suc j) b other = refl
 get_set_other (f ∷ flags) (suc i) zero b other = refl
 get_set_other (f ∷ flags) (suc i) (suc j) b other = get_set_other flags i j b (λ same. other (ap suc same))
 
+pub length-all_ended : (xs : List Output) → length (all_ended xs) ≡ length xs
+length-all_ended [] = refl
+length-all_ended (x ∷ xs) = ap suc (length-all_ended xs)
+
 -- outputs that have all their bytes, whichever of them were ended
 pub ended_are_whole : (outputs : List Output) (flags : List Bool) → EndedAreWhole outputs flags outputs
 ended_are_whole [] flags = tt

@@ -5,7 +5,7 @@ use Rattle.snd_host.specs.Host.{HostState, Given, Output, next_count, ChangesOut
 use Rattle.command_frame.specs.Delivery.{Gains, IsBegun, EndedAreWhole, AreEndedInOrder, HaveRooms, Delivers, all_ended}
 use Rattle.command_frame.specs.Ending.{Finishes, FailsUnwritten}
 use Rattle.command_frame.specs.Stream.{bytes_of, RoomsAfter, Stands, Stops, AreDone}
-use Rattle.command_frame.proofs.Places.{grown_since, ended_since, length-outputs_with, bytes_of-end, bytes_of-past, rooms_lowered, begun_at, have_at, begun_less, prefix_short, bytes_of-given_with, ended_are_whole, all_in_order, NoneEnded, none_ended, none_in_order}
+use Rattle.command_frame.proofs.Places.{grown_since, ended_since, length-outputs_with, bytes_of-end, bytes_of-past, rooms_lowered, begun_at, have_at, begun_less, prefix_short, bytes_of-given_with, length-all_ended, ended_are_whole, all_in_order, NoneEnded, none_ended, none_in_order}
 
 -- nothing was created yet
 pub stands_at_first : (a : HostState) → ((given : Given) → a.given ≡ Some given → length given.created ≡ length a.ended) → Stands [] [] [] a a
@@ -98,6 +98,7 @@ module _ (outputs : List Output) (flags : List Bool) (a c : HostState) (s : Stan
         begun = outputs_with outputs i w.part.part;
         ended = flags;
         made = made_written d w.part.part w.part.wrote;
+        even = s.even ∙ sym (length-outputs_with outputs i w.part.part);
         ok = tt;
         part = (record { rest = report; split = refl }, begun_less outputs total i w.part.part bytes w.part.prefix begun);
         ended_whole = none_ended (outputs_with outputs i w.part.part) flags total none;
@@ -138,6 +139,7 @@ stops_unwritten outputs flags a c d total report s fails begun whole in_order un
   begun = outputs;
   ended = flags;
   made = record { given = λ g told. fails.given ∙ s.made.given g told; ended = fails.ended ∙ s.made.ended; holds = fails.others.holds ∙ s.made.holds };
+  even = s.even;
   ok = tt;
   part = (record { rest = report; split = refl }, begun);
   ended_whole = whole;
@@ -182,6 +184,7 @@ delivered outputs a c x s = record {
   begun = outputs;
   ended = all_ended outputs;
   made = s.made;
+  even = length-all_ended outputs;
   ok = (refl, refl, refl);
   part = tt;
   ended_whole = ended_are_whole outputs (all_ended outputs);

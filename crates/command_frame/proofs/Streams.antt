@@ -10,6 +10,8 @@ use Rattle.command_frame.specs.Delivery.{AreEndedInOrder}
 use Rattle.command_frame.specs.Ending.{Finishes, FailsUnwritten, StaysOpen, FinishesInTurn}
 use Rattle.command_frame.specs.Stream.{Both, Stands, Stops, Fills, pair, flags_of, IsSecond, AreTargets, IsOpenAfter, AreOpen, Begins, Puts, Ends, Pumps}
 use Rattle.command_frame.proofs.Delivering.{begun_all}
+use Rattle.command_frame.specs.Making.{AreWhole}
+use Rattle.command_frame.proofs.Making.{is_whole, whole_still}
 use Rattle.command_frame.proofs.Places.{ended_are_whole, none_ended, none_in_order, prefix_front, unended_since}
 use Rattle.command_frame.proofs.Standing.{stands_at_first, stands_created, next_number, stands_written, stops_written, stands_ended, stops_unwritten, are_done}
 
@@ -25,7 +27,7 @@ first_below first (Some name) us vs = omega arith
 
 -- the first write failed
 pub put_first_failed : (targets : Targets) (xs ys : List ℕ) (old new : HostState) (e : Failed) → WritesAll {T = Unit {0}} {E = Failed} targets.first.0 xs old new (Err e) → Puts targets xs ys old new (Err e)
-put_first_failed targets xs ys old new e w = record { ended = tt; ok = tt; err = failed }
+put_first_failed targets xs ys old new e w = record { ended = w.part.wrote.ended; ok = tt; err = failed }
   where
     failed : (first : List ℕ) (second : Option (List ℕ)) (us vs : List ℕ) (a : HostState) → AreTargets second a targets → Stands (pair first second us vs) (flags_of second false) [] a old →
         (ps qs report : List ℕ) → IsPrefix (us ++ xs) ps → IsPrefix (vs ++ ys) qs → Stops (pair first second ps qs) report a new
@@ -54,7 +56,7 @@ module _ (targets : Targets) (xs ys : List ℕ) (old mid new : HostState) (x : U
           Stands (pair first second (us ++ xs) (vs ++ ys)) (flags_of second false) [] a new
       put_it first None us vs a are s = absurd (subst (λ (f : Option OutFile). IsSecond None f (length a.ended + 2)) is are.second_number)
       put_it first (Some name) us vs a are s = stands_written (pair first (Some name) (us ++ xs) vs) (flags_of (Some name) false) a mid (half first name us vs a are s) file.0 1 (second_place targets file name a is are) {T = Unit {0}} {E = Failed} new ys y (omega arith) v
-  put_second (Err e) v = record { ended = tt; ok = tt; err = failed }
+  put_second (Err e) v = record { ended = v.part.wrote.ended ∙ w.wrote.ended; ok = tt; err = failed }
     where
       failed : (first : List ℕ) (second : Option (List ℕ)) (us vs : List ℕ) (a : HostState) → AreTargets second a targets → Stands (pair first second us vs) (flags_of second false) [] a old →
           (ps qs report : List ℕ) → IsPrefix (us ++ xs) ps → IsPrefix (vs ++ ys) qs → Stops (pair first second ps qs) report a new
@@ -94,7 +96,7 @@ longer us xs ps all rest zs is p = record {
 puts_failed : (targets : Targets) (xs ys ps qs all both rest more : List ℕ) (old mid new : HostState) (x : Unit {0}) (e : Failed) → xs ++ (ps ++ rest) ≡ all → ys ++ (qs ++ more) ≡ both →
     Puts targets xs ys old mid (Ok x) → Puts targets ps qs mid new (Err e) → Puts targets all both old new (Err e)
 puts_failed targets xs ys ps qs all both rest more old mid new x e first_split second_split one two = record {
-  ended = tt;
+  ended = two.ended ∙ one.ended;
   ok = tt;
   err = λ first second us vs a are s zs ws report p q.
       two.err first second (us ++ xs) (vs ++ ys) a are (one.ok first second us vs a are s) zs ws report (longer us xs ps all rest zs first_split p) (longer vs ys qs both more ws second_split q);
@@ -256,12 +258,12 @@ end_failed targets old new open_yet first second xs ys report a are s =
 -- there is no second output to end
 pub ends_one : (targets : Targets) (old new : HostState) (r : Result (Unit {0}) Failed) → targets.second ≡ None → new.given ≡ old.given → OnOk r (new.ended ≡ set old.ended (targets.first.0 - 2) true) → OnErr r (new.ended ≡ old.ended) → ChangesOutputs old new →
     new.faults.notes ≡ old.faults.notes → HasCause old.faults.outputs new.faults.outputs r → OnErr r (new.failed_last ≡ true) → KeepsRooms old new → (IsSome old.steady → IsOk r) → Ends targets old new r
-ends_one targets old new (Ok x) none given ended kept others notes cause last keeps steady = record { ok = all; err = tt }
+ends_one targets old new (Ok x) none given ended kept others notes cause last keeps steady = record { given = given; ok = all; err = tt }
   where
     all : (first : List ℕ) (second : Option (List ℕ)) (xs ys : List ℕ) (a : HostState) → AreTargets second a targets → Stands (pair first second xs ys) (flags_of second false) [] a old → Stands (pair first second xs ys) (flags_of second true) [] a new
     all first None xs ys a are s = stands_ended (pair first None xs ys) (flags_of None false) a old s targets.first.0 0 (first_place None a targets are) new (finishes x targets.first.0 old new given ended others notes cause keeps)
     all first (Some name) xs ys a are s = absurd (subst (λ (f : Option OutFile). IsSecond (Some name) f (length a.ended + 2)) none are.second_number)
-ends_one targets old new (Err e) none given ended kept others notes cause last keeps steady = record { ok = tt; err = end_failed targets old new (stays_open e old new given kept others notes cause last keeps steady) }
+ends_one targets old new (Err e) none given ended kept others notes cause last keeps steady = record { given = given; ok = tt; err = end_failed targets old new (stays_open e old new given kept others notes cause last keeps steady) }
 
 -- both outputs can be ended
 pub second_open : (targets : Targets) (file : OutFile) (ended : List Bool) → targets.second ≡ Some file → AreOpen ended targets → (targets.first.0 < file.0) × (slice_get ended (file.0 - 2) ≡ Some false)
@@ -281,15 +283,19 @@ module _ (targets : Targets) (file : OutFile) (is : targets.second ≡ Some file
 
   -- the two outputs are ended, the first one first
   pub ends_in_turn : (old new : HostState) (r : Result (Unit {0}) Failed) → FinishesInTurn targets.first.0 file.0 old new r → Ends targets old new r
-  ends_in_turn old new (Ok y) turn = record { ok = all; err = tt }
+  ends_in_turn old new (Ok y) turn = record { given = let f = turn.ok in f.2.given ∙ f.1.given; ok = all; err = tt }
     where
       all : (first : List ℕ) (second : Option (List ℕ)) (xs ys : List ℕ) (a : HostState) → AreTargets second a targets → Stands (pair first second xs ys) (flags_of second false) [] a old → Stands (pair first second xs ys) (flags_of second true) [] a new
       all first None xs ys a are s = absurd (subst (λ (g : Option OutFile). IsSecond None g (length a.ended + 2)) is are.second_number)
       all first (Some name) xs ys a are s =
           let mid = turn.ok.0 in
           stands_ended (pair first (Some name) xs ys) (true ∷ false ∷ []) a mid (half_ended old mid turn.ok.1 first name xs ys a are s) file.0 1 (second_place targets file name a is are) new turn.ok.2
-  ends_in_turn old new (Err e) turn = record { ok = tt; err = by turn.err }
+  ends_in_turn old new (Err e) turn = record { given = given turn.err; ok = tt; err = by turn.err }
     where
+      given : StaysOpen old new ⊎ ((mid : HostState) × Finishes targets.first.0 old mid × StaysOpen mid new) → new.given ≡ old.given
+      given (inl open_yet) = open_yet.fails.given
+      given (inr both) = both.2.fails.given ∙ both.1.given
+
       by : StaysOpen old new ⊎ ((mid : HostState) × Finishes targets.first.0 old mid × StaysOpen mid new) → (first : List ℕ) (second : Option (List ℕ)) (xs ys report : List ℕ) (a : HostState) → AreTargets second a targets →
           Stands (pair first second xs ys) (flags_of second false) [] a old → Stops (pair first second xs ys) report a new
       by (inl open_yet) = end_failed targets old new open_yet
@@ -317,6 +323,11 @@ module _ (first : List ℕ) (second : Option (List ℕ)) (head xs ys : List ℕ)
     err = tt;
   }
   all_filled c d f x y p q (Err e) ends = record { ok = tt; err = λ report. ends.err first second (head ++ xs) ys report a begun.0 (filled c d x y p q) }
+
+  -- and they were whole before
+  pub whole_then : (c d f : HostState) (x y : Unit {0}) → Puts targets head [] b c (Ok x) → Puts targets xs ys c d (Ok y) → (r : Result (Unit {0}) Failed) → Ends targets d f r → AreWhole (pair first second (head ++ xs) ys) a f
+  whole_then c d f x y p q r ends =
+      whole_still (pair first second (head ++ xs) ys) a d f (is_whole [] [] (pair first second (head ++ xs) ys) (flags_of second false) a d (filled c d x y p q).made) (λ g told. (g, ends.given ∙ told, refl))
 
   pub head_open : AreOpen b.ended targets
   head_open = targets_open first second [] [] targets a b begun.0 begun.1

@@ -68,6 +68,7 @@ pub record Delivers {T E : Type 0} (outputs : List Output) (report : List ℕ) (
   pub begun : List Output
   pub ended : List Bool
   pub made : Gains reported [] begun ended old new
+  pub even : length ended ≡ length begun
   pub ok : OnOk result ((reported ≡ report) × (begun ≡ outputs) × (ended ≡ all_ended outputs))
   pub part : OnErr result (IsPrefix reported report × IsBegun begun outputs)
   pub ended_whole : EndedAreWhole begun ended outputs

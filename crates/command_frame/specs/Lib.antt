@@ -10,6 +10,8 @@ pub mod Ending
 pub mod Listed
 -- what a run leaves on a host that tells it
 pub mod Leaves
+-- how several outputs are made: at once, or one after another
+pub mod Making
 -- the inputs that a command names, and how far it comes with them
 pub mod NamedInputs
 -- what a plan makes

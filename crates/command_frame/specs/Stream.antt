@@ -102,7 +102,7 @@ pub record Begins (first : List ℕ) (second : Option (List ℕ)) (old new : Hos
 
 -- These bytes were added to the outputs of a stream, or prefixes of them where a write failed.
 pub record Puts (targets : Targets) (xs ys : List ℕ) (old new : HostState) (result : Result (Unit {0}) Failed) : Type 0 where
-  pub ended : OnOk result (new.ended ≡ old.ended)
+  pub ended : new.ended ≡ old.ended
   pub ok : OnOk result ((first : List ℕ) (second : Option (List ℕ)) (us vs : List ℕ) (a : HostState) → AreTargets second a targets →
       Stands (pair first second us vs) (flags_of second false) [] a old → Stands (pair first second (us ++ xs) (vs ++ ys)) (flags_of second false) [] a new)
   pub err : IfErr result (λ e. (first : List ℕ) (second : Option (List ℕ)) (us vs : List ℕ) (a : HostState) → AreTargets second a targets →
@@ -111,6 +111,7 @@ pub record Puts (targets : Targets) (xs ys : List ℕ) (old new : HostState) (re
 
 -- The outputs of a stream were ended.
 pub record Ends (targets : Targets) (old new : HostState) (result : Result (Unit {0}) Failed) : Type 0 where
+  pub given : new.given ≡ old.given
   pub ok : IfOk result (λ _. (first : List ℕ) (second : Option (List ℕ)) (xs ys : List ℕ) (a : HostState) → AreTargets second a targets →
       Stands (pair first second xs ys) (flags_of second false) [] a old → Stands (pair first second xs ys) (flags_of second true) [] a new)
   pub err : IfErr result (λ e. (first : List ℕ) (second : Option (List ℕ)) (xs ys report : List ℕ) (a : HostState) → AreTargets second a targets →

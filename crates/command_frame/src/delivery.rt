@@ -1,8 +1,9 @@
 // Plans, and how they are carried out: the outputs are created, written and ended, and then the report is written.
-ghost use Rattle.std.specs.Prelude.{◌≡◌, ◌<◌, length};
+ghost use Rattle.std.specs.Prelude.{◌≡◌, ◌<◌, length, IfOk};
 ghost use Rattle.snd_host.specs.Host.{HostState};
 ghost use Rattle.command_frame.specs.Conduct.{CarriesOut};
 ghost use Rattle.command_frame.specs.Delivery.{CanDeliver, Delivers};
+ghost use Rattle.command_frame.specs.Making.{MadeAtOnce};
 ghost use Rattle.command_frame.specs.Plan.{planned_outputs, plan_makes, stream_makes};
 
 use crate::pieces::NoPieces;
@@ -76,7 +77,8 @@ pub fn carry_stream<H: Host, P: Pieces + Drop, C: Drop>(
     prepared: Result<StreamedPlan<'_, P>, Refusal<C>>,
 ) -> Option<Refusal<C>>
     requires { CanDeliver (H.state host.old) }
-    ensures { CarriesOut (stream_makes P.to_come P.report) prepared.entry (H.state host.old) (H.state host.new) result }
+    ensures carries { CarriesOut (stream_makes P.to_come P.report) prepared.entry (H.state host.old) (H.state host.new) result }
+    ensures at_once { IfOk prepared.entry (λ plan. MadeAtOnce (stream_makes P.to_come P.report plan).outputs (H.state host.old) (H.state host.new)) }
 {
     match prepared {
         Ok(plan) => {

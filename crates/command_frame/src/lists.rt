@@ -4,6 +4,7 @@ ghost use Rattle.snd_host.specs.Host.{HostState};
 ghost use Rattle.command_frame.specs.Conduct.{CarriesOut};
 ghost use Rattle.command_frame.specs.Delivery.{CanDeliverAll, Delivers};
 ghost use Rattle.command_frame.specs.Listed.{listed_output, list_makes};
+ghost use Rattle.command_frame.specs.Making.{MadeInTurn};
 ghost use Rattle.command_frame.specs.Stream.{Fills};
 
 use crate::streaming::{REPORT, fill_outputs};
@@ -28,7 +29,8 @@ pub struct ListPlan<P: Pieces + Drop> {
 /// Creates an output, writes it and ends it.
 fn fill_one<H: Host, P: Pieces + Drop>(host: &mut H, output: ListedOutput<P>) -> Result<(), Failed>
     requires { CanDeliverAll 1 (H.state host.old) }
-    ensures { Fills (listed_output P.to_come output ∷ []) (H.state host.old) (H.state host.new) result }
+    ensures fills { Fills (listed_output P.to_come output ∷ []) (H.state host.old) (H.state host.new) result }
+    ensures in_turn { MadeInTurn (H.state host.old) (H.state host.new) }
 {
     let ListedOutput {
         name,
@@ -44,7 +46,8 @@ fn fill_all<H: Host, P: Pieces + Drop>(
     outputs: Vec<ListedOutput<P>>,
 ) -> Result<(), Failed>
     requires { CanDeliverAll (length outputs.items) (H.state host.old) }
-    ensures { Fills (map (listed_output P.to_come) outputs.items) (H.state host.old) (H.state host.new) result }
+    ensures fills { Fills (map (listed_output P.to_come) outputs.items) (H.state host.old) (H.state host.new) result }
+    ensures in_turn { MadeInTurn (H.state host.old) (H.state host.new) }
 {
     for output in outputs {
         fill_one(host, output)?;
@@ -56,8 +59,9 @@ fn fill_all<H: Host, P: Pieces + Drop>(
 #[tactic(auto, using(crate::proofs::Delivering::delivers_done))]
 fn deliver_all<H: Host, P: Pieces + Drop>(host: &mut H, plan: ListPlan<P>) -> Result<(), Failed>
     requires { CanDeliverAll (length plan.outputs.items) (H.state host.old) }
-    ensures { let makes = list_makes P.to_come plan in
+    ensures delivers { let makes = list_makes P.to_come plan in
         Delivers makes.outputs makes.report (H.state host.old) (H.state host.new) result }
+    ensures in_turn { MadeInTurn (H.state host.old) (H.state host.new) }
 {
     let ListPlan { outputs, report } = plan;
     fill_all(host, outputs)?;
@@ -70,7 +74,8 @@ pub fn carry_all<H: Host, P: Pieces + Drop, C: Drop>(
     prepared: Result<ListPlan<P>, Refusal<C>>,
 ) -> Option<Refusal<C>>
     requires { IfOk prepared (λ plan. CanDeliverAll (length plan.outputs.items) (H.state host.old)) }
-    ensures { CarriesOut (list_makes P.to_come) prepared (H.state host.old) (H.state host.new) result }
+    ensures carries { CarriesOut (list_makes P.to_come) prepared (H.state host.old) (H.state host.new) result }
+    ensures in_turn { MadeInTurn (H.state host.old) (H.state host.new) }
 {
     match prepared {
         Ok(plan) => match deliver_all(host, plan) {

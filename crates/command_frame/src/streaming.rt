@@ -3,6 +3,7 @@ ghost use Rattle.std.specs.Prelude.{◌≡◌, ◌≢◌, ◌-◌, ◌<◌, ◌�
 ghost use Rattle.snd_host.specs.Host.{HostState};
 ghost use Rattle.command_frame.specs.Delivery.{CanDeliver, Delivers};
 ghost use Rattle.command_frame.specs.Ending.{FinishesInTurn};
+ghost use Rattle.command_frame.specs.Making.{NoneEnded, MadeAtOnce};
 ghost use Rattle.command_frame.specs.Stream.{Begins, Puts, Ends, Fills, AreOpen, stream_outputs};
 
 use crate::Pieces;
@@ -20,7 +21,8 @@ pub struct Targets {
 /// Creates the outputs.
 fn begin<H: Host>(host: &mut H, first: &str, second: Option<&str>) -> Result<Targets, Failed>
     requires { CanDeliver (H.state host.old) }
-    ensures { Begins first.now (option_map (λ name. name.now) second.entry) (H.state host.old) (H.state host.new) result }
+    ensures begins { Begins first.now (option_map (λ name. name.now) second.entry) (H.state host.old) (H.state host.new) result }
+    ensures none_ended { NoneEnded (H.state host.old) (H.state host.new) }
 {
     let first = host.create(first)?;
     match second {
@@ -102,6 +104,8 @@ pub(crate) fn fill_outputs<H: Host, P: Pieces>(
     requires { CanDeliver (H.state host.old) }
     ensures fills { let outputs = stream_outputs first.now (option_map (λ name. name.now) second.entry) head.now (P.to_come source.old) in
         Fills outputs (H.state host.old) (H.state host.new) result }
+    ensures at_once { let outputs = stream_outputs first.now (option_map (λ name. name.now) second.entry) head.now (P.to_come source.old) in
+        MadeAtOnce outputs (H.state host.old) (H.state host.new) }
     ensures report { OnOk result (P.report source.new ≡ P.report source.old) }
     ensures is_done { OnOk result (P.is_done source.new ≡ true) }
 {
@@ -120,8 +124,10 @@ pub fn stream<H: Host, P: Pieces>(
     source: &mut P,
 ) -> Result<(), Failed>
     requires { CanDeliver (H.state host.old) }
-    ensures { let outputs = stream_outputs first.now (option_map (λ name. name.now) second.entry) head.now (P.to_come source.old) in
+    ensures delivers { let outputs = stream_outputs first.now (option_map (λ name. name.now) second.entry) head.now (P.to_come source.old) in
         Delivers outputs (P.report source.old) (H.state host.old) (H.state host.new) result }
+    ensures at_once { let outputs = stream_outputs first.now (option_map (λ name. name.now) second.entry) head.now (P.to_come source.old) in
+        MadeAtOnce outputs (H.state host.old) (H.state host.new) }
 {
     fill_outputs(host, first, second, head, source)?;
     write_all(host, REPORT, source.report())

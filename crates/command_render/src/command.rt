@@ -3,10 +3,12 @@ ghost use Rattle.std.specs.Prelude.{◌≡◌, ◌≤◌, ◌++◌, IfOk, is_som
 ghost use Rattle.wav_form.specs.Wave.{header_of, stereo_wave};
 ghost use Rattle.render_core.specs.Fade.{faded_frames};
 ghost use Rattle.dsp_core.specs.DspChip.{dsp_chip};
-ghost use Rattle.snd_host.specs.Host.{HostState, Files};
+ghost use Rattle.snd_host.specs.Host.{HostState, Files, IfTold};
 ghost use Rattle.input_files.specs.Inputs.{spc_input, table_input};
+ghost use Rattle.command_frame.specs.Answer.{outputs_of};
 ghost use Rattle.command_frame.specs.Conduct.{Plans, Prepares, Attempts};
 ghost use Rattle.command_frame.specs.Delivery.{CanDeliver};
+ghost use Rattle.command_frame.specs.Making.{MadeAtOnce};
 ghost use Rattle.command_frame.specs.Plan.{stream_makes};
 ghost use Rattle.render_files.specs.RenderReport.{sound_report};
 ghost use Rattle.num_fix.specs.Limits.{most_frames};
@@ -160,6 +162,9 @@ pub fn render<H: Host>(
     requires within_hour { SamplesWithinHour options.samples }
     ensures attempts { let answer = λ (files : Files). render_answer wave.now (options_of options.entry) (files file.now) (files table.now) in
         Attempts answer (spc_input file.now ∷ table_input table.now ∷ []) result (H.state host.old) (H.state host.new) }
+    ensures at_once { IfTold (H.state host.old).holds (λ files.
+        let answer = render_answer wave.now (options_of options.entry) (files file.now) (files table.now) in
+        MadeAtOnce (outputs_of answer) (H.state host.old) (H.state host.new)) }
     ensures not_usage { result ≡ Some Refusal.Usage → ⊥ }
 {
     let prepared = prepare(alloc, host, file, table, wave, options);

@@ -9,6 +9,7 @@ ghost use Rattle.command_frame.specs.Answer.{done};
 ghost use Rattle.command_frame.specs.Conduct.{Plans, Attempts};
 ghost use Rattle.command_frame.specs.Delivery.{CanDeliverAll};
 ghost use Rattle.command_frame.specs.Listed.{listed_output, list_makes};
+ghost use Rattle.command_frame.specs.Making.{MadeInTurn};
 ghost use Rattle.command_rip.specs.Pieces.{to_come_of};
 ghost use Rattle.command_rip.specs.Rip.{wanted_in, directory_page, entry_name, entry_output, entries_answer, file_answer, rip_answer};
 
@@ -139,6 +140,7 @@ pub fn rip<H: Host>(
     requires { CanDeliverAll most_entries (H.state host.old) }
     ensures attempts { let answer = λ (files : Files). rip_answer prefix.now range (files input.now) in
         Attempts answer (spc_input input.now ∷ []) result (H.state host.old) (H.state host.new) }
+    ensures in_turn { MadeInTurn (H.state host.old) (H.state host.new) }
     ensures not_usage { result ≡ Some Refusal.Usage → ⊥ }
 {
     let file = match read_file(alloc, host, input) {

@@ -4,17 +4,18 @@ use Rattle.std.specs.Prelude.{unwrap_or, slice_index, ◌↔◌}
 use Rattle.snd_host.specs.Host.{HostState, Files, Output}
 use Rattle.snd_host.proofs.OpenedInputs.{in_order_same}
 use Rattle.command_frame.specs.Answer.{Answer, refusal_of, outputs_of, report_of}
-use Rattle.command_frame.specs.Conduct.{IsOfDelivery, Obeys}
+use Rattle.command_frame.specs.Conduct.{IsOfDelivery, WritesComplaint, Obeys}
 use Rattle.command_frame.specs.Delivery.{all_ended}
 use Rattle.command_frame.specs.Leaves.{Leaves, LeavesNothing, LeavesAll, Complains}
 use Rattle.command_frame.specs.declared.refusals.Refusal.{Refusal}
 use Rattle.command_frame.specs.declared.refusals.Refusal.TheVariants.{Usage, ReadFault, WriteFault, OutOfMemory, Input}
+use Rattle.command_frame.proofs.Making.{at_once_complained, in_turn_complained}
 use Rattle.command_frame.proofs.Leaving.{leaves, complains, reports_last, reports_behind_ended}
 use Rattle.exit_status.specs.declared.cause.Cause.{Cause}
 use Rattle.exit_status.specs.declared.cause.Cause.TheVariants.{SpcLength, SpcSignature, TableLength, BrrLength, WavForm, EncodeSize, InputTooLong, AsmLine, CodeLength, CutList, Script}
 use Rattle.exit_status.specs.declared.status.Status.{Status}
 use Rattle.exit_status.specs.declared.status.Status.TheVariants as statuses
-use Rattle.command_line.specs.Command.{Command, usage}
+use Rattle.command_line.specs.Command.{Command, usage, render, rip}
 use Rattle.spcwave.specs.Answers.{answer_of, inputs_of}
 use Rattle.exit_status.specs.Statuses.{status_of, answer_status, end_without_numbers}
 use Rattle.exit_status.specs.Lines.{end_line, refusal_line}
@@ -75,6 +76,12 @@ same_end r a (inl same) equal = same
 same_end r a (inr (inl is)) equal = is ∙ sym (plain_is (refusal_of a) (Some ReadFault) (ap end_without_numbers (sym equal ∙ ap status_of is)))
 same_end r a (inr (inr (inl is))) equal = is ∙ sym (plain_is (refusal_of a) (Some WriteFault) (ap end_without_numbers (sym equal ∙ ap status_of is)))
 same_end r a (inr (inr (inr is))) equal = is ∙ sym (plain_is (refusal_of a) (Some OutOfMemory) (ap end_without_numbers (sym equal ∙ ap status_of is)))
+
+-- the complaint changes no output
+pub makes : (command : Command) (line : List ℕ) (x y z : HostState) → clause.MakesOutputs command x y → WritesComplaint line y z → clause.MakesOutputs command x z
+makes (render file table wave options) line x y z made c = λ files told. at_once_complained (outputs_of (answer_of (render file table wave options) files)) line x y z (made files told) c
+makes (rip file prefix range) line x y z made c = in_turn_complained line x y z made c
+makes command line x y z made c = tt
 
 module _ (command : Command) (r : Option (Refusal Cause)) (x z : HostState) (status : Status) (is : status ≡ status_of r)
     (o : Obeys refusal_line (answer_of command) (inputs_of command) r x z) (misread : (r ≡ Some Usage) ↔ (command ≡ usage)) where

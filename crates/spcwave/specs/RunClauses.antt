@@ -6,10 +6,11 @@ use Rattle.command_frame.specs.NamedInputs.{are_some, inputs_read, inputs_reache
 use Rattle.command_frame.specs.Answer.{outputs_of, report_of}
 use Rattle.command_frame.specs.Conduct.{NoneRose}
 use Rattle.command_frame.specs.Delivery.{HaveRooms}
+use Rattle.command_frame.specs.Making.{MadeAtOnce, MadeInTurn}
 use Rattle.command_frame.specs.Leaves.{LeavesNothing, LeavesAll, LeavesPart, ReportsLast, ReportsAfterEnded, Complains}
 use Rattle.exit_status.specs.declared.status.Status.{Status}
 use Rattle.exit_status.specs.declared.status.Status.TheVariants as statuses
-use Rattle.command_line.specs.Command.{Command, usage}
+use Rattle.command_line.specs.Command.{Command, usage, render, rip}
 use Rattle.spcwave.specs.Answers.{answer_of, inputs_of}
 use Rattle.exit_status.specs.Statuses.{answer_status, end_without_numbers}
 use Rattle.exit_status.specs.Lines.{end_line, status_line}
@@ -61,6 +62,14 @@ abbrev pub IsTruthful : Command → HostState → Status → Type 0
 IsTruthful command old status = IfTold old.holds (λ files.
     (status ≡ answer_status (answer_of command files)) ⊎ (status ≡ statuses.ReadFault)
     ⊎ (status ≡ statuses.WriteFault) ⊎ (status ≡ statuses.OutOfMemory))
+
+-- How several outputs are made: those of `render` at once, none ended before all are whole, and those of `rip` one after another. Every other
+-- command makes one at most.
+abbrev pub MakesOutputs : Command → HostState → HostState → Type 0
+MakesOutputs (render file table wave options) old new =
+    IfTold old.holds (λ files. MadeAtOnce (outputs_of (answer_of (render file table wave options) files)) old new)
+MakesOutputs (rip file prefix range) old new = MadeInTurn old new
+MakesOutputs command old new = Unit {0}
 
 -- Where no count of faults rose, the status is the answer's, or there was no memory.
 abbrev pub CompletesCalmly : Command → HostState → HostState → Status → Type 0
@@ -116,6 +125,8 @@ pub record IsRun (command : Command) (old new : HostState) (status : Status) : T
   pub write_fault : WriteFault command old new status
   pub memory : Memory command old new status
   pub truthful : IsTruthful command old status
+  -- how several outputs are made, whatever the status is
+  pub making : MakesOutputs command old new
   -- Where they do not come: no call failed, or the host is steady and has room.
   pub complete_calm : CompletesCalmly command old new status
   pub complete_inputs : CompletesInputs command old new status

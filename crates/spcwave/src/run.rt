@@ -4,7 +4,7 @@ ghost use Rattle.snd_host.specs.Host.{HostState};
 ghost use Rattle.command_frame.specs.Conduct.{Attempts};
 ghost use Rattle.command_line.specs.Command.{command_of, usage};
 ghost use Rattle.spcwave.specs.Answers.{answer_of, inputs_of};
-ghost use Rattle.spcwave.specs.RunClauses.{HasFewOutputs, IsRun};
+ghost use Rattle.spcwave.specs.RunClauses.{HasFewOutputs, MakesOutputs, IsRun};
 
 use command_asm::asm;
 use command_brr::brr;
@@ -29,6 +29,7 @@ fn attempt<H: Host>(alloc: Global, words: &[String], host: &mut H) -> Option<Ref
     requires { HasFewOutputs (H.state host.old) }
     ensures attempts { let command = command_of (map string_bytes words.now) in
         Attempts (answer_of command) (inputs_of command) result (H.state host.old) (H.state host.new) }
+    ensures making { MakesOutputs (command_of (map string_bytes words.now)) (H.state host.old) (H.state host.new) }
     ensures misread { (result ≡ Some Refusal.Usage) ↔ (command_of (map string_bytes words.now) ≡ usage) }
 {
     match read_words(words) {

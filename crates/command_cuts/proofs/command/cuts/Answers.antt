@@ -11,10 +11,10 @@ pub returns-clause-attempts : goal.returns-clause-attempts
 returns-clause-attempts g c =
     attempts (stream_makes (to_come_of dsp_chip dsp_saving) (report_of dsp_chip dsp_saving)) (λ (files : Files). cuts_answer c.args.wave.now c.args.muted (files c.args.file.now) (files c.args.table.now) (files c.args.list.now))
     (g.H.Host.state c.args.host.now) (g.H.Host.state c.prepare-prepared.new.host) (g.H.Host.state c.carry_stream.new.host)
-    c.prepare-prepared.result c.carry_stream.result _ c.prepare-prepared.ensures c.carry_stream.ensures (search rules)
+    c.prepare-prepared.result c.carry_stream.result _ c.prepare-prepared.ensures c.carry_stream.ensures.carries (search rules)
 
 pub returns-clause-not_usage : goal.returns-clause-not_usage
 returns-clause-not_usage g c =
     attempts_no_usage (stream_makes (to_come_of dsp_chip dsp_saving) (report_of dsp_chip dsp_saving)) (λ (files : Files). cuts_answer c.args.wave.now c.args.muted (files c.args.file.now) (files c.args.table.now) (files c.args.list.now))
     (g.H.Host.state c.args.host.now) (g.H.Host.state c.prepare-prepared.new.host) (g.H.Host.state c.carry_stream.new.host)
-    c.prepare-prepared.result c.carry_stream.result _ c.prepare-prepared.ensures c.carry_stream.ensures (search rules)
+    c.prepare-prepared.result c.carry_stream.result _ c.prepare-prepared.ensures c.carry_stream.ensures.carries (search rules)

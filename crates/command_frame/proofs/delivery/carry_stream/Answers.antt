@@ -15,12 +15,12 @@ of_plan : {P : Type 0} (to_come : P → Both) (report : P → List ℕ) (plan : 
 of_plan to_come report plan head x y r heads d =
     subst (λ (l : List ℕ). Delivers (pair plan.wave.now (option_map (λ name. name.now) plan.trace) (l ++ (to_come plan.source).wave) (to_come plan.source).trace) (report plan.source) x y r) heads d
 
-pub returns-in-Ok-stream : goal.returns-in-Ok-stream
-returns-in-Ok-stream g c =
+pub returns-in-Ok-stream-clause-carries : goal.returns-in-Ok-stream-clause-carries
+returns-in-Ok-stream-clause-carries g c =
     let head : c.as_slice.result.now ≡ c.in-Ok.plan.head.items = search rules in
-    rw c.in-Ok.is (carried_out (stream_makes g.P.Pieces.to_come g.P.Pieces.report) c.in-Ok.plan _ _ (Ok (tt {0})) (of_plan g.P.Pieces.to_come g.P.Pieces.report c.in-Ok.plan _ _ _ (Ok (tt {0})) head c.in-Ok-stream.ensures))
+    rw c.in-Ok.is (carried_out (stream_makes g.P.Pieces.to_come g.P.Pieces.report) c.in-Ok.plan _ _ (Ok (tt {0})) (of_plan g.P.Pieces.to_come g.P.Pieces.report c.in-Ok.plan _ _ _ (Ok (tt {0})) head c.in-Ok-stream.ensures.delivers))
 
-pub returns-in-Ok : goal.returns-in-Ok
-returns-in-Ok g c =
+pub returns-in-Ok-clause-carries : goal.returns-in-Ok-clause-carries
+returns-in-Ok-clause-carries g c =
     let head : c.as_slice.result.now ≡ c.in-Ok.plan.head.items = search rules in
-    rw c.in-Ok.is (carried_out (stream_makes g.P.Pieces.to_come g.P.Pieces.report) c.in-Ok.plan _ _ (Err c.in-Err-stream.field-0) (of_plan g.P.Pieces.to_come g.P.Pieces.report c.in-Ok.plan _ _ _ (Err c.in-Err-stream.field-0) head c.in-Err-stream.ensures))
+    rw c.in-Ok.is (carried_out (stream_makes g.P.Pieces.to_come g.P.Pieces.report) c.in-Ok.plan _ _ (Err c.in-Err-stream.field-0) (of_plan g.P.Pieces.to_come g.P.Pieces.report c.in-Ok.plan _ _ _ (Err c.in-Err-stream.field-0) head c.in-Err-stream.ensures.delivers))

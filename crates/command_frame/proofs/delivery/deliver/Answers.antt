@@ -13,7 +13,7 @@ returns-in-Some g c =
     let report : c.as_slice-in-Some.result.now ≡ c.args.plan.now.report.items = search rules in
     rw c.in-Some.is
     (subst (λ (l : List ℕ). Delivers (pair c.in-Some.output.name.now None l []) c.args.plan.now.report.items (g.H.Host.state c.args.host.now) (g.H.Host.state c.stream.new.host) c.stream.result) bytes
-    (subst (λ (l : List ℕ). Delivers (pair c.in-Some.output.name.now None (c.as_slice.result.now ++ []) []) l (g.H.Host.state c.args.host.now) (g.H.Host.state c.stream.new.host) c.stream.result) report c.stream.ensures))
+    (subst (λ (l : List ℕ). Delivers (pair c.in-Some.output.name.now None (c.as_slice.result.now ++ []) []) l (g.H.Host.state c.args.host.now) (g.H.Host.state c.stream.new.host) c.stream.result) report c.stream.ensures.delivers))
 
 pub returns-in-None : goal.returns-in-None
 returns-in-None g c =

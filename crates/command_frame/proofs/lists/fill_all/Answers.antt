@@ -6,6 +6,7 @@ use Rattle.snd_host.specs.Host.{Output}
 use Rattle.command_frame.specs.Listed.{listed_output}
 use Rattle.command_frame.specs.Stream.{AreDone, Stops}
 use Rattle.command_frame.proofs.Listing.{done_then, stops_then}
+use Rattle.command_frame.proofs.Making.{in_turn_done, in_turn_then}
 use Rattle.command_frame.proofs.lists.fill_all.Goals as goal
 
 pub loop-output-preserved : goal.loop-output-preserved
@@ -21,11 +22,11 @@ loop-output-preserved g c =
           let short = ap length steps in
           omega arith;
       are_done = subst (λ (l : List Output). AreDone l (g.H.Host.state c.args.host.now) (g.H.Host.state c.fill_one.new.host)) (sym (map-append makes at.yielded (output ∷ [])))
-          (done_then (map makes at.yielded) (makes output ∷ []) _ _ _ at.invariant.are_done c.in_ok-fill_one.ensures.ok);
+          (done_then (map makes at.yielded) (makes output ∷ []) _ _ _ at.invariant.are_done c.in_ok-fill_one.ensures.fills.ok);
     }
 
-pub returns-in_err-fill_one : goal.returns-in_err-fill_one
-returns-in_err-fill_one g c =
+pub returns-in_err-fill_one-clause-fills : goal.returns-in_err-fill_one-clause-fills
+returns-in_err-fill_one-clause-fills g c =
     let at = c.loop-output in
     let output = c.in-Some.output in
     let makes = listed_output g.P.Pieces.to_come in
@@ -37,5 +38,11 @@ returns-in_err-fill_one g c =
     rw (p.1) (record {
       ok = tt;
       err = λ report. subst (λ (l : List Output). Stops l report (g.H.Host.state c.args.host.now) (g.H.Host.state c.fill_one.new.host)) all
-          (stops_then (map makes at.yielded) (makes output ∷ []) (map makes rest) _ _ _ report at.invariant.are_done (c.in_err-fill_one.ensures.err []));
+          (stops_then (map makes at.yielded) (makes output ∷ []) (map makes rest) _ _ _ report at.invariant.are_done (c.in_err-fill_one.ensures.fills.err []));
     })
+
+pub returns-in_err-fill_one-clause-in_turn : goal.returns-in_err-fill_one-clause-in_turn
+returns-in_err-fill_one-clause-in_turn g c = in_turn_then _ (g.H.Host.state c.args.host.now) (g.H.Host.state c.loop-output.host) (g.H.Host.state c.fill_one.new.host) c.loop-output.invariant.are_done c.in_err-fill_one.ensures.in_turn
+
+pub returns-clause-in_turn : goal.returns-clause-in_turn
+returns-clause-in_turn g c = in_turn_done _ (g.H.Host.state c.args.host.now) (g.H.Host.state c.loop-output.host) c.loop-output.invariant.are_done

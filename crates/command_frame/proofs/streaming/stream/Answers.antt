@@ -3,15 +3,20 @@ use Rattle.std.proofs.lemmas.Result.{err_from_is_err_and}
 use Rattle.snd_host.specs.Host.{WritesAll}
 use Rattle.command_frame.proofs.Delivering.{then_report}
 use Rattle.command_frame.proofs.Standing.{delivered}
+use Rattle.command_frame.proofs.Making.{at_once_reported}
 use Rattle.command_frame.proofs.streaming.stream.Goals as goal
 
-pub returns-in_err-fill_outputs : goal.returns-in_err-fill_outputs
-returns-in_err-fill_outputs g c =
+pub returns-in_err-fill_outputs-clause-delivers : goal.returns-in_err-fill_outputs-clause-delivers
+returns-in_err-fill_outputs-clause-delivers g c =
     let p = err_from_is_err_and c.from_residual.result c.from_residual.ensures.1 in
     rw (p.1) (c.in_err-fill_outputs.ensures.fills.err (g.P.Pieces.report c.args.source.now) c.in_err-fill_outputs.field-0.0)
 
-pub returns : goal.returns
-returns g c =
+pub returns-clause-delivers : goal.returns-clause-delivers
+returns-clause-delivers g c =
     then_report _ (g.P.Pieces.report c.args.source.now) _ (g.H.Host.state c.fill_outputs.new.host) _ _ _
     (delivered _ _ _ (tt {0}) c.in_ok-fill_outputs.ensures.fills.ok)
     (subst (λ (l : List ℕ). WritesAll 0 l (g.H.Host.state c.fill_outputs.new.host) (g.H.Host.state c.write_all.new.host) c.write_all.result) (c.report.ensures ∙ c.in_ok-fill_outputs.ensures.report) c.write_all.ensures)
+
+pub returns-clause-at_once : goal.returns-clause-at_once
+returns-clause-at_once g c =
+    at_once_reported _ _ (g.H.Host.state c.args.host.now) (g.H.Host.state c.fill_outputs.new.host) (g.H.Host.state c.write_all.new.host) _ c.in_ok-fill_outputs.ensures.at_once c.write_all.ensures

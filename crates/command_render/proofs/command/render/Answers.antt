@@ -1,6 +1,7 @@
 use Rattle.std.proofs.Common.{rules, refl}
 use Rattle.snd_host.specs.Host.{Files}
 use Rattle.command_frame.specs.Plan.{stream_makes}
+use Rattle.command_frame.proofs.Making.{prepared_at_once}
 use Rattle.command_frame.proofs.Obeying.{attempts, attempts_no_usage, carries_same}
 use Rattle.command_render.specs.Render.{render_answer}
 use Rattle.render_files.specs.RenderFiles.{to_come_of, report_of}
@@ -13,11 +14,17 @@ returns-clause-attempts g c =
     attempts (stream_makes (to_come_of dsp_chip) (report_of dsp_chip)) (λ (files : Files). render_answer c.args.wave.now (options_of c.args.options) (files c.args.file.now) (files c.args.table.now))
     (g.H.Host.state c.args.host.now) (g.H.Host.state c.prepare-prepared.new.host) (g.H.Host.state c.carry_stream.new.host)
     c.prepare-prepared.result c.carry_stream.result _ c.prepare-prepared.ensures
-    (carries_same (stream_makes (to_come_of dsp_chip) (report_of dsp_chip)) c.prepare-prepared.result _ _ _ _ c.carry_stream.ensures (search rules)) (search rules)
+    (carries_same (stream_makes (to_come_of dsp_chip) (report_of dsp_chip)) c.prepare-prepared.result _ _ _ _ c.carry_stream.ensures.carries (search rules)) (search rules)
 
 pub returns-clause-not_usage : goal.returns-clause-not_usage
 returns-clause-not_usage g c = λ usage.
     attempts_no_usage (stream_makes (to_come_of dsp_chip) (report_of dsp_chip)) (λ (files : Files). render_answer c.args.wave.now (options_of c.args.options) (files c.args.file.now) (files c.args.table.now))
     (g.H.Host.state c.args.host.now) (g.H.Host.state c.prepare-prepared.new.host) (g.H.Host.state c.carry_stream.new.host)
     c.prepare-prepared.result c.carry_stream.result c.carry_stream.result c.prepare-prepared.ensures
-    (carries_same (stream_makes (to_come_of dsp_chip) (report_of dsp_chip)) c.prepare-prepared.result _ _ _ _ c.carry_stream.ensures (search rules)) refl (search rules)
+    (carries_same (stream_makes (to_come_of dsp_chip) (report_of dsp_chip)) c.prepare-prepared.result _ _ _ _ c.carry_stream.ensures.carries (search rules)) refl (search rules)
+
+pub returns-clause-at_once : goal.returns-clause-at_once
+returns-clause-at_once g c =
+    prepared_at_once (stream_makes (to_come_of dsp_chip) (report_of dsp_chip)) (λ (files : Files). render_answer c.args.wave.now (options_of c.args.options) (files c.args.file.now) (files c.args.table.now))
+    (g.H.Host.state c.args.host.now) (g.H.Host.state c.prepare-prepared.new.host) (g.H.Host.state c.carry_stream.new.host)
+    c.prepare-prepared.result _ c.carry_stream.result c.prepare-prepared.ensures c.carry_stream.ensures.carries c.carry_stream.ensures.at_once (search rules)

@@ -4,6 +4,7 @@ use Rattle.command_line.specs.Command.{Command}
 use Rattle.spcwave.specs.Answers.{answer_of, inputs_of}
 use Rattle.command_frame.specs.Conduct.{Attempts}
 use Rattle.command_frame.proofs.Obeying.{attempts_usage}
+use Rattle.spcwave.specs.RunClauses.{MakesOutputs}
 use Rattle.spcwave.proofs.run.attempt.Goals as goal
 
 pub returns-in-Usage-clause-attempts : goal.returns-in-Usage-clause-attempts
@@ -62,3 +63,59 @@ returns-in-Cuts-clause-attempts g c =
 pub returns-in-Serve-clause-attempts : goal.returns-in-Serve-clause-attempts
 returns-in-Serve-clause-attempts g c =
     subst (λ (k : Command). Attempts (answer_of k) (inputs_of k) c.serve.result (g.H.Host.state c.args.host.now) (g.H.Host.state c.serve.new.host)) c.in-Serve.ensures.meaning c.serve.ensures.attempts
+
+pub returns-in-Usage-clause-making : goal.returns-in-Usage-clause-making
+returns-in-Usage-clause-making g c =
+    subst (λ (k : Command). MakesOutputs k (g.H.Host.state c.args.host.now) (g.H.Host.state c.args.host.now)) c.in-Usage.ensures.meaning tt
+
+pub returns-in-Check-clause-making : goal.returns-in-Check-clause-making
+returns-in-Check-clause-making g c =
+    subst (λ (k : Command). MakesOutputs k (g.H.Host.state c.args.host.now) (g.H.Host.state c.check.new.host)) c.in-Check.ensures.meaning tt
+
+pub returns-in-Help-clause-making : goal.returns-in-Help-clause-making
+returns-in-Help-clause-making g c =
+    subst (λ (k : Command). MakesOutputs k (g.H.Host.state c.args.host.now) (g.H.Host.state c.help.new.host)) c.in-Help.ensures.meaning tt
+
+pub returns-in-Version-clause-making : goal.returns-in-Version-clause-making
+returns-in-Version-clause-making g c =
+    subst (λ (k : Command). MakesOutputs k (g.H.Host.state c.args.host.now) (g.H.Host.state c.version.new.host)) c.in-Version.ensures.meaning tt
+
+pub returns-in-Brr-clause-making : goal.returns-in-Brr-clause-making
+returns-in-Brr-clause-making g c =
+    subst (λ (k : Command). MakesOutputs k (g.H.Host.state c.args.host.now) (g.H.Host.state c.brr.new.host)) c.in-Brr.ensures.meaning tt
+
+pub returns-in-Info-clause-making : goal.returns-in-Info-clause-making
+returns-in-Info-clause-making g c =
+    subst (λ (k : Command). MakesOutputs k (g.H.Host.state c.args.host.now) (g.H.Host.state c.info.new.host)) c.in-Info.ensures.meaning tt
+
+pub returns-in-Encode-clause-making : goal.returns-in-Encode-clause-making
+returns-in-Encode-clause-making g c =
+    subst (λ (k : Command). MakesOutputs k (g.H.Host.state c.args.host.now) (g.H.Host.state c.encode.new.host)) c.in-Encode.ensures.meaning tt
+
+pub returns-in-Render-clause-making : goal.returns-in-Render-clause-making
+returns-in-Render-clause-making g c =
+    subst (λ (k : Command). MakesOutputs k (g.H.Host.state c.args.host.now) (g.H.Host.state c.render.new.host)) c.in-Render.ensures.meaning c.render.ensures.at_once
+
+pub returns-in-Demo-clause-making : goal.returns-in-Demo-clause-making
+returns-in-Demo-clause-making g c =
+    subst (λ (k : Command). MakesOutputs k (g.H.Host.state c.args.host.now) (g.H.Host.state c.demo.new.host)) c.in-Demo.ensures.meaning tt
+
+pub returns-in-Asm-clause-making : goal.returns-in-Asm-clause-making
+returns-in-Asm-clause-making g c =
+    subst (λ (k : Command). MakesOutputs k (g.H.Host.state c.args.host.now) (g.H.Host.state c.asm.new.host)) c.in-Asm.ensures.meaning tt
+
+pub returns-in-Dis-clause-making : goal.returns-in-Dis-clause-making
+returns-in-Dis-clause-making g c =
+    subst (λ (k : Command). MakesOutputs k (g.H.Host.state c.args.host.now) (g.H.Host.state c.dis.new.host)) c.in-Dis.ensures.meaning tt
+
+pub returns-in-Rip-clause-making : goal.returns-in-Rip-clause-making
+returns-in-Rip-clause-making g c =
+    subst (λ (k : Command). MakesOutputs k (g.H.Host.state c.args.host.now) (g.H.Host.state c.rip.new.host)) c.in-Rip.ensures.meaning c.rip.ensures.in_turn
+
+pub returns-in-Cuts-clause-making : goal.returns-in-Cuts-clause-making
+returns-in-Cuts-clause-making g c =
+    subst (λ (k : Command). MakesOutputs k (g.H.Host.state c.args.host.now) (g.H.Host.state c.cuts.new.host)) c.in-Cuts.ensures.meaning tt
+
+pub returns-in-Serve-clause-making : goal.returns-in-Serve-clause-making
+returns-in-Serve-clause-making g c =
+    subst (λ (k : Command). MakesOutputs k (g.H.Host.state c.args.host.now) (g.H.Host.state c.serve.new.host)) c.in-Serve.ensures.meaning tt

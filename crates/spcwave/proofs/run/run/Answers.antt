@@ -14,6 +14,7 @@ returns g c =
       write_fault = clauses.write_fault _ _ _ _ _ c.status_for.ensures o attempt.misread;
       memory = clauses.memory _ _ _ _ _ c.status_for.ensures o attempt.misread;
       truthful = clauses.is_truthful _ _ _ _ _ c.status_for.ensures o attempt.misread;
+      making = clauses.makes _ _ _ _ _ attempt.making c.complain.ensures.complained;
       complete_calm = clauses.completes_calmly _ _ _ _ _ c.status_for.ensures o attempt.misread;
       complete_inputs = clauses.completes_inputs _ _ _ _ _ c.status_for.ensures o attempt.misread;
       complete_outputs = clauses.completes_outputs _ _ _ _ _ c.status_for.ensures o attempt.misread;
