@@ -4,6 +4,7 @@ pub mod Listing
 pub mod Making
 pub mod Obeying
 pub mod Places
+pub mod Refusing
 pub mod Standing
 pub mod Streams
 pub mod Unread
