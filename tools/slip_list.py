@@ -60,6 +60,41 @@ BATCHES = 'render_files/specs/RenderReport.antt'
 BATCHES_CODE = 'render_files/src/sound_report.rt'
 SESSION = 'cut_form/specs/Session.antt'
 REPLIES = 'session_files/src/replies.rt'
+STATE = 'spc_form/specs/Opening.antt'
+STATE_CODE = 'spc_form/src/state.rt'
+FLAGS = 'spc700_alu/specs/Flags.antt'
+FLAGS_CODE = 'spc700_alu/src/flags.rt'
+OFFSETS = '0 ∷ 0 ∷ 1040 ∷ 536 ∷ 0 ∷ 1040 ∷ 536 ∷ 0 ∷ 1040 ∷ 536 ∷ 0 ∷\n' \
+    '    1040 ∷ 536 ∷ 0 ∷ 1040 ∷ 536 ∷ 0 ∷ 1040 ∷ 536 ∷ 0 ∷ 1040 ∷ 536 ∷\n' \
+    '    0 ∷ 1040 ∷ 536 ∷ 0 ∷ 1040 ∷ 536 ∷ 0 ∷ 1040 ∷ 0 ∷ 0 ∷ []'
+OFFSETS_CODE = '1040, 536, 0, 1040, 536, 0, 1040, 536, 0, 1040, 536, 0, 1040, 536, 0, 1040, 536, 0, 1040,\n' \
+    '    536, 0, 1040, 536, 0, 1040, 536, 0, 1040, 0, 0,'
+ZEROS = 'ports_timers/specs/Zeros.antt'
+ZEROS_CODE = 'ports_timers/src/zeros.rt'
+CHIP = 'dsp_state/specs/Registers.antt'
+VOLUMES = 'dsp_state/specs/Volumes.antt'
+VOLUMES_CODE = 'dsp_state/src/volumes.rt'
+KEYS = 'batch_rows/src/keys.rt'
+VOICE = 'voice_unit/specs/Voice.antt'
+VOICE_CODE = 'voice_unit/src/voice.rt'
+LEVEL = 'voice_unit/src/level.rt'
+DIRECTORY = 'voice_unit/specs/Directory.antt'
+DIRECTORY_CODE = 'voice_unit/src/directory.rt'
+FIR = 'echo_unit/specs/Fir.antt'
+FILTER = 'echo_unit/src/filter.rt'
+WRAPPED = 'echo_unit/src/wrapped.rt'
+ECHO = 'echo_unit/specs/Echo.antt'
+ECHO_CODE = 'echo_unit/src/echo.rt'
+CELL = 'echo_unit/src/cell.rt'
+PAGE = 'echo_unit/specs/Page.antt'
+PAGE_CODE = 'echo_unit/src/page.rt'
+WINDOW = 'reach_map/specs/Window.antt'
+FADE = 'render_core/specs/Fade.antt'
+FADE_CODE = 'render_core/src/fade.rt'
+ENCODING = 'brr_encode/specs/Encoding.antt'
+LEAST = 'brr_encode/specs/Least.antt'
+CHOICE = 'brr_encode/src/choice.rt'
+SEARCH = 'brr_encode/src/search.rt'
 
 SLIPS = [
     # the assembler's text
@@ -107,6 +142,24 @@ SLIPS = [
         (DECIMAL, '(a + 0x60) % 0x100', '(a + 0x61) % 0x100'), (DECIMAL_CODE, 'a.wrapping_add(0x60)', 'a.wrapping_add(0x61)')]),
     Slip('DAS takes 5 from the ones', ['spc700_alu'], ['worked_parts'], [
         (DECIMAL, '(adjusted + 0x100 - 6) % 0x100', '(adjusted + 0x100 - 5) % 0x100'), (DECIMAL_CODE, 'adjusted.wrapping_sub(6)', 'adjusted.wrapping_sub(5)')]),
+    Slip('H after DIV only where the digit of X is less', ['spc700_alu'], ['worked_parts'], [
+        ('spc700_alu/specs/WordArithmetic.antt', 'nat_le (x % 0x10) (ya / 0x100 % 0x10)', 'nat_lt (x % 0x10) (ya / 0x100 % 0x10)'),
+        ('spc700_alu/src/word_arithmetic.rt', 'x % 0x10 <= y % 0x10', 'x % 0x10 < y % 0x10')]),
+    Slip('V and P exchanged in the status', ['spc700_alu'], ['worked_parts'], [
+        (FLAGS, 'V = 0x40', 'V = 0x20'), (FLAGS, 'P = 0x20', 'P = 0x40'),
+        (FLAGS_CODE, 'OVERFLOW: u8 = 0x40', 'OVERFLOW: u8 = 0x20'), (FLAGS_CODE, 'PAGE: u8 = 0x20', 'PAGE: u8 = 0x40')]),
+    Slip('H and I exchanged in the status', ['spc700_alu'], ['worked_parts'], [
+        (FLAGS, 'H = 0x08', 'H = 0x04'), (FLAGS, 'I = 0x04', 'I = 0x08'),
+        (FLAGS_CODE, 'HALF: u8 = 0x08', 'HALF: u8 = 0x04'), (FLAGS_CODE, 'INTERRUPT: u8 = 0x04', 'INTERRUPT: u8 = 0x08')]),
+    Slip('Z and C exchanged in the status', ['spc700_alu'], ['worked_parts'], [
+        (FLAGS, 'Z = 0x02', 'Z = 0x01'), (FLAGS, 'C = 0x01', 'C = 0x02'),
+        (FLAGS_CODE, 'ZERO: u8 = 0x02', 'ZERO: u8 = 0x01'), (FLAGS_CODE, 'CARRY: u8 = 0x01', 'CARRY: u8 = 0x02')]),
+    Slip('N and B exchanged in the status', ['spc700_alu'], ['worked_parts'], [
+        (FLAGS, 'N = 0x80', 'N = 0x10'), (FLAGS, 'B = 0x10', 'B = 0x80'),
+        (FLAGS_CODE, 'NEGATIVE: u8 = 0x80', 'NEGATIVE: u8 = 0x10'), (FLAGS_CODE, 'BREAK: u8 = 0x10', 'BREAK: u8 = 0x80')]),
+    Slip('the table of calls one entry lower', ['spc700_exec'], ['worked_programs'], [
+        ('spc700_exec/specs/Operands.antt', 'call_entry n = 0xffde', 'call_entry n = 0xffdc'),
+        ('spc700_exec/src/operand.rt', 'Operand::At(0xffde', 'Operand::At(0xffdc'), ('spc700_exec/src/jumps.rt', 'Operand::At(0xffde', 'Operand::At(0xffdc')]),
 
     # SPC files and what is shown of them
     Slip("the dumper's and the date's places exchanged", ['spc_form'], ['worked_commands'], [
@@ -124,6 +177,17 @@ SLIPS = [
     Slip('an artist of 31 bytes', ['spc_form'], ['worked_commands'], [
         (TAGS, 'field_size Artist = 32', 'field_size Artist = 31'),
         (TAGS_CODE, 'Tag::Title | Tag::Game | Tag::Comments | Tag::Artist => 32', 'Tag::Artist => 31, Tag::Title | Tag::Game | Tag::Comments => 32')]),
+    Slip('the comments one byte earlier', ['spc_form'], ['worked_commands'], [
+        (TAGS, 'field_start Comments = 0x7E', 'field_start Comments = 0x7D'), (TAGS_CODE, 'Tag::Comments => 0x7E', 'Tag::Comments => 0x7D')]),
+    Slip('the seconds one byte later', ['spc_form'], ['worked_files', 'worked_commands'], [
+        (TAGS, 'field_start Seconds = 0xA9', 'field_start Seconds = 0xAA'), (TAGS_CODE, 'Tag::Seconds => 0xA9', 'Tag::Seconds => 0xAA')]),
+    Slip('the fade one byte later', ['spc_form'], ['worked_files', 'worked_commands'], [
+        (TAGS, 'field_start Fade = 0xAC', 'field_start Fade = 0xAD'), (TAGS_CODE, 'Tag::Fade => 0xAC', 'Tag::Fade => 0xAD')]),
+    Slip('1Bh for the mark of tags', ['spc_form'], ['worked_files', 'worked_commands'], [
+        (TAGS, 'tag_mark_of file == 0x1A', 'tag_mark_of file == 0x1B'), (TAGS_CODE, 'self.tag_mark() == 0x1A', 'self.tag_mark() == 0x1B'),
+        (INFO_CODE, 'file.tag_mark() != 0x1a', 'file.tag_mark() != 0x1b'), ('player/src/player.rt', 'tag_mark() == 0x1A', 'tag_mark() == 0x1B')]),
+    Slip('bit 6 shows the ROM at the opening', ['spc_form'], ['worked_files'], [
+        (STATE, '(memory_of file) 0xF1) 7', '(memory_of file) 0xF1) 6'), (STATE_CODE, 'has_bit(image[0xF1], 7)', 'has_bit(image[0xF1], 6)')]),
     Slip('31 frames a millisecond of a fade', ['spc_form'], ['worked_files'], [
         (TAGS, 'frames = SAMPLE_RATE * seconds + 32 * milliseconds; fade = 32 * milliseconds', 'frames = SAMPLE_RATE * seconds + 31 * milliseconds; fade = 31 * milliseconds'),
         (TAGS_CODE, '32 * fade.unwrap_or(0)', '31 * fade.unwrap_or(0)')]),
@@ -155,6 +219,10 @@ SLIPS = [
         (WAVE_CODE, 'SAMPLE_RATE * frame_size', '32040 * frame_size')]),
     Slip('a size of 44 and the frames after RIFF', ['wav_form'], ['worked_files'], [
         (WAVE, '(36 + frames * frame_size channels)', '(44 + frames * frame_size channels)'), (WAVE_CODE, '36 + size', '44 + size')]),
+    Slip('a block align of one sample', ['wav_form'], ['worked_files'], [
+        (WAVE, 'little_bytes 2 (frame_size channels)', 'little_bytes 2 2'), (WAVE_CODE, 'write_u16(&mut bytes[32..], 2 * channels)', 'write_u16(&mut bytes[32..], 2)')]),
+    Slip('format 3 in the head', ['wav_form'], ['worked_files'], [
+        (WAVE, 'little_bytes 2 1 ++', 'little_bytes 2 3 ++'), (WAVE_CODE, '\\x10\\0\\0\\0\\x01', '\\x10\\0\\0\\0\\x03')]),
     Slip('right before left', ['wav_form'], ['worked_files'], [
         (WAVE, 'sample_bytes frame.left ++ sample_bytes frame.right', 'sample_bytes frame.right ++ sample_bytes frame.left'),
         (WAVE_CODE, 'write_i16(&mut bytes, frame.left)', 'write_i16(&mut bytes, frame.right)'),
@@ -164,12 +232,29 @@ SLIPS = [
     Slip('two channels read as one', ['wav_form'], ['worked_files'], [
         (MONO, '(little_number 2 (drop 2 body) == 1)', '(little_number 2 (drop 2 body) == 2)'), (MONO_CODE, 'read_u16(&body[2..]) == 1', 'read_u16(&body[2..]) == 2')]),
 
-    # traces
+    # traces, and batches that are counted
     Slip('the letters of registers and ports exchanged', ['trace_form'], ['worked_parts'], [
         (LINE, 'codes "R "', 'codes "Q "'), (LINE, 'codes "P "', 'codes "R "'), (LINE, 'codes "Q "', 'codes "P "'),
         (LINE_CODE, 'b"R "', 'b"Q "'), (LINE_CODE, 'b"P "', 'b"R "'), (LINE_CODE, 'b"Q "', 'b"P "')]),
     Slip('another letter for a key on', ['trace_form'], ['worked_parts'], [
         (LINE, '(codes "k")', '(codes "K")'), (LINE_CODE, 'b"k"', 'b"K"')]),
+    Slip('the output before the level', ['trace_form'], ['worked_parts'], [
+        (LINE, 'decimal level ++ codes " " ++ signed_decimal out', 'signed_decimal out ++ codes " " ++ decimal level'),
+        (LINE_CODE, 'line.append_decimal(level);', 'line.append_decimal(voice + 0);'), (LINE_CODE, 'line.append_decimal(out);', 'line.append_decimal(level);'),
+        (LINE_CODE, 'line.append_decimal(voice + 0);', 'line.append_decimal(out);')]),
+    Slip('the end of a block told before the key on', ['trace_form'], ['worked_parts'], [
+        (LINE, 'letter_or_dash keyed (codes "k") ++ letter_or_dash looped (codes "l")', 'letter_or_dash looped (codes "l") ++ letter_or_dash keyed (codes "k")'),
+        (LINE_CODE, 'line.append_mark(keyed, b"k");\n            line.append_mark(looped, b"l");',
+         'line.append_mark(looped, b"l");\n            line.append_mark(keyed, b"k");')]),
+    Slip("a port's byte before its number", ['trace_form'], ['worked_parts'], [
+        (LINE, 'decimal port ++ codes " " ++ two_digits value', 'two_digits value ++ codes " " ++ decimal port'),
+        (LINE_CODE, 'line.append_decimal(port);\n    line.append(b" ");\n    line.append_byte(value);',
+         'line.append_byte(value);\n    line.append(b" ");\n    line.append_decimal(port);')]),
+    Slip('room for 255 events', ['trace_form', 'lag_bus'], ['worked_parts', 'worked_tunes'], [
+        ('trace_form/src/ring.rt', 'EVENT_ROOM: usize = 256', 'EVENT_ROOM: usize = 255')]),
+    Slip("the echo's batches counted as the memory's", ['lag_bus'], ['worked_tunes'], [
+        ('lag_bus/specs/Book.antt', 'echo = count_after counts.echo 1', 'memory = count_after counts.memory 1'),
+        ('lag_bus/src/counting.rt', 'counts.echo = counts.echo.saturating_add(1)', 'counts.memory = counts.memory.saturating_add(1)')]),
 
     # rates, noise, timers and ports
     Slip('rate 1 fires every 1,024 samples', ['rate_clock'], ['worked_parts'], [
@@ -180,6 +265,9 @@ SLIPS = [
         (NOISE, 'noise_at zero = 0x4000', 'noise_at zero = 0x2000'), (NOISE_CODE, 'Noise { value: 0x4000 }', 'Noise { value: 0x2000 }')]),
     Slip('the noise looks at its bits 0 and 2', ['rate_clock'], ['worked_parts'], [
         (NOISE, 'n % 2 == n / 2 % 2', 'n % 2 == n / 4 % 2'), (NOISE_CODE, '(n ^ (n >> 1))', '(n ^ (n >> 2))')]),
+    Slip('an offset of 563 for the periods by five', ['rate_clock'], ['worked_parts'], [
+        (COUNTER, OFFSETS, OFFSETS.replace('536', '563')), (CLOCK, OFFSETS_CODE, OFFSETS_CODE.replace('536', '563')),
+        (CLOCK, 'FIFTHS: u16 = 536', 'FIFTHS: u16 = 563'), (CLOCK, 'fifths: 1,', 'fifths: 3,')]),
     Slip('timer 2 ticks every 32 cycles', ['ports_timers'], ['worked_parts'], [
         (IO, '(is_enabled 2 io.control) 16 clock', '(is_enabled 2 io.control) 32 clock'), (IO_CODE, 'has_bit(control, 2), 16,', 'has_bit(control, 2), 32,')]),
     Slip('timer 1 ticks every 64 cycles', ['ports_timers'], ['worked_parts'], [
@@ -194,6 +282,28 @@ SLIPS = [
     Slip('the targets of timers 0 and 1 exchanged', ['ports_timers'], ['worked_parts'], [
         (IO, 'at == 0xFA then', 'at == 0xFE then'), (IO, 'at == 0xFB then', 'at == 0xFA then'), (IO, '{3}at == 0xFE then', 'at == 0xFB then'),
         (IO_CODE, '0xFA => self.timer0', '0xFB => self.timer0'), (IO_CODE, '0xFB => self.timer1', '0xFA => self.timer1')]),
+    Slip('the targets of timers 1 and 2 exchanged', ['ports_timers'], ['worked_parts'], [
+        (IO, 'at == 0xFB then record io { timer1', 'at == 0xFC then record io { timer1'), (IO, 'at == 0xFC then record io { timer2', 'at == 0xFB then record io { timer2'),
+        (IO_CODE, '0xFB => self.timer1', '0xFC => self.timer1'), (IO_CODE, '0xFC => self.timer2', '0xFB => self.timer2')]),
+    Slip('the bits of timers 0 and 1 in the control exchanged', ['ports_timers'], ['worked_parts'], [
+        (IO, 'io.control value 0 io.timer0', 'io.control value 1 io.timer0'), (IO, 'io.control value 1 io.timer1', 'io.control value 0 io.timer1'),
+        (IO, 'timer0 = after_cycles (is_enabled 0', 'timer0 = after_cycles (is_enabled 1'), (IO, 'timer1 = after_cycles (is_enabled 1', 'timer1 = after_cycles (is_enabled 0'),
+        (IO_CODE, '(old, value, 0, self.timer0)', '(old, value, 1, self.timer0)'), (IO_CODE, '(old, value, 1, self.timer1)', '(old, value, 0, self.timer1)'),
+        (IO_CODE, 'self.timer0\n            .pass(has_bit(control, 0)', 'self.timer0\n            .pass(has_bit(control, 1)'),
+        (IO_CODE, 'self.timer1\n            .pass(has_bit(control, 1)', 'self.timer1\n            .pass(has_bit(control, 0)'),
+        (ZEROS, '(is_enabled 0 io.control) 128 clock cycles io.timer0', '(is_enabled 1 io.control) 128 clock cycles io.timer0'),
+        (ZEROS, '(is_enabled 1 io.control) 128 clock cycles io.timer1', '(is_enabled 0 io.control) 128 clock cycles io.timer1'),
+        (ZEROS_CODE, 'io.timer0, has_bit(io.control, 0)', 'io.timer0, has_bit(io.control, 1)'),
+        (ZEROS_CODE, 'io.timer1, has_bit(io.control, 1)', 'io.timer1, has_bit(io.control, 0)')]),
+    Slip('a read leaves an output counter as it is', ['ports_timers'], ['worked_parts'], [
+        (TIMER, 'after_output_read timer = record timer { output = 0 }', 'after_output_read timer = timer'),
+        (IO_CODE, 'std::mem::replace(&mut self.timer0.output, 0)', 'self.timer0.output'), (IO_CODE, 'std::mem::replace(&mut self.timer1.output, 0)', 'self.timer1.output'),
+        (IO_CODE, 'std::mem::replace(&mut self.timer2.output, 0)', 'self.timer2.output')]),
+    Slip('input latches 0 and 1 exchanged at the opening', ['ports_timers'], ['worked_parts'], [
+        (IO, 'cell 0xF4 ∷ cell 0xF5', 'cell 0xF5 ∷ cell 0xF4'), (IO_CODE, 'cells[0x4], cells[0x5]', 'cells[0x5], cells[0x4]')]),
+    Slip('a write of a port goes to its input latch', ['ports_timers'], ['worked_parts'], [
+        (IO, 'output = slice_set io.output (at - 0xF4) value', 'input = slice_set io.input (at - 0xF4) value'),
+        (IO_CODE, 'self.output[usize::from(addr) - 0xF4] = value', 'self.input[usize::from(addr) - 0xF4] = value')]),
 
     # envelopes
     Slip('the fastest attack rises by 200h', ['envelope', 'envelope_laws'], ['worked_parts'], [
@@ -208,6 +318,18 @@ SLIPS = [
         (ENVELOPE, 'floor_shift e 8', 'floor_shift e 7'), (TARGET, 'less >> 8', 'less >> 7')]),
     Slip('a release by 16', ['envelope', 'envelope_laws'], ['worked_parts'], [
         (ENVELOPE, 's.level - 8', 's.level - 16'), (ENVELOPE_CODE, 'self.level.saturating_sub(8)', 'self.level.saturating_sub(16)')]),
+    Slip('an attack of three bits', ['envelope', 'envelope_laws'], ['worked_parts'], [
+        (ENVELOPE, '(adsr1 % 16) + 1', '(adsr1 % 8) + 1'), (TARGET, '(adsr1 % 16) + 1', '(adsr1 % 8) + 1')]),
+    Slip('a decay of two bits', ['envelope', 'envelope_laws'], ['worked_parts'], [
+        (ENVELOPE, 'adsr1 / 16 % 8', 'adsr1 / 16 % 4'), (TARGET, 'adsr1 / 16 % 8', 'adsr1 / 16 % 4')]),
+    Slip('a sustain level of two bits', ['envelope', 'envelope_laws'], ['worked_parts'], [
+        (ENVELOPE, '(if gain_rules adsr1 then gain else adsr2) / 32', '(if gain_rules adsr1 then gain else adsr2) / 64'),
+        (TARGET, '{ gain / 32 } else { adsr2 / 32 }', '{ gain / 64 } else { adsr2 / 64 }')]),
+    Slip('the two falls of GAIN exchanged', ['envelope', 'envelope_laws'], ['worked_parts'], [
+        (ENVELOPE, 'if kind == 0 then pos level -ℤ pos 0x20\n    else if kind == 1', 'if kind == 1 then pos level -ℤ pos 0x20\n    else if kind == 0'),
+        (TARGET, 'if kind == 0 {\n        from - 0x20\n    } else if kind == 1', 'if kind == 1 {\n        from - 0x20\n    } else if kind == 0')]),
+    Slip('the bent rise by 4 from its bend on', ['envelope', 'envelope_laws'], ['worked_parts'], [
+        (ENVELOPE, 'then 0x20 else 8)', 'then 0x20 else 4)'), (TARGET, 'from + 8', 'from + 4')]),
 
     # BRR and interpolation
     Slip('filter 1 takes a 16th', ['brr_decode'], ['worked_parts'], [
@@ -223,6 +345,21 @@ SLIPS = [
         (KEPT, 'value = sign4 (byte / 0x10) } ∷ record { header = header; value = sign4 byte }', 'value = sign4 byte } ∷ record { header = header; value = sign4 (byte / 0x10) }'),
         (BLOCK, 'digit(b0 / 16)', 'digit(b0 / 1)'), (BLOCK, 'digit(b0))', 'digit(b0 / 16))'),
         (BLOCK, 'digit(b1 / 16)', 'digit(b1 / 1)'), (BLOCK, 'digit(b1))', 'digit(b1 / 16))')]),
+    Slip('the filter in bits 2 and 1 of a header', ['brr_decode', 'brr_encode'], ['worked_parts'], [
+        (HEADER, 'header / 4 % 4', 'header / 2 % 4'), (DIGIT, 'header / 4 % 4', 'header / 2 % 4')]),
+    Slip('a shift of 13', ['brr_decode'], ['worked_parts'], [
+        (KEPT, 'nat_le shift 12', 'nat_le shift 13'), (DIGIT, 'shift <= 12', 'shift <= 13'), (DIGIT, 'shift ≤ 12', 'shift ≤ 13')]),
+    Slip('filter 2 takes 5 64ths', ['brr_decode'], ['worked_commands', 'worked_tunes'], [
+        (KEPT, 'scaled p1 (neg_ℤ (pos 3)) 6', 'scaled p1 (neg_ℤ (pos 5)) 6'), (DIGIT, 'scaled(p1, -3, 6)', 'scaled(p1, -5, 6)'),
+        (DIGIT, '{1}scaled p1 (neg_ℤ (pos 3)) 6', 'scaled p1 (neg_ℤ (pos 5)) 6'), (DIGIT, 'scaled p1 (neg_ℤ (pos 3)) 6', 'scaled p1 (neg_ℤ (pos 5)) 6')]),
+    Slip('filter 3 takes 11 128ths', ['brr_decode'], ['worked_tunes'], [
+        (KEPT, 'scaled p1 (neg_ℤ (pos 13)) 7', 'scaled p1 (neg_ℤ (pos 11)) 7'), (DIGIT, 'scaled(p1, -13, 7)', 'scaled(p1, -11, 7)'),
+        (DIGIT, '{1}scaled p1 (neg_ℤ (pos 13)) 7', 'scaled p1 (neg_ℤ (pos 11)) 7'), (DIGIT, 'scaled p1 (neg_ℤ (pos 13)) 7', 'scaled p1 (neg_ℤ (pos 11)) 7')]),
+    Slip('the double of a sum is limited, too', ['brr_decode'], ['worked_parts'], [
+        (KEPT, 'wrap16 (pos 2 *ℤ clamp16', 'clamp16 (pos 2 *ℤ clamp16'), (KEPT, 'scaled, wrap16, clamp16', 'scaled, clamp16'),
+        (DIGIT, 'wrap16 (pos 2 *ℤ clamp16', 'clamp16 (pos 2 *ℤ clamp16'), (DIGIT, 'wrap16 (pos 2 *ℤ number)', 'clamp16 (pos 2 *ℤ number)'),
+        (DIGIT, 'wrap16(2 * i32::from(number))', 'clamp16(2 * i32::from(number))'),
+        (DIGIT, 'Arithmetic.{clamp16, scaled, wrap16}', 'Arithmetic.{clamp16, scaled}'), (DIGIT, 'has_bit, scaled, wrap16}', 'has_bit, scaled}')]),
     Slip('the older weights exchanged', ['gauss_table'], ['worked_parts'], [
         (MIX, 'number_at table (255 - i)', 'number_at table (510 - i)'), (MIX, 'number_at table (511 - i)', 'number_at table (255 - i)'), (MIX, 'number_at table (510 - i)', 'number_at table (511 - i)'),
         (QUAD, 'weights[255 - place]', 'weights[510 - place]'), (QUAD, 'weights[511 - place]', 'weights[255 - place]'), (QUAD, 'weights[510 - place]', 'weights[511 - place]')]),
@@ -246,18 +383,85 @@ SLIPS = [
         (REGISTERS, 'KON: usize = 0x4c', 'KON: usize = 0x5c'), (REGISTERS, 'KOFF: usize = 0x5c', 'KOFF: usize = 0x4c')]),
     Slip('PMON and NON exchanged', ['dsp_state'], ['worked_sounds', 'worked_renders', 'worked_tunes'], [
         (REGISTERS, 'PMON: usize = 0x2d', 'PMON: usize = 0x3d'), (REGISTERS, 'NON: usize = 0x3d', 'NON: usize = 0x2d')]),
+    Slip('ENVX and OUTX exchanged', ['dsp_state'], ['worked_sounds', 'worked_renders'], [
+        (REGISTERS, 'ENVX: usize = 8', 'ENVX: usize = 9'), (REGISTERS, 'OUTX: usize = 9', 'OUTX: usize = 8')]),
+    Slip('ENDX and EDL exchanged', ['dsp_state'], ['worked_sounds', 'worked_renders'], [
+        (REGISTERS, 'ENDX: usize = 0x7c', 'ENDX: usize = 0x7d'), (REGISTERS, 'EDL: usize = 0x7d', 'EDL: usize = 0x7c')]),
+    Slip('EFB and EON exchanged', ['dsp_state'], ['worked_tunes'], [
+        (REGISTERS, 'EFB: usize = 0x0d', 'EFB: usize = 0x4d'), (REGISTERS, 'EON: usize = 0x4d', 'EON: usize = 0x0d')]),
+    Slip('DIR and ESA exchanged', ['dsp_state'], ['worked_sounds', 'worked_renders'], [
+        (REGISTERS, 'DIR: usize = 0x5d', 'DIR: usize = 0x6d'), (REGISTERS, 'ESA: usize = 0x6d', 'ESA: usize = 0x5d')]),
+    Slip('soft reset by bit 6 of FLG', ['dsp_state'], ['worked_sounds'], [
+        (CHIP, 'has_bit flg 7', 'has_bit flg 6'), (REGISTERS, 'has_bit(flg, 7)', 'has_bit(flg, 6)')]),
+    Slip('a noise rate of four bits', ['dsp_state'], ['worked_tunes'], [
+        (CHIP, 'flg % 32', 'flg % 16'), ('dsp_state/src/settings.rt', 'flg % 32', 'flg % 16')]),
+    Slip("the filter's coefficients in reverse", ['dsp_state'], ['worked_sounds'], [
+        (CHIP, '16 * i + FIR', '16 * (7 - i) + FIR'), (CHIP, '{ℕ, ◌+◌, ◌*◌,', '{ℕ, ◌+◌, ◌-◌, ◌*◌,'),
+        (REGISTERS, '16 * i + FIR', '16 * (7 - i) + FIR'), (REGISTERS, '◌+◌, ◌*◌, map', '◌+◌, ◌-◌, ◌*◌, map'),
+        (REGISTERS, 'r[0x0f], r[0x1f], r[0x2f], r[0x3f], r[0x4f], r[0x5f], r[0x6f], r[0x7f]',
+         'r[0x7f], r[0x6f], r[0x5f], r[0x4f], r[0x3f], r[0x2f], r[0x1f], r[0x0f]')]),
+    Slip('bit 7 mutes voice 0', ['dsp_state', 'mute_laws'], ['worked_sounds', 'worked_tunes'], [
+        (VOLUMES, 'has_bit muted v', 'has_bit muted (7 - v)'), (VOLUMES, 'Prelude.{ℕ, List', 'Prelude.{ℕ, ◌-◌, List'),
+        (VOLUMES_CODE, 'has_bit(muted, v)', 'has_bit(muted, 7 - v)')]),
+    Slip('bit 7 of a mask stands for voice 0', ['chip_form'], ['worked_sounds', 'worked_tunes'], [
+        ('chip_form/specs/Samples.antt', 'has_bit mask voice', 'has_bit mask (7 - voice)'), ('batch_rows/src/records.rt', 'has_bit(mask, v)', 'has_bit(mask, 7 - v)')]),
+
+    # voices
+    Slip('a delay of four after a key on', ['voice_unit'], ['worked_sounds'], [
+        (VOICE, 'v.delay == 5 then 0', 'v.delay == 4 then 0'), (VOICE, 'v.delay == 5 then start', 'v.delay == 4 then start'),
+        (VOICE, 'v.delay == 5 then 1', 'v.delay == 4 then 1'), (VOICE, 'is_keyed i then 5', 'is_keyed i then 4'), (VOICE_CODE, 'KEY_ON_DELAY: u8 = 5', 'KEY_ON_DELAY: u8 = 4')]),
+    Slip('keys polled at odd samples', ['dsp_state', 'batch_rows'], ['worked_sounds'], [
+        ('dsp_state/specs/Sample.antt', 'k % 2 == 0', 'k % 2 == 1'), (KEYS, 'number % 2 == 0', 'number % 2 == 1'), (KEYS, 'j % 2 == odd', 'j % 2 != odd')]),
+    Slip('the loop word before the start word', ['voice_unit'], ['worked_sounds'], [
+        (DIRECTORY, '{1}word_at memory (entry_address dir srcn)', 'word_at memory ((entry_address dir srcn + 2) % 0x10000)'),
+        (DIRECTORY, '{2}word_at memory ((entry_address dir srcn + 2) % 0x10000)', 'word_at memory (entry_address dir srcn)'),
+        (DIRECTORY_CODE, '{1}memory.word(entry_address(dir, srcn)', 'memory.word(entry_address(dir, srcn).wrapping_add(2)'),
+        (DIRECTORY_CODE, '{2}memory.word(entry_address(dir, srcn).wrapping_add(2)', 'memory.word(entry_address(dir, srcn)')]),
+    Slip('a pitch bent by 16ths of an output', ['voice_unit'], ['worked_sounds'], [
+        (VOICE, '(floor_shift previous 5) (pos pitch) 10', '(floor_shift previous 4) (pos pitch) 11'),
+        (LEVEL, '(floor_shift previous 5) (pos pitch) 10', '(floor_shift previous 4) (pos pitch) 11'),
+        (LEVEL, 'scaled(previous >> 5, pitch as i16, 10)', 'scaled(previous >> 4, pitch as i16, 11)'), (LEVEL, '(previous >> 5) * 32', '(previous >> 4) * 16')]),
+
+    # the echo's filter and its buffer, and what a batch can meet
+    Slip('taps over 128', ['echo_unit'], ['worked_sounds'], [
+        (FIR, 'scaled sample (sign8 coefficient) 6', 'scaled sample (sign8 coefficient) 7'), (FILTER, 'coefficients.now i)) 6)', 'coefficients.now i)) 7)'),
+        (WRAPPED, 'floor_shift v 6', 'floor_shift v 7'), (WRAPPED, 'v >> 6', 'v >> 7'), (WRAPPED, 'sample (pos 64)', 'sample (pos 128)'),
+        (WRAPPED, 'rem_euclid(64)', 'rem_euclid(128)'), (WRAPPED, 'scaled sample coefficient 6', 'scaled sample coefficient 7')]),
+    Slip('the right word of a cell first', ['echo_unit'], ['worked_sounds'], [
+        (ECHO, 'left = halved_word memory address; right = halved_word memory ((address + 2) % 0x10000)',
+         'left = halved_word memory ((address + 2) % 0x10000); right = halved_word memory address'),
+        (ECHO, '(with_word memory address left) ((address + 2) % 0x10000) right', '(with_word memory address right) ((address + 2) % 0x10000) left'),
+        (PAGE, 'left = halved_at page at; right = halved_at page (at + 2)', 'left = halved_at page (at + 2); right = halved_at page at'),
+        (PAGE, '(with_word_in page at left) (at + 2) right', '(with_word_in page at right) (at + 2) left'),
+        (CELL, 'left: halved_word(memory, address),\n        right: halved_word(memory, address.wrapping_add(2))',
+         'left: halved_word(memory, address.wrapping_add(2)),\n        right: halved_word(memory, address)'),
+        (CELL, 'address, left);\n    put_word(memory, address.wrapping_add(2), right)', 'address, right);\n    put_word(memory, address.wrapping_add(2), left)'),
+        (PAGE_CODE, 'left: halved_at(page, at),\n        right: halved_at(page, at + 2)', 'left: halved_at(page, at + 2),\n        right: halved_at(page, at)'),
+        (PAGE_CODE, 'put_word(page, at, left);\n    put_word(page, at + 2, right)', 'put_word(page, at, right);\n    put_word(page, at + 2, left)')]),
+    Slip('EDL counts units of 1,024 bytes', ['reach_map', 'echo_unit'], ['worked_sounds'], [
+        (WINDOW, 'edl % 16 * 0x800', 'edl % 16 * 0x400'), (ECHO, 's.length % 0x800 == 0 && nat_le s.length (15 * 0x800)', 's.length % 0x400 == 0 && nat_le s.length (15 * 0x400)'),
+        (ECHO_CODE, 'u16::from(edl % 16) * 2048', 'u16::from(edl % 16) * 1024'), (ECHO_CODE, 'u32::from(edl % 16) * 2048', 'u32::from(edl % 16) * 1024'),
+        (ECHO_CODE, 'result ≤ 15 * 0x800', 'result ≤ 15 * 0x400'), (ECHO_CODE, 'result % 0x800', 'result % 0x400'),
+        (ECHO_CODE, 'self.now.offset < 15 * 0x800', 'self.now.offset < 15 * 0x400'), (ECHO_CODE, 'result.len ≤ 15 * 2048', 'result.len ≤ 15 * 1024')]),
+    Slip("the echo's window by EDL alone", ['reach_map', 'echo_unit', 'reach_laws'], ['worked_sounds'], [
+        (WINDOW, 'max (max length (echo_length edl)) 4', 'max (echo_length edl) 4'), (ECHO_CODE, 'u32::from(self.length).max(asked).max(4)', 'asked.max(4)')]),
+    Slip('chains of 17 blocks', ['reach_map', 'reach_laws'], ['worked_parts'], [
+        ('reach_map/specs/Reach.antt', 'start.loop_word 18 start.block', 'start.loop_word 17 start.block'), ('reach_map/src/voices.rt', 'BLOCKS: u32 = 18', 'BLOCKS: u32 = 17')]),
 
     # statuses and complaints
     Slip('the numbers 5 and 6 exchanged', ['exit_status'], ['worked_files'], [
         (STATUSES, 'code_of statuses.SpcSignature = 5', 'code_of statuses.SpcSignature = 6'), (STATUSES, 'code_of statuses.TableLength = 6', 'code_of statuses.TableLength = 5'),
         (STATUS, 'Status::SpcSignature => 5', 'Status::SpcSignature => 6'), (STATUS, 'Status::TableLength => 6', 'Status::TableLength => 5')]),
+    Slip('the numbers 2 and 3 exchanged', ['exit_status'], ['worked_files'], [
+        (STATUSES, 'code_of statuses.ReadFault = 2', 'code_of statuses.ReadFault = 3'), (STATUSES, 'code_of statuses.WriteFault = 3', 'code_of statuses.WriteFault = 2'),
+        (STATUS, 'Status::ReadFault => 2', 'Status::ReadFault => 3'), (STATUS, 'Status::WriteFault => 3', 'Status::WriteFault => 2')]),
     Slip('the line on memory', ['exit_status'], ['worked_files'], [
         (LINES, '"spcwave: out of memory\\n"', '"spcwave: no memory\\n"'), (LINES_CODE, '"spcwave: out of memory\\n"', '"spcwave: no memory\\n"')]),
     Slip('the faults far and long exchanged', ['exit_status'], ['worked_files'], [
         (LINES, 'codes ": far\\n"', 'codes ": faar\\n"'), (LINES, 'codes ": long\\n"', 'codes ": far\\n"'), (LINES, 'codes ": faar\\n"', 'codes ": long\\n"'),
         (LINES_CODE, 'b": far\\n"', 'b": faar\\n"'), (LINES_CODE, 'b": long\\n"', 'b": far\\n"'), (LINES_CODE, 'b": faar\\n"', 'b": long\\n"')]),
 
-    # the opening, and what a render reports
+    # the opening, the fade, and what a render reports
     Slip('X and Y exchanged at the opening', ['render_core'], ['worked_tunes', 'worked_renders'], [
         (OPENED, 'x = x_of file', 'x = y_of file'), (OPENED, 'y = y_of file', 'y = x_of file'),
         (OPENED_CODE, 'x: file.x()', 'x: file.y()'), (OPENED_CODE, 'y: file.y()', 'y: file.x()')]),
@@ -267,6 +471,9 @@ SLIPS = [
     Slip('the status and the stack pointer exchanged at the opening', ['render_core'], ['worked_tunes', 'worked_renders'], [
         (OPENED, 'sp = sp_of file', 'sp = psw_of file'), (OPENED, 'psw = psw_of file', 'psw = sp_of file'),
         (OPENED_CODE, 'sp: file.sp()', 'sp: file.psw()'), (OPENED_CODE, 'psw: file.psw()', 'psw: file.sp()')]),
+    Slip('a fade that ends one frame later', ['render_core'], ['worked_renders'], [
+        (FADE, '{1}(frames - 1 - at)', '(frames - at)'), (FADE, '(frames - 1 - at)', '(frames - at)'), (FADE_CODE, 'frames - 1 - at', 'frames - at'),
+        (FADE_CODE, 'after < fade', 'after ≤ fade')]),
     Slip('the causes register and memory exchanged', ['render_files'], ['worked_tunes'], [
         (BATCHES, 'decimal counts.register ++ codes " memory " ++ decimal counts.memory', 'decimal counts.memory ++ codes " memory " ++ decimal counts.register'),
         (BATCHES_CODE, 'b" register ", counts.register', 'b" register ", counts.memory'), (BATCHES_CODE, 'b" memory ", counts.memory', 'b" memory ", counts.register')]),
@@ -279,11 +486,31 @@ SLIPS = [
         (BATCHES, 'codes " events " ++ decimal counts.events', 'codes " events " ++ decimal counts.echo'),
         (BATCHES_CODE, 'b" echo ", counts.echo', 'b" echo ", counts.events'), (BATCHES_CODE, 'b" events ", counts.events', 'b" events ", counts.echo')]),
 
-    # demo files, cuts and sessions
+    # demo files, encodings, cuts and sessions
     Slip('another factor of the draws', ['demo_gen'], ['worked_files'], [
         (DRAWS, '1664525', '1664527'), (DRAWS_CODE, '1664525', '1664527')]),
     Slip('another byte of a state drawn', ['demo_gen'], ['worked_files'], [
         (DRAWS, 's / 0x1000000', 's / 0x10000 % 0x100'), (DRAWS_CODE, '(state >> 24) as u8', '(state >> 16) as u8')]),
+    Slip('shifts of 5 to 11 in demo files', ['demo_gen'], ['worked_files'], [
+        ('demo_gen/specs/Samples.antt', '16 * (4 + byte % 7)', '16 * (5 + byte % 7)'), ('demo_gen/src/samples.rt', '16 * (4 + byte % 7)', '16 * (5 + byte % 7)')]),
+    Slip('of equally near digits and headers the last', ['brr_encode', 'brr_search'], ['worked_files'], [
+        (LEAST, 'if nat_lt (f n)', 'if nat_le (f n)'), (LEAST, ', nat_lt, if', ', nat_le, if'),
+        (CHOICE, 'second.distance < first.distance', 'second.distance <= first.distance'), (CHOICE, '(if nat_lt second', '(if nat_le second'),
+        (CHOICE, ', nat_lt, if', ', nat_le, if'),
+        (SEARCH, 'limit <= sum', 'limit < sum'), (SEARCH, 'limit ≤ sum', 'limit < sum'), (SEARCH, '(λ limit. sum < limit)', '(λ limit. sum ≤ limit)'),
+        (SEARCH, '(λ limit. squares < limit)', '(λ limit. squares ≤ limit)'), (SEARCH, 'limit ≤ greedy_squares', 'limit < greedy_squares')]),
+    Slip('7,281 blocks encoded', ['brr_encode', 'brr_search', 'sample_rip', 'command_line'], ['worked_files', 'worked_commands'], [
+        (ENCODING, 'most_samples = 116480', 'most_samples = 116496'), (ENCODING, 'most_blocks = 7280', 'most_blocks = 7281'),
+        ('brr_encode/src/encoder.rt', 'samples.len() > 116480', 'samples.len() > 116496'), ('sample_rip/src/blocks.rt', 'MOST_BLOCKS: u32 = 7280', 'MOST_BLOCKS: u32 = 7281'),
+        ('command_line/src/encode_words.rt', 'MOST_SAMPLES: u64 = 116480', 'MOST_SAMPLES: u64 = 116496')]),
+    Slip('63 checkpoints', ['cut_form', 'mark_laws'], ['worked_renders', 'worked_tunes'], [
+        ('cut_form/specs/Checkpoints.antt', 'most_checkpoints = 64', 'most_checkpoints = 63'),
+        ('cut_form/src/cut.rt', 'MOST_CHECKPOINTS: u32 = 64', 'MOST_CHECKPOINTS: u32 = 63')]),
+    Slip('numbers of eight digits at most in lists and scripts', ['cut_form', 'cut_text'], ['worked_files'], [
+        ('cut_form/specs/TextLines.antt', 'most_digits = 9', 'most_digits = 8'), ('cut_text/src/lines.rt', 'MOST_DIGITS: usize = 9', 'MOST_DIGITS: usize = 8')]),
+    Slip('the position told before the frames that were played', ['cut_form', 'session_files'], ['worked_tunes'], [
+        (SESSION, 'codes "played " ++ decimal count ++ codes " at " ++ decimal at', 'codes "played " ++ decimal at ++ codes " at " ++ decimal count'),
+        (REPLIES, 'b"played ", u64::from(count)', 'b"played ", u64::from(at)'), (REPLIES, 'b" at ", u64::from(at)', 'b" at ", u64::from(count)')]),
     Slip('lists of 1,001 cuts', ['cut_form', 'cut_text'], ['worked_files'], [
         ('cut_form/specs/CutList.antt', 'most_cuts = 1000', 'most_cuts = 1001'), ('cut_text/src/cuts.rt', 'MOST_CUTS: usize = 1000', 'MOST_CUTS: usize = 1001')]),
     Slip('the text of a mark', ['cut_form', 'session_files'], ['worked_tunes'], [
