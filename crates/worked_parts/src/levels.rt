@@ -63,6 +63,43 @@ fn each_gain_sets_or_slopes_the_level(rt: HostRuntime) {
     }
 }
 
+// By the top 3 bits of ADSR2, E0h, a decay would end from 700h on. GAIN rules, and so it ends by those of GAIN: not at 7DFh under 9Fh, and at 0F0h under 0Fh.
+#[test]
+fn under_gain_a_decay_ends_by_the_bits_of_gain(rt: HostRuntime) {
+    let mut clock = RateClock::new();
+    let mut envelope = Envelope::released();
+    envelope.key();
+    for (gain, level, mode, hidden) in [
+        (0x7f, 0x7f0, Mode::Attack, 0x7f0),
+        (0xdf, 0x7ff, Mode::Decay, 0x810),
+        (0x9f, 0x7df, Mode::Decay, 0x7df),
+        (0x0f, 0x0f0, Mode::Sustain, 0x0f0),
+    ] {
+        clock.step();
+        envelope.step(0, 0xe0, gain, &clock);
+        assert!(rt; (envelope.level(), envelope.mode, envelope.hidden) == (level, mode, hidden));
+    }
+}
+
+// The first step after a key on. Where GAIN rules it sets the level; else the attack 15 rises by 400h, and the rate of the attack 0 doesn't fire.
+#[test]
+fn gain_rules_where_bit_7_of_adsr1_is_clear(rt: HostRuntime) {
+    let mut clock = RateClock::new();
+    clock.step();
+    for (adsr1, level) in [
+        (0x00, 0x0c0),
+        (0x40, 0x0c0),
+        (0x7f, 0x0c0),
+        (0x80, 0x000),
+        (0xff, 0x400),
+    ] {
+        let mut envelope = Envelope::released();
+        envelope.key();
+        envelope.step(adsr1, 0, 0x0c, &clock);
+        assert!(rt; envelope.level() == level, "at {adsr1:02x}");
+    }
+}
+
 /// How many samples lie between two falls of a decay to nothing.
 fn samples_between_falls(adsr1: u8) -> u32 {
     let mut clock = RateClock::new();

@@ -60,10 +60,10 @@ fn the_rom_shows_once_it_is_switched_on(rt: HostRuntime) {
     assert!(rt; io.read(0xFFC0) == Some(0xAA));
 }
 
-/// Each address has F0h + its own number in its cell, so that a read shows whose value it gives.
+/// Each address has F0h + its own number in its cell, so that a read shows whose value it gives. F1h has all bits but the one that shows the ROM.
 fn numbered() -> Io {
     let cells = [
-        0xF0, 0x00, 0xF2, 0xF3, 0xF4, 0xF5, 0xF6, 0xF7, 0xF8, 0xF9, 0xFA, 0xFB, 0xFC, 0xFD, 0xFE,
+        0xF0, 0x7F, 0xF2, 0xF3, 0xF4, 0xF5, 0xF6, 0xF7, 0xF8, 0xF9, 0xFA, 0xFB, 0xFC, 0xFD, 0xFE,
         0xFF,
     ];
     Io::from_cells(cells, [0xAA; 64])

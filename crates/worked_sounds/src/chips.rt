@@ -2,8 +2,11 @@
 
 ghost use Rattle.std.specs.Prelude.{◌≤◌};
 
-use crate::sources::{memory_of_a_source, put_all};
-use crate::stage::{SILENCE, Stage, begin_in_silence, have_same_bytes, have_same_registers};
+use crate::sources::put_all;
+use crate::stage::{
+    SILENCE, Stage, begin_in_silence, have_same_bytes, have_same_registers, keyed_voice, one_voice,
+    write_all,
+};
 use aram_core::Aram;
 use dsp_core::Dsp;
 use num_fix::Frame;
@@ -11,27 +14,6 @@ use std::alloc::Global;
 use std::process::Abort;
 use std::test::Fail;
 use trace_form::Record;
-
-/// A chip whose voice 0 is set to play one source, with such a KON.
-fn keyed_voice(alloc: Global, key_on: u8) -> Result<Stage, Fail> {
-    let mut registers = [0; 128];
-    registers[0x00] = 0x7f;
-    registers[0x01] = 0x7f;
-    registers[0x03] = 0x10;
-    registers[0x07] = 0x7f;
-    registers[0x0c] = 0x7f;
-    registers[0x1c] = 0x7f;
-    registers[0x4c] = key_on;
-    registers[0x5d] = 0x02;
-    registers[0x6c] = 0x20;
-    registers[0x6d] = 0xe0;
-    Stage::open(alloc, &registers, memory_of_a_source(alloc)?)
-}
-
-/// The same chip, whose voice 0 waits for a key on.
-fn one_voice(alloc: Global) -> Result<Stage, Fail> {
-    keyed_voice(alloc, 0)
-}
 
 /// ENVX and OUTX of voice 0.
 fn results(dsp: &Dsp) -> (u8, u8) {
@@ -67,13 +49,6 @@ struct Made {
     results: (u8, u8),
     sample: u32,
     batches: u64,
-}
-
-/// Writes bytes to registers.
-fn write_all(dsp: &mut Dsp, writes: &[(u8, u8)]) {
-    for (address, value) in writes {
-        dsp.reg_write(*address, *value);
-    }
 }
 
 /// Writes registers, and then makes n samples.
@@ -149,6 +124,14 @@ fn a_key_on_after_a_poll_is_lost_at_the_next(rt: HostRuntime) -> Result<(), Fail
     assert!(rt; are_silence_then(made.frames.as_slice(), &SEVEN));
     assert!(rt; are_of_one_key_on(made.records.as_slice()));
     assert!(rt; made.results == (127, 15) && (made.sample, made.batches) == (8, 2));
+    Ok(())
+}
+
+#[test]
+fn a_key_on_that_is_taken_back_before_its_poll_is_none(rt: HostRuntime) -> Result<(), Fail> {
+    let made = played(rt.alloc(), &[(&[(0x4c, 0x01), (0x4c, 0x00)], 8)])?;
+    assert!(rt; made.records.len() == 8 && made.records.iter().all(is_quiet));
+    assert!(rt; made.frames.len() == 8 && begin_in_silence(made.frames.as_slice(), 8));
     Ok(())
 }
 

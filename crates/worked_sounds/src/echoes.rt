@@ -1,3 +1,4 @@
+use crate::sources::put_all;
 use aram_core::Aram;
 use echo_unit::{Echo, EchoRegs, SumRows, Window};
 use num_fix::Frame;
@@ -65,6 +66,8 @@ fn the_window_goes_round_and_the_length_waits(rt: HostRuntime) -> Result<(), Fai
     };
     let window = |len: u32| Window { start: 0xFF00, len };
     assert!(rt; echo.window(0xFF, 0) == window(4));
+    // the low four bits of EDL count units of 2,048 bytes
+    assert!(rt; echo.window(0xFF, 0x1F) == window(30720));
     for _ in 0..65 {
         let _ = echo.step(&mut memory, &regs, both(0), both(0));
     }
@@ -133,6 +136,46 @@ fn each_of_eight_taps_meets_its_coefficient(rt: HostRuntime) -> Result<(), Fail>
                 right: -1773
             }
     );
+    Ok(())
+}
+
+/// What is heard at the echo's volumes 7Fh in the last of so many steps, of one cell with the same word on both sides, which nothing writes.
+fn heard_of(alloc: Global, low: u8, high: u8, steps: u32, fir: [u8; 8]) -> Result<Frame, Fail> {
+    let zeros = vec![in alloc; 0u8; 65536]?;
+    let mut memory = Aram::from_image(alloc, &zeros)?;
+    put_all(&mut memory, 0x2000, &[low, high, low, high]);
+    let regs = EchoRegs {
+        esa: 0x20,
+        edl: 0,
+        flg: 0x20,
+        efb: 0,
+        mvol_l: 0,
+        mvol_r: 0,
+        evol_l: 0x7F,
+        evol_r: 0x7F,
+        fir,
+    };
+    let mut echo = Echo::new();
+    let mut frame = both(0);
+    for _ in 0..steps {
+        frame = echo.step(&mut memory, &regs, both(0), both(0));
+    }
+    Ok(frame)
+}
+
+// 4032 is read as 2016, 8000h as -16384 and 7FFEh as 16383. The coefficient 80h is -128: the newest tap of the first is -4032, and that of the second 32768,
+// which wraps to -32768. A tap of the third at 7Fh is 32510: two among the first seven wrap to -516, and one of them with the newest is limited to 32767.
+#[test]
+fn taps_wrap_and_the_sum_with_the_newest_is_limited(rt: HostRuntime) -> Result<(), Fail> {
+    for (low, high, steps, fir, side) in [
+        (0xC0, 0x0F, 1, [0, 0, 0, 0, 0, 0, 0, 0x80], -4001),
+        (0x00, 0x80, 1, [0, 0, 0, 0, 0, 0, 0, 0x80], -32512),
+        (0xFE, 0x7F, 8, [0x7F, 0x7F, 0, 0, 0, 0, 0, 0], -512),
+        (0xFE, 0x7F, 8, [0, 0, 0, 0, 0, 0, 0x7F, 0x7F], 32510),
+    ] {
+        let frame = heard_of(rt.alloc(), low, high, steps, fir)?;
+        assert!(rt; frame == both(side), "{side}");
+    }
     Ok(())
 }
 

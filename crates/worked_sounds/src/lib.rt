@@ -11,6 +11,8 @@ mod muted;
 #[cfg(test)]
 mod one_by_one;
 #[cfg(test)]
+mod registers;
+#[cfg(test)]
 mod sources;
 #[cfg(test)]
 mod stage;

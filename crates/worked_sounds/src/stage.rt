@@ -2,6 +2,7 @@
 
 ghost use Rattle.std.specs.Prelude.{◌≤◌};
 
+use crate::sources::memory_of_a_source;
 use aram_core::Aram;
 use dsp_core::Dsp;
 use gauss_table::GaussTable;
@@ -57,6 +58,34 @@ impl Stage {
                 &mut self.records,
             );
         }
+    }
+}
+
+/// A chip whose voice 0 is set to play one source, with such a KON.
+pub fn keyed_voice(alloc: Global, key_on: u8) -> Result<Stage, Fail> {
+    let mut registers = [0; 128];
+    registers[0x00] = 0x7f;
+    registers[0x01] = 0x7f;
+    registers[0x03] = 0x10;
+    registers[0x07] = 0x7f;
+    registers[0x0c] = 0x7f;
+    registers[0x1c] = 0x7f;
+    registers[0x4c] = key_on;
+    registers[0x5d] = 0x02;
+    registers[0x6c] = 0x20;
+    registers[0x6d] = 0xe0;
+    Stage::open(alloc, &registers, memory_of_a_source(alloc)?)
+}
+
+/// The same chip, whose voice 0 waits for a key on.
+pub fn one_voice(alloc: Global) -> Result<Stage, Fail> {
+    keyed_voice(alloc, 0)
+}
+
+/// Writes bytes to registers.
+pub fn write_all(dsp: &mut Dsp, writes: &[(u8, u8)]) {
+    for (address, value) in writes {
+        dsp.reg_write(*address, *value);
     }
 }
 

@@ -15,6 +15,12 @@ const CHANGES_241_PAGES: Pieces = &[(
     b"\x8f\x00\x00\x8f\x10\x01\x8d\x00\xf7\x00\xbc\xd7\x00\x3a\x02\xab\x01\xd0\xf5\x2f\xee",
 )];
 
+/// A program that goes round all pages from page 4 on, one page a sample, and changes a byte of each. Where it is stands in page 4, too.
+const CHANGES_A_PAGE_A_SAMPLE: Pieces = &[(
+    MEMORY + 0x0400,
+    b"\xac\x80\x04\xac\x02\x04\x00\x00\x00\x00\x00\x00\x00\x00\x00\x2f\xef",
+)];
+
 /// Renders the cuts of a list over these inputs, with these voices muted.
 fn cut_over(alloc: Global, inputs: &[(&str, &[u8])], muted: u8) -> Result<Outcome, Fail> {
     let mut host = host_with(alloc, inputs, &[], ROOM)?;
@@ -154,6 +160,13 @@ const MANY: &[(Pieces, u32, u32, &str, &str)] = &[
         "cuts 21 samples 1 checkpoints 16 pages 3871 made 8001\n",
     ),
     (
+        CHANGES_A_PAGE_A_SAMPLE,
+        15,
+        256,
+        "3841 0",
+        "cuts 16 samples 0 checkpoints 16 pages 4096 made 3841\n",
+    ),
+    (
         &[],
         999,
         0,
@@ -183,7 +196,8 @@ fn look_at(rt: &impl Abort, outcome: &Outcome, report: &str) {
 }
 
 /// Up to 64 checkpoints are taken, that of sample 0 among them, as long as 4,096 pages are enough: of those that change 241
-/// pages there are 15 more. A last cut goes back to the last of them.
+/// pages there are 15 more. A last cut goes back to the last of them. Of those that change all 256 pages there are 15 more,
+/// too, which leave no page: a sample later, where one page has changed, there is no checkpoint.
 #[test]
 fn checkpoints_run_out(rt: HostRuntime) -> Result<(), Fail> {
     for (pieces, count, distance, last, report) in MANY {
