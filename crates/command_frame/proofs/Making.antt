@@ -1,32 +1,46 @@
 -- How outputs are made, step by step.
-use Rattle.std.proofs.Common.{◌≡◌, inl, inr, Result, Ok, Err, ℕ, suc, ◌+◌, ◌≤◌, Bool, true, false, List, [], ◌∷◌, ◌++◌, length, replicate, Option, Some, None, IfOk, refl, sym, ◌∙◌, ap, subst, arith, append_assoc, length-append}
+use Rattle.std.proofs.Common.{◌≡◌, inl, inr, Result, Ok, Err, ℕ, suc, ◌+◌, ◌≤◌, Bool, true, false, List, [], ◌∷◌, ◌++◌, length, map, replicate, Option, Some, None, IfOk, refl, sym, ◌∙◌, ap, subst, arith, append_assoc, length-append}
 use Rattle.std.specs.Prelude.{IsSomeAnd}
-use Rattle.std.proofs.lemmas.List.{append-nil, length-replicate}
-use Rattle.snd_host.specs.Host.{HostState, Files, Given, Output, WritesAll, given_with}
+use Rattle.std.proofs.lemmas.List.{append-nil, length-replicate, map-append, replicate_more}
+use Rattle.snd_host.specs.Host.{HostState, Files, Given, Output, IfTold, WritesAll, given_with}
 use Rattle.snd_host.specs.declared.host.Failed.{Failed}
 use Rattle.command_frame.specs.Answer.{Answer, outputs_of}
 use Rattle.command_frame.specs.Conduct.{Delivery, Prepares, CarriesOut, WritesComplaint}
 use Rattle.command_frame.specs.Delivery.{Gains, IsBegun, AreEndedInOrder, all_ended}
-use Rattle.command_frame.specs.Making.{NoneEnded, AreWhole, MadeAtOnce, MadeInTurn}
+use Rattle.command_frame.specs.Making.{AreEmpty, AreWhole, MadeAtOnce, MadeInTurn, new_output}
 use Rattle.command_frame.specs.NamedInputs.{NamedInput}
 use Rattle.command_frame.specs.Stream.{AreDone, Fills}
 use Rattle.command_frame.specs.declared.refusals.Refusal.{Refusal}
 
 -- nothing was created
-pub none_created : (a b : HostState) → b.ended ≡ a.ended → NoneEnded a b
-none_created a b same = (0, same ∙ sym (append-nil a.ended))
+pub none_created : (a b : HostState) → b.given ≡ a.given → b.ended ≡ a.ended → AreEmpty a b
+none_created a b given ended = record {
+  names = [];
+  created = λ before told. subst (λ (o : Option Given). IsSomeAnd o (λ now. now.created ≡ before.created ++ [])) (sym (given ∙ told)) (sym (append-nil before.created));
+  ended = ended ∙ sym (append-nil a.ended);
+}
 
--- an output was created
-pub one_created : (a b : HostState) → b.ended ≡ a.ended ++ false ∷ [] → NoneEnded a b
-one_created a b is = (1, is)
+-- one output more was created
+pub one_created : (name : List ℕ) (a b c : HostState) → AreEmpty a b → IfTold b.given (λ given. c.given ≡ Some (record given { created = given.created ++ new_output name ∷ [] })) → c.ended ≡ b.ended ++ false ∷ [] → AreEmpty a c
+one_created name a b c made created ended = record {
+  names = made.names ++ name ∷ [];
+  created = λ before told. by before b.given refl (made.created before told);
+  ended = ended ∙ ap (λ (l : List Bool). l ++ false ∷ []) made.ended ∙ append_assoc a.ended (replicate (length made.names) false) (false ∷ []) ∙ ap (λ (l : List Bool). a.ended ++ l) one_flag;
+}
+  where
+    one_flag : replicate (length made.names) false ++ false ∷ [] ≡ replicate (length (made.names ++ name ∷ [])) false
+    one_flag = replicate_more (length made.names) false ∙ ap (λ (n : ℕ). replicate n false) (sym (length-append made.names (name ∷ [])))
 
--- and another
-pub both_created : (a b c : HostState) → b.ended ≡ a.ended ++ false ∷ [] → c.ended ≡ b.ended ++ false ∷ [] → NoneEnded a c
-both_created a b c first second = (2, second ∙ ap (λ (l : List Bool). l ++ false ∷ []) first ∙ append_assoc a.ended (false ∷ []) (false ∷ []))
+    by : (before : Given) (o : Option Given) → b.given ≡ o → IsSomeAnd o (λ now. now.created ≡ before.created ++ map new_output made.names) → IsSomeAnd c.given (λ now. now.created ≡ before.created ++ map new_output (made.names ++ name ∷ []))
+    by before None is all = absurd all
+    by before (Some g) is all =
+        subst (λ (o : Option Given). IsSomeAnd o (λ now. now.created ≡ before.created ++ map new_output (made.names ++ name ∷ []))) (sym (created g is))
+        (ap (λ (l : List Output). l ++ new_output name ∷ []) all ∙ append_assoc before.created (map new_output made.names) (new_output name ∷ [])
+        ∙ ap (λ (l : List Output). before.created ++ l) (sym (map-append new_output made.names (name ∷ []))))
 
--- and no flag changed since
-pub none_ended_yet : (a b c : HostState) → NoneEnded a b → c.ended ≡ b.ended → NoneEnded a c
-none_ended_yet a b c none same = (none.0, same ∙ none.1)
+-- the first output was created
+pub first_created : (name : List ℕ) (a b : HostState) → IfTold a.given (λ given. b.given ≡ Some (record given { created = given.created ++ new_output name ∷ [] })) → b.ended ≡ a.ended ++ false ∷ [] → AreEmpty a b
+first_created name a b = one_created name a a b (none_created a a refl refl)
 
 -- what was gained is whole
 pub is_whole : (report complaint : List ℕ) (outputs : List Output) (flags : List Bool) (a b : HostState) → Gains report complaint outputs flags a b → AreWhole outputs a b
@@ -40,9 +54,14 @@ whole_still outputs a b c whole next before told = by b.given refl (whole before
     by None is all = absurd all
     by (Some g) is all = let then = next g is in subst (λ (o : Option Given). IsSomeAnd o (λ now. now.created ≡ before.created ++ outputs)) (sym then.1) (then.2 ∙ all)
 
+-- so do those without bytes
+pub empty_still : (a b c : HostState) → AreEmpty a b → c.ended ≡ b.ended → ((g : Given) → b.given ≡ Some g → (h : Given) × (c.given ≡ Some h) × (h.created ≡ g.created)) → AreEmpty a c
+empty_still a b c empty same next = record { names = empty.names; created = whole_still (map new_output empty.names) a b c empty.created next; ended = same ∙ empty.ended }
+
 pub at_once_still : (outputs : List Output) (a b c : HostState) → MadeAtOnce outputs a b → c.ended ≡ b.ended → ((g : Given) → b.given ≡ Some g → (h : Given) × (c.given ≡ Some h) × (h.created ≡ g.created)) → MadeAtOnce outputs a c
-at_once_still outputs a b c (inl none) same next = inl (none_ended_yet a b c none same)
-at_once_still outputs a b c (inr whole) same next = inr (whole_still outputs a b c whole next)
+at_once_still outputs a b c (inl empty) same next = inl (empty_still a b c empty same next)
+at_once_still outputs a b c (inr (inl created)) same next = inr (inl (same ∙ created))
+at_once_still outputs a b c (inr (inr whole)) same next = inr (inr (whole_still outputs a b c whole next))
 
 -- the report is written, or a part of it
 pub at_once_reported : {T E : Type 0} (outputs : List Output) (report : List ℕ) (a b c : HostState) (r : Result T E) → MadeAtOnce outputs a b → WritesAll 0 report b c r → MadeAtOnce outputs a c
@@ -127,13 +146,15 @@ prepared_at_once {P = P} {C = C} {inputs = inputs} makes answer x y z prepared p
     by prepared p (subst (λ (r : Result P (Refusal C)). CarriesOut makes r y z refusal) same c) (subst (λ (r : Result P (Refusal C)). IfOk r (λ plan. MadeAtOnce (makes plan).outputs y z)) same made)
   where
     earlier : (outputs : List Output) → y.given ≡ x.given → y.ended ≡ x.ended → MadeAtOnce outputs y z → MadeAtOnce outputs x z
-    earlier outputs given ended (inl none) = inl (none.0, none.1 ∙ ap (λ (l : List Bool). l ++ replicate none.0 false) ended)
-    earlier outputs given ended (inr whole) = inr (λ before told_before. whole before (given ∙ told_before))
+    earlier outputs given ended (inl empty) =
+        inl (record { names = empty.names; created = λ before told_before. empty.created before (given ∙ told_before); ended = empty.ended ∙ ap (λ (l : List Bool). l ++ replicate (length empty.names) false) ended })
+    earlier outputs given ended (inr (inl created)) = inr (inl (created ∙ ap (λ (l : List Bool). l ++ replicate (length outputs) false) ended))
+    earlier outputs given ended (inr (inr whole)) = inr (inr (λ before told_before. whole before (given ∙ told_before)))
 
     by : (r : Result P (Refusal C)) → Prepares makes answer inputs x y r → CarriesOut makes r y z refusal → IfOk r (λ plan. MadeAtOnce (makes plan).outputs y z) → MadeAtOnce (outputs_of (answer files)) x z
     by (Ok plan) ready carried at_once =
         subst (λ (a : Answer C). MadeAtOnce (outputs_of a) x z) (sym (ready.ok files told)) (earlier (makes plan).outputs ready.others.given ready.others.ended at_once)
-    by (Err why) ready carried at_once = inl (none_created x z (ap (λ (s : HostState). s.ended) carried.err.1 ∙ ready.others.ended))
+    by (Err why) ready carried at_once = inl (none_created x z (ap (λ (s : HostState). s.given) carried.err.1 ∙ ready.others.given) (ap (λ (s : HostState). s.ended) carried.err.1 ∙ ready.others.ended))
 
 -- what was prepared by reading is made one after another
 pub in_turn_prepared : (x y z : HostState) → y.ended ≡ x.ended → MadeInTurn y z → MadeInTurn x z

@@ -1,5 +1,5 @@
 -- The steps of a stream.
-use Rattle.std.proofs.Common.{◌≡◌, ◌⊎◌, inl, inr, Result, Ok, Err, IsOk, IsSome, ℕ, ◌+◌, ◌-◌, ◌≤◌, ◌<◌, Bool, true, false, List, [], ◌∷◌, ◌++◌, length, set, map, Option, Some, None, OnOk, OnErr, refl, sym, ◌∙◌, ap, subst, arith, rules, append_assoc}
+use Rattle.std.proofs.Common.{◌≡◌, ◌⊎◌, inl, inr, Result, Ok, Err, IsOk, IsSome, ℕ, ◌+◌, ◌-◌, ◌≤◌, ◌<◌, Bool, true, false, List, [], ◌∷◌, ◌++◌, length, set, map, replicate, Option, Some, None, OnOk, OnErr, refl, sym, ◌∙◌, ap, subst, arith, rules, append_assoc}
 use Rattle.std.specs.Prelude.{slice_get, is_err}
 use Rattle.std.proofs.lemmas.List.{append-nil}
 use Rattle.snd_host.specs.Host.{HostState, Given, HasCause, ChangesOutputs, KeepsRooms, WritesAll, IsPrefix, longest_output_name}
@@ -10,7 +10,7 @@ use Rattle.command_frame.specs.Delivery.{AreEndedInOrder}
 use Rattle.command_frame.specs.Ending.{Finishes, FailsUnwritten, StaysOpen, FinishesInTurn}
 use Rattle.command_frame.specs.Stream.{Both, Stands, Stops, Fills, pair, flags_of, IsSecond, AreTargets, IsOpenAfter, AreOpen, Begins, Puts, Ends, Pumps}
 use Rattle.command_frame.proofs.Delivering.{begun_all}
-use Rattle.command_frame.specs.Making.{AreWhole}
+use Rattle.command_frame.specs.Making.{AreCreated, AreWhole}
 use Rattle.command_frame.proofs.Making.{is_whole, whole_still}
 use Rattle.command_frame.proofs.Places.{ended_are_whole, none_ended, none_in_order, prefix_front, unended_since}
 use Rattle.command_frame.proofs.Standing.{stands_at_first, stands_created, next_number, stands_written, stops_written, stands_ended, stops_unwritten, are_done}
@@ -305,8 +305,16 @@ all_ended : (first : List ℕ) (second : Option (List ℕ)) (xs ys : List ℕ) �
 all_ended first None xs ys = refl
 all_ended first (Some name) xs ys = refl
 
+all_created : (first : List ℕ) (second : Option (List ℕ)) (xs ys : List ℕ) → flags_of second false ≡ replicate (length (pair first second xs ys)) false
+all_created first None xs ys = refl
+all_created first (Some name) xs ys = refl
+
 -- the whole, step by step: the head, the pieces and the end
 module _ (first : List ℕ) (second : Option (List ℕ)) (head xs ys : List ℕ) (a b : HostState) (targets : Targets) (begun : AreTargets second a targets × Stands (pair first second [] []) (flags_of second false) [] a b) where
+  -- all outputs were created before bytes were written
+  pub created_then : (c : HostState) → c.ended ≡ b.ended → AreCreated (pair first second (head ++ xs) ys) a c
+  created_then c same = same ∙ begun.1.made.ended ∙ ap (λ (l : List Bool). a.ended ++ l) (all_created first second (head ++ xs) ys)
+
   headed : (c : HostState) (x : Unit {0}) → Puts targets head [] b c (Ok x) → Stands (pair first second head []) (flags_of second false) [] a c
   headed c x p = p.ok first second [] [] a begun.0 begun.1
 

@@ -4,6 +4,13 @@ ghost use Rattle.std.specs.Prelude.{◌≡◌, ◌≢◌, Bool, true, false, Lis
 ghost use Rattle.snd_host.specs.Host.{HostState, Given, Output};
 ghost use Rattle.command_frame.specs.Making.{MadeAtOnce, MadeInTurn};
 
+/// Two outputs are not made at once where the first has bytes and the second is not created.
+pub fn none_has_bytes_before_all_are_created()
+    ensures { (first second part : Output) (old new : HostState) (before now : Given) → old.given ≡ Some before → new.given ≡ Some now
+        → now.created ≡ before.created ++ part ∷ [] → part.bytes ≢ []
+        → new.ended ≡ old.ended ++ false ∷ [] → MadeAtOnce (first ∷ second ∷ []) old new → ⊥ }
+{}
+
 /// Two outputs are not made at once where the first is ended and the second is not whole.
 pub fn none_is_ended_before_all_are_whole()
     ensures { (first second part : Output) (old new : HostState) (before now : Given) → old.given ≡ Some before → new.given ≡ Some now

@@ -3,7 +3,7 @@ ghost use Rattle.std.specs.Prelude.{◌≡◌, ◌≢◌, ◌-◌, ◌<◌, ◌�
 ghost use Rattle.snd_host.specs.Host.{HostState};
 ghost use Rattle.command_frame.specs.Delivery.{CanDeliver, Delivers};
 ghost use Rattle.command_frame.specs.Ending.{FinishesInTurn};
-ghost use Rattle.command_frame.specs.Making.{NoneEnded, MadeAtOnce};
+ghost use Rattle.command_frame.specs.Making.{AreEmpty, MadeAtOnce};
 ghost use Rattle.command_frame.specs.Stream.{Begins, Puts, Ends, Fills, AreOpen, stream_outputs};
 
 use crate::Pieces;
@@ -22,7 +22,7 @@ pub struct Targets {
 fn begin<H: Host>(host: &mut H, first: &str, second: Option<&str>) -> Result<Targets, Failed>
     requires { CanDeliver (H.state host.old) }
     ensures begins { Begins first.now (option_map (λ name. name.now) second.entry) (H.state host.old) (H.state host.new) result }
-    ensures none_ended { NoneEnded (H.state host.old) (H.state host.new) }
+    ensures empty { AreEmpty (H.state host.old) (H.state host.new) }
 {
     let first = host.create(first)?;
     match second {

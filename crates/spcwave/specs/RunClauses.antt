@@ -63,8 +63,8 @@ IsTruthful command old status = IfTold old.holds (λ files.
     (status ≡ answer_status (answer_of command files)) ⊎ (status ≡ statuses.ReadFault)
     ⊎ (status ≡ statuses.WriteFault) ⊎ (status ≡ statuses.OutOfMemory))
 
--- How several outputs are made: those of `render` at once, none ended before all are whole, and those of `rip` one after another. Every other
--- command makes one at most.
+-- How several outputs are made: those of `render` at once, none with bytes before all are created and none ended before all are whole, and those
+-- of `rip` one after another. Every other command makes one at most.
 abbrev pub MakesOutputs : Command → HostState → HostState → Type 0
 MakesOutputs (render file table wave options) old new =
     IfTold old.holds (λ files. MadeAtOnce (outputs_of (answer_of (render file table wave options) files)) old new)

@@ -1,7 +1,7 @@
-use Rattle.std.proofs.Common.{refl}
+use Rattle.std.proofs.Common.{◌∙◌, refl}
 use Rattle.std.proofs.lemmas.Result.{err_from_is_err_and}
 use Rattle.command_frame.proofs.Streams.{begin_failed, begin_failed_second, begun_first, begins_both}
-use Rattle.command_frame.proofs.Making.{both_created}
+use Rattle.command_frame.proofs.Making.{none_created, one_created, first_created, empty_still}
 use Rattle.command_frame.proofs.streaming.begin.Goals as goal
 
 pub returns-in_err-first-clause-begins : goal.returns-in_err-first-clause-begins
@@ -25,5 +25,22 @@ returns-in_ok-second-in-Some-clause-begins g c =
     let s = begun_first c.args.first.now (g.H.Host.state c.args.host.now) (g.H.Host.state c.create.new.self) (g.met.H.Host.tells_each c.args.host.now) o.ended o.created o.others o.notes o.cause.same o.rooms in
     rw (c.in-Some.is) (begins_both c.args.first.now c.in-Some.name.now (g.H.Host.state c.args.host.now) (g.H.Host.state c.create.new.self) (g.H.Host.state c.create-in-Some.new.self) _ c.in_ok-second-in-Some.second refl o.number e.number s e.ended e.created e.others e.notes e.cause.same e.rooms)
 
-pub returns-in_ok-second-in-Some-clause-none_ended : goal.returns-in_ok-second-in-Some-clause-none_ended
-returns-in_ok-second-in-Some-clause-none_ended g c = both_created (g.H.Host.state c.args.host.now) (g.H.Host.state c.create.new.self) (g.H.Host.state c.create-in-Some.new.self) c.in_ok-first.ensures.ended c.in_ok-second-in-Some.ensures.ended
+pub returns-in_err-first-clause-empty : goal.returns-in_err-first-clause-empty
+returns-in_err-first-clause-empty g c = let e = c.in_err-first.ensures in none_created (g.H.Host.state c.args.host.now) (g.H.Host.state c.create.new.self) e.not_created e.not_ended
+
+pub returns-in-None-clause-empty : goal.returns-in-None-clause-empty
+returns-in-None-clause-empty g c = let o = c.in_ok-first.ensures in first_created c.args.first.now (g.H.Host.state c.args.host.now) (g.H.Host.state c.create.new.self) o.created o.ended
+
+pub returns-in_err-second-in-Some-clause-empty : goal.returns-in_err-second-in-Some-clause-empty
+returns-in_err-second-in-Some-clause-empty g c =
+    let o = c.in_ok-first.ensures in
+    let e = c.in_err-second-in-Some.ensures in
+    let made = first_created c.args.first.now (g.H.Host.state c.args.host.now) (g.H.Host.state c.create.new.self) o.created o.ended in
+    empty_still (g.H.Host.state c.args.host.now) (g.H.Host.state c.create.new.self) (g.H.Host.state c.create-in-Some.new.self) made e.not_ended (λ given told. (given, e.not_created ∙ told, refl))
+
+pub returns-in_ok-second-in-Some-clause-empty : goal.returns-in_ok-second-in-Some-clause-empty
+returns-in_ok-second-in-Some-clause-empty g c =
+    let o = c.in_ok-first.ensures in
+    let e = c.in_ok-second-in-Some.ensures in
+    let made = first_created c.args.first.now (g.H.Host.state c.args.host.now) (g.H.Host.state c.create.new.self) o.created o.ended in
+    one_created c.in-Some.name.now (g.H.Host.state c.args.host.now) (g.H.Host.state c.create.new.self) (g.H.Host.state c.create-in-Some.new.self) made e.created e.ended

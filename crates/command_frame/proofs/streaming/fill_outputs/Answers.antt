@@ -1,8 +1,8 @@
-use Rattle.std.proofs.Common.{rules, inr, ◌∙◌, sym, Bool, List, subst}
+use Rattle.std.proofs.Common.{rules, inl, inr, ◌∙◌, sym, Bool, List, subst}
 use Rattle.std.specs.Prelude.{option_map}
 use Rattle.std.proofs.lemmas.Result.{err_from_is_err_and}
 use Rattle.command_frame.specs.Stream.{AreOpen}
-use Rattle.command_frame.proofs.Streams.{pieces_failed, all_filled, whole_then, head_open}
+use Rattle.command_frame.proofs.Streams.{pieces_failed, all_filled, created_then, whole_then, head_open}
 use Rattle.command_frame.proofs.streaming.fill_outputs.Goals as goal
 
 pub returns-in_err-pump-clause-fills : goal.returns-in_err-pump-clause-fills
@@ -23,6 +23,14 @@ pub returns-clause-fills : goal.returns-clause-fills
 returns-clause-fills g c =
     all_filled c.args.first.now _ c.args.head.now _ _ _ _ _ c.in_ok-targets.ensures.begins.ok _ _ _ _ _ c.in_ok-put.ensures c.in_ok-pump.ensures.puts c.end.result c.end.ensures
 
+pub returns-in_err-put-clause-at_once : goal.returns-in_err-put-clause-at_once
+returns-in_err-put-clause-at_once g c =
+    inr (inl (created_then c.args.first.now _ c.args.head.now _ _ _ _ _ c.in_ok-targets.ensures.begins.ok (g.H.Host.state c.put.new.host) c.in_err-put.ensures.ended))
+
+pub returns-in_err-pump-clause-at_once : goal.returns-in_err-pump-clause-at_once
+returns-in_err-pump-clause-at_once g c =
+    inr (inl (created_then c.args.first.now _ c.args.head.now _ _ _ _ _ c.in_ok-targets.ensures.begins.ok (g.H.Host.state c.pump.new.host) (c.in_err-pump.ensures.puts.ended ∙ c.in_ok-put.ensures.ended)))
+
 pub returns-clause-at_once : goal.returns-clause-at_once
 returns-clause-at_once g c =
-    inr (whole_then c.args.first.now _ c.args.head.now _ _ _ _ _ c.in_ok-targets.ensures.begins.ok _ _ _ _ _ c.in_ok-put.ensures c.in_ok-pump.ensures.puts c.end.result c.end.ensures)
+    inr (inr (whole_then c.args.first.now _ c.args.head.now _ _ _ _ _ c.in_ok-targets.ensures.begins.ok _ _ _ _ _ c.in_ok-put.ensures c.in_ok-pump.ensures.puts c.end.result c.end.ensures))
