@@ -66,10 +66,11 @@ pub record IsInBounds (book : CutBook) (left more : ℕ) : Type 0 where
   pub used : slots_used book.live ≤ slots_for_cuts
   pub made : book.made + left + more * (2 * most_frames) < 2 ^ 64
 
--- What they keep: a server with the slots for cuts, and the report once the last piece is made.
+-- What they keep: a server with the slots for cuts, and once the last piece is made, the report and nothing left to play.
 pub record IsPlaying {S V : Type 0} (chip : ChipMeaning S) (saving : ChipSaving S V) (files : FilesState S V) (report : List ℕ) : Type 0 where
   pub slots : slots_of files.server ≡ slots_for_cuts
   pub run : AreOfRun (frames_to chip saving files.server)
   pub begun : files.begun ≤ length files.cuts
   pub bounds : IsInBounds (book_of files.server) files.left (length (rest_of files))
   pub told : files.is_done ≡ true → report ≡ report_of chip saving files
+  pub done : files.is_done ≡ true → work_of files ≡ 0

@@ -96,11 +96,11 @@ impl<C: Chip> CutFiles<C> {
         })
     }
 
-    /// The chip of the server that plays. Once all cuts are played, the report tells the samples that it made.
+    /// The chip of the server that plays. Once the last piece is made, the report tells the samples that it made.
     pub fn chip(&self) -> &C
         ensures made { C.total result.now ≡ (book_of self.now.server).made }
         ensures position { C.sample result.now ≡ (book_of self.now.server).position }
-        ensures told { work_of self.now ≡ 0 → report_of C.meaning C.saving self.now
+        ensures told { self.now.is_done ≡ true → report_of C.meaning C.saving self.now
             ≡ cuts_report self.now.cuts (record (book_of self.now.server) { made = C.total result.now }) }
     {
         self.server.chip()

@@ -1,5 +1,5 @@
 // The host of real files. It is the trusted edge: it tells no contents, and passes on what a file knows of its bytes.
-ghost use Rattle.std.specs.Prelude.{◌≡◌, ◌≢◌, ◌<◌, ℕ, ◌≤◌, length, IfOk, drop, None, [], OnOk, OnErr, true, false, slice_set};
+ghost use Rattle.std.specs.Prelude.{◌≡◌, ◌≢◌, ◌<◌, ℕ, ◌≤◌, ◌∷◌, ◌++◌, length, IfOk, drop, None, Some, [], OnOk, OnErr, true, false, slice_set};
 ghost use Rattle.disk_host.specs.Untold.{untold_state};
 ghost use Rattle.disk_host.specs.Created.{flags_of};
 ghost use Rattle.disk_host.specs.Held.{told_at, held_by};
@@ -88,6 +88,25 @@ fn read_some<F: Read>(file: &mut F, buf: &mut [u8]) -> Result<usize, Failed>
     Ok(count)
 }
 
+/// Keeps a file as the current input, just as it was handed over.
+fn keep_input<F: Drop>(input: &mut Option<F>, file: F)
+    ensures { input.new ≡ Some file }
+{
+    *input = Some(file);
+}
+
+/// Keeps a file as the last of the created outputs, just as it was handed over.
+fn keep_created<F: Drop>(created: &mut Vec<Created<F>>, file: F) -> Result<(), Failed>
+    ensures kept { OnOk result (created.new.items ≡ created.old.items ++ record { file = file; ended = false } ∷ []) }
+    ensures not_kept { OnErr result (created.new.items ≡ created.old.items) }
+{
+    if created.push(Created { file, ended: false }).is_ok() {
+        Ok(())
+    } else {
+        Err(Failed)
+    }
+}
+
 /// One write to a created output.
 fn write_created<F: Write>(
     created: &mut Vec<Created<F>>,
@@ -156,7 +175,7 @@ impl<'r, R: Files, O: Write + Drop, E: Write + Drop> Host for DiskHost<'r, R, O,
             return Err(Failed);
         };
         self.newest = self.newest.wrapping_add(1);
-        self.input = Some(file);
+        keep_input(&mut self.input, file);
         self.failed_last = false;
         Ok(InFile(self.newest))
     }
@@ -217,7 +236,7 @@ impl<'r, R: Files, O: Write + Drop, E: Write + Drop> Host for DiskHost<'r, R, O,
         // The room for an output is taken first: where there is none, no file is made.
         if self.created.reserve(1).is_ok() {
             if let Ok(file) = fs::create(self.files, name) {
-                if self.created.push(Created { file, ended: false }).is_ok() {
+                if keep_created(&mut self.created, file).is_ok() {
                     self.failed_last = false;
                     return Ok(OutFile(number));
                 }

@@ -68,5 +68,6 @@ invariant_of-self g c =
       run = subst (λ (f : ℕ → List Frame). AreOfRun f) (sym (frames_kept g.C.Chip.meaning g.C.Chip.saving (tune g c))) c.self.invariant.run;
       begun = (at_cut g c).before;
       bounds = bounds_begun (book_of c.mark_if_room.new.server) (pages_at g.C.Chip.meaning g.C.Chip.saving server) c.in-Some.cut.now (bounds g c) (at_cut g c).within (book g c);
+      done = λ done. omega (arith, ap length (at_cut g c).first, c.self.invariant.done done);
       told = λ done. c.self.invariant.told done ∙ ap (report_of g.C.Chip.meaning g.C.Chip.saving) c.self.view_is ∙ sym (returns-clause-report g c);
     }
