@@ -37,9 +37,11 @@ int main(int argc, char **argv) {
     fclose(in);
     const spcwave_options options = { 4096, 1, 0 };
     uint8_t registers[128];
+    char text[SPCWAVE_TAG_SIZE];
     spcwave_voice_shown voice;
     spcwave_player *player = NULL;
     static spcwave_frame frames[1000];
+    uint32_t length, fade;
     long before, i, all;
     calls = bytes = most = live = 0;
     if (spcwave_open(&player, spc, n, table, 1024, &options)) return 3;
@@ -51,11 +53,19 @@ int main(int argc, char **argv) {
         if (spcwave_play_faded(player, frames, 1000) != 1000) return 4;
         if (spcwave_registers(player, registers) || spcwave_voice(player, (uint32_t)(i % 8), &voice)) return 6;
         if (spcwave_mark(player) || spcwave_seek(player, (uint32_t)(i * 7919))) return 5;
+        if (spcwave_position(player) != (uint32_t)(i * 7919) || spcwave_free_pages(player) > 4096 - 256) return 7;
+        if (spcwave_length(player, &length, &fade) || length < fade) return 8;
+        if (spcwave_tagged(player) != (spc[0x23] == 0x1A) || spcwave_tag(player, (uint32_t)(i % 9), text, sizeof text) >= sizeof text) return 9;
+        if (spcwave_version() != SPCWAVE_VERSION) return 10;
+        /* and refused */
+        if (!spcwave_voice(player, 8, &voice) || !spcwave_seek(player, SPCWAVE_MOST + 1)) return 11;
     }
-    printf("play, mark, seek and show: %ld calls, %ld frees\n", calls - before, frees);
+    printf("all other calls: %ld allocations, %ld frees\n", calls - before, frees);
+    before = calls;
     spcwave_close(&player);
     player = NULL;
-    printf("close: %ld blocks live, %ld bytes\n", live, bytes);
+    printf("close: %ld allocations, %ld blocks live, %ld bytes\n", calls - before, live, bytes);
+    if (calls != before || live) return 12;
     for (i = 0; i < all; i++) {
         calls = 0; refused = i;
         uint32_t status = spcwave_open(&player, spc, n, table, 1024, &options);

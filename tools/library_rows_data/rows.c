@@ -64,6 +64,7 @@ int main(int argc, char **argv) {
     spcwave_frame *got = malloc(sizeof *got * (count + 8));
     spcwave_options options = SPCWAVE_OPTIONS, few = { 255, 0, 0 }, many = { 65537, 0, 0 }, seldom = { 4096, 3601, 0 };
     uint8_t registers[128];
+    unsigned char bits[sizeof player];
     spcwave_voice_shown voice;
 
     row(spcwave_version() == SPCWAVE_VERSION, "the header is that of the library");
@@ -76,6 +77,19 @@ int main(int argc, char **argv) {
     row(spcwave_open(&player, spc, spc_length, table, 1024, &many) == SPCWAVE_OUT_OF_RANGE, "many pages");
     row(spcwave_open(&player, spc, spc_length, table, 1024, &seldom) == SPCWAVE_OUT_OF_RANGE, "marks too seldom");
     row(player == NULL, "refusals give no handle");
+    /* bits that are no handle: spcwave_open leaves them where it is refused, and else writes over them; no other call may be given them */
+    memset(&other, 0xA5, sizeof other);
+    memset(bits, 0xA5, sizeof bits);
+    row(spcwave_open(&other, wave, 65920, table, 1024, &options) == SPCWAVE_SPC_SIGNATURE && memcmp(&other, bits, sizeof bits) == 0, "a wrong file over bits");
+    row(spcwave_open(&other, spc, spc_length, table, 0, &options) == SPCWAVE_TABLE_LENGTH && memcmp(&other, bits, sizeof bits) == 0, "a wrong table over bits");
+    row(spcwave_open(&other, spc, spc_length, table, 1024, &few) == SPCWAVE_OUT_OF_RANGE && memcmp(&other, bits, sizeof bits) == 0, "few pages over bits");
+    row(spcwave_open(&other, spc, spc_length, table, 1024, &options) == SPCWAVE_OK && spcwave_position(other) == 0, "opens over bits");
+    row(spcwave_play(other, got, count / 8) == count / 8 && memcmp(got, ref, count / 8 * sizeof *got) == 0, "and plays");
+    spcwave_close(&other);
+    memcpy(bits, &other, sizeof bits);
+    row(spcwave_open(&other, wave, 65920, table, 1024, &options) == SPCWAVE_SPC_SIGNATURE && memcmp(&other, bits, sizeof bits) == 0, "a wrong file over a closed one");
+    row(spcwave_open(&other, spc, spc_length, table, 1024, &options) == SPCWAVE_OK && spcwave_position(other) == 0, "opens over a closed one");
+    spcwave_close(&other);
     /* the whole tune */
     row(spcwave_open(&player, spc, spc_length, table, table_length, &options) == SPCWAVE_OK, "opens");
     row(spcwave_length(player, &length, &fade) == SPCWAVE_OK && length == count, "its length is that of the sound file");
