@@ -95,6 +95,18 @@ ENCODING = 'brr_encode/specs/Encoding.antt'
 LEAST = 'brr_encode/specs/Least.antt'
 CHOICE = 'brr_encode/src/choice.rt'
 SEARCH = 'brr_encode/src/search.rt'
+BYTES = 'spc700_alu/specs/Bytes.antt'
+BYTES_CODE = 'spc700_alu/src/bytes.rt'
+BITS = 'spc700_alu/specs/Bits.antt'
+BITS_CODE = 'spc700_alu/src/bits.rt'
+WORDS = 'spc700_alu/specs/WordArithmetic.antt'
+WORDS_CODE = 'spc700_alu/src/word_arithmetic.rt'
+RESULTS = 'dsp_state/specs/Results.antt'
+RESULTS_CODE = 'dsp_state/src/results.rt'
+OUTSIDE = 'dsp_state/specs/Outside.antt'
+DSP_CODE = 'dsp_core/src/dsp.rt'
+BOOK = 'cut_form/specs/CutBook.antt'
+CUT = 'cut_form/src/cut.rt'
 
 SLIPS = [
     # the assembler's text
@@ -160,6 +172,22 @@ SLIPS = [
     Slip('the table of calls one entry lower', ['spc700_exec'], ['worked_programs'], [
         ('spc700_exec/specs/Operands.antt', 'call_entry n = 0xffde', 'call_entry n = 0xffdc'),
         ('spc700_exec/src/operand.rt', 'Operand::At(0xffde', 'Operand::At(0xffdc'), ('spc700_exec/src/jumps.rt', 'Operand::At(0xffde', 'Operand::At(0xffdc')]),
+    Slip('OR and EOR exchanged', ['spc700_alu'], ['worked_parts'], [
+        (BYTES, 'logic_value Logic.Or a b = bit_or a b', 'logic_value Logic.Or a b = bit_xor a b'),
+        (BYTES, 'logic_value Logic.Eor a b = bit_xor a b', 'logic_value Logic.Eor a b = bit_or a b'),
+        (BYTES_CODE, 'LogicKind::Or => a | b', 'LogicKind::Or => a ^ b'), (BYTES_CODE, 'LogicKind::Eor => a ^ b', 'LogicKind::Eor => a | b')]),
+    Slip('ROL brings in 0', ['spc700_alu'], ['worked_parts'], [
+        (BYTES, 'nz_result (v * 2 % 0x100 + carry_in psw)', 'nz_result (v * 2 % 0x100)'), (BYTES_CODE, '(v as u16 * 2 % 0x100) as u8 + carry(psw)', '(v as u16 * 2 % 0x100) as u8')]),
+    Slip('LSR brings in C', ['spc700_alu'], ['worked_parts'], [
+        (BYTES, 'Shift.Lsr v psw = nz_result (v / 2) ', 'Shift.Lsr v psw = nz_result (v / 2 + 0x80 * carry_in psw) '),
+        (BYTES_CODE, 'ShiftKind::Lsr => shift_result(v / 2,', 'ShiftKind::Lsr => shift_result(v / 2 + 0x80 * carry(psw),')]),
+    Slip('H after ADDW and SUBW by the carry out of bit 3', ['spc700_alu'], ['worked_parts'], [
+        (WORDS, 'nat_le 0x1000 (a % 0x1000 + b % 0x1000 + carry)', 'nat_le 0x10 (a % 0x10 + b % 0x10 + carry)'),
+        (WORDS_CODE, 'a % 0x1000 + b % 0x1000 + carry >= 0x1000', 'a % 0x10 + b % 0x10 + carry >= 0x10')]),
+    Slip('OR1 C,/m.b takes the bit itself', ['spc700_alu'], ['worked_parts'], [
+        (BITS, '(flag C psw || not (flag (2 ^ bit) byte))', '(flag C psw || flag (2 ^ bit) byte)'), (BITS_CODE, 'carry || !on', 'carry || on')]),
+    Slip('AND1 C,m.b takes C or the bit', ['spc700_alu'], ['worked_parts'], [
+        (BITS, '(flag C psw && flag (2 ^ bit) byte)', '(flag C psw || flag (2 ^ bit) byte)'), (BITS_CODE, 'carry && on', 'carry || on')]),
 
     # SPC files and what is shown of them
     Slip("the dumper's and the date's places exchanged", ['spc_form'], ['worked_commands'], [
@@ -304,6 +332,9 @@ SLIPS = [
     Slip('a write of a port goes to its input latch', ['ports_timers'], ['worked_parts'], [
         (IO, 'output = slice_set io.output (at - 0xF4) value', 'input = slice_set io.input (at - 0xF4) value'),
         (IO_CODE, 'self.output[usize::from(addr) - 0xF4] = value', 'self.input[usize::from(addr) - 0xF4] = value')]),
+    Slip('a read of F1h gives the control', ['ports_timers'], ['worked_parts'], [
+        (IO, 'if at == 0xF2 then Some io.dsp_address', 'if at == 0xF1 then Some io.control\n    else if at == 0xF2 then Some io.dsp_address'),
+        (IO_CODE, '0xF0 | 0xF1 | 0xFA..=0xFC => Some(0)', '0xF1 => Some(self.control),\n            0xF0 | 0xFA..=0xFC => Some(0)')]),
 
     # envelopes
     Slip('the fastest attack rises by 200h', ['envelope', 'envelope_laws'], ['worked_parts'], [
@@ -330,6 +361,10 @@ SLIPS = [
         (TARGET, 'if kind == 0 {\n        from - 0x20\n    } else if kind == 1', 'if kind == 1 {\n        from - 0x20\n    } else if kind == 0')]),
     Slip('the bent rise by 4 from its bend on', ['envelope', 'envelope_laws'], ['worked_parts'], [
         (ENVELOPE, 'then 0x20 else 8)', 'then 0x20 else 4)'), (TARGET, 'from + 8', 'from + 4')]),
+    Slip('decay ends by the bits of ADSR2 under GAIN, too', ['envelope', 'envelope_laws'], ['worked_parts'], [
+        (ENVELOPE, '(if gain_rules adsr1 then gain else adsr2) / 32', 'adsr2 / 32'), (TARGET, 'if adsr1 < ADSR { gain / 32 } else { adsr2 / 32 }', 'adsr2 / 32')]),
+    Slip('GAIN rules only where bits 7 and 6 of ADSR1 are clear', ['envelope', 'envelope_laws'], ['worked_parts'], [
+        (ENVELOPE, 'nat_lt adsr1 0x80', 'nat_lt adsr1 0x40'), (TARGET, 'ADSR: u8 = 0x80', 'ADSR: u8 = 0x40')]),
 
     # BRR and interpolation
     Slip('filter 1 takes a 16th', ['brr_decode'], ['worked_parts'], [
@@ -405,6 +440,26 @@ SLIPS = [
         (VOLUMES_CODE, 'has_bit(muted, v)', 'has_bit(muted, 7 - v)')]),
     Slip('bit 7 of a mask stands for voice 0', ['chip_form'], ['worked_sounds', 'worked_tunes'], [
         ('chip_form/specs/Samples.antt', 'has_bit mask voice', 'has_bit mask (7 - voice)'), ('batch_rows/src/records.rt', 'has_bit(mask, v)', 'has_bit(mask, 7 - v)')]),
+    Slip('a pitch of 13 bits', ['dsp_state'], ['worked_sounds'], [
+        (CHIP, '% 0x4000;', '% 0x2000;'), ('dsp_state/specs/Settings.antt', 'n % 0x4000 < 0x4000', 'n % 0x2000 < 0x4000'), (REGISTERS, '(high % 0x40)', '(high % 0x20)')]),
+    Slip('a pitch of more than 14 bits limited', ['dsp_state'], ['worked_sounds'], [
+        (CHIP, 'pitch = (voice_register registers v PITCHL + 0x100 * voice_register registers v PITCHH) % 0x4000;',
+         'pitch = min 0x3FFF (voice_register registers v PITCHL + 0x100 * voice_register registers v PITCHH);'),
+        (CHIP, 'Prelude.{ℕ, ◌+◌,', 'Prelude.{ℕ, min, ◌+◌,'),
+        ('dsp_state/specs/Settings.antt', 'n % 0x4000 < 0x4000', 'min 0x3FFF n < 0x4000'), ('dsp_state/specs/Settings.antt', '◌%◌, ◌<◌,', 'min, ◌<◌,'),
+        (REGISTERS, 'low + 0x100 * (high % 0x40)', '(low + 0x100 * high).min(0x3fff)')]),
+    Slip('a write of KON adds to what waits', ['dsp_state', 'dsp_core'], ['worked_sounds'], [
+        (OUTSIDE, 'then byte else s.hidden.waiting', 'then bit_or byte s.hidden.waiting else s.hidden.waiting'), (OUTSIDE, 'ℤ, replicate,', 'ℤ, bit_or, replicate,'),
+        (DSP_CODE, 'self.state.hidden.waiting = value', 'self.state.hidden.waiting |= value')]),
+    Slip('a write of ENDX stores its byte', ['dsp_state', 'dsp_core'], ['worked_sounds'], [
+        (OUTSIDE, '(if address == ENDX then 0 else byte)', '(if address == ENDX then byte else byte)'), (DSP_CODE, 'if place == ENDX { 0 } else { value }', 'if place == ENDX { value } else { value }')]),
+    Slip('a key on leaves its bit of ENDX', ['dsp_state', 'batch_rows'], ['worked_sounds'], [
+        (RESULTS, '(bits_from (λ answer. answer.keyed) 0 answers)', '0'), (RESULTS_CODE, 'without_bits (bit_or endx looped) keyed', 'without_bits (bit_or endx looped) (0 * keyed)'),
+        (RESULTS_CODE, '(endx | looped) & (0xff - keyed)', '(endx | looped) & (0xff - 0 * keyed)')]),
+    Slip('ENDX loses the voices that are keyed before it gains others', ['dsp_state', 'batch_rows'], ['worked_sounds'], [
+        (RESULTS, 'without_bits (bit_or endx (bits_from (λ answer. answer.looped) 0 answers)) (bits_from (λ answer. answer.keyed) 0 answers)',
+         'bit_or (without_bits endx (bits_from (λ answer. answer.keyed) 0 answers)) (bits_from (λ answer. answer.looped) 0 answers)'),
+        (RESULTS_CODE, 'without_bits (bit_or endx looped) keyed', 'bit_or (without_bits endx keyed) looped'), (RESULTS_CODE, '(endx | looped) & (0xff - keyed)', '(endx & (0xff - keyed)) | looped')]),
 
     # voices
     Slip('a delay of four after a key on', ['voice_unit'], ['worked_sounds'], [
@@ -421,12 +476,24 @@ SLIPS = [
         (VOICE, '(floor_shift previous 5) (pos pitch) 10', '(floor_shift previous 4) (pos pitch) 11'),
         (LEVEL, '(floor_shift previous 5) (pos pitch) 10', '(floor_shift previous 4) (pos pitch) 11'),
         (LEVEL, 'scaled(previous >> 5, pitch as i16, 10)', 'scaled(previous >> 4, pitch as i16, 11)'), (LEVEL, '(previous >> 5) * 32', '(previous >> 4) * 16')]),
+    Slip('a bit of PMON bends the voice after its own', ['voice_unit'], ['worked_sounds'], [
+        (VOICE, 'has_bit pmon voice', 'has_bit pmon (voice - 1)'), ('voice_unit/src/interface.rt', 'has_bit(pmon, voice)', 'has_bit(pmon, voice - 1)')]),
 
     # the echo's filter and its buffer, and what a batch can meet
     Slip('taps over 128', ['echo_unit'], ['worked_sounds'], [
         (FIR, 'scaled sample (sign8 coefficient) 6', 'scaled sample (sign8 coefficient) 7'), (FILTER, 'coefficients.now i)) 6)', 'coefficients.now i)) 7)'),
         (WRAPPED, 'floor_shift v 6', 'floor_shift v 7'), (WRAPPED, 'v >> 6', 'v >> 7'), (WRAPPED, 'sample (pos 64)', 'sample (pos 128)'),
         (WRAPPED, 'rem_euclid(64)', 'rem_euclid(128)'), (WRAPPED, 'scaled sample coefficient 6', 'scaled sample coefficient 7')]),
+    Slip('coefficients without a sign', ['echo_unit'], ['worked_sounds'], [
+        (FIR, '(sign8 coefficient)', '(pos coefficient)'), (FIR, ', clear_bit0, sign8}', ', clear_bit0}'),
+        (FILTER, '(sign8 (slice_index coefficients.now i))', '(pos (slice_index coefficients.now i))'), (FILTER, '{scaled, sign8, wrap16}', '{scaled, wrap16}'),
+        (FILTER, '◌+◌, map,', '◌+◌, pos, map,'), (FILTER, 'signed(coefficients[i])', 'signed(coefficients[i]).rem_euclid(0x100)')]),
+    Slip('the sum of the first seven taps limited', ['echo_unit'], ['worked_sounds'], [
+        (FIR, 'fold (λ sum number. sum +ℤ number)', 'fold (λ sum number. clamp16 (sum +ℤ wrap16 number))'),
+        (FILTER, 'sum = wrapped_sum(sum,', 'sum = add_clamped(sum,'), (FILTER, '{over_64, wrapped_sum}', 'over_64')]),
+    Slip('the sum with the newest tap wraps', ['echo_unit'], ['worked_sounds'], [
+        (FIR, 'clear_bit0 (clamp16 (', 'clear_bit0 (wrap16 ('), (FIR, '{scaled, wrap16, clamp16, clear_bit0', '{scaled, wrap16, clear_bit0'),
+        (FILTER, 'add_clamped(sum, tap', 'wrapped_sum(sum, tap'), (FILTER, '{Frame, add_clamped, clear_bit0}', '{Frame, clear_bit0}')]),
     Slip('the right word of a cell first', ['echo_unit'], ['worked_sounds'], [
         (ECHO, 'left = halved_word memory address; right = halved_word memory ((address + 2) % 0x10000)',
          'left = halved_word memory ((address + 2) % 0x10000); right = halved_word memory address'),
@@ -443,6 +510,12 @@ SLIPS = [
         (ECHO_CODE, 'u16::from(edl % 16) * 2048', 'u16::from(edl % 16) * 1024'), (ECHO_CODE, 'u32::from(edl % 16) * 2048', 'u32::from(edl % 16) * 1024'),
         (ECHO_CODE, 'result ≤ 15 * 0x800', 'result ≤ 15 * 0x400'), (ECHO_CODE, 'result % 0x800', 'result % 0x400'),
         (ECHO_CODE, 'self.now.offset < 15 * 0x800', 'self.now.offset < 15 * 0x400'), (ECHO_CODE, 'result.len ≤ 15 * 2048', 'result.len ≤ 15 * 1024')]),
+    Slip('five bits of EDL', ['reach_map', 'echo_unit'], ['worked_sounds'], [
+        (WINDOW, 'edl % 16 * 0x800', 'edl % 32 * 0x800'), (ECHO, '(15 * 0x800)', '(31 * 0x800)'),
+        (ECHO_CODE, 'u16::from(edl % 16) * 2048', 'u16::from(edl % 32) * 2048'), (ECHO_CODE, 'u32::from(edl % 16) * 2048', 'u32::from(edl % 32) * 2048'),
+        (ECHO_CODE, 'regs.edl % 16 != 0', 'regs.edl % 32 != 0'), (ECHO_CODE, '{1}0 < regs.now.edl % 16', '0 < regs.now.edl % 32'), (ECHO_CODE, '0 < regs.now.edl % 16', '0 < regs.now.edl % 32'),
+        (ECHO_CODE, 'result ≤ 15 * 0x800', 'result ≤ 31 * 0x800'), (ECHO_CODE, 'self.now.offset < 15 * 0x800', 'self.now.offset < 31 * 0x800'),
+        (ECHO_CODE, 'result.len ≤ 15 * 2048', 'result.len ≤ 31 * 2048')]),
     Slip("the echo's window by EDL alone", ['reach_map', 'echo_unit', 'reach_laws'], ['worked_sounds'], [
         (WINDOW, 'max (max length (echo_length edl)) 4', 'max (echo_length edl) 4'), (ECHO_CODE, 'u32::from(self.length).max(asked).max(4)', 'asked.max(4)')]),
     Slip('chains of 17 blocks', ['reach_map', 'reach_laws'], ['worked_parts'], [
@@ -455,9 +528,9 @@ SLIPS = [
     Slip('the numbers 2 and 3 exchanged', ['exit_status'], ['worked_files'], [
         (STATUSES, 'code_of statuses.ReadFault = 2', 'code_of statuses.ReadFault = 3'), (STATUSES, 'code_of statuses.WriteFault = 3', 'code_of statuses.WriteFault = 2'),
         (STATUS, 'Status::ReadFault => 2', 'Status::ReadFault => 3'), (STATUS, 'Status::WriteFault => 3', 'Status::WriteFault => 2')]),
-    Slip('the line on memory', ['exit_status'], ['worked_files'], [
+    Slip('the line on memory', ['exit_status'], ['spcwave'], [
         (LINES, '"spcwave: out of memory\\n"', '"spcwave: no memory\\n"'), (LINES_CODE, '"spcwave: out of memory\\n"', '"spcwave: no memory\\n"')]),
-    Slip('the faults far and long exchanged', ['exit_status'], ['worked_files'], [
+    Slip('the faults far and long exchanged', ['exit_status'], ['worked_commands'], [
         (LINES, 'codes ": far\\n"', 'codes ": faar\\n"'), (LINES, 'codes ": long\\n"', 'codes ": far\\n"'), (LINES, 'codes ": faar\\n"', 'codes ": long\\n"'),
         (LINES_CODE, 'b": far\\n"', 'b": faar\\n"'), (LINES_CODE, 'b": long\\n"', 'b": far\\n"'), (LINES_CODE, 'b": faar\\n"', 'b": long\\n"')]),
 
@@ -506,6 +579,10 @@ SLIPS = [
     Slip('63 checkpoints', ['cut_form', 'mark_laws'], ['worked_renders', 'worked_tunes'], [
         ('cut_form/specs/Checkpoints.antt', 'most_checkpoints = 64', 'most_checkpoints = 63'),
         ('cut_form/src/cut.rt', 'MOST_CHECKPOINTS: u32 = 64', 'MOST_CHECKPOINTS: u32 = 63')]),
+    Slip('4,097 pages for lists of cuts', ['cut_form', 'cut_files', 'command_cuts'], ['worked_tunes'], [
+        (BOOK, 'slots_for_cuts = 4096', 'slots_for_cuts = 4097'), (CUT, 'SLOTS_FOR_CUTS: u32 = 4096', 'SLOTS_FOR_CUTS: u32 = 4097')]),
+    Slip('4,095 pages for lists of cuts', ['cut_form', 'cut_files', 'command_cuts'], ['worked_tunes'], [
+        (BOOK, 'slots_for_cuts = 4096', 'slots_for_cuts = 4095'), (CUT, 'SLOTS_FOR_CUTS: u32 = 4096', 'SLOTS_FOR_CUTS: u32 = 4095')]),
     Slip('numbers of eight digits at most in lists and scripts', ['cut_form', 'cut_text'], ['worked_files'], [
         ('cut_form/specs/TextLines.antt', 'most_digits = 9', 'most_digits = 8'), ('cut_text/src/lines.rt', 'MOST_DIGITS: usize = 9', 'MOST_DIGITS: usize = 8')]),
     Slip('the position told before the frames that were played', ['cut_form', 'session_files'], ['worked_tunes'], [
