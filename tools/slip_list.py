@@ -271,9 +271,9 @@ SLIPS = [
         (LINE_CODE, 'line.append_decimal(level);', 'line.append_decimal(voice + 0);'), (LINE_CODE, 'line.append_decimal(out);', 'line.append_decimal(level);'),
         (LINE_CODE, 'line.append_decimal(voice + 0);', 'line.append_decimal(out);')]),
     Slip('the end of a block told before the key on', ['trace_form'], ['worked_parts'], [
-        (LINE, 'letter_or_dash keyed (codes "k") ++ letter_or_dash looped (codes "l")', 'letter_or_dash looped (codes "l") ++ letter_or_dash keyed (codes "k")'),
-        (LINE_CODE, 'line.append_mark(keyed, b"k");\n            line.append_mark(looped, b"l");',
-         'line.append_mark(looped, b"l");\n            line.append_mark(keyed, b"k");')]),
+        (LINE, 'letter_or_dash keyed (codes "k") ++ letter_or_dash ended (codes "l")', 'letter_or_dash ended (codes "l") ++ letter_or_dash keyed (codes "k")'),
+        (LINE_CODE, 'line.append_mark(keyed, b"k");\n            line.append_mark(ended, b"l");',
+         'line.append_mark(ended, b"l");\n            line.append_mark(keyed, b"k");')]),
     Slip("a port's byte before its number", ['trace_form'], ['worked_parts'], [
         (LINE, 'decimal port ++ codes " " ++ two_digits value', 'two_digits value ++ codes " " ++ decimal port'),
         (LINE_CODE, 'line.append_decimal(port);\n    line.append(b" ");\n    line.append_byte(value);',
@@ -454,12 +454,12 @@ SLIPS = [
     Slip('a write of ENDX stores its byte', ['dsp_state', 'dsp_core'], ['worked_sounds'], [
         (OUTSIDE, '(if address == ENDX then 0 else byte)', '(if address == ENDX then byte else byte)'), (DSP_CODE, 'if place == ENDX { 0 } else { value }', 'if place == ENDX { value } else { value }')]),
     Slip('a key on leaves its bit of ENDX', ['dsp_state', 'batch_rows'], ['worked_sounds'], [
-        (RESULTS, '(bits_from (λ answer. answer.keyed) 0 answers)', '0'), (RESULTS_CODE, 'without_bits (bit_or endx looped) keyed', 'without_bits (bit_or endx looped) (0 * keyed)'),
-        (RESULTS_CODE, '(endx | looped) & (0xff - keyed)', '(endx | looped) & (0xff - 0 * keyed)')]),
+        (RESULTS, '(bits_from (λ answer. answer.keyed) 0 answers)', '0'), (RESULTS_CODE, 'without_bits (bit_or endx ended) keyed', 'without_bits (bit_or endx ended) (0 * keyed)'),
+        (RESULTS_CODE, '(endx | ended) & (0xff - keyed)', '(endx | ended) & (0xff - 0 * keyed)')]),
     Slip('ENDX loses the voices that are keyed before it gains others', ['dsp_state', 'batch_rows'], ['worked_sounds'], [
-        (RESULTS, 'without_bits (bit_or endx (bits_from (λ answer. answer.looped) 0 answers)) (bits_from (λ answer. answer.keyed) 0 answers)',
-         'bit_or (without_bits endx (bits_from (λ answer. answer.keyed) 0 answers)) (bits_from (λ answer. answer.looped) 0 answers)'),
-        (RESULTS_CODE, 'without_bits (bit_or endx looped) keyed', 'bit_or (without_bits endx keyed) looped'), (RESULTS_CODE, '(endx | looped) & (0xff - keyed)', '(endx & (0xff - keyed)) | looped')]),
+        (RESULTS, 'without_bits (bit_or endx (bits_from (λ answer. answer.ended) 0 answers)) (bits_from (λ answer. answer.keyed) 0 answers)',
+         'bit_or (without_bits endx (bits_from (λ answer. answer.keyed) 0 answers)) (bits_from (λ answer. answer.ended) 0 answers)'),
+        (RESULTS_CODE, 'without_bits (bit_or endx ended) keyed', 'bit_or (without_bits endx keyed) ended'), (RESULTS_CODE, '(endx | ended) & (0xff - keyed)', '(endx & (0xff - keyed)) | ended')]),
 
     # voices
     Slip('a delay of four after a key on', ['voice_unit'], ['worked_sounds'], [
@@ -472,11 +472,11 @@ SLIPS = [
         (DIRECTORY, '{2}word_at memory ((entry_address dir srcn + 2) % 0x10000)', 'word_at memory (entry_address dir srcn)'),
         (DIRECTORY_CODE, '{1}memory.word(entry_address(dir, srcn)', 'memory.word(entry_address(dir, srcn).wrapping_add(2)'),
         (DIRECTORY_CODE, '{2}memory.word(entry_address(dir, srcn).wrapping_add(2)', 'memory.word(entry_address(dir, srcn)')]),
-    Slip('a pitch bent by 16ths of an output', ['voice_unit'], ['worked_sounds'], [
+    Slip('a pitch modulated by 16ths of an output', ['voice_unit'], ['worked_sounds'], [
         (VOICE, '(floor_shift previous 5) (pos pitch) 10', '(floor_shift previous 4) (pos pitch) 11'),
         (LEVEL, '(floor_shift previous 5) (pos pitch) 10', '(floor_shift previous 4) (pos pitch) 11'),
         (LEVEL, 'scaled(previous >> 5, pitch as i16, 10)', 'scaled(previous >> 4, pitch as i16, 11)'), (LEVEL, '(previous >> 5) * 32', '(previous >> 4) * 16')]),
-    Slip('a bit of PMON bends the voice after its own', ['voice_unit'], ['worked_sounds'], [
+    Slip('a bit of PMON modulates the voice after its own', ['voice_unit'], ['worked_sounds'], [
         (VOICE, 'has_bit pmon voice', 'has_bit pmon (voice - 1)'), ('voice_unit/src/interface.rt', 'has_bit(pmon, voice)', 'has_bit(pmon, voice - 1)')]),
 
     # the echo's filter and its buffer, and what a batch can meet

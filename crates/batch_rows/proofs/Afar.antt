@@ -131,9 +131,9 @@ pages_differ : (esa len far i : ℕ) → esa < 0x100 → far < 0x10000 → len %
 pages_differ esa len far i small small' whole beyond within same = omega (arith, same, small, small', whole, beyond, within)
 
 -- A few bytes have no page of a window of whole pages, where their last is further from its start than both are long.
-pub bytes_off : (start count esa len way : ℕ) → esa < 0x100 → way < 0x10000 → (way + esa * 0x100) % 0x10000 ≡ (start + (count - 1)) % 0x10000 → 1 ≤ count → len % 0x100 ≡ 0
+pub bytes_apart : (start count esa len way : ℕ) → esa < 0x100 → way < 0x10000 → (way + esa * 0x100) % 0x10000 ≡ (start + (count - 1)) % 0x10000 → 1 ≤ count → len % 0x100 ≡ 0
     → len + (count - 1) ≤ way → AreApart (pages_of_bytes start count) (window_from esa len)
-bytes_off start count esa len way small small' is some whole far page here =
+bytes_apart start count esa len way small small' is some whole far page here =
     found (λ i. page_of (start + i)) 0 count page here (λ k above below same.
     let from : ℕ = way - (count - 1 - k) in
     let beyond : len ≤ from = omega (arith, far, below, some) in

@@ -35,15 +35,15 @@ sum_of-sent : (sent own : Volumes → ℤ) (volumes : List Volumes) (answers : L
 sum_of-sent sent own volumes answers all is same =
     sym (same volumes) ∙ (sym (sum_of-map sent sent_whole volumes answers) ∙ ap (λ (vs : List Volumes). sum_of sent vs answers) all)
 
-pub all_sent_batch : (shared : ℕ → SharedInput) (n : ℕ) (volumes : List Volumes) (before voices : List VoiceState) (last : List VoiceOut) (loops : List ℕ) (sums : SumRows)
-    → AreAllSent volumes → IsPlayedBatch shared n (map unsent volumes) before voices last loops sums
-    → IsPlayedBatch shared n volumes before voices last loops record sums { sent_left = sums.main_left; sent_right = sums.main_right }
-all_sent_batch shared n volumes before voices last loops sums all played =
+pub all_sent_batch : (shared : ℕ → SharedInput) (n : ℕ) (volumes : List Volumes) (before voices : List VoiceState) (last : List VoiceOut) (ends : List ℕ) (sums : SumRows)
+    → AreAllSent volumes → IsPlayedBatch shared n (map unsent volumes) before voices last ends sums
+    → IsPlayedBatch shared n volumes before voices last ends record sums { sent_left = sums.main_left; sent_right = sums.main_right }
+all_sent_batch shared n volumes before voices last ends sums all played =
     let answers : ℕ → List VoiceOut = answers_from shared 0 (λ j. pos 0) before in
     record {
       voices_are = played.voices_are;
       last_is = played.last_is;
-      loops_are = played.loops_are;
+      ends_are = played.ends_are;
       main_left = λ j few. played.main_left j few ∙ sum_of-map (λ one. one.left) unsent volumes (answers j);
       main_right = λ j few. played.main_right j few ∙ sum_of-map (λ one. one.right) unsent volumes (answers j);
       sent_left = λ j few. played.main_left j few ∙ (sum_of-map (λ one. one.left) unsent volumes (answers j)

@@ -12,7 +12,7 @@ use Rattle.dsp_state.specs.Volumes.{all_volumes}
 use Rattle.dsp_state.specs.Sample.{VoiceResult, results_from, shared_input, sample, before_voices}
 use Rattle.dsp_state.specs.declared.registers.TheConstants.{FLG}
 use Rattle.reach_laws.proofs.Registers.{same_inputs-samples}
-use Rattle.echo_unit.proofs.OffCell.{echo_memory_still}
+use Rattle.echo_unit.proofs.ApartFromCell.{echo_memory_still}
 use Rattle.dsp_state.specs.Valid.{is_valid}
 use Rattle.dsp_state.specs.Reach.{chip_reach}
 use Rattle.dsp_state.specs.declared.state.ChipState.{ChipState}

@@ -52,8 +52,8 @@ keyed_are k n s memory rows eight are small j few =
     below true kon h = h
     below false kon h = omega arith
 
-module _ (k n : ℕ) (s : ChipState) (memory : List ℕ) (voices : List VoiceState) (last : List VoiceOut) (loops : List ℕ) (sums : SumRows)
-    (played : IsPlayedBatch (inputs k s memory) n (all_volumes s.registers s.muted) s.hidden.voices voices last loops sums) where
+module _ (k n : ℕ) (s : ChipState) (memory : List ℕ) (voices : List VoiceState) (last : List VoiceOut) (ends : List ℕ) (sums : SumRows)
+    (played : IsPlayedBatch (inputs k s memory) n (all_volumes s.registers s.muted) s.hidden.voices voices last ends sums) where
   pub echo_is : echo_over (echo_regs s.registers) (main_of sums) (sent_of sums) s.hidden.echo memory n ≡ echo_after k s memory n
   unfolding echo_after answers main_frame sent_frame
   echo_is =
@@ -68,6 +68,6 @@ module _ (k n : ℕ) (s : ChipState) (memory : List ℕ) (voices : List VoiceSta
   registers_are endx some eight long is =
       rw (played.last_is, is) (sym (results_last (answers k s memory) s.registers n some (λ j. length-answers_from (inputs k s memory) 0 (λ j. pos 0) s.hidden.voices j ∙ eight) long))
 
-  pub bits_are : (rows : BatchRows) → length s.hidden.voices ≡ 8 → AreKeyRows k n s rows → ((j : ℕ) → j < n → slice_index rows.kon j < 0x100) → AreBits n (answers k s memory) rows loops
+  pub bits_are : (rows : BatchRows) → length s.hidden.voices ≡ 8 → AreKeyRows k n s rows → ((j : ℕ) → j < n → slice_index rows.kon j < 0x100) → AreBits n (answers k s memory) rows ends
   unfolding answers
-  bits_are rows eight are small = record { looped = λ j few. played.loops_are j few; keyed = λ j few. keyed_are k n s memory rows eight are small j few }
+  bits_are rows eight are small = record { ended = λ j few. played.ends_are j few; keyed = λ j few. keyed_are k n s memory rows eight are small j few }

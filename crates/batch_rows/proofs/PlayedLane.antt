@@ -57,6 +57,6 @@ module _ (k n v : ℕ) (s : ChipState) (memory : List ℕ) (rows : BatchRows) (p
   played_lane before after row now last some played last_is = record {
     voice = played.voice_is ∙ steps_are n (omega arith);
     row_is = λ j few. played.outs_are j few ∙ ap (λ (answer : VoiceOut). answer.out) (answers_are j few);
-    loops_are = λ j few. played.loops_are j few ∙ ap (λ (answer : VoiceOut). slice_index before j + (if answer.looped then 2 ^ v else 0)) (answers_are j few);
+    ends_are = λ j few. played.ends_are j few ∙ ap (λ (answer : VoiceOut). slice_index before j + (if answer.ended then 2 ^ v else 0)) (answers_are j few);
     last_is = last_is ∙ answers_are (n - 1) (omega (arith, some));
   }

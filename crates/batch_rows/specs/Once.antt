@@ -14,7 +14,7 @@ endx_after rows endx (suc j) = next_endx (endx_after rows endx j) (rows j)
 abbrev pub put_once : List VoiceOut → (endx : ℕ) → (registers : List ℕ) → List ℕ
 put_once answers endx registers = slice_set (with_levels_from 0 answers registers) ENDX endx
 
--- the bytes of the voices that loop and of those that are keyed, in each of n samples with these answers
-pub record AreBits (n : ℕ) (answers : ℕ → List VoiceOut) (rows : BatchRows) (loops : List ℕ) : Type 0 where
-  pub looped : (j : ℕ) → j < n → slice_index loops j ≡ bits_from (λ answer. answer.looped) 0 (answers j)
+-- the bytes of the voices that come to an end and of those that are keyed, in each of n samples with these answers
+pub record AreBits (n : ℕ) (answers : ℕ → List VoiceOut) (rows : BatchRows) (ends : List ℕ) : Type 0 where
+  pub ended : (j : ℕ) → j < n → slice_index ends j ≡ bits_from (λ answer. answer.ended) 0 (answers j)
   pub keyed : (j : ℕ) → j < n → (if get_or rows.poll j false then slice_index rows.kon j else 0) ≡ bits_from (λ answer. answer.keyed) 0 (answers j)

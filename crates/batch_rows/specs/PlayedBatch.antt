@@ -18,12 +18,12 @@ answers_from shared v previous voices j = map (λ result. result.answer) (lanes 
 abbrev pub sum_of : (volume : Volumes → ℤ) → List Volumes → List VoiceOut → ℤ
 sum_of volume volumes answers = clamped_sum (pos 0) (shares_at volume volumes answers)
 
--- the voices, their answers in the last sample, the bits of those that loop in each, and its sums
+-- the voices, their answers in the last sample, the bits of those that come to an end in each, and its sums
 pub record IsPlayedBatch (shared : ℕ → SharedInput) (n : ℕ) (volumes : List Volumes) (before voices : List VoiceState)
-    (last : List VoiceOut) (loops : List ℕ) (sums : SumRows) : Type 0 where
+    (last : List VoiceOut) (ends : List ℕ) (sums : SumRows) : Type 0 where
   pub voices_are : voices ≡ voices_after shared 0 (λ j. pos 0) before n
   pub last_is : last ≡ answers_from shared 0 (λ j. pos 0) before (n - 1)
-  pub loops_are : (j : ℕ) → j < n → slice_index loops j ≡ bits_from (λ answer. answer.looped) 0 (answers_from shared 0 (λ j. pos 0) before j)
+  pub ends_are : (j : ℕ) → j < n → slice_index ends j ≡ bits_from (λ answer. answer.ended) 0 (answers_from shared 0 (λ j. pos 0) before j)
   pub main_left : (j : ℕ) → j < n → number_at sums.main_left j ≡ sum_of (λ one. one.left) volumes (answers_from shared 0 (λ j. pos 0) before j)
   pub main_right : (j : ℕ) → j < n → number_at sums.main_right j ≡ sum_of (λ one. one.right) volumes (answers_from shared 0 (λ j. pos 0) before j)
   pub sent_left : (j : ℕ) → j < n → number_at sums.sent_left j ≡ sum_of (λ one. one.sent_left) volumes (answers_from shared 0 (λ j. pos 0) before j)

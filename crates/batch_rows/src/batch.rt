@@ -66,7 +66,7 @@ pub fn play_batch(
         memory,
         frames,
     );
-    let endx = endx_of_batch(state.registers[ENDX], n, &rows, &made.rows.loops);
+    let endx = endx_of_batch(state.registers[ENDX], n, &rows, &made.rows.ends);
     put_all_levels(&mut state.registers, &made.last);
     state.registers[ENDX] = endx;
 }

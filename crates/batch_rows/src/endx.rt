@@ -29,30 +29,30 @@ fn are_none_taken(kon: &[u8; BATCH_SIZE]) -> bool
     all == 0
 }
 
-/// ENDX after n samples of a batch in which no voice is keyed: it gains the voices that looped.
-fn gained_endx(endx: u8, n: u8, rows: &BatchRows, loops: &[u8; BATCH_SIZE]) -> u8
+/// ENDX after n samples of a batch in which no voice is keyed: it gains the voices that ended.
+fn gained_endx(endx: u8, n: u8, rows: &BatchRows, ends: &[u8; BATCH_SIZE]) -> u8
     requires few { n ≤ most_samples_of_batch }
     requires unkeyed { (j : ℕ) → j < BATCH_SIZE → slice_index rows.now.kon j ≡ 0 }
-    ensures { (answers : ℕ → List VoiceOut) → AreBits n answers rows.now loops.now → result ≡ endx_after answers endx n }
+    ensures { (answers : ℕ → List VoiceOut) → AreBits n answers rows.now ends.now → result ≡ endx_after answers endx n }
 {
     let mut now = endx;
     for j in 0..n {
-        now = next_endx(now, loops[usize::from(j)], 0);
+        now = next_endx(now, ends[usize::from(j)], 0);
     }
     now
 }
 
-/// ENDX after n samples of a batch: in each it gains the voices that looped and then loses those that were keyed.
-pub fn endx_of_batch(endx: u8, n: u8, rows: &BatchRows, loops: &[u8; BATCH_SIZE]) -> u8
+/// ENDX after n samples of a batch: in each it gains the voices that ended and then loses those that were keyed.
+pub fn endx_of_batch(endx: u8, n: u8, rows: &BatchRows, ends: &[u8; BATCH_SIZE]) -> u8
     requires few { n ≤ most_samples_of_batch }
-    ensures { (answers : ℕ → List VoiceOut) → AreBits n answers rows.now loops.now → result ≡ endx_after answers endx n }
+    ensures { (answers : ℕ → List VoiceOut) → AreBits n answers rows.now ends.now → result ≡ endx_after answers endx n }
 {
     if are_none_taken(&rows.kon) {
-        return gained_endx(endx, n, rows, loops);
+        return gained_endx(endx, n, rows, ends);
     }
     let mut now = endx;
     for j in 0..n {
-        now = next_endx(now, loops[usize::from(j)], keyed_in(rows, j));
+        now = next_endx(now, ends[usize::from(j)], keyed_in(rows, j));
     }
     now
 }

@@ -22,7 +22,7 @@ const PAGE: u16 = PAGE_SIZE as u16;
 
 /// Whether a few bytes have no page of a window of whole pages: from its start to the last of them it is further than both are long.
 #[inline]
-fn are_bytes_off(start: u16, count: u16, esa: u8, len: u32) -> bool
+fn are_bytes_apart(start: u16, count: u16, esa: u8, len: u32) -> bool
     requires some { 1 ≤ count }
     requires few { count ≤ PAGE_SIZE }
     requires most { len ≤ 0x10000 }
@@ -36,19 +36,19 @@ fn are_bytes_off(start: u16, count: u16, esa: u8, len: u32) -> bool
 
 /// Whether a chain has no page of a window of whole pages.
 #[inline]
-fn is_chain_off(block: u16, loop_word: u16, esa: u8, len: u32) -> bool
+fn is_chain_apart(block: u16, loop_word: u16, esa: u8, len: u32) -> bool
     requires most { len ≤ 0x10000 }
     requires whole { len % PAGE_SIZE ≡ 0 }
     ensures { result ≡ true → AreApart (far_pages (record { block = block; loop_word = loop_word })) (window_from esa len) }
 {
-    if !are_bytes_off(block, CHAIN, esa, len) {
+    if !are_bytes_apart(block, CHAIN, esa, len) {
         return false;
     }
-    are_bytes_off(loop_word, CHAIN, esa, len)
+    are_bytes_apart(loop_word, CHAIN, esa, len)
 }
 
 /// Whether what voice `v` can read has no page of a window of whole pages.
-fn is_voice_off(state: &ChipState, memory: &Aram, v: u8, voice: &Voice, esa: u8, len: u32) -> bool
+fn is_voice_apart(state: &ChipState, memory: &Aram, v: u8, voice: &Voice, esa: u8, len: u32) -> bool
     requires voice { v < 8 }
     requires most { len ≤ 0x10000 }
     requires whole { len % PAGE_SIZE ≡ 0 }
@@ -57,17 +57,17 @@ fn is_voice_off(state: &ChipState, memory: &Aram, v: u8, voice: &Voice, esa: u8,
     let dir = state.registers[DIR];
     let srcn = voice_register(&state.registers, v, SRCN);
     let again = loop_word(dir, srcn, memory);
-    if !are_bytes_off(entry_address(dir, srcn), 4, esa, len) {
+    if !are_bytes_apart(entry_address(dir, srcn), 4, esa, len) {
         return false;
     }
-    if !is_chain_off(voice.block(), again, esa, len) {
+    if !is_chain_apart(voice.block(), again, esa, len) {
         return false;
     }
     let starts = state.can_start(v, voice);
     if !starts {
         return true;
     }
-    is_chain_off(start_word(dir, srcn, memory), again, esa, len)
+    is_chain_apart(start_word(dir, srcn, memory), again, esa, len)
 }
 
 /// So many bytes, up to the end of their last page.
@@ -90,7 +90,7 @@ fn is_apart_from_afar(state: &ChipState, memory: &Aram) -> bool
     let len = whole_pages(window.len);
     for v in 0..8u8 {
         let voice = &state.hidden.voices[usize::from(v)];
-        if !is_voice_off(state, memory, v, voice, esa, len) {
+        if !is_voice_apart(state, memory, v, voice, esa, len) {
             return false;
         }
     }
@@ -106,7 +106,7 @@ fn is_still(state: &ChipState) -> bool
 
 /// Whether it is seen from afar that the echo can't write what the voices read in the next 64 samples. A `false` is free: no clause says
 /// when it comes, and whoever gets it looks closer.
-pub fn is_echo_far(state: &ChipState, memory: &Aram) -> bool
+pub fn is_echo_apart_from_afar(state: &ChipState, memory: &Aram) -> bool
     ensures { result ≡ true → (chip_reach state.now memory.now).entangled ≡ false }
 {
     let still = is_still(state);
@@ -120,7 +120,7 @@ pub fn is_echo_far(state: &ChipState, memory: &Aram) -> bool
 pub fn is_echo_apart(state: &ChipState, memory: &Aram) -> bool
     ensures { result ≡ not (chip_reach state.now memory.now).entangled }
 {
-    let far = is_echo_far(state, memory);
+    let far = is_echo_apart_from_afar(state, memory);
     if far {
         return true;
     }

@@ -22,7 +22,7 @@ use voice_unit::{PlayedRows, UNHEARD, Voice, VoiceOut, Workspace};
 pub struct PlayedBatch {
     /// What each voice gives in the last sample.
     pub last: [VoiceOut; 8],
-    /// The outputs of the voice that played last, and the voices that loop in each sample.
+    /// The outputs of the voice that played last, and the voices that come to an end in each sample.
     pub rows: PlayedRows,
     /// The sums over the voices in each sample.
     pub sums: SumRows,
@@ -35,7 +35,7 @@ impl PlayedBatch {
             last: [UNHEARD; 8],
             rows: PlayedRows {
                 outs: [0; BATCH_SIZE],
-                loops: [0; BATCH_SIZE],
+                ends: [0; BATCH_SIZE],
             },
             sums: SumRows {
                 main_left: [0; BATCH_SIZE],
@@ -61,21 +61,21 @@ pub fn play_voice(
     requires some { 0 < n }
     requires few { n ≤ most_samples_of_batch }
     requires noise { (j : ℕ) → j < n → slice_index reads.now.rows.now.noise j < 0x8000 }
-    requires lower { (j : ℕ) → j < most_samples_of_batch → slice_index made.old.loops j < 2 ^ v }
+    requires lower { (j : ℕ) → j < most_samples_of_batch → slice_index made.old.ends j < 2 ^ v }
     ensures played { (k : ℕ) (s : ChipState) → AreReadsOf k n s reads.now
         → let shared = inputs k s reads.now.memory.now in
-        IsPlayedLane shared v n (number_at previous.now) voice.old voice.new made.new.outs made.old.loops made.new.loops result }
-    ensures lower { (j : ℕ) → j < most_samples_of_batch → slice_index made.new.loops j < 2 ^ (v + 1) }
+        IsPlayedLane shared v n (number_at previous.now) voice.old voice.new made.new.outs made.old.ends made.new.ends result }
+    ensures lower { (j : ℕ) → j < most_samples_of_batch → slice_index made.new.ends j < 2 ^ (v + 1) }
 {
     let own = reads.of_voice(v);
     voice.play(n, &own, previous, work, made)
 }
 
-/// Begins with no voice that loops.
-fn clear_loops(loops: &mut [u8; BATCH_SIZE])
-    ensures { loops.new ≡ replicate BATCH_SIZE 0 }
+/// Begins with no voice that has ended.
+fn clear_ends(ends: &mut [u8; BATCH_SIZE])
+    ensures { ends.new ≡ replicate BATCH_SIZE 0 }
 {
-    *loops = [0; BATCH_SIZE];
+    *ends = [0; BATCH_SIZE];
 }
 
 /// Plays all voices over a batch of n samples, and adds each to the main sums and to what is sent.
@@ -92,10 +92,10 @@ fn play_each(
     requires noise { (j : ℕ) → j < n → slice_index reads.now.rows.now.noise j < 0x8000 }
     ensures played { (k : ℕ) (s : ChipState) → AreReadsOf k n s reads.now
         → let shared = inputs k s reads.now.memory.now in
-        IsPlayedBatch shared n volumes.now voices.old voices.new made.new.last made.new.rows.loops made.new.sums }
+        IsPlayedBatch shared n volumes.now voices.old voices.new made.new.last made.new.rows.ends made.new.sums }
     ensures eight { length voices.old ≡ 8 }
 {
-    clear_loops(&mut made.rows.loops);
+    clear_ends(&mut made.rows.ends);
     clear_sums(&mut made.sums);
     let mut previous = [0; BATCH_SIZE];
     for v in 0..8u8 {
@@ -110,7 +110,7 @@ fn play_each(
     }
 }
 
-/// Plays all voices over a batch of n samples: what each gives in the last sample, the bits of the voices that loop in each sample, and the sums of each
+/// Plays all voices over a batch of n samples: what each gives in the last sample, the bits of the voices that end in each sample, and the sums of each
 /// sample. Where all are sent to the echo at their own volumes, the main sums are those of what they send.
 pub fn play_voices(
     voices: &mut [Voice; 8],
@@ -125,7 +125,7 @@ pub fn play_voices(
     requires noise { (j : ℕ) → j < n → slice_index reads.now.rows.now.noise j < 0x8000 }
     ensures played { (k : ℕ) (s : ChipState) → AreReadsOf k n s reads.now
         → let shared = inputs k s reads.now.memory.now in
-        IsPlayedBatch shared n volumes.now voices.old voices.new made.new.last made.new.rows.loops made.new.sums }
+        IsPlayedBatch shared n volumes.now voices.old voices.new made.new.last made.new.rows.ends made.new.sums }
     ensures eight { length voices.old ≡ 8 }
 {
     if !are_all_sent(volumes) {

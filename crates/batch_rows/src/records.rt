@@ -25,7 +25,7 @@ fn push_record(records: &mut Records, mask: u8, sample: u32, v: u8, answer: &Voi
             out: answer.out,
             block: answer.block,
             keyed: answer.keyed,
-            looped: answer.looped,
+            ended: answer.ended,
         });
     }
 }

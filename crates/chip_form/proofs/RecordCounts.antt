@@ -21,7 +21,7 @@ length-filter-at_most {X} test (x ∷ xs) = one (test x) (length-filter-at_most 
 pub length-are_voice_records : (k v : ℕ) (records : List Record) → are_voice_records k v records ≡ true → length records + v ≡ 8
 unfolding are_voice_records
 length-are_voice_records k v [] h = let e : v ≡ 8 = search rules in omega arith
-length-are_voice_records k v (Voice sample voice level out block keyed looped ∷ rest) h =
+length-are_voice_records k v (Voice sample voice level out block keyed ended ∷ rest) h =
     let others : are_voice_records k (v + 1) rest ≡ true = grind (arith, rules) in
     let count = length-are_voice_records k (v + 1) rest others in
     omega arith
@@ -30,10 +30,10 @@ length-are_voice_records k v (Port sample port value ∷ rest) h = cc
 
 -- a sample from a valid state gives at most 8 records under any mask
 pub sample_record_count : {S : Type 0} (chip : ChipMeaning S) → IsLawfulChip chip → (mask k : ℕ) (s : S) (memory : List ℕ) → chip.is_valid s ≡ true
-    → length (filter (in_mask mask) (chip.sample k s memory).records) ≤ 8
+    → length (filter (in_mask mask) (chip.one_sample k s memory).records) ≤ 8
 sample_record_count chip laws mask k s memory valid =
-    let all = length-are_voice_records k 0 (chip.sample k s memory).records (laws.gives_voice_records k s memory valid) in
-    omega (arith, length-filter-at_most (in_mask mask) (chip.sample k s memory).records)
+    let all = length-are_voice_records k 0 (chip.one_sample k s memory).records (laws.gives_voice_records k s memory valid) in
+    omega (arith, length-filter-at_most (in_mask mask) (chip.one_sample k s memory).records)
 
 -- a run of one sample is that sample
 pub samples_one : {S : Type 0} (sample : ℕ → S → List ℕ → SampleResult S) (k : ℕ) (s : S) (memory : List ℕ)

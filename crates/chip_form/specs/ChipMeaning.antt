@@ -11,7 +11,7 @@ pub record ChipMeaning (S : Type 0) : Type 0 where
   -- whether samples write the register at an address: whether it is a result of theirs
   pub is_result : (address : ℕ) → Bool
   -- the sample of number k over a memory: what it leaves and gives
-  pub sample : (k : ℕ) → S → (memory : List ℕ) → SampleResult S
+  pub one_sample : (k : ℕ) → S → (memory : List ℕ) → SampleResult S
   -- the pages that the next 64 samples over a memory can read and write
   pub reach : S → (memory : List ℕ) → ReachPages
   -- the test of the states that a chip can be in

@@ -40,7 +40,7 @@ samples sample (suc n) k state memory = one_more sample (k + n) (samples sample 
 abbrev pub in_mask : (mask : ℕ) → Record → Bool
 in_mask mask (Reg sample addr value) = true
 in_mask mask (Port sample port value) = true
-in_mask mask (Voice sample voice level out block keyed looped) = has_bit mask voice
+in_mask mask (Voice sample voice level out block keyed ended) = has_bit mask voice
 
 -- What is there once these samples are made: the state and the memory that they leave, and after what two lists had before, their
 -- frames and the records that are wanted under a mask.

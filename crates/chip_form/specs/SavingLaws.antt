@@ -10,4 +10,4 @@ pub record IsLawfulSaving {S V : Type 0} (chip : ChipMeaning S) (saving : ChipSa
   -- a load leaves nothing of what was there but the fixed part
   pub loads_over : (s : S) (v w : V) → saving.loaded (saving.loaded s v) w ≡ saving.loaded s w
   pub write_keeps_fixed : (s : S) (address byte : ℕ) (v : V) → saving.loaded (chip.register_write s address byte) v ≡ saving.loaded s v
-  pub sample_keeps_fixed : (k : ℕ) (s : S) (memory : List ℕ) (v : V) → saving.loaded (chip.sample k s memory).state v ≡ saving.loaded s v
+  pub sample_keeps_fixed : (k : ℕ) (s : S) (memory : List ℕ) (v : V) → saving.loaded (chip.one_sample k s memory).state v ≡ saving.loaded s v

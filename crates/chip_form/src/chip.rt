@@ -68,7 +68,7 @@ pub trait Chip: Drop {
         requires frame_room { length frames.old + n ≤ frame_room }
         requires record_room { length records.old + 8 * n ≤ record_room }
         requires number { sample self.old + n ≤ most_samples_of_chip }
-        ensures made { let made = samples meaning.sample n (sample self.old) (state self.old) memory.old in
+        ensures made { let made = samples meaning.one_sample n (sample self.old) (state self.old) memory.old in
             AddsSamples mask made (state self.new) memory.new frames.old frames.new records.old records.new }
         ensures sample { sample self.new ≡ sample self.old + n }
         ensures batches { batches self.new ≡ (if n == 0 then batches self.old else count_after (batches self.old) 1) }

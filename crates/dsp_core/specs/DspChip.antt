@@ -14,7 +14,7 @@ dsp_chip = record {
   register_read = register_read;
   register_write = register_write;
   is_result = is_result;
-  sample = sample;
+  one_sample = sample;
   reach = chip_reach;
   is_valid = is_valid;
 }

@@ -19,8 +19,8 @@ use crate::sample::make_sample;
 use crate::saved::DspState;
 use aram_core::Aram;
 use batch_rows::{
-    BatchSamples, PlayedBatch, is_echo_apart, is_echo_far, play_batch, play_recorded_batch,
-    push_records, samples_apart,
+    BatchSamples, PlayedBatch, is_echo_apart, is_echo_apart_from_afar, play_batch,
+    play_recorded_batch, push_records, samples_apart,
 };
 use dsp_state::registers::{ENDX, KON};
 use dsp_state::{ChipState, Hidden, Settings, settings_of};
@@ -277,7 +277,7 @@ impl Dsp {
         if n < FEWEST_ROWS {
             return 0;
         }
-        let far = is_echo_far(&self.state, memory);
+        let far = is_echo_apart_from_afar(&self.state, memory);
         if far {
             return n;
         }

@@ -18,10 +18,10 @@ bits_from test v (answer ∷ answers) = (if test answer then 2 ^ v else 0) + bit
 abbrev pub without_bits : (byte bits : ℕ) → ℕ
 without_bits byte bits = bit_and byte (0xff - bits)
 
--- ENDX gains the voices that looped and then loses those that were keyed
+-- ENDX gains the voices that ended and then loses those that were keyed
 unfoldable pub next_endx : (endx : ℕ) → List VoiceOut → ℕ
 next_endx endx answers =
-    without_bits (bit_or endx (bits_from (λ answer. answer.looped) 0 answers)) (bits_from (λ answer. answer.keyed) 0 answers)
+    without_bits (bit_or endx (bits_from (λ answer. answer.ended) 0 answers)) (bits_from (λ answer. answer.keyed) 0 answers)
 
 -- the registers with ENVX and OUTX of the voices from v on
 abbrev pub with_levels_from : (v : ℕ) → List VoiceOut → (registers : List ℕ) → List ℕ

@@ -84,7 +84,7 @@ results_from shared v previous (voice ∷ voices) =
 abbrev pub records_from : (k v : ℕ) → List VoiceOut → List Record
 records_from k v [] = []
 records_from k v (answer ∷ answers) =
-    Voice k v answer.level answer.out answer.block answer.keyed answer.looped ∷ records_from k (v + 1) answers
+    Voice k v answer.level answer.out answer.block answer.keyed answer.ended ∷ records_from k (v + 1) answers
 
 -- what the voices read once the keys are polled and the noise has gone on
 abbrev pub shared_input : ChipState → List ℕ → (k : ℕ) → SharedInput

@@ -22,22 +22,22 @@ fn bit(test: bool, v: u8) -> u8
     if test { 1 << v } else { 0 }
 }
 
-/// The bits of the voices that looped.
-fn looped_bits(answers: &[VoiceOut; 8]) -> u8
-    ensures { result ≡ bits_from (λ answer. answer.looped) 0 answers.now }
+/// The bits of the voices that ended.
+fn ended_bits(answers: &[VoiceOut; 8]) -> u8
+    ensures { result ≡ bits_from (λ answer. answer.ended) 0 answers.now }
 {
     let mut bits = 0;
     for v in 0..8u8 {
-        bits += bit(answers[usize::from(v)].looped, v);
+        bits += bit(answers[usize::from(v)].ended, v);
     }
     bits
 }
 
-/// ENDX after a sample: it gains the voices that looped, and then loses those that were keyed.
-pub fn next_endx(endx: u8, looped: u8, keyed: u8) -> u8
-    ensures { result ≡ without_bits (bit_or endx looped) keyed }
+/// ENDX after a sample: it gains the voices that ended, and then loses those that were keyed.
+pub fn next_endx(endx: u8, ended: u8, keyed: u8) -> u8
+    ensures { result ≡ without_bits (bit_or endx ended) keyed }
 {
-    (endx | looped) & (0xff - keyed)
+    (endx | ended) & (0xff - keyed)
 }
 
 /// ENDX after the answers of a sample in which these voices were keyed.
@@ -46,7 +46,7 @@ fn endx_after(endx: u8, keyed: u8, answers: &[VoiceOut; 8]) -> u8
     requires { keyed ≡ bits_from (λ answer. answer.keyed) 0 answers.now }
     ensures { result ≡ next_endx endx answers.now }
 {
-    next_endx(endx, looped_bits(answers), keyed)
+    next_endx(endx, ended_bits(answers), keyed)
 }
 
 /// Puts ENVX and OUTX of voice `v`.

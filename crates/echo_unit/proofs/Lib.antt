@@ -5,8 +5,8 @@ pub mod Taps
 pub mod History
 -- Cells: the echo stands at a cell of its buffer, and a step takes it from cell to cell.
 pub mod Cells
--- OffCell: a step of the echo writes one cell. Walk: up to 64 cells of a buffer are all apart.
-pub mod OffCell
+-- ApartFromCell: a step of the echo writes one cell. Walk: up to 64 cells of a buffer are all apart.
+pub mod ApartFromCell
 pub mod Walk
 -- Neighbours: cells that stand one after another in one page.
 -- Entries: rows that a loop fills. RunByRows: a batch whose cells are all read before they are written.

@@ -17,7 +17,7 @@ use Rattle.echo_unit.proofs.Entries.{take_all, drop_newest, row_more, window_of}
 use Rattle.echo_unit.proofs.Cells.{cell_of}
 use Rattle.echo_unit.proofs.Walk.{cells_apart}
 use Rattle.echo_unit.proofs.Neighbours.{same_echo}
-use Rattle.echo_unit.proofs.OffCell.{IsOffCell, byte_at-echo_memory, echo_memory_still}
+use Rattle.echo_unit.proofs.ApartFromCell.{IsApartFromCell, byte_at-echo_memory, echo_memory_still}
 
 pub echo_over-more : (regs : EchoRegs) (main sent : ℕ → Frame) (echo : EchoState) (memory : List ℕ) (j : ℕ)
     → echo_over regs main sent echo memory (j + 1)
@@ -58,7 +58,7 @@ cell_more side s regs memory row j next past place at x long few next_is past_is
 -- no cell of so many is written before it is read
 abbrev pub ReadsFirst : EchoRegs → EchoState → ℕ → Type 0
 ReadsFirst regs echo n =
-    (has_echo_writes regs.flg ≡ false) ⊎ ((i j byte : ℕ) → i < j → j < n → byte < 4 → IsOffCell (cell_after echo regs i) (cell_after echo regs j + byte))
+    (has_echo_writes regs.flg ≡ false) ⊎ ((i j byte : ℕ) → i < j → j < n → byte < 4 → IsApartFromCell (cell_after echo regs i) (cell_after echo regs j + byte))
 
 pub reads_first : (regs : EchoRegs) (s : EchoState) (n : ℕ) → is_at_cell s ≡ true → n ≤ 64 → (has_echo_writes regs.flg ≡ true → 0 < regs.edl % 16) → ReadsFirst regs s n
 reads_first regs s n at few apart = by (has_echo_writes regs.flg) refl
@@ -106,7 +106,7 @@ module _ (regs : EchoRegs) (main sent : ℕ → Frame) (echo : EchoState) (memor
       echo_memory_still now.echo regs now.memory (sent j) off ∙ still off j
 
   -- bytes off the cells of the samples before are as they were
-  untouched : (j at : ℕ) → ((i : ℕ) → i < j → IsOffCell (cell_after echo regs i) at) → byte_at (echo_over regs main sent echo memory j).memory at ≡ byte_at memory at
+  untouched : (j at : ℕ) → ((i : ℕ) → i < j → IsApartFromCell (cell_after echo regs i) at) → byte_at (echo_over regs main sent echo memory j).memory at ≡ byte_at memory at
   untouched zero at off = refl
   untouched (suc j) at off =
       let now : EchoOver = echo_over regs main sent echo memory j in
@@ -114,7 +114,7 @@ module _ (regs : EchoRegs) (main sent : ℕ → Frame) (echo : EchoState) (memor
       byte_at-echo_memory now.echo regs now.memory (sent j) at (rw place (off j (omega arith))) ∙ untouched j at (λ i below. off i (omega (arith, below)))
 
   module _ (n : ℕ) (first : ReadsFirst regs echo n) (eight : length echo.history ≡ 8) where
-    cell_byte : ((i j byte : ℕ) → i < j → j < n → byte < 4 → IsOffCell (cell_after echo regs i) (cell_after echo regs j + byte))
+    cell_byte : ((i j byte : ℕ) → i < j → j < n → byte < 4 → IsApartFromCell (cell_after echo regs i) (cell_after echo regs j + byte))
         → (j byte at : ℕ) → j < n → byte < 4 → at % 0x10000 ≡ (cell_after echo regs j + byte) % 0x10000
         → byte_at (echo_over regs main sent echo memory j).memory at ≡ byte_at memory at
     cell_byte apart j byte at few small same =

@@ -6,7 +6,7 @@ use Rattle.echo_unit.specs.Echo.{EchoState, length_in_force, at_next_cell}
 use Rattle.echo_unit.specs.Cells.{after_cells, cell_after}
 use Rattle.echo_unit.specs.declared.regs.EchoRegs.{EchoRegs}
 use Rattle.echo_unit.proofs.Cells.{IsCell}
-use Rattle.echo_unit.proofs.OffCell.{IsOffCell, off_other}
+use Rattle.echo_unit.proofs.ApartFromCell.{IsApartFromCell, apart_from_other}
 
 -- a place in a buffer of a length
 record IsPlace (offset len : ℕ) : Type 0 where
@@ -121,8 +121,8 @@ module _ (edl : ℕ) (s : EchoState) (cell : IsCell s) (some : 0 < edl % 16) whe
 
 -- a cell is off all that come before it
 pub cells_apart : (regs : EchoRegs) (s : EchoState) → IsCell s → 0 < regs.edl % 16 → (i j byte : ℕ) → i < j → j < 64 → byte < 4
-    → IsOffCell (cell_after s regs i) (cell_after s regs j + byte)
+    → IsApartFromCell (cell_after s regs i) (cell_after s regs j + byte)
 cells_apart regs s cell some i j byte below few small =
     let this = at_cell regs.edl s cell some i (omega (arith, below, few)) in
     let that = at_cell regs.edl s cell some j few in
-    off_other regs.esa (after_cells s regs.edl i).offset (after_cells s regs.edl j).offset byte this.0 that.0 this.1 that.1 (others regs.edl s cell some i j below few) small
+    apart_from_other regs.esa (after_cells s regs.edl i).offset (after_cells s regs.edl j).offset byte this.0 that.0 this.1 that.1 (others regs.edl s cell some i j below few) small

@@ -29,7 +29,7 @@ use Rattle.lag_bus.proofs.VoicesWithin.{voices_within, voices_within-samples}
 
 -- the voices of a sample have its number
 number_of_voice : (k : ℕ) (item : Record) → IsVoiceWithin k (k + 1) item → sample_number item ≡ k
-number_of_voice k (Voice sample voice level out block keyed looped) w = omega arith
+number_of_voice k (Voice sample voice level out block keyed ended) w = omega arith
 number_of_voice k (Reg sample addr value) w = absurd w
 number_of_voice k (Port sample port value) w = absurd w
 
@@ -73,7 +73,7 @@ held_new chip h valid number pending frames records ring =
 module _ {S : Type 0} {chip : ChipMeaning S} (laws : IsLawfulChip chip) where
   byte_stays : (n k : ℕ) (s : S) (memory : List ℕ) (at : ℕ) → n ≤ 64 → chip.is_valid s ≡ true
       → (n == 0 || not (may_be_written (chip.reach s memory) at)) ≡ true
-      → byte_at (samples chip.sample n k s memory).memory at ≡ byte_at memory at
+      → byte_at (samples chip.one_sample n k s memory).memory at ≡ byte_at memory at
   byte_stays zero k s memory at few valid free = rw samples_none refl
   byte_stays (suc n) k s memory at few valid free =
       let some : (suc n == 0) ≡ false = search rules in
@@ -81,7 +81,7 @@ module _ {S : Type 0} {chip : ChipMeaning S} (laws : IsLawfulChip chip) where
 
   register_stays : (n k : ℕ) (s : S) (memory : List ℕ) (address : ℕ) → n ≤ 64 → chip.is_valid s ≡ true
       → (n == 0 || not (chip.is_result address)) ≡ true
-      → chip.register_read (samples chip.sample n k s memory).state address ≡ chip.register_read s address
+      → chip.register_read (samples chip.one_sample n k s memory).state address ≡ chip.register_read s address
   register_stays zero k s memory address few valid free = rw samples_none refl
   register_stays (suc n) k s memory address few valid free =
       let some : (suc n == 0) ≡ false = search rules in
@@ -96,7 +96,7 @@ module _ {S : Type 0} {chip : ChipMeaning S} (laws : IsLawfulChip chip) where
 
   put_apart : (n k : ℕ) (s : S) (memory : List ℕ) (at value : ℕ) → n ≤ 64 → chip.is_valid s ≡ true
       → (n == 0 || not (may_be_read (chip.reach s memory) at)) ≡ true
-      → samples chip.sample n k s (with_byte memory at value) ≡ record (samples chip.sample n k s memory) { memory = with_byte (samples chip.sample n k s memory).memory at value }
+      → samples chip.one_sample n k s (with_byte memory at value) ≡ record (samples chip.one_sample n k s memory) { memory = with_byte (samples chip.one_sample n k s memory).memory at value }
   put_apart zero k s memory at value few valid free = simp samples_none refl
   put_apart (suc n) k s memory at value few valid free =
       let some : (suc n == 0) ≡ false = search rules in
@@ -151,7 +151,7 @@ module _ {S : Type 0} {chip : ChipMeaning S} (laws : IsLawfulChip chip) where
         late_with_sample chip (late_of chip h)
     late_pend =
         let before : SamplesResult S = pending_samples chip h in
-        let made : SampleResult S = chip.sample (h.number + h.pending) before.state before.memory in
+        let made : SampleResult S = chip.one_sample (h.number + h.pending) before.state before.memory in
         let valid = is_valid-samples chip laws h.pending h.number h.state h.memory is.is_valid in
         let numbers : Each (λ v. sample_number v ≡ h.number + h.pending) (filter (in_mask h.mask) made.records) =
         Each-filter (in_mask h.mask) (λ v. sample_number v ≡ h.number + h.pending) made.records

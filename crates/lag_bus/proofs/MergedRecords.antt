@@ -176,31 +176,31 @@ length-merge (v ∷ voices) events =
 
 -- what the order of numbers says
 pub number_before : (k : ℕ) (r : Record) → is_before_sample k r ≡ true → sample_number r ≤ k
-number_before k (Voice sample voice level out block keyed looped) h = search rules
+number_before k (Voice sample voice level out block keyed ended) h = search rules
 number_before k (Reg sample addr value) h = search rules
 number_before k (Port sample port value) h = search rules
 
 pub later_before : (k j : ℕ) → k ≤ j → (r : Record) → is_before_sample k r ≡ true → is_before_sample j r ≡ true
-later_before k j g (Voice sample voice level out block keyed looped) h = let a : sample < k = search rules in let b : sample < j = omega arith in search rules
+later_before k j g (Voice sample voice level out block keyed ended) h = let a : sample < k = search rules in let b : sample < j = omega arith in search rules
 later_before k j g (Reg sample addr value) h = let a : sample ≤ k = search rules in let b : sample ≤ j = omega arith in search rules
 later_before k j g (Port sample port value) h = let a : sample ≤ k = search rules in let b : sample ≤ j = omega arith in search rules
 
 pub event_after : (k : ℕ) (r : Record) → k < sample_number r → is_before_sample k r ≡ false
-event_after k (Voice sample voice level out block keyed looped) h = search rules
+event_after k (Voice sample voice level out block keyed ended) h = search rules
 event_after k (Reg sample addr value) h = search rules
 event_after k (Port sample port value) h = search rules
 
 pub voice_before : (a b : ℕ) (r : Record) → IsVoiceWithin a b r → is_before_sample b r ≡ true
-voice_before a b (Voice sample voice level out block keyed looped) w = search rules
+voice_before a b (Voice sample voice level out block keyed ended) w = search rules
 voice_before a b (Reg sample addr value) w = absurd w
 voice_before a b (Port sample port value) w = absurd w
 
 pub voice_after : (a b : ℕ) (r : Record) → IsVoiceWithin a b r → is_before_sample a r ≡ false
-voice_after a b (Voice sample voice level out block keyed looped) w = search rules
+voice_after a b (Voice sample voice level out block keyed ended) w = search rules
 voice_after a b (Reg sample addr value) w = absurd w
 voice_after a b (Port sample port value) w = absurd w
 
 pub voice_number : (a b : ℕ) (r : Record) → IsVoiceWithin a b r → sample_number r < b
-voice_number a b (Voice sample voice level out block keyed looped) w = w.1
+voice_number a b (Voice sample voice level out block keyed ended) w = w.1
 voice_number a b (Reg sample addr value) w = absurd w
 voice_number a b (Port sample port value) w = absurd w

@@ -131,13 +131,13 @@ module _ {S : Type 0} (chip : ChipMeaning S) where
   lagging_of-due late io there counts calls now clock later due batches made number =
       λ i. record {
         machine = record {
-          memory = (samples chip.sample due (made i) late.chip late.memory).memory;
+          memory = (samples chip.one_sample due (made i) late.chip late.memory).memory;
           io = there;
-          chip = (samples chip.sample due (made i) late.chip late.memory).state;
+          chip = (samples chip.one_sample due (made i) late.chip late.memory).state;
           mask = late.mask;
           clock = later;
-          frames = late.frames ++ (samples chip.sample due (made i) late.chip late.memory).frames;
-          records = late.records ++ filter (in_mask late.mask) (samples chip.sample due (made i) late.chip late.memory).records;
+          frames = late.frames ++ (samples chip.one_sample due (made i) late.chip late.memory).frames;
+          records = late.records ++ filter (in_mask late.mask) (samples chip.one_sample due (made i) late.chip late.memory).records;
           calls = now;
         };
         book = record { pending = late.pending + due; events = late.events; reach = late.reach; counts = counts; total = late.total };

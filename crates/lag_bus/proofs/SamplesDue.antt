@@ -24,8 +24,8 @@ module _ {S : Type 0} (chip : ChipMeaning S) (bus : Lagging S) where
   abbrev with_due_and_sample : (due k clock : ℕ) → Io → (calls pending : ℕ) → Lagging S
   with_due_and_sample due k clock io calls pending =
       let m = bus.machine in
-      let before = samples chip.sample due (samples_made m) m.chip m.memory in
-      let made = chip.sample k before.state before.memory in
+      let before = samples chip.one_sample due (samples_made m) m.chip m.memory in
+      let made = chip.one_sample k before.state before.memory in
       with_book
       (record m {
         memory = made.memory;

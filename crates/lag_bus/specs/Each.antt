@@ -10,6 +10,6 @@ Each P (x ∷ xs) = P x × Each P xs
 
 -- a record is of a voice, in a sample from number a on and before number b
 abbrev pub IsVoiceWithin : (a b : ℕ) → Record → Type 0
-IsVoiceWithin a b (Voice sample voice level out block keyed looped) = (a ≤ sample) × (sample < b)
+IsVoiceWithin a b (Voice sample voice level out block keyed ended) = (a ≤ sample) × (sample < b)
 IsVoiceWithin a b (Reg sample addr value) = ⊥
 IsVoiceWithin a b (Port sample port value) = ⊥

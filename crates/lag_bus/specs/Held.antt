@@ -33,7 +33,7 @@ pub record Held (S : Type 0) : Type 0 where
 
 -- the pending samples
 abbrev pub pending_samples : {S : Type 0} → ChipMeaning S → Held S → SamplesResult S
-pending_samples chip h = samples chip.sample h.pending h.number h.state h.memory
+pending_samples chip h = samples chip.one_sample h.pending h.number h.state h.memory
 
 -- what there is once they are made
 abbrev pub late_of : {S : Type 0} → ChipMeaning S → Held S → Late S

@@ -32,7 +32,7 @@ pub record Late (S : Type 0) : Type 0 where
 -- one sample more that is pending
 abbrev pub late_with_sample : {S : Type 0} → ChipMeaning S → Late S → Late S
 late_with_sample chip late =
-    let made = chip.sample late.made late.chip late.memory in
+    let made = chip.one_sample late.made late.chip late.memory in
     record late {
       chip = made.state;
       memory = made.memory;
@@ -47,7 +47,7 @@ late_with_sample chip late =
 -- and so many of them
 abbrev pub late_with_samples : {S : Type 0} → ChipMeaning S → Late S → (due : ℕ) → Late S
 late_with_samples chip late due =
-    let made = samples chip.sample due late.made late.chip late.memory in
+    let made = samples chip.one_sample due late.made late.chip late.memory in
     record late {
       chip = made.state;
       memory = made.memory;
@@ -64,11 +64,11 @@ late_with_samples chip late due =
 abbrev pub AreWritesWithin : {S : Type 0} → ChipMeaning S → ReachPages → (pending made : ℕ) → S → (memory : List ℕ) → Type 0
 AreWritesWithin chip reach pending made state memory =
     (due at : ℕ) → pending + due ≤ most_samples_of_batch → may_be_written reach at ≡ false
-    → byte_at (samples chip.sample due made state memory).memory at ≡ byte_at memory at
+    → byte_at (samples chip.one_sample due made state memory).memory at ≡ byte_at memory at
 
 -- Samples to come read where the reach before the pending ones says: a byte put elsewhere is put into what they leave, and else changes nothing.
 abbrev pub AreReadsWithin : {S : Type 0} → ChipMeaning S → ReachPages → (pending made : ℕ) → S → (memory : List ℕ) → Type 0
 AreReadsWithin chip reach pending made state memory =
     (due at value : ℕ) → pending + due ≤ most_samples_of_batch → may_be_read reach at ≡ false
-    → samples chip.sample due made state (with_byte memory at value)
-    ≡ record (samples chip.sample due made state memory) { memory = with_byte (samples chip.sample due made state memory).memory at value }
+    → samples chip.one_sample due made state (with_byte memory at value)
+    ≡ record (samples chip.one_sample due made state memory) { memory = with_byte (samples chip.one_sample due made state memory).memory at value }

@@ -10,7 +10,7 @@ use Rattle.trace_form.specs.declared.record.Record.TheVariants.{Reg, Port, Voice
 abbrev pub is_before_sample : (k : ℕ) → Record → Bool
 is_before_sample k (Reg sample addr value) = nat_le sample k
 is_before_sample k (Port sample port value) = nat_le sample k
-is_before_sample k (Voice sample voice level out block keyed looped) = nat_lt sample k
+is_before_sample k (Voice sample voice level out block keyed ended) = nat_lt sample k
 
 -- the frames of the samples before those pending, and the frames of these
 abbrev pub ready_frames : (pending : ℕ) → List Frame → List Frame

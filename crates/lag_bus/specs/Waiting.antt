@@ -37,7 +37,7 @@ samples_in clock cycles = samples_due clock (clock + cycles)
 abbrev pub with_due : {S : Type 0} → ChipMeaning S → Lagging S → (due clock : ℕ) → Io → (calls : ℕ) → Lagging S
 with_due chip bus due clock io calls =
     let m = bus.machine in
-    let made = samples chip.sample due (samples_made m) m.chip m.memory in
+    let made = samples chip.one_sample due (samples_made m) m.chip m.memory in
     with_book
     (record m {
       memory = made.memory;

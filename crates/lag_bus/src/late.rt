@@ -117,7 +117,7 @@ fn make_samples<C: Chip>(
     requires few { n ≤ most_samples_of_batch }
     requires number { C.sample chip.old + n ≤ most_samples_of_chip }
     requires room { length frames.old + n ≤ frame_room }
-    ensures made { let made = samples C.meaning.sample n (C.sample chip.old) (C.state chip.old) memory.old in
+    ensures made { let made = samples C.meaning.one_sample n (C.sample chip.old) (C.state chip.old) memory.old in
         AddsSamples mask made (C.state chip.new) memory.new frames.old frames.new [] voice_records.new }
     ensures sample { C.sample chip.new ≡ C.sample chip.old + n }
     ensures batches { C.batches chip.new ≡ (if n == 0 then C.batches chip.old else count_after (C.batches chip.old) 1) }

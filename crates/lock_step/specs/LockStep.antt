@@ -61,7 +61,7 @@ crosses_sample clock cycles = nat_lt (clock / CYCLES_PER_SAMPLE) ((clock + cycle
 -- one sample more: its frame, and the records of the voices in the mask, stand after what was emitted
 abbrev pub after_sample : {S : Type 0} → ChipMeaning S → Machine S → Machine S
 after_sample chip m =
-    let made = chip.sample (samples_made m) m.chip m.memory in
+    let made = chip.one_sample (samples_made m) m.chip m.memory in
     record m {
       chip = made.state;
       memory = made.memory;

@@ -7,4 +7,4 @@ use Rattle.trace_form.specs.declared.record.Record.TheVariants.{Reg, Port, Voice
 abbrev pub sample_number : Record → ℕ
 sample_number (Reg sample addr value) = sample
 sample_number (Port sample port value) = sample
-sample_number (Voice sample voice level out block keyed looped) = sample
+sample_number (Voice sample voice level out block keyed ended) = sample

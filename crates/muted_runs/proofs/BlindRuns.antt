@@ -29,8 +29,8 @@ pub record IsBlindTo {S : Type 0} (chip : ChipMeaning S) (hidden : ℕ → Bool)
   pub reads : (s t : S) (address : ℕ) → Alike s t → hidden (address % 0x80) ≡ false
       → chip.register_read s (address % 0x80) ≡ chip.register_read t (address % 0x80)
   pub writes : (s t : S) (address byte : ℕ) → Alike s t → Alike (chip.register_write s address byte) (chip.register_write t address byte)
-  pub gives : (k : ℕ) (s t : S) (memory : List ℕ) → Alike s t → chip.sample k t memory ≡ with_state (chip.sample k s memory) (chip.sample k t memory).state
-  pub leaves : (k : ℕ) (s t : S) (memory : List ℕ) → Alike s t → Alike (chip.sample k s memory).state (chip.sample k t memory).state
+  pub gives : (k : ℕ) (s t : S) (memory : List ℕ) → Alike s t → chip.one_sample k t memory ≡ with_state (chip.one_sample k s memory) (chip.one_sample k t memory).state
+  pub leaves : (k : ℕ) (s t : S) (memory : List ℕ) → Alike s t → Alike (chip.one_sample k s memory).state (chip.one_sample k t memory).state
 
 module _ {S : Type 0} (chip : ChipMeaning S) (hidden : ℕ → Bool) where
   -- a run that is watched is that run
@@ -139,7 +139,7 @@ module _ {S : Type 0} (chip : ChipMeaning S) (hidden : ℕ → Bool) where
 
         by : (b : Bool) → crosses_sample m.clock cycles ≡ b → PassesBeside w s cycles
         by true crosses = record {
-          other = (chip.sample k s m.memory).state;
+          other = (chip.one_sample k s m.memory).state;
           is = rw (crosses, blind.gives k m.chip s m.memory alike) refl;
           alike = rw crosses (blind.leaves k m.chip s m.memory alike);
         }

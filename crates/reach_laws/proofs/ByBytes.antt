@@ -10,7 +10,7 @@ use Rattle.reach_map.specs.declared.ChainStart.{ChainStart}
 use Rattle.echo_unit.specs.Echo.{EchoState, cell_address, next_echo, after_reading, at_next_cell}
 use Rattle.echo_unit.specs.Cells.{after_cells, cell_after}
 use Rattle.echo_unit.specs.declared.regs.EchoRegs.{EchoRegs}
-use Rattle.echo_unit.proofs.OffCell.{IsOffCell, byte_at-echo_memory}
+use Rattle.echo_unit.proofs.ApartFromCell.{IsApartFromCell, byte_at-echo_memory}
 use Rattle.chip_form.specs.Samples.{samples}
 use Rattle.chip_form.proofs.AfterSamples.{samples_keep}
 use Rattle.dsp_state.specs.Mix.{sent_frame}
@@ -38,12 +38,12 @@ abbrev pub AreCells : (cell : ℕ → ℕ) → ChipState → (n : ℕ) → Type 
 AreCells cell s n = (j : ℕ) → j < n → cell j % 0x10000 ≡ cell_after s.hidden.echo (echo_regs s.registers) j
 
 -- an address is that of no byte of the first j cells
-abbrev pub IsOffCells : ChipState → (j at : ℕ) → Type 0
-IsOffCells s j at = (i : ℕ) → i < j → IsOffCell (cell_after s.hidden.echo (echo_regs s.registers) i) at
+abbrev pub IsApartFromCells : ChipState → (j at : ℕ) → Type 0
+IsApartFromCells s j at = (i : ℕ) → i < j → IsApartFromCell (cell_after s.hidden.echo (echo_regs s.registers) i) at
 
 -- of bytes that the cells miss each is such
-off_cell : (cell : ℕ → ℕ) (address n start count i k : ℕ) → cell i % 0x10000 ≡ address → CellsMiss cell n start count → i < n → k < count → IsOffCell address (start + k)
-off_cell cell address n start count i k is miss below small = record {
+apart_from_cell : (cell : ℕ → ℕ) (address n start count i k : ℕ) → cell i % 0x10000 ≡ address → CellsMiss cell n start count → i < n → k < count → IsApartFromCell address (start + k)
+apart_from_cell cell address n start count i k is miss below small = record {
   first = λ e. miss i 0 k below (omega arith) small (omega (arith, e, is));
   second = λ e. miss i 1 k below (omega arith) small (omega (arith, e, is));
   third = λ e. miss i 2 k below (omega arith) small (omega (arith, e, is));
@@ -52,10 +52,10 @@ off_cell cell address n start count i k is miss below small = record {
 
 -- memories that differ in the first cells alone have the same bytes where the voices can look
 module _ (cell : ℕ → ℕ) (s : ChipState) (memory now : List ℕ) (n j : ℕ) (are : AreCells cell s n) (below : j < n)
-    (bytes : (at : ℕ) → IsOffCells s j at → byte_at now at ≡ byte_at memory at) where
+    (bytes : (at : ℕ) → IsApartFromCells s j at → byte_at now at ≡ byte_at memory at) where
   missed : (start count k : ℕ) → CellsMiss cell n start count → k < count → byte_at now (start + k) ≡ byte_at memory (start + k)
   missed start count k miss small =
-      bytes (start + k) (λ i before. off_cell cell (cell_after s.hidden.echo (echo_regs s.registers) i) n start count i k (are i (omega (arith, before, below))) miss (omega (arith, before, below)) small)
+      bytes (start + k) (λ i before. apart_from_cell cell (cell_after s.hidden.echo (echo_regs s.registers) i) n start count i k (are i (omega (arith, before, below))) miss (omega (arith, before, below)) small)
 
   chain_missed : (start : ChainStart) → CellsMissChain cell memory n start → AreSameOnChain memory start j now memory
   chain_missed start miss i k pace small = missed (chain_entry memory start i) 9 k (miss i (omega (arith, pace, below))) small
@@ -82,8 +82,8 @@ place-next_echo : (echo at : EchoState) (regs : EchoRegs) (memory : List ℕ) �
 unfolding next_echo after_reading at_next_cell
 place-next_echo echo at regs memory offset length = (rw (offset, length) refl, rw (offset, length) refl)
 
-off_at : (a b at : ℕ) → a ≡ b → IsOffCell b at → IsOffCell a at
-off_at a b at same off = rw same off
+apart_from_same : (a b at : ℕ) → a ≡ b → IsApartFromCell b at → IsApartFromCell a at
+apart_from_same a b at same off = rw same off
 
 -- After j samples from a start, over a memory: the registers but those of results are as they were, no key-on waits that did not wait, the echo
 -- is j cells further, the bytes off these cells are as they were, and the voices are on their chains.
@@ -92,7 +92,7 @@ pub record StaysByBytes (start : ChipState) (before : List ℕ) (j : ℕ) (s : C
   pub waiting : IsPart s.hidden.waiting start.hidden.waiting
   pub offset : s.hidden.echo.offset ≡ (after_cells start.hidden.echo (echo_regs start.registers).edl j).offset
   pub length : s.hidden.echo.length ≡ (after_cells start.hidden.echo (echo_regs start.registers).edl j).length
-  pub bytes : (at : ℕ) → IsOffCells start j at → byte_at memory at ≡ byte_at before at
+  pub bytes : (at : ℕ) → IsApartFromCells start j at → byte_at memory at ≡ byte_at before at
   pub voices : AllStayOnChains start before j 0 start.hidden.voices s.hidden.voices
 
 stays_at_start : (s : ChipState) (memory : List ℕ) → is_valid s ≡ true → StaysByBytes s memory 0 s memory
@@ -164,7 +164,7 @@ module _ (cell : ℕ → ℕ) (start : ChipState) (before : List ℕ) (n : ℕ) 
         offset = place.0;
         length = place.1;
         bytes = λ at off.
-            byte_at-echo_memory now.hidden.echo (echo_regs now.registers) memory (sent_frame (all_volumes now.registers now.muted) answers) at (off_at _ _ at address (off j (omega arith)))
+            byte_at-echo_memory now.hidden.echo (echo_regs now.registers) memory (sent_frame (all_volumes now.registers now.muted) answers) at (apart_from_same _ _ at address (off j (omega arith)))
             ∙ held.bytes at (λ i earlier. off i (omega (arith, earlier)));
         voices = voices_stay start before j 0 (pos 0) (shared_input now memory k) start.hidden.voices now.hidden.voices (finds j k s memory below stays) held.voices;
       }

@@ -13,7 +13,7 @@ use Rattle.echo_unit.specs.Echo.{EchoState, cell_address, halved_word, cell_pair
 use Rattle.echo_unit.specs.Flg.{has_echo_writes}
 use Rattle.echo_unit.specs.declared.regs.EchoRegs.{EchoRegs}
 use Rattle.echo_unit.proofs.Cells.{IsCell}
-use Rattle.echo_unit.proofs.OffCell.{IsOffCell}
+use Rattle.echo_unit.proofs.ApartFromCell.{IsApartFromCell}
 use Rattle.reach_laws.proofs.ChainPages.{bytes_have}
 
 -- the page of the echo's cell is one of its window's
@@ -23,8 +23,8 @@ page_of_cell echo esa edl length cell most =
     bytes_have (esa * 0x100) (max (max length (echo_length edl)) 4) echo.offset (omega (arith, cell.within, most))
 
 -- a cell lies on one page
-off_cell : (esa offset at : ℕ) → offset % 4 ≡ 0 → page_of at ≢ page_of (esa * 0x100 + offset) → IsOffCell (cell_address esa offset) at
-off_cell esa offset at four other = record {
+apart_from_cell : (esa offset at : ℕ) → offset % 4 ≡ 0 → page_of at ≢ page_of (esa * 0x100 + offset) → IsApartFromCell (cell_address esa offset) at
+apart_from_cell esa offset at four other = record {
   first = λ e. other (omega (arith, four, e));
   second = λ e. other (omega (arith, four, e));
   third = λ e. other (omega (arith, four, e));
@@ -32,12 +32,12 @@ off_cell esa offset at four other = record {
 }
 
 -- an address whose page is none of the window's is that of no byte of the echo's cell
-pub off_window : (echo : EchoState) (esa edl length at : ℕ) → IsCell echo → echo.length ≤ max length (echo_length edl)
-    → has_page (window_pages (echo_window esa edl length)) (page_of at) ≡ false → IsOffCell (cell_address esa echo.offset) at
-off_window echo esa edl length at cell most none =
+pub apart_from_window : (echo : EchoState) (esa edl length at : ℕ) → IsCell echo → echo.length ≤ max length (echo_length edl)
+    → has_page (window_pages (echo_window esa edl length)) (page_of at) ≡ false → IsApartFromCell (cell_address esa echo.offset) at
+apart_from_window echo esa edl length at cell most none =
     let pages : List ℕ = window_pages (echo_window esa edl length) in
     let there = page_of_cell echo esa edl length cell most in
-    off_cell esa echo.offset at cell.cell (λ e. true≢false (sym there ∙ ap (has_page pages) (sym e) ∙ none))
+    apart_from_cell esa echo.offset at cell.cell (λ e. true≢false (sym there ∙ ap (has_page pages) (sym e) ∙ none))
 
 put_after : (memory : List ℕ) (address at value byte : ℕ) → at % 0x10000 ≢ address % 0x10000
     → with_byte (with_byte memory at value) address byte ≡ with_byte (with_byte memory address byte) at value
@@ -52,7 +52,7 @@ put_after_word memory address at value word first second =
     ap (λ (m : List ℕ). with_byte m (address + 1) (bits / 0x100)) (put_after memory address at value (bits % 0x100) first)
     ∙ put_after (with_byte memory address (bits % 0x100)) (address + 1) at value (bits / 0x100) second
 
-put_after_cell : (memory : List ℕ) (address at value : ℕ) (left right : ℤ) → IsOffCell address at
+put_after_cell : (memory : List ℕ) (address at value : ℕ) (left right : ℤ) → IsApartFromCell address at
     → with_cell (with_byte memory at value) address left right ≡ with_byte (with_cell memory address left right) at value
 unfolding with_cell
 put_after_cell memory address at value left right off =
@@ -60,7 +60,7 @@ put_after_cell memory address at value left right off =
     ∙ put_after_word (with_word memory address left) ((address + 2) % 0x10000) at value right off.third off.fourth
 
 -- a byte put off the cell changes nothing of what is read from it
-pair_stays : (memory : List ℕ) (address at value : ℕ) → IsOffCell address at → cell_pair (with_byte memory at value) address ≡ cell_pair memory address
+pair_stays : (memory : List ℕ) (address at value : ℕ) → IsApartFromCell address at → cell_pair (with_byte memory at value) address ≡ cell_pair memory address
 unfolding cell_pair halved_word word_at
 pair_stays memory address at value off =
     rw (
@@ -71,17 +71,17 @@ pair_stays memory address at value off =
     ) refl
 
 -- a byte put off the cell changes nothing of what is heard, of where the echo goes and of what it writes
-pub after_reading_apart : (echo : EchoState) (regs : EchoRegs) (memory : List ℕ) (at value : ℕ) → IsOffCell (cell_address regs.esa echo.offset) at
+pub after_reading_apart : (echo : EchoState) (regs : EchoRegs) (memory : List ℕ) (at value : ℕ) → IsApartFromCell (cell_address regs.esa echo.offset) at
     → after_reading echo regs (with_byte memory at value) ≡ after_reading echo regs memory
 unfolding after_reading
 after_reading_apart echo regs memory at value off = rw (pair_stays memory (cell_address regs.esa echo.offset) at value off) refl
 
-pub next_echo_apart : (echo : EchoState) (regs : EchoRegs) (memory : List ℕ) (at value : ℕ) → IsOffCell (cell_address regs.esa echo.offset) at
+pub next_echo_apart : (echo : EchoState) (regs : EchoRegs) (memory : List ℕ) (at value : ℕ) → IsApartFromCell (cell_address regs.esa echo.offset) at
     → next_echo echo regs (with_byte memory at value) ≡ next_echo echo regs memory
 unfolding next_echo
 next_echo_apart echo regs memory at value off = rw (after_reading_apart echo regs memory at value off) refl
 
-pub echo_memory_apart : (echo : EchoState) (regs : EchoRegs) (memory : List ℕ) (sent : Frame) (at value : ℕ) → IsOffCell (cell_address regs.esa echo.offset) at
+pub echo_memory_apart : (echo : EchoState) (regs : EchoRegs) (memory : List ℕ) (sent : Frame) (at value : ℕ) → IsApartFromCell (cell_address regs.esa echo.offset) at
     → echo_memory echo regs (with_byte memory at value) sent ≡ with_byte (echo_memory echo regs memory sent) at value
 unfolding echo_memory
 echo_memory_apart echo regs memory sent at value off = rw (after_reading_apart echo regs memory at value off) (by (has_echo_writes regs.flg) _ _)

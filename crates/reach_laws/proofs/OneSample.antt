@@ -26,8 +26,8 @@ use Rattle.reach_laws.specs.Chain.{AllStayOnChains}
 use Rattle.dsp_state.proofs.Inputs.{SameInputs, same_inputs-registers_after, registers-before_voices}
 use Rattle.reach_laws.proofs.Keys.{IsPart, waiting-before_voices, taken_waited}
 use Rattle.reach_laws.proofs.EchoPlace.{length-next_echo}
-use Rattle.echo_unit.proofs.OffCell.{IsOffCell, byte_at-echo_memory, echo_memory_still}
-use Rattle.reach_laws.proofs.EchoPages.{off_window, after_reading_apart, next_echo_apart, echo_memory_apart}
+use Rattle.echo_unit.proofs.ApartFromCell.{IsApartFromCell, byte_at-echo_memory, echo_memory_still}
+use Rattle.reach_laws.proofs.EchoPages.{apart_from_window, after_reading_apart, next_echo_apart, echo_memory_apart}
 use Rattle.reach_laws.proofs.ReachOfChip.{pages_of_echo, writes_echo, unread_by_voices, unread_by_echo, unwritten_by_echo, voices_unwritten}
 use Rattle.reach_laws.proofs.Voices.{FindTheSame, all_same, voices_at_start, voices_stay, voices_apart}
 
@@ -93,24 +93,24 @@ unfolding echo_regs
 regs_flg registers = refl
 
 -- an address off the pages of the window is off the echo's cell
-off_echo : (start : ChipState) (before : List ℕ) (j : ℕ) (s : ChipState) (memory : List ℕ) (at : ℕ) → StaysInReach start before j s memory
-    → has_page (pages_of_echo start) (page_of at) ≡ false → IsOffCell (cell_address (echo_regs s.registers).esa s.hidden.echo.offset) at
-off_echo start before j s memory at stays none =
+apart_from_echo : (start : ChipState) (before : List ℕ) (j : ℕ) (s : ChipState) (memory : List ℕ) (at : ℕ) → StaysInReach start before j s memory
+    → has_page (pages_of_echo start) (page_of at) ≡ false → IsApartFromCell (cell_address (echo_regs s.registers).esa s.hidden.echo.offset) at
+apart_from_echo start before j s memory at stays none =
     let echo : EchoState = s.hidden.echo in
     rw (regs_esa s.registers, stays.inputs ESA refl)
-    (off_window echo (slice_index start.registers ESA) (slice_index start.registers EDL) start.hidden.echo.length at (cell_of echo stays.cell) stays.length none)
+    (apart_from_window echo (slice_index start.registers ESA) (slice_index start.registers EDL) start.hidden.echo.length at (cell_of echo stays.cell) stays.length none)
 
 -- the echo writes no byte off the write pages
-writes_off : (start : ChipState) (before : List ℕ) (j : ℕ) (s : ChipState) (memory : List ℕ) (sent : Frame) (at : ℕ) → StaysInReach start before j s memory
+writes_apart : (start : ChipState) (before : List ℕ) (j : ℕ) (s : ChipState) (memory : List ℕ) (sent : Frame) (at : ℕ) → StaysInReach start before j s memory
     → set.contains (chip_reach start before).write_pages (page_of at) ≡ false
     → byte_at (echo_memory s.hidden.echo (echo_regs s.registers) memory sent) at ≡ byte_at memory at
-writes_off start before j s memory sent at stays none = by (writes_echo start) refl
+writes_apart start before j s memory sent at stays none = by (writes_echo start) refl
   where
     flg : has_echo_writes (echo_regs s.registers).flg ≡ writes_echo start
     flg = ap has_echo_writes (regs_flg s.registers ∙ stays.inputs FLG refl)
 
     by : (b : Bool) → writes_echo start ≡ b → byte_at (echo_memory s.hidden.echo (echo_regs s.registers) memory sent) at ≡ byte_at memory at
-    by true on = byte_at-echo_memory s.hidden.echo (echo_regs s.registers) memory sent at (off_echo start before j s memory at stays (unwritten_by_echo start before (page_of at) on none))
+    by true on = byte_at-echo_memory s.hidden.echo (echo_regs s.registers) memory sent at (apart_from_echo start before j s memory at stays (unwritten_by_echo start before (page_of at) on none))
     by false off = ap (λ (m : List ℕ). byte_at m at) (echo_memory_still s.hidden.echo (echo_regs s.registers) memory sent (flg ∙ off))
 
 -- one sample keeps it
@@ -142,7 +142,7 @@ stays_in_reach start before j k s memory few stays = rw (sample_is k s memory) n
       waiting = held.waiting;
       cell = is_at_cell-next_echo now.hidden.echo regs memory held.cell;
       length = length-next_echo now.hidden.echo regs memory start.hidden.echo.length (slice_index start.registers EDL) edl held.length;
-      bytes = λ at none. writes_off start before j now memory (sent_frame (all_volumes now.registers now.muted) answers) at held none ∙ held.bytes at none;
+      bytes = λ at none. writes_apart start before j now memory (sent_frame (all_volumes now.registers now.muted) answers) at held none ∙ held.bytes at none;
       voices = λ clear. voices_stay start before j 0 (pos 0) (shared_input now memory k) start.hidden.voices now.hidden.voices (finds start before j k s memory (omega arith) stays clear) (held.voices clear);
     }
 
@@ -162,8 +162,8 @@ reads_in_reach start before j k s memory at value few stays clear none =
     regs : EchoRegs
     regs = echo_regs now.registers
 
-    off : IsOffCell (cell_address regs.esa now.hidden.echo.offset) at
-    off = off_echo start before j now memory at held (unread_by_echo start before (page_of at) none)
+    off : IsApartFromCell (cell_address regs.esa now.hidden.echo.offset) at
+    off = apart_from_echo start before j now memory at held (unread_by_echo start before (page_of at) none)
 
     results : results_from (record (shared_input now memory k) { memory = with_byte memory at value }) 0 (pos 0) now.hidden.voices ≡ results_from (shared_input now memory k) 0 (pos 0) now.hidden.voices
     results =

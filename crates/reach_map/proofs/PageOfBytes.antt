@@ -93,9 +93,9 @@ blocks_few memory block (suc n) = elim (has_end (byte_at memory block)) as (λ e
 ]
 
 -- a page off the bytes in which the blocks of a chain can stand is none of the chain's
-pub off_chain : (memory : List ℕ) (to n block page : ℕ) → has_page (pages_of_bytes block (9 * n)) page ≡ false → has_page (pages_of_bytes to (9 * n)) page ≡ false
+pub apart_from_chain : (memory : List ℕ) (to n block page : ℕ) → has_page (pages_of_bytes block (9 * n)) page ≡ false → has_page (pages_of_bytes to (9 * n)) page ≡ false
     → has_page (flat_map block_pages (chain memory to n block)) page ≡ false
-off_chain memory to n block page off off' =
+apart_from_chain memory to n block page off off' =
     let first : ℕ = blocks_to_end memory block n in
     let few : first ≤ n = blocks_few memory block n in
     let again : blocks_to_end memory to (n - first) ≤ n - first = blocks_few memory to (n - first) in

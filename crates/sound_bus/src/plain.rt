@@ -73,11 +73,11 @@ fn make_sample<C: Chip>(
     requires number { C.sample chip.old < most_samples_of_chip }
     requires frame_room { length frames.old < frame_room }
     requires record_room { length records.old + 8 ≤ record_room }
-    ensures state { C.state chip.new ≡ (C.meaning.sample (C.sample chip.old) (C.state chip.old) memory.old).state }
+    ensures state { C.state chip.new ≡ (C.meaning.one_sample (C.sample chip.old) (C.state chip.old) memory.old).state }
     ensures sample { C.sample chip.new ≡ C.sample chip.old + 1 }
-    ensures memory { memory.new ≡ (C.meaning.sample (C.sample chip.old) (C.state chip.old) memory.old).memory }
-    ensures frames { frames.new ≡ frames.old ++ (C.meaning.sample (C.sample chip.old) (C.state chip.old) memory.old).frame ∷ [] }
-    ensures records { records.new ≡ records.old ++ filter (in_mask mask) (C.meaning.sample (C.sample chip.old) (C.state chip.old) memory.old).records }
+    ensures memory { memory.new ≡ (C.meaning.one_sample (C.sample chip.old) (C.state chip.old) memory.old).memory }
+    ensures frames { frames.new ≡ frames.old ++ (C.meaning.one_sample (C.sample chip.old) (C.state chip.old) memory.old).frame ∷ [] }
+    ensures records { records.new ≡ records.old ++ filter (in_mask mask) (C.meaning.one_sample (C.sample chip.old) (C.state chip.old) memory.old).records }
     ensures frame_count { length frames.new ≡ length frames.old + 1 }
     ensures record_count { length records.new ≤ length records.old + 8 }
 {

@@ -15,9 +15,9 @@ line_of (Reg sample address value) =
     codes "R " ++ decimal sample ++ codes " " ++ two_digits address ++ codes " " ++ two_digits value ++ codes "\n"
 line_of (Port sample port value) =
     codes "P " ++ decimal sample ++ codes " " ++ decimal port ++ codes " " ++ two_digits value ++ codes "\n"
-line_of (Voice sample voice level out block keyed looped) =
+line_of (Voice sample voice level out block keyed ended) =
     codes "V " ++ decimal sample ++ codes " " ++ decimal voice ++ codes " " ++ decimal level ++ codes " " ++ signed_decimal out
-    ++ codes " " ++ four_digits block ++ codes " " ++ letter_or_dash keyed (codes "k") ++ letter_or_dash looped (codes "l") ++ codes "\n"
+    ++ codes " " ++ four_digits block ++ codes " " ++ letter_or_dash keyed (codes "k") ++ letter_or_dash ended (codes "l") ++ codes "\n"
 
 -- the text of a trace
 abbrev pub lines_of : List Record → List ℕ

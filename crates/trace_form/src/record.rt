@@ -17,7 +17,7 @@ pub enum Record {
         value: u8,
     },
     /// A step of one of the voices 0 to 7: the envelope level, 0 to 7FFh, and the output that it made,
-    /// the address of the block after the step, and whether the voice was keyed and whether it looped in it.
+    /// the address of the block after the step, and whether the voice was keyed and whether it came to an end in it.
     Voice {
         sample: u32,
         voice: u8,
@@ -25,6 +25,6 @@ pub enum Record {
         out: i16,
         block: u16,
         keyed: bool,
-        looped: bool,
+        ended: bool,
     },
 }

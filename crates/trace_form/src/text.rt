@@ -152,7 +152,7 @@ pub fn line(item: &Record) -> TraceLine
             out,
             block,
             keyed,
-            looped,
+            ended,
         } => {
             let mut line = TraceLine::new();
             line.append(b"V ");
@@ -167,7 +167,7 @@ pub fn line(item: &Record) -> TraceLine
             line.append_word(block);
             line.append(b" ");
             line.append_mark(keyed, b"k");
-            line.append_mark(looped, b"l");
+            line.append_mark(ended, b"l");
             line.append(b"\n");
             line
         }

@@ -9,7 +9,7 @@ use Rattle.envelope.specs.declared.Mode.{Mode}
 use Rattle.envelope.specs.declared.Mode.TheVariants.{Release}
 use Rattle.voice_unit.specs.Directory.{loop_word}
 use Rattle.voice_unit.specs.Rest.{IsSilent, IsAtRest}
-use Rattle.voice_unit.specs.Voice.{is_silencing, VoiceState, needs_group, is_at_last_group, after_delay, after_silencing, after_keys, after_envelope, after_decoding, at_next_group, after_reading, after_pitch, step_header, step_pitch, pitch_of, is_keyed, is_looped, output, voice_step, voice_answer}
+use Rattle.voice_unit.specs.Voice.{is_silencing, VoiceState, needs_group, is_at_last_group, after_delay, after_silencing, after_keys, after_envelope, after_decoding, at_next_group, after_reading, after_pitch, step_header, step_pitch, pitch_of, is_keyed, is_ended, output, voice_step, voice_answer}
 use Rattle.voice_unit.specs.declared.interface.VoiceRegs.{VoiceRegs}
 use Rattle.voice_unit.specs.declared.interface.VoiceIn.{VoiceIn}
 
@@ -60,9 +60,9 @@ module _ (r : VoiceRegs) (i : VoiceIn) (memory : List ℕ) (k rest : ℕ) (v : V
   unfolding voice_answer after_delay
   out_at_rest table = let none : v.delay ≡ 0 = at.delay some in rw none refl
 
-  pub looped_at_rest : (table : List ℤ) → (voice_answer v r i memory table (counter_at k)).looped ≡ is_looped v (byte_at memory v.block)
+  pub ended_at_rest : (table : List ℤ) → (voice_answer v r i memory table (counter_at k)).ended ≡ is_ended v (byte_at memory v.block)
   unfolding voice_answer after_delay step_header
-  looped_at_rest table = let none : v.delay ≡ 0 = at.delay some in rw none refl
+  ended_at_rest table = let none : v.delay ≡ 0 = at.delay some in rw none refl
 
   pub answer_is : (table : List ℤ) → voice_answer v r i memory table (counter_at k) ≡ record {
     out = output v i table;
@@ -70,7 +70,7 @@ module _ (r : VoiceRegs) (i : VoiceIn) (memory : List ℕ) (k rest : ℕ) (v : V
     envx = v.envelope.level / 0x10;
     outx = high_byte (output v i table);
     block = (voice_step v r i memory (counter_at k)).block;
-    looped = is_looped v (byte_at memory v.block);
+    ended = is_ended v (byte_at memory v.block);
     keyed = false;
   }
   unfolding voice_answer after_delay step_header
@@ -81,9 +81,9 @@ pub reads_none : (v : VoiceState) (memory : List ℕ) (header loop_to : ℕ) →
 unfolding after_reading
 reads_none v memory header loop_to between = rw between refl
 
--- and so it doesn't loop
-pub loops_none : (v : VoiceState) (header : ℕ) → needs_group v ≡ false → is_looped v header ≡ false
-loops_none v header between = rw between refl
+-- and so it comes to no end
+pub ends_none : (v : VoiceState) (header : ℕ) → needs_group v ≡ false → is_ended v header ≡ false
+ends_none v header between = rw between refl
 
 -- nor does it leave its block
 pub block-after_pitch : (v : VoiceState) (pitch : ℕ) → (after_pitch v pitch).block ≡ v.block

@@ -8,7 +8,7 @@ use Rattle.brr_decode.specs.Remembered.{byte_of, with_groups}
 use Rattle.voice_unit.specs.Voice.{is_silencing}
 use Rattle.voice_unit.specs.Row.{IsGroup, next_place, place_after, kept_row, groups_left, further, last_of, is_end, is_read_in, ends_in}
 use Rattle.voice_unit.specs.declared.row.Place.{Place}
-use Rattle.voice_unit.proofs.LoopBits.{bit_if, marked, marked-more}
+use Rattle.voice_unit.proofs.EndBits.{bit_if, marked, marked-more}
 use Rattle.voice_unit.proofs.RowOfVoice.{kept_row-zero, kept_row-more, place_after-zero, place_after-more}
 
 -- the groups after some, and after them

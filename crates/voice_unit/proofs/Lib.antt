@@ -15,9 +15,9 @@ pub mod Glided
 pub mod OneMoreStep
 -- RowOfVoice: the row of kept samples.
 pub mod RowOfVoice
--- Counting: how many groups are read before each sample. LoopBits: the bits of a voice that loops, group by group.
+-- Counting: how many groups are read before each sample. EndBits: the bits of a voice that comes to an end, group by group.
 pub mod Counting
-pub mod LoopBits
+pub mod EndBits
 -- OverRow: a stretch of samples of a voice that glides.
 pub mod OverRow
 -- PartsOfRow: parts of a row of numbers, one entry more at a time.

@@ -15,7 +15,7 @@ use Rattle.voice_unit.specs.Batch.{steps, answer_of_step}
 use Rattle.voice_unit.specs.Plain.{PlaysPlainly}
 use Rattle.voice_unit.specs.Play.{Lane, IsPlayedSoFar, voice_at, answer_at}
 use Rattle.voice_unit.specs.Rest.{IsSilent, IsAtRest}
-use Rattle.voice_unit.specs.Row.{ArePoints, place_after, groups_before, is_end, is_read_in, loops_in, PlaysOn, row_of, place_of, StandsAt}
+use Rattle.voice_unit.specs.Row.{ArePoints, place_after, groups_before, is_end, is_read_in, ended_in, PlaysOn, row_of, place_of, StandsAt}
 use Rattle.voice_unit.specs.Track.{MoveOn}
 use Rattle.voice_unit.specs.OutsOverRow.{sounding_at, out_in_stretch}
 use Rattle.voice_unit.specs.Voice.{is_silencing, VoiceState, pitch_of, interpolation, output, source_sample, needs_group, is_at_last_group, after_reading, after_pitch, voice_step}
@@ -23,7 +23,7 @@ use Rattle.voice_unit.specs.declared.batch.VoiceView.{VoiceView}
 use Rattle.voice_unit.specs.declared.interface.VoiceIn.{VoiceIn}
 use Rattle.voice_unit.specs.declared.interface.VoiceOut.{VoiceOut}
 use Rattle.voice_unit.specs.declared.row.Place.{Place}
-use Rattle.voice_unit.proofs.AtRest.{step_at_rest, out_at_rest, answer_is, looped_at_rest, rests_on, envelope-after_reading, no_rest}
+use Rattle.voice_unit.proofs.AtRest.{step_at_rest, out_at_rest, answer_is, ended_at_rest, rests_on, envelope-after_reading, no_rest}
 use Rattle.voice_unit.proofs.Counting.{moves_on, groups_before-more, groups_before-rise}
 use Rattle.voice_unit.proofs.RowOfVoice.{plays_row, reads_row}
 
@@ -83,8 +83,8 @@ regrouped : (a b c : Bool) → (a && b && c) ≡ (a && (b && c))
 regrouped true b c = refl
 regrouped false b c = refl
 
-module _ (own : VoiceView) (lane : Lane) (n m rest : ℕ) (before loops : List ℕ) (outs : List ℤ) (voice : VoiceState)
-    (so_far : IsPlayedSoFar own lane n rest before loops outs voice) (twelve : length voice.samples ≡ 12) (low : voice.position < 0x8000)
+module _ (own : VoiceView) (lane : Lane) (n m rest : ℕ) (before ends : List ℕ) (outs : List ℤ) (voice : VoiceState)
+    (so_far : IsPlayedSoFar own lane n rest before ends outs voice) (twelve : length voice.samples ≡ 12) (low : voice.position < 0x8000)
     (heard : ℕ → ℕ) (noise : (j : ℕ) → (lane.inputs j).noise ≡ heard j)
     (glides : (j : ℕ) → j < m → PlaysPlainly own (lane.inputs (n + j))) (some : 0 < m) (resting : m ≤ rest)
     (points : ℕ → ℕ) (by_pitch : ArePoints (λ j. pitch_of lane.regs (lane.inputs (n + j))) m voice.position points)
@@ -211,13 +211,13 @@ module _ (own : VoiceView) (lane : Lane) (n m rest : ℕ) (before loops : List �
   pub last_level : (answer_at lane (n + m - 1)).level ≡ voice.envelope.level
   last_level = let last : n + m - 1 ≡ n + (m - 1) = omega (arith, some) in rw last (level_is (m - 1) (omega (arith, some)))
 
-  looped_is : (j : ℕ) → j < m → (answer_at lane (n + j)).looped ≡ loops_in lane.memory loop_to (place_of voice) points j
+  ended_is : (j : ℕ) → j < m → (answer_at lane (n + j)).ended ≡ ended_in lane.memory loop_to (place_of voice) points j
   unfolding answer_of_step
-  looped_is j below =
+  ended_is j below =
       let plain = glides j below in
       let now = rests j below in
       let at : IsAtRest (lane.inputs (n + j)).reset (lane.inputs (n + j)).koff lane.regs lane.memory (lane.k + (n + j)) (rest - j) (s j) = rw (plain.reset, plain.koff) now.0 in
-      let marked = looped_at_rest lane.regs (lane.inputs (n + j)) lane.memory (lane.k + (n + j)) (rest - j) (s j) at (omega (arith, below, resting)) plain.unkeyed lane.table in
+      let marked = ended_at_rest lane.regs (lane.inputs (n + j)) lane.memory (lane.k + (n + j)) (rest - j) (s j) at (omega (arith, below, resting)) plain.unkeyed lane.table in
       let here = stands j (omega (arith, below)) in
       let needs = reads_a_group points j (s j).position here.position here.within in
       rw (on j) (marked ∙ regrouped (needs_group (s j)) (is_at_last_group (s j)) (has_end (byte_at lane.memory (s j).block))
@@ -231,19 +231,19 @@ module _ (own : VoiceView) (lane : Lane) (n m rest : ℕ) (before loops : List �
       → ((j : ℕ) → j < n → number_at given j ≡ number_at outs j)
       → ((j : ℕ) → j < m → number_at given (n + j)
       ≡ out_in_stretch (has_bit own.non own.voice) (heard (n + j)) lane.table row (points j) voice.envelope.level)
-      → ((j : ℕ) → j < n → slice_index after j ≡ slice_index loops j)
-      → ((j : ℕ) → j < m → slice_index after (n + j) ≡ slice_index loops (n + j) + (if loops_in lane.memory loop_to (place_of voice) points j then 2 ^ own.voice else 0))
-      → ((j : ℕ) → n + m ≤ j → slice_index after j ≡ slice_index loops j)
+      → ((j : ℕ) → j < n → slice_index after j ≡ slice_index ends j)
+      → ((j : ℕ) → j < m → slice_index after (n + j) ≡ slice_index ends (n + j) + (if ended_in lane.memory loop_to (place_of voice) points j then 2 ^ own.voice else 0))
+      → ((j : ℕ) → n + m ≤ j → slice_index after j ≡ slice_index ends j)
       → IsPlayedSoFar own lane (n + m) left before after given now
   unfolding place_after
-  glided_over now left after given row is samples position place delay envelope ends outs_before outs_then loops_before loops_then loops_later = record {
+  glided_over now left after given row is samples position place delay envelope stops outs_before outs_then ends_before ends_then ends_later = record {
     played = record {
       voice_is = voice_is ∙ sym (on m);
       outs_are = λ j below. outs_by j (nat_lt j n) refl below;
-      loops_are = λ j below. loops_by j (nat_lt j n) refl below;
-      others = λ j above. loops_later j above ∙ so_far.played.others j (omega (arith, above));
+      ends_are = λ j below. ends_by j (nat_lt j n) refl below;
+      others = λ j above. ends_later j above ∙ so_far.played.others j (omega (arith, above));
     };
-    at_rest = rw voice_is (elim ends [
+    at_rest = rw voice_is (elim stops [
       | inl none ↦ rw none (no_rest own.reset koff lane.regs lane.memory (lane.k + (n + m)) (s m))
       | inr more ↦ rw more.0 (rw all at (rests_more (m - 1) last (rests (m - 1) last).0 (rw all (silent_after more.1))))
     ]);
@@ -280,11 +280,11 @@ module _ (own : VoiceView) (lane : Lane) (n m rest : ℕ) (before loops : List �
           let part : n + (j - n) ≡ j = omega arith in
           rw part at (outs_then (j - n) (omega (arith, below)) ∙ sym (out_is (j - n) (omega (arith, below)) row is))
 
-      loops_by : (j : ℕ) (b : Bool) → nat_lt j n ≡ b → j < n + m → slice_index after j ≡ slice_index before j + (if (answer_at lane j).looped then 2 ^ own.voice else 0)
-      loops_by j true e below = let old : j < n = grind (arith, nat_tests, e) in loops_before j old ∙ so_far.played.loops_are j old
-      loops_by j false e below =
+      ends_by : (j : ℕ) (b : Bool) → nat_lt j n ≡ b → j < n + m → slice_index after j ≡ slice_index before j + (if (answer_at lane j).ended then 2 ^ own.voice else 0)
+      ends_by j true e below = let old : j < n = grind (arith, nat_tests, e) in ends_before j old ∙ so_far.played.ends_are j old
+      ends_by j false e below =
           let new : n ≤ j = grind (arith, nat_tests, e) in
           let part : n + (j - n) ≡ j = omega arith in
-          let marked = ap (λ (b : Bool). slice_index loops (n + (j - n)) + (if b then 2 ^ own.voice else 0)) (sym (looped_is (j - n) (omega (arith, below)))) in
-          let earlier = ap (λ (b : ℕ). b + (if (answer_at lane (n + (j - n))).looped then 2 ^ own.voice else 0)) (so_far.played.others (n + (j - n)) (omega arith)) in
-          rw part at (loops_then (j - n) (omega (arith, below)) ∙ marked ∙ earlier)
+          let marked = ap (λ (b : Bool). slice_index ends (n + (j - n)) + (if b then 2 ^ own.voice else 0)) (sym (ended_is (j - n) (omega (arith, below)))) in
+          let earlier = ap (λ (b : ℕ). b + (if (answer_at lane (n + (j - n))).ended then 2 ^ own.voice else 0)) (so_far.played.others (n + (j - n)) (omega arith)) in
+          rw part at (ends_then (j - n) (omega (arith, below)) ∙ marked ∙ earlier)

@@ -3,7 +3,7 @@ use Rattle.std.specs.Prelude.{◌≡◌, ℕ, ◌+◌, ◌^◌, ◌<◌, ◌≤�
 use Rattle.num_fix.specs.declared.TheConstants.{BATCH_SIZE}
 use Rattle.aram_core.specs.Memory.{byte_at}
 use Rattle.voice_unit.specs.Voice.{is_silencing}
-use Rattle.voice_unit.specs.Row.{IsGroup, place_after, groups_before, ends_in, loops_in}
+use Rattle.voice_unit.specs.Row.{IsGroup, place_after, groups_before, ends_in, ended_in}
 use Rattle.voice_unit.specs.Track.{IsTrack, point_at}
 use Rattle.voice_unit.specs.declared.course.Course.{Course}
 use Rattle.voice_unit.specs.declared.course.Stretch.{Stretch}
@@ -24,9 +24,9 @@ place_at course memory j = place_after memory course.loop_to course.first (group
 abbrev pub ends_at : Course → (memory : List ℕ) → Place → (group j : ℕ) → Bool
 ends_at course memory place group j = ends_in memory place (point_at course.track) group j
 
--- the voice loops in sample j
-abbrev pub loops_at : Course → (memory : List ℕ) → (j : ℕ) → Bool
-loops_at course memory j = loops_in memory course.loop_to course.first (point_at course.track) j
+-- the voice comes to an end in sample j
+abbrev pub ended_at : Course → (memory : List ℕ) → (j : ℕ) → Bool
+ended_at course memory j = ended_in memory course.loop_to course.first (point_at course.track) j
 
 -- a stretch of n samples at most: the groups that it reads, and the one that follows
 pub record IsStretch (course : Course) (memory : List ℕ) (n : ℕ) (stretch : Stretch) : Type 0 where
@@ -37,9 +37,9 @@ pub record IsStretch (course : Course) (memory : List ℕ) (n : ℕ) (stretch : 
   pub next : stretch.next ≡ place_after memory course.loop_to course.first stretch.groups
   pub group : IsGroup stretch.next
 
--- in each of so many samples from sample `at` on the bit of the voice is added where it loops, and all other bytes stay
-pub record AreLoopsMarked (at samples voice : ℕ) (loops : ℕ → Bool) (before after : List ℕ) : Type 0 where
-  pub marks : (j : ℕ) → j < samples → slice_index after (at + j) ≡ slice_index before (at + j) + (if loops j then 2 ^ voice else 0)
+-- in each of so many samples from sample `at` on the bit of the voice is added where it comes to an end, and all other bytes stay
+pub record AreEndsMarked (at samples voice : ℕ) (ends : ℕ → Bool) (before after : List ℕ) : Type 0 where
+  pub marks : (j : ℕ) → j < samples → slice_index after (at + j) ≡ slice_index before (at + j) + (if ends j then 2 ^ voice else 0)
   pub before_it : (i : ℕ) → i < at → slice_index after i ≡ slice_index before i
   pub later : (i : ℕ) → at + samples ≤ i → slice_index after i ≡ slice_index before i
 

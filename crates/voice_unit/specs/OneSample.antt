@@ -14,10 +14,10 @@ pub record IsStep (r : VoiceRegs) (i : VoiceIn) (memory : List ℕ) (table : Lis
   pub voice : after ≡ voice_step before r i memory counter
   pub answer_is : answer ≡ voice_answer before r i memory table counter
 
--- the sample of number k of a voice: the next voice, its output, whether it loops, and for how many samples from the next one on its envelope rests
+-- the sample of number k of a voice: the next voice, its output, whether it comes to an end, and for how many samples from the next one on its envelope rests
 pub record IsPlayedSample (r : VoiceRegs) (i : VoiceIn) (memory : List ℕ) (table : List ℤ) (k : ℕ)
     (before : VoiceState) (played : Played) (after : VoiceState) : Type 0 where
   pub voice : after ≡ voice_step before r i memory (counter_at k)
   pub out : played.out ≡ (voice_answer before r i memory table (counter_at k)).out
-  pub looped : played.looped ≡ (voice_answer before r i memory table (counter_at k)).looped
+  pub ended : played.ended ≡ (voice_answer before r i memory table (counter_at k)).ended
   pub rest : IsAtRest i.reset i.koff r memory (k + 1) played.rest after

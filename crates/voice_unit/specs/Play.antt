@@ -4,7 +4,7 @@ use Rattle.num_fix.specs.Arithmetic.{has_bit}
 use Rattle.num_fix.specs.SignedWords.{number_at}
 use Rattle.num_fix.specs.declared.TheConstants.{BATCH_SIZE}
 use Rattle.rate_clock.specs.Counter.{counter_at}
-use Rattle.voice_unit.specs.Voice.{VoiceState, is_modulated, bent_pitch}
+use Rattle.voice_unit.specs.Voice.{VoiceState, is_modulated, modulated_pitch}
 use Rattle.voice_unit.specs.Rest.{IsAtRest}
 use Rattle.voice_unit.specs.Plain.{PlaysPlainly}
 use Rattle.voice_unit.specs.Batch.{lane_inputs, steps, answer_of_step}
@@ -34,11 +34,11 @@ lane_of reads previous voice k = record {
   voice = voice;
 }
 
--- a lane has the registers, the memory, the table and the noise that are read, and where its voice is bent the pitches
+-- a lane has the registers, the memory, the table and the noise that are read, and where its voice is modulated the pitches
 pub record IsLaneOver (reads : VoiceReads) (pitches : List ℕ) (lane : Lane) : Type 0 where
   pub regs : lane.regs ≡ reads.regs
-  pub bent : is_modulated reads.seen.pmon reads.seen.voice ≡ true
-      → (j : ℕ) → j < BATCH_SIZE → slice_index pitches j ≡ bent_pitch reads.regs.pitch (lane.inputs j).previous
+  pub modulated : is_modulated reads.seen.pmon reads.seen.voice ≡ true
+      → (j : ℕ) → j < BATCH_SIZE → slice_index pitches j ≡ modulated_pitch reads.regs.pitch (lane.inputs j).previous
   pub memory : lane.memory ≡ reads.memory.now
   pub table : lane.table ≡ reads.table.now
   pub noise : (j : ℕ) → (lane.inputs j).noise ≡ slice_index reads.rows.now.noise j
@@ -50,11 +50,11 @@ voice_at lane j = steps lane.regs lane.inputs lane.memory (λ j. counter_at (lan
 abbrev pub answer_at : Lane → (j : ℕ) → VoiceOut
 answer_at lane j = answer_of_step lane.regs lane.inputs lane.memory lane.table (λ j. counter_at (lane.k + j)) lane.voice j
 
--- What n samples of voice v leave: the voice, the row of its outputs, and the row of bytes in which bit v is added where it loops.
+-- What n samples of voice v leave: the voice, the row of its outputs, and the row of bytes in which bit v is added where it comes to an end.
 pub record IsPlayed (lane : Lane) (v n : ℕ) (before after : List ℕ) (outs : List ℤ) (voice : VoiceState) : Type 0 where
   pub voice_is : voice ≡ voice_at lane n
   pub outs_are : (j : ℕ) → j < n → number_at outs j ≡ (answer_at lane j).out
-  pub loops_are : (j : ℕ) → j < n → slice_index after j ≡ slice_index before j + (if (answer_at lane j).looped then 2 ^ v else 0)
+  pub ends_are : (j : ℕ) → j < n → slice_index after j ≡ slice_index before j + (if (answer_at lane j).ended then 2 ^ v else 0)
   pub others : (j : ℕ) → n ≤ j → slice_index after j ≡ slice_index before j
 
 -- in each sample from one up to another a voice plays plainly
@@ -62,6 +62,6 @@ abbrev pub Glides : (own : VoiceView) → (lane : Lane) → (from end : ℕ) →
 Glides own lane from end = (j : ℕ) → from ≤ j → j < end → PlaysPlainly own (lane.inputs j)
 
 -- what n samples of the voice of a row leave, which then rests for so many
-pub record IsPlayedSoFar (own : VoiceView) (lane : Lane) (n rest : ℕ) (before loops : List ℕ) (outs : List ℤ) (voice : VoiceState) : Type 0 where
-  pub played : IsPlayed lane own.voice n before loops outs voice
+pub record IsPlayedSoFar (own : VoiceView) (lane : Lane) (n rest : ℕ) (before ends : List ℕ) (outs : List ℤ) (voice : VoiceState) : Type 0 where
+  pub played : IsPlayed lane own.voice n before ends outs voice
   pub at_rest : IsAtRest own.reset (has_bit own.koff own.voice) lane.regs lane.memory (lane.k + n) rest voice

@@ -73,8 +73,8 @@ abbrev pub ends_in : (memory : List ℕ) → Place → (points : ℕ → ℕ) �
 ends_in memory at points group j = is_read_in points group j && is_end memory at
 
 -- in sample j a voice reads the last group of a block that has its end bit
-abbrev pub loops_in : (memory : List ℕ) → (loop_to : ℕ) → Place → (points : ℕ → ℕ) → (j : ℕ) → Bool
-loops_in memory loop_to first points j =
+abbrev pub ended_in : (memory : List ℕ) → (loop_to : ℕ) → Place → (points : ℕ → ℕ) → (j : ℕ) → Bool
+ended_in memory loop_to first points j =
     let group = groups_before points j in
     ends_in memory (place_after memory loop_to first group) points group j
 

@@ -7,7 +7,7 @@ use Rattle.voice_unit.specs.declared.out_row.OutRow.{OutRow}
 
 -- the answer of a voice that isn't heard
 abbrev pub silent_answer : VoiceOut
-silent_answer = record { out = pos 0; level = 0; envx = 0; outx = 0; block = 0; looped = false; keyed = false }
+silent_answer = record { out = pos 0; level = 0; envx = 0; outx = 0; block = 0; ended = false; keyed = false }
 
 -- the outputs of a row
 abbrev pub outs_of : OutRow → List ℤ

@@ -8,7 +8,7 @@ steady_points position pitch j = position + j * pitch
 
 -- how far sample j stands
 unfoldable pub point_at : Track → (j : ℕ) → ℕ
-point_at track j = if track.bent then slice_index track.points.now j else steady_points track.position track.pitch j
+point_at track j = if track.modulated then slice_index track.points.now j else steady_points track.position track.pitch j
 
 -- the pitches of a batch from one of its samples on
 abbrev pub pitches_from : (pitches : List ℕ) → (at : ℕ) → (j : ℕ) → ℕ

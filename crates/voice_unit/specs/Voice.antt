@@ -44,12 +44,12 @@ is_modulated pmon voice = nat_lt 0 voice && has_bit pmon voice
 
 -- A pitch changed by the output of the voice before.
 -- The sum is never negative, as the output's 1024ths of the pitch are at least the pitch's negative; so its absolute value is itself.
-abbrev pub bent_pitch : (pitch : ℕ) → (previous : ℤ) → ℕ
-bent_pitch pitch previous = unsigned_abs (pos pitch +ℤ scaled (floor_shift previous 5) (pos pitch) 10)
+abbrev pub modulated_pitch : (pitch : ℕ) → (previous : ℤ) → ℕ
+modulated_pitch pitch previous = unsigned_abs (pos pitch +ℤ scaled (floor_shift previous 5) (pos pitch) 10)
 
--- the pitch of the registers, bent by the voice before where it is modulated
+-- the pitch of the registers, changed by the voice before where it is modulated
 unfoldable pub pitch_of : VoiceRegs → VoiceIn → ℕ
-pitch_of r i = if i.modulated then bent_pitch r.pitch i.previous else r.pitch
+pitch_of r i = if i.modulated then modulated_pitch r.pitch i.previous else r.pitch
 
 -- the pitch at which a step moves on: none during the key-on delay
 unfoldable pub step_pitch : VoiceState → VoiceRegs → VoiceIn → ℕ
@@ -140,9 +140,9 @@ unfoldable pub after_reading : VoiceState → List ℕ → (header loop_to : ℕ
 after_reading v memory header loop_to =
     if needs_group v then at_next_group (after_decoding v memory header) header loop_to else v
 
--- the voice loops: it reads the last group of a block that has its end bit
-abbrev pub is_looped : VoiceState → (header : ℕ) → Bool
-is_looped v header = needs_group v && is_at_last_group v && has_end header
+-- the voice comes to an end: it reads the last group of a block that has its end bit
+abbrev pub is_ended : VoiceState → (header : ℕ) → Bool
+is_ended v header = needs_group v && is_at_last_group v && has_end header
 
 -- the voice with its position moved on by a pitch
 unfoldable pub after_pitch : VoiceState → (pitch : ℕ) → VoiceState
@@ -170,6 +170,6 @@ voice_answer v r i memory table counter =
       envx = playing.envelope.level / 0x10;
       outx = high_byte out;
       block = (voice_step v r i memory counter).block;
-      looped = is_looped playing (step_header v memory);
+      ended = is_ended playing (step_header v memory);
       keyed = is_keyed i;
     }

@@ -60,13 +60,13 @@ pub struct VoiceReads<'a> {
 pub struct PlayedRows {
     /// The output of the voice that plays, in each sample.
     pub outs: [i16; BATCH_SIZE],
-    /// The voices that loop in each sample: bit v is voice v.
-    pub loops: [u8; BATCH_SIZE],
+    /// The voices that come to an end in each sample: bit v is voice v.
+    pub ends: [u8; BATCH_SIZE],
 }
 
 impl VoiceView {
-    /// Whether the pitch of the voice is bent by the voice before.
-    pub(crate) fn is_bent(&self) -> bool
+    /// Whether the pitch of the voice is modulated by the voice before.
+    pub(crate) fn is_modulated(&self) -> bool
         requires { self.now.voice < 8 }
         ensures { result ≡ is_modulated self.now.pmon self.now.voice }
     {
@@ -84,7 +84,7 @@ impl VoiceView {
         let place = usize::from(j);
         VoiceIn {
             dir: self.dir,
-            modulated: self.is_bent(),
+            modulated: self.is_modulated(),
             previous,
             noisy: has_bit(self.non, self.voice),
             noise: rows.noise[place],

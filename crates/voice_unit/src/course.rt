@@ -3,9 +3,9 @@
 ghost use Rattle.std.specs.Prelude.{◌≡◌, ◌<◌, ◌≤◌, ◌+◌, ◌*◌, ◌^◌, ◌-◌, ℕ, true, false, slice_index, take};
 ghost use Rattle.voice_unit.specs.Row.{IsGroup, next_place, last_of, kept_row, groups_before};
 ghost use Rattle.voice_unit.specs.Track.{point_at};
-ghost use Rattle.voice_unit.specs.Course.{IsCourse, IsStretch, AreLoopsMarked, LeavesSounding, place_at, ends_at, loops_at};
+ghost use Rattle.voice_unit.specs.Course.{IsCourse, IsStretch, AreEndsMarked, LeavesSounding, place_at, ends_at, ended_at};
 
-use crate::play::mark_loop;
+use crate::play::mark_ended;
 use crate::rest::is_silencing;
 use crate::row::{Place, ROW_SIZE, groups_left, is_end, next_place, read_rest};
 use crate::track::Track;
@@ -65,17 +65,17 @@ impl<'a> Course<'a> {
         group: u8,
         place: &Place,
         memory: &Aram,
-        loops: &mut [u8; BATCH_SIZE],
+        ends: &mut [u8; BATCH_SIZE],
     )
         requires course { IsCourse self.now n }
         requires few { at + n ≤ BATCH_SIZE }
         requires read { group < groups_before (point_at self.now.track) n }
-        requires lower { (j : ℕ) → j < n → groups_before (point_at self.now.track) j ≡ group → slice_index loops.old (at + j) < 2 ^ self.now.voice }
-        ensures { AreLoopsMarked at n self.now.voice (ends_at self.now memory.now place.now group) loops.old loops.new }
+        requires lower { (j : ℕ) → j < n → groups_before (point_at self.now.track) j ≡ group → slice_index ends.old (at + j) < 2 ^ self.now.voice }
+        ensures { AreEndsMarked at n self.now.voice (ends_at self.now memory.now place.now group) ends.old ends.new }
     {
         if is_end(place, memory) {
             let j = self.track.reading_sample(group, n);
-            mark_loop(loops, at + j, true, self.voice);
+            mark_ended(ends, at + j, true, self.voice);
         }
     }
 
@@ -94,19 +94,19 @@ impl<'a> Course<'a> {
         group: u8,
         block: u16,
         memory: &Aram,
-        loops: &mut [u8; BATCH_SIZE],
+        ends: &mut [u8; BATCH_SIZE],
     ) -> NextBlock
         requires course { IsCourse self.now n }
         requires few { at + n ≤ BATCH_SIZE }
         requires read { group < groups_before (point_at self.now.track) n }
-        requires lower { (j : ℕ) → j < n → groups_before (point_at self.now.track) j ≡ group → slice_index loops.old (at + j) < 2 ^ self.now.voice }
+        requires lower { (j : ℕ) → j < n → groups_before (point_at self.now.track) j ≡ group → slice_index ends.old (at + j) < 2 ^ self.now.voice }
         ensures first { result.first ≡ next_place memory.now self.now.loop_to (last_of block) }
         ensures group { IsGroup result.first }
         ensures quiet { result.woken ≡ false → LeavesSounding self.now memory.now result.first.block }
-        ensures loops { AreLoopsMarked at n self.now.voice (ends_at self.now memory.now (last_of block) group) loops.old loops.new }
+        ensures ends { AreEndsMarked at n self.now.voice (ends_at self.now memory.now (last_of block) group) ends.old ends.new }
     {
         let place = Place { block, offset: 7 };
-        self.mark_end(at, n, group, &place, memory, loops);
+        self.mark_end(at, n, group, &place, memory, ends);
         let first = next_place(place, self.loop_to, memory);
         NextBlock {
             first,
@@ -114,7 +114,7 @@ impl<'a> Course<'a> {
         }
     }
 
-    /// Reads the groups of a stretch of n samples from sample `at` on into a row, after the twelve samples of a voice, and marks where it loops. The
+    /// Reads the groups of a stretch of n samples from sample `at` on into a row, after the twelve samples of a voice, and marks where it comes to an end. The
     /// stretch is shorter where the header of a block silences the voice.
     pub(crate) fn read_stretch(
         &self,
@@ -123,16 +123,16 @@ impl<'a> Course<'a> {
         memory: &Aram,
         row: &mut [i16; ROW_SIZE],
         blocks: &mut BlockMemory,
-        loops: &mut [u8; BATCH_SIZE],
+        ends: &mut [u8; BATCH_SIZE],
     ) -> Stretch
         requires course { IsCourse self.now n }
         requires some { 0 < n }
         requires few { at + n ≤ BATCH_SIZE }
-        requires lower { (i : ℕ) → at ≤ i → i < BATCH_SIZE → slice_index loops.old i < 2 ^ self.now.voice }
+        requires lower { (i : ℕ) → at ≤ i → i < BATCH_SIZE → slice_index ends.old i < 2 ^ self.now.voice }
         ensures stretch { IsStretch self.now memory.now n result }
         ensures row { take (12 + 4 * result.groups) row.new
             ≡ kept_row memory.now self.now.loop_to self.now.first (take 12 row.old) result.groups }
-        ensures loops { AreLoopsMarked at result.samples self.now.voice (loops_at self.now memory.now) loops.old loops.new }
+        ensures ends { AreEndsMarked at result.samples self.now.voice (ended_at self.now memory.now) ends.old ends.new }
         ensures quiet { LeavesSounding self.now memory.now self.now.first.block
             → (j : ℕ) → j < result.samples → LeavesSounding self.now memory.now (place_at self.now memory.now j).block }
         ensures goes_on { LeavesSounding self.now memory.now self.now.first.block → result.woken ≡ false
@@ -154,7 +154,7 @@ impl<'a> Course<'a> {
                 };
             }
             d += left;
-            let next = self.next_block(at, n, d - 1, place.block, memory, loops);
+            let next = self.next_block(at, n, d - 1, place.block, memory, ends);
             place = next.first;
             if next.woken {
                 let last = self.track.reading_sample(d - 1, n);

@@ -52,7 +52,7 @@ pub(crate) struct Glided {
 }
 
 impl Voice {
-    /// Puts how far n samples from sample `at` on stand, where the voice is bent.
+    /// Puts how far n samples from sample `at` on stand, where the voice is modulated.
     fn put_points(
         &self,
         at: u8,
@@ -67,7 +67,7 @@ impl Voice {
             ArePoints (pitches_from pitches.now at) n self.now.position (slice_index points.new) }
         ensures moves { is_modulated seen.now.pmon seen.now.voice ≡ true → MoveOn (slice_index points.new) n }
     {
-        if !seen.is_bent() {
+        if !seen.is_modulated() {
             return;
         }
         put_points(points, pitches, self.position(), at, n);
@@ -83,7 +83,7 @@ impl Voice {
         ensures loop_to { result.loop_to ≡ loop_word reads.now.seen.dir reads.now.regs.srcn reads.now.memory.now }
         ensures position { result.track.position ≡ self.now.position }
         ensures pitch { result.track.pitch ≡ reads.now.regs.pitch }
-        ensures bent { result.track.bent ≡ is_modulated reads.now.seen.pmon reads.now.seen.voice }
+        ensures modulated { result.track.modulated ≡ is_modulated reads.now.seen.pmon reads.now.seen.voice }
         ensures points { result.track.points.now ≡ points.now }
         ensures level { result.level ≡ self.now.envelope.level }
         ensures reset { result.reset ≡ reads.now.seen.reset }
@@ -99,7 +99,7 @@ impl Voice {
             track: Track {
                 position: self.position(),
                 pitch: reads.regs.pitch,
-                bent: reads.seen.is_bent(),
+                modulated: reads.seen.is_modulated(),
                 points,
             },
             level: self.level(),
@@ -124,19 +124,19 @@ impl Voice {
         requires resting { n ≤ rest }
         requires voice { reads.now.seen.voice < 8 }
         requires pitch { reads.now.regs.pitch < 0x4000 }
-        requires lower { (i : ℕ) → at ≤ i → i < BATCH_SIZE → slice_index made.old.loops i < 2 ^ reads.now.seen.voice }
+        requires lower { (i : ℕ) → at ≤ i → i < BATCH_SIZE → slice_index made.old.ends i < 2 ^ reads.now.seen.voice }
         ensures from { at ≤ result.at }
         ensures to { result.at ≤ at + n }
         ensures so_far { (lane : Lane) (before : List ℕ) → IsLaneOver reads.now work.old.pitches lane
-            → Glides reads.now.seen lane at (at + n) → IsPlayedSoFar reads.now.seen lane at rest before made.old.loops made.old.outs self.old
-            → IsPlayedSoFar reads.now.seen lane result.at result.rest before made.new.loops made.new.outs self.new }
+            → Glides reads.now.seen lane at (at + n) → IsPlayedSoFar reads.now.seen lane at rest before made.old.ends made.old.outs self.old
+            → IsPlayedSoFar reads.now.seen lane result.at result.rest before made.new.ends made.new.outs self.new }
         ensures pitches { work.new.pitches ≡ work.old.pitches }
         ensures level { (lane : Lane) (before : List ℕ) → IsLaneOver reads.now work.old.pitches lane
-            → Glides reads.now.seen lane at (at + n) → IsPlayedSoFar reads.now.seen lane at rest before made.old.loops made.old.outs self.old
+            → Glides reads.now.seen lane at (at + n) → IsPlayedSoFar reads.now.seen lane at rest before made.old.ends made.old.outs self.old
             → self.new.envelope.level ≡ (answer_at lane (result.at - 1)).level }
-        ensures later { (i : ℕ) → result.at ≤ i → slice_index made.new.loops i ≡ slice_index made.old.loops i }
-        ensures before { (i : ℕ) → i < at → slice_index made.new.loops i ≡ slice_index made.old.loops i }
-        ensures lower { (i : ℕ) → at ≤ i → i < BATCH_SIZE → slice_index made.new.loops i < 2 ^ (reads.now.seen.voice + 1) }
+        ensures later { (i : ℕ) → result.at ≤ i → slice_index made.new.ends i ≡ slice_index made.old.ends i }
+        ensures before { (i : ℕ) → i < at → slice_index made.new.ends i ≡ slice_index made.old.ends i }
+        ensures lower { (i : ℕ) → at ≤ i → i < BATCH_SIZE → slice_index made.new.ends i < 2 ^ (reads.now.seen.voice + 1) }
     {
         self.put_points(at, n, &reads.seen, &work.pitches, &mut work.points);
         let course = self.course(n, reads, &work.points);
@@ -147,7 +147,7 @@ impl Voice {
             reads.memory,
             &mut work.row,
             &mut work.blocks,
-            &mut made.loops,
+            &mut made.ends,
         );
         course.sound(
             &mut made.outs,
@@ -179,19 +179,19 @@ impl Voice {
         requires from { j ≤ end }
         requires voice { reads.now.seen.voice < 8 }
         requires pitch { reads.now.regs.pitch < 0x4000 }
-        requires lower { (i : ℕ) → j ≤ i → i < BATCH_SIZE → slice_index made.old.loops i < 2 ^ reads.now.seen.voice }
-        requires before { (i : ℕ) → i < BATCH_SIZE → slice_index made.old.loops i < 2 ^ (reads.now.seen.voice + 1) }
+        requires lower { (i : ℕ) → j ≤ i → i < BATCH_SIZE → slice_index made.old.ends i < 2 ^ reads.now.seen.voice }
+        requires before { (i : ℕ) → i < BATCH_SIZE → slice_index made.old.ends i < 2 ^ (reads.now.seen.voice + 1) }
         ensures from { j ≤ result.at }
         ensures to { result.at ≤ end }
         ensures so_far { (lane : Lane) (before : List ℕ) → IsLaneOver reads.now work.old.pitches lane
-            → Glides reads.now.seen lane j end → IsPlayedSoFar reads.now.seen lane j rest before made.old.loops made.old.outs self.old
-            → IsPlayedSoFar reads.now.seen lane result.at result.rest before made.new.loops made.new.outs self.new }
+            → Glides reads.now.seen lane j end → IsPlayedSoFar reads.now.seen lane j rest before made.old.ends made.old.outs self.old
+            → IsPlayedSoFar reads.now.seen lane result.at result.rest before made.new.ends made.new.outs self.new }
         ensures pitches { work.new.pitches ≡ work.old.pitches }
         ensures level { (lane : Lane) (before : List ℕ) → IsLaneOver reads.now work.old.pitches lane
-            → Glides reads.now.seen lane j end → IsPlayedSoFar reads.now.seen lane j rest before made.old.loops made.old.outs self.old
+            → Glides reads.now.seen lane j end → IsPlayedSoFar reads.now.seen lane j rest before made.old.ends made.old.outs self.old
             → j < result.at → self.new.envelope.level ≡ (answer_at lane (result.at - 1)).level }
-        ensures later { (i : ℕ) → result.at ≤ i → slice_index made.new.loops i ≡ slice_index made.old.loops i }
-        ensures lower { (i : ℕ) → i < BATCH_SIZE → slice_index made.new.loops i < 2 ^ (reads.now.seen.voice + 1) }
+        ensures later { (i : ℕ) → result.at ≤ i → slice_index made.new.ends i ≡ slice_index made.old.ends i }
+        ensures lower { (i : ℕ) → i < BATCH_SIZE → slice_index made.new.ends i < 2 ^ (reads.now.seen.voice + 1) }
     {
         let samples = glide_length(j, end, rest);
         if samples == 0 {

@@ -57,7 +57,7 @@ pub struct VoiceOut {
     /// The address of its block after the step.
     pub block: u16,
     /// It came to the end of a block that has its end bit.
-    pub looped: bool,
+    pub ended: bool,
     /// It was keyed.
     pub keyed: bool,
 }
@@ -69,7 +69,7 @@ pub const UNHEARD: VoiceOut = VoiceOut {
     envx: 0,
     outx: 0,
     block: 0,
-    looped: false,
+    ended: false,
     keyed: false,
 };
 

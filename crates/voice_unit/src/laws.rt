@@ -7,7 +7,7 @@ ghost use Rattle.voice_unit.specs.Voice.{VoiceState, pitch_of, interpolation};
 ghost use Rattle.voice_unit.specs.declared.interface.VoiceIn.{VoiceIn};
 ghost use Rattle.voice_unit.specs.declared.interface.VoiceRegs.{VoiceRegs};
 
-/// A voice that plays on reads, in sample j, the row of all its groups at the place that its pitches lead to, bent or not, whatever groups
+/// A voice that plays on reads, in sample j, the row of all its groups at the place that its pitches lead to, modulated or not, whatever groups
 /// follow there: its interpolation is that of the row. And where it stands then. At its own pitch that place is P + j * pitch.
 pub fn kept_rows()
     ensures plays { (r : VoiceRegs) (inputs : ℕ → VoiceIn) (dir n : ℕ) (memory : List ℕ) (counters points : ℕ → ℕ)
@@ -18,6 +18,6 @@ pub fn kept_rows()
     ensures stands { (r : VoiceRegs) (inputs : ℕ → VoiceIn) (dir n : ℕ) (memory : List ℕ) (counters points : ℕ → ℕ) (voice : VoiceState) (j : ℕ)
         → PlaysOn r inputs dir n points voice → j ≤ n
         → StandsAt r dir memory voice (groups_before points j) (points j) (steps r inputs memory counters voice j) }
-    ensures unbent { (r : VoiceRegs) (inputs : ℕ → VoiceIn) (n position : ℕ) → ((j : ℕ) → j < n → (inputs j).modulated ≡ false)
+    ensures unmodulated { (r : VoiceRegs) (inputs : ℕ → VoiceIn) (n position : ℕ) → ((j : ℕ) → j < n → (inputs j).modulated ≡ false)
         → r.pitch < 0x4000 → ArePoints (λ j. pitch_of r (inputs j)) n position (steady_points position r.pitch) }
 {}

@@ -1,8 +1,8 @@
-//! Samples at a level, and the pitch of a voice, bent by samples of the voice before.
+//! Samples at a level, and the pitch of a voice, modulated by samples of the voice before.
 
 ghost use Rattle.std.specs.Prelude.{◌≡◌, ◌<◌, ◌≤◌, ◌*◌, pos, unsigned_abs, ◌+ℤ◌};
 ghost use Rattle.num_fix.specs.Arithmetic.{scaled, floor_shift, high_byte};
-ghost use Rattle.voice_unit.specs.Voice.{bent_pitch, pitch_of};
+ghost use Rattle.voice_unit.specs.Voice.{modulated_pitch, pitch_of};
 
 use crate::interface::{VoiceIn, VoiceRegs};
 use num_fix::scaled;
@@ -15,10 +15,10 @@ pub fn at_level(sample: i16, level: u16) -> i16
     scaled(sample, level as i16, 11) as i16
 }
 
-/// A pitch bent by the output of the voice before: by none of it at 0, to 0 at the least output,
+/// A pitch modulated by the output of the voice before: by none of it at 0, to 0 at the least output,
 /// and nearly to its double at the greatest.
 #[tactic(auto, unfolding(num_fix::specs::Arithmetic::floor_shift))]
-pub fn bent_pitch(pitch: u16, previous: i16) -> u16
+pub fn modulated_pitch(pitch: u16, previous: i16) -> u16
     requires { pitch < 0x4000 }
     ensures value { result ≡ unsigned_abs (pos pitch +ℤ scaled (floor_shift previous 5) (pos pitch) 10) }
     ensures bound { result < 0x8000 }
@@ -27,11 +27,11 @@ pub fn bent_pitch(pitch: u16, previous: i16) -> u16
     (i32::from(pitch) + bend) as u16
 }
 
-/// A pitch bent so, by its double: one multiplication of 16-bit numbers.
-pub(crate) fn bent_by_double(pitch: u16, double: i16, previous: i16) -> u16
+/// A pitch modulated so, by its double: one multiplication of 16-bit numbers.
+pub(crate) fn modulated_by_double(pitch: u16, double: i16, previous: i16) -> u16
     requires pitch { pitch < 0x4000 }
     requires double { double ≡ pos (2 * pitch) }
-    ensures { result ≡ bent_pitch pitch previous }
+    ensures { result ≡ modulated_pitch pitch previous }
 {
     let bend = scaled((previous >> 5) * 32, double, 16) as i16;
     (pitch as i16 + bend) as u16
@@ -45,7 +45,7 @@ pub(crate) fn pitch_of(regs: &VoiceRegs, input: &VoiceIn) -> u16
     ensures bound { result < 0x8000 }
 {
     if input.modulated {
-        bent_pitch(regs.pitch, input.previous)
+        modulated_pitch(regs.pitch, input.previous)
     } else {
         regs.pitch
     }

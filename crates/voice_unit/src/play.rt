@@ -17,26 +17,26 @@ use crate::workspace::Workspace;
 use brr_decode::BlockMemory;
 use num_fix::{BATCH_SIZE, has_bit};
 
-/// Adds the bit of a voice that looped in sample `j`.
-pub(crate) fn mark_loop(loops: &mut [u8; BATCH_SIZE], j: u8, looped: bool, voice: u8)
+/// Adds the bit of a voice that ended in sample `j`.
+pub(crate) fn mark_ended(ends: &mut [u8; BATCH_SIZE], j: u8, ended: bool, voice: u8)
     requires few { j < BATCH_SIZE }
     requires voice { voice < 8 }
-    requires lower { slice_index loops.old j < 2 ^ voice }
-    ensures { loops.new ≡ (if looped then slice_set loops.old j (slice_index loops.old j + 2 ^ voice) else loops.old) }
+    requires lower { slice_index ends.old j < 2 ^ voice }
+    ensures { ends.new ≡ (if ended then slice_set ends.old j (slice_index ends.old j + 2 ^ voice) else ends.old) }
 {
-    if looped {
-        loops[usize::from(j)] += 1 << voice;
+    if ended {
+        ends[usize::from(j)] += 1 << voice;
     }
 }
 
 /// Whether the bit of a voice stands in the byte of sample `j`, where none of a voice after it does.
-fn is_marked(loops: &[u8; BATCH_SIZE], j: u8, voice: u8) -> bool
+fn is_marked(ends: &[u8; BATCH_SIZE], j: u8, voice: u8) -> bool
     requires few { j < BATCH_SIZE }
     requires voice { voice < 8 }
-    ensures unmarked { slice_index loops.now j < 2 ^ voice → result ≡ false }
-    ensures marked { 2 ^ voice ≤ slice_index loops.now j → result ≡ true }
+    ensures unmarked { slice_index ends.now j < 2 ^ voice → result ≡ false }
+    ensures marked { 2 ^ voice ≤ slice_index ends.now j → result ≡ true }
 {
-    loops[usize::from(j)] >= 1 << voice
+    ends[usize::from(j)] >= 1 << voice
 }
 
 impl Voice {
@@ -102,15 +102,15 @@ impl Voice {
         requires voice { reads.now.seen.voice < 8 }
         requires pitch { reads.now.regs.pitch < 0x4000 }
         requires noise { (j : ℕ) → j < n → slice_index reads.now.rows.now.noise j < 0x8000 }
-        requires lower { (j : ℕ) → j < BATCH_SIZE → slice_index made.old.loops j < 2 ^ reads.now.seen.voice }
+        requires lower { (j : ℕ) → j < BATCH_SIZE → slice_index made.old.ends j < 2 ^ reads.now.seen.voice }
         ensures from { n - 1 ≤ result.at }
         ensures to { result.at ≤ n }
         ensures so_far { (k : ℕ) → reads.now.clock ≡ counter_at k → let lane = lane_of reads.now previous.now self.old k in
-            IsPlayedSoFar reads.now.seen lane result.at result.rest made.old.loops made.new.loops made.new.outs self.new }
+            IsPlayedSoFar reads.now.seen lane result.at result.rest made.old.ends made.new.ends made.new.outs self.new }
         ensures level { (k : ℕ) → reads.now.clock ≡ counter_at k → result.at ≡ n
             → self.new.envelope.level ≡ (answer_at (lane_of reads.now previous.now self.old k) (n - 1)).level }
-        ensures others { (j : ℕ) → result.at ≤ j → slice_index made.new.loops j ≡ slice_index made.old.loops j }
-        ensures lower { (j : ℕ) → j < BATCH_SIZE → slice_index made.new.loops j < 2 ^ (reads.now.seen.voice + 1) }
+        ensures others { (j : ℕ) → result.at ≤ j → slice_index made.new.ends j ≡ slice_index made.old.ends j }
+        ensures lower { (j : ℕ) → j < BATCH_SIZE → slice_index made.new.ends j < 2 ^ (reads.now.seen.voice + 1) }
     {
         let last = n - 1;
         if last == 0 {
@@ -134,7 +134,7 @@ impl Voice {
             let input = seen.input(reads.rows, previous[place], to);
             let played = self.play_sample(to, glided.rest, reads, &input, &mut work.blocks);
             made.outs[place] = played.out;
-            mark_loop(&mut made.loops, to, played.looped, seen.voice);
+            mark_ended(&mut made.ends, to, played.ended, seen.voice);
             rest = played.rest;
             j = to + 1;
         }
@@ -152,7 +152,7 @@ impl Voice {
         requires few { j < BATCH_SIZE }
         requires voice { reads.now.seen.voice < 8 }
         ensures { (k : ℕ) (before : List ℕ) (begun : VoiceState) → let lane = lane_of reads.now previous.now begun k in
-            IsPlayed lane reads.now.seen.voice (j + 1) before made.now.loops made.now.outs self.now
+            IsPlayed lane reads.now.seen.voice (j + 1) before made.now.ends made.now.outs self.now
             → slice_index before j < 2 ^ reads.now.seen.voice
             → self.now.envelope.level ≡ (answer_at lane j).level → result ≡ answer_at lane j }
     {
@@ -166,13 +166,13 @@ impl Voice {
             envx: (level / 0x10) as u8,
             outx: high_byte(out),
             block: self.block(),
-            looped: is_marked(&made.loops, j, reads.seen.voice),
+            ended: is_marked(&made.ends, j, reads.seen.voice),
             keyed: is_keyed(&input),
         }
     }
 
     /// Plays a batch of n samples over the row of outputs of the voice before. Its outputs are put into a row, and the bit of the voice is added to the byte
-    /// of each sample in which it loops. The answer is that of the last sample.
+    /// of each sample in which it comes to an end. The answer is that of the last sample.
     pub fn play(
         &mut self,
         n: u8,
@@ -186,11 +186,11 @@ impl Voice {
         requires voice { reads.now.seen.voice < 8 }
         requires pitch { reads.now.regs.pitch < 0x4000 }
         requires noise { (j : ℕ) → j < n → slice_index reads.now.rows.now.noise j < 0x8000 }
-        requires lower { (j : ℕ) → j < BATCH_SIZE → slice_index made.old.loops j < 2 ^ reads.now.seen.voice }
+        requires lower { (j : ℕ) → j < BATCH_SIZE → slice_index made.old.ends j < 2 ^ reads.now.seen.voice }
         ensures played { (k : ℕ) → reads.now.clock ≡ counter_at k
             → let lane = lane_of reads.now previous.now self.old k in
-            IsPlayed lane reads.now.seen.voice n made.old.loops made.new.loops made.new.outs self.new }
-        ensures lower { (j : ℕ) → j < BATCH_SIZE → slice_index made.new.loops j < 2 ^ (reads.now.seen.voice + 1) }
+            IsPlayed lane reads.now.seen.voice n made.old.ends made.new.ends made.new.outs self.new }
+        ensures lower { (j : ℕ) → j < BATCH_SIZE → slice_index made.new.ends j < 2 ^ (reads.now.seen.voice + 1) }
         ensures last { (k : ℕ) → reads.now.clock ≡ counter_at k → result ≡ answer_at (lane_of reads.now previous.now self.old k) (n - 1) }
     {
         let glided = self.play_row(n, reads, previous, work, made);
@@ -202,7 +202,7 @@ impl Voice {
         let input = reads.seen.input(reads.rows, previous[place], last);
         let answer = self.play_last(last, glided.rest, reads, &input, &mut work.blocks);
         made.outs[place] = answer.out;
-        mark_loop(&mut made.loops, last, answer.looped, reads.seen.voice);
+        mark_ended(&mut made.ends, last, answer.ended, reads.seen.voice);
         answer
     }
 }

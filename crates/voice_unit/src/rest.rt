@@ -4,7 +4,7 @@ ghost use Rattle.std.specs.Prelude.{◌≡◌, ◌<◌, ◌+◌, ℕ, true, fals
 ghost use Rattle.aram_core.specs.Memory.{byte_at};
 ghost use Rattle.rate_clock.specs.Counter.{counter_at};
 ghost use Rattle.voice_unit.specs.Directory.{loop_word};
-ghost use Rattle.voice_unit.specs.Voice.{is_silencing, is_keyed, is_looped, needs_group, after_reading, after_pitch};
+ghost use Rattle.voice_unit.specs.Voice.{is_silencing, is_keyed, is_ended, needs_group, after_reading, after_pitch};
 ghost use Rattle.envelope.specs.declared.Mode.TheVariants.{Release};
 ghost use Rattle.voice_unit.specs.Rest.{IsSilent, IsAtRest};
 ghost use Rattle.voice_unit.specs.OneSample.{IsStep, IsPlayedSample};
@@ -23,7 +23,7 @@ use rate_clock::RateClock;
 pub(crate) struct Played {
     pub out: i16,
     /// The voice came to the end of a block that has its end bit.
-    pub looped: bool,
+    pub ended: bool,
     /// How many more samples its envelope rests.
     pub rest: u16,
 }
@@ -32,7 +32,7 @@ pub(crate) struct Played {
 #[derive(Clone, Copy, Debug)]
 struct Passed {
     /// It came to the end of a block that has its end bit.
-    looped: bool,
+    ended: bool,
     /// How many more samples its envelope rests.
     rest: u16,
 }
@@ -118,7 +118,7 @@ impl Voice {
         let rest = self.rest(regs, input, memory, clock);
         Played {
             out: answer.out,
-            looped: answer.looped,
+            ended: answer.ended,
             rest,
         }
     }
@@ -139,16 +139,16 @@ impl Voice {
         requires reads { needs_group self.old ≡ true }
         ensures voice { self.new ≡ after_pitch
             (after_reading self.old memory.now (byte_at memory.now self.old.block) (loop_word input.now.dir regs.now.srcn memory.now)) pitch }
-        ensures looped { result.looped ≡ is_looped self.old (byte_at memory.now self.old.block) }
+        ensures ended { result.ended ≡ is_ended self.old (byte_at memory.now self.old.block) }
         ensures rest { (k : ℕ) → IsAtRest input.now.reset input.now.koff regs.now memory.now k rest self.old
             → IsAtRest input.now.reset input.now.koff regs.now memory.now (k + 1) result.rest self.new }
     {
         let block = self.block();
-        let looped = self.read_group(memory.get(block), input.dir, regs.srcn, memory, blocks);
+        let ended = self.read_group(memory.get(block), input.dir, regs.srcn, memory, blocks);
         self.move_on(pitch);
         let is_woken = self.block() != block && self.is_to_be_silenced(input.reset, memory);
         Passed {
-            looped,
+            ended,
             rest: if is_woken { 0 } else { rest - 1 },
         }
     }
@@ -169,7 +169,7 @@ impl Voice {
         requires resting { 0 < rest }
         ensures voice { self.new ≡ after_pitch
             (after_reading self.old memory.now (byte_at memory.now self.old.block) (loop_word input.now.dir regs.now.srcn memory.now)) pitch }
-        ensures looped { result.looped ≡ is_looped self.old (byte_at memory.now self.old.block) }
+        ensures ended { result.ended ≡ is_ended self.old (byte_at memory.now self.old.block) }
         ensures rest { (k : ℕ) → IsAtRest input.now.reset input.now.koff regs.now memory.now k rest self.old
             → IsAtRest input.now.reset input.now.koff regs.now memory.now (k + 1) result.rest self.new }
     {
@@ -178,7 +178,7 @@ impl Voice {
         }
         self.move_on(pitch);
         Passed {
-            looped: false,
+            ended: false,
             rest: rest - 1,
         }
     }
@@ -206,7 +206,7 @@ impl Voice {
         let passed = self.pass_sample(rest, pitch, regs, input, memory, blocks);
         Played {
             out,
-            looped: passed.looped,
+            ended: passed.ended,
             rest: passed.rest,
         }
     }
@@ -236,7 +236,7 @@ impl Voice {
             envx: (level / 0x10) as u8,
             outx: high_byte(played.out),
             block: self.block(),
-            looped: played.looped,
+            ended: played.ended,
             keyed: false,
         }
     }

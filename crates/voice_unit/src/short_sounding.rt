@@ -106,7 +106,7 @@ fn take_short_taps(
 }
 
 /// The taps of n samples that stand so far in a row, each at its own place, two at a time: of an odd number the sample after the last has its own too.
-fn take_short_bent_taps(
+fn take_short_modulated_taps(
     taps: &mut [ShortTaps; BATCH_SIZE],
     n: u8,
     row: &[i16; ROW_SIZE],
@@ -145,8 +145,8 @@ pub(crate) fn take_short_track_taps(
     ensures { (table : List ℤ) → AreFactors table factors.now → (j : ℕ) → j < n
         → short_mixed_at taps.new j ≡ interpolation table row.now (point_at track.now j) }
 {
-    if track.bent {
-        take_short_bent_taps(taps, n, row, factors, track.points);
+    if track.modulated {
+        take_short_modulated_taps(taps, n, row, factors, track.points);
         return;
     }
     take_short_taps(taps, n, row, factors, track.position, track.pitch);

@@ -60,9 +60,9 @@ fn take_taps(
     }
 }
 
-/// The taps of n samples that stand so far in a row. It stands apart, since few voices are bent.
+/// The taps of n samples that stand so far in a row. It stands apart, since few voices are modulated.
 #[inline(never)]
-fn take_bent_taps(
+fn take_modulated_taps(
     taps: &mut [Taps; BATCH_SIZE],
     n: u8,
     row: &[i16; ROW_SIZE],
@@ -93,8 +93,8 @@ fn take_track_taps(
     requires track { IsTrack track.now n }
     ensures { (j : ℕ) → j < n → mixed_at taps.new j ≡ interpolation table.now row.now (point_at track.now j) }
 {
-    if track.bent {
-        take_bent_taps(taps, n, row, table, track.points);
+    if track.modulated {
+        take_modulated_taps(taps, n, row, table, track.points);
         return;
     }
     take_taps(taps, n, row, table, track.position, track.pitch);

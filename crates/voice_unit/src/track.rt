@@ -2,13 +2,13 @@
 
 ghost use Rattle.std.specs.Prelude.{◌≡◌, ◌<◌, ◌≤◌, ◌+◌, ◌*◌, ℕ, pos, true, slice_index};
 ghost use Rattle.num_fix.specs.SignedWords.{number_at};
-ghost use Rattle.voice_unit.specs.Voice.{bent_pitch, is_modulated};
+ghost use Rattle.voice_unit.specs.Voice.{modulated_pitch, is_modulated};
 ghost use Rattle.voice_unit.specs.Row.{ArePoints, groups_before, next_point};
 ghost use Rattle.voice_unit.specs.Track.{IsTrack, MoveOn, pitches_from, steady_points, point_at};
 
 use crate::batch::VoiceView;
 use crate::course::Stretch;
-use crate::level::bent_by_double;
+use crate::level::modulated_by_double;
 use num_fix::BATCH_SIZE;
 
 /// Places for how far the samples of a batch stand, and the one after them.
@@ -17,7 +17,7 @@ pub(crate) const POINTS: usize = BATCH_SIZE + 1;
 /// The greatest pitch that leads no position to its end at 7FFFh.
 const GREATEST_FREE_PITCH: u16 = 0x4000;
 
-/// How far the samples of a stretch stand in the row of kept samples, in 4096ths of one. Where the pitch isn't bent, each stands a pitch after the one
+/// How far the samples of a stretch stand in the row of kept samples, in 4096ths of one. Where the pitch isn't modulated, each stands a pitch after the one
 /// before.
 #[derive(Clone, Copy)]
 pub(crate) struct Track<'a> {
@@ -25,9 +25,9 @@ pub(crate) struct Track<'a> {
     pub position: u16,
     /// The pitch of the registers, below 4000h.
     pub pitch: u16,
-    /// The pitch is bent by the voice before.
-    pub bent: bool,
-    /// Where it is bent: how far each sample stands, and the one after the last.
+    /// The pitch is modulated by the voice before.
+    pub modulated: bool,
+    /// Where it is modulated: how far each sample stands, and the one after the last.
     pub points: &'a [u32; POINTS],
 }
 
@@ -39,19 +39,19 @@ fn doubles_of(pitch: u16) -> [i16; BATCH_SIZE]
     [2 * pitch as i16; BATCH_SIZE]
 }
 
-/// The pitches of a batch, bent by the outputs of the voice before.
+/// The pitches of a batch, modulated by the outputs of the voice before.
 fn put_pitches(pitches: &mut [u16; BATCH_SIZE], pitch: u16, previous: &[i16; BATCH_SIZE])
     requires { pitch < 0x4000 }
-    ensures { (j : ℕ) → j < BATCH_SIZE → slice_index pitches.new j ≡ bent_pitch pitch (number_at previous.now j) }
+    ensures { (j : ℕ) → j < BATCH_SIZE → slice_index pitches.new j ≡ modulated_pitch pitch (number_at previous.now j) }
 {
     let doubles = doubles_of(pitch);
     for j in 0..BATCH_SIZE {
-        pitches[j] = bent_by_double(pitch, doubles[j], previous[j]);
+        pitches[j] = modulated_by_double(pitch, doubles[j], previous[j]);
     }
 }
 
 impl VoiceView {
-    /// The pitches of a batch, where the voice is bent by the outputs of the voice before.
+    /// The pitches of a batch, where the voice is modulated by the outputs of the voice before.
     pub(crate) fn put_pitches(
         &self,
         pitches: &mut [u16; BATCH_SIZE],
@@ -61,9 +61,9 @@ impl VoiceView {
         requires voice { self.now.voice < 8 }
         requires pitch { pitch < 0x4000 }
         ensures { is_modulated self.now.pmon self.now.voice ≡ true
-            → (j : ℕ) → j < BATCH_SIZE → slice_index pitches.new j ≡ bent_pitch pitch (number_at previous.now j) }
+            → (j : ℕ) → j < BATCH_SIZE → slice_index pitches.new j ≡ modulated_pitch pitch (number_at previous.now j) }
     {
-        if !self.is_bent() {
+        if !self.is_modulated() {
             return;
         }
         put_pitches(pitches, pitch, previous);
@@ -134,7 +134,7 @@ fn put_summed_points(
     }
 }
 
-/// How far n samples stand from sample `at` on, the first at a position, by the pitches of a batch. It stands apart, since few voices are bent.
+/// How far n samples stand from sample `at` on, the first at a position, by the pitches of a batch. It stands apart, since few voices are modulated.
 #[inline(never)]
 pub(crate) fn put_points(
     points: &mut [u32; POINTS],
@@ -172,7 +172,7 @@ fn steady_sample(position: u16, pitch: u16, group: u8, n: u8) -> u8
     ((end - 1 - from) / u32::from(pitch) + 1) as u8
 }
 
-/// The sample of n that reads the group after so many others, by how far each stands. It stands apart, since few voices are bent.
+/// The sample of n that reads the group after so many others, by how far each stands. It stands apart, since few voices are modulated.
 #[inline(never)]
 fn sample_on_point(points: &[u32; POINTS], group: u8, n: u8) -> u8
     requires few { n ≤ BATCH_SIZE }
@@ -200,7 +200,7 @@ impl<'a> Track<'a> {
         requires few { j ≤ BATCH_SIZE }
         ensures { result ≡ point_at self.now j }
     {
-        if self.bent {
+        if self.modulated {
             self.points[usize::from(j)]
         } else {
             u32::from(self.position) + u32::from(j) * u32::from(self.pitch)
@@ -228,7 +228,7 @@ impl<'a> Track<'a> {
         ensures before { groups_before (point_at self.now) result ≡ group }
         ensures after { groups_before (point_at self.now) (result + 1) ≡ group + 1 }
     {
-        if self.bent {
+        if self.modulated {
             sample_on_point(self.points, group, n)
         } else {
             steady_sample(self.position, self.pitch, group, n)

@@ -6,7 +6,7 @@ ghost use Rattle.aram_core.specs.Memory.{byte_at};
 ghost use Rattle.brr_decode.specs.Kept.{with_group};
 ghost use Rattle.voice_unit.specs.Directory.{start_word, loop_word};
 ghost use Rattle.voice_unit.specs.Row.{IsGroup, place_of};
-ghost use Rattle.voice_unit.specs.Voice.{silent_voice, step_pitch, step_header, after_delay, interpolation, source_sample, output, needs_group, after_envelope, is_looped, after_decoding, at_next_group, after_reading, after_pitch, voice_step, voice_answer};
+ghost use Rattle.voice_unit.specs.Voice.{silent_voice, step_pitch, step_header, after_delay, interpolation, source_sample, output, needs_group, after_envelope, is_ended, after_decoding, at_next_group, after_reading, after_pitch, voice_step, voice_answer};
 
 use crate::directory::{loop_word, start_word};
 use crate::interface::{VoiceIn, VoiceOut, VoiceRegs, is_keyed};
@@ -317,15 +317,15 @@ impl Voice {
     #[tactic(auto, unfolding(crate::specs::Voice::after_reading))]
     fn read_on(&mut self, header: u8, regs: &VoiceRegs, input: &VoiceIn, memory: &Aram) -> bool
         ensures voice { self.new ≡ after_reading self.old memory.now header (loop_word input.now.dir regs.now.srcn memory.now) }
-        ensures looped { result ≡ is_looped self.old header }
+        ensures ended { result ≡ is_ended self.old header }
     {
         if !self.needs_group() {
             return false;
         }
-        let looped = self.offset == LAST_GROUP && has_end(header);
+        let ended = self.offset == LAST_GROUP && has_end(header);
         self.decode(memory, header);
         self.go_to_next_group(header, input.dir, regs.srcn, memory);
-        looped
+        ended
     }
 
     /// Reads a group that the position has come to, by what is remembered of blocks, and tells whether that ends a block that has its end bit.
@@ -342,12 +342,12 @@ impl Voice {
     ) -> bool
         requires { needs_group self.old ≡ true }
         ensures voice { self.new ≡ after_reading self.old memory.now header (loop_word dir srcn memory.now) }
-        ensures looped { result ≡ is_looped self.old header }
+        ensures ended { result ≡ is_ended self.old header }
     {
-        let looped = self.offset == LAST_GROUP && has_end(header);
+        let ended = self.offset == LAST_GROUP && has_end(header);
         self.recall(memory, header, blocks);
         self.go_to_next_group(header, dir, srcn, memory);
-        looped
+        ended
     }
 
     /// Moves on by a pitch.
@@ -380,7 +380,7 @@ impl Voice {
         let out = self.output(input, table);
         let level = self.level();
         self.step_envelope(regs, input, header, clock);
-        let looped = self.read_on(header, regs, input, memory);
+        let ended = self.read_on(header, regs, input, memory);
         self.move_on(pitch);
         VoiceOut {
             out,
@@ -388,7 +388,7 @@ impl Voice {
             envx: (level / 0x10) as u8,
             outx: high_byte(out),
             block: self.block,
-            looped,
+            ended,
             keyed: is_keyed(input),
         }
     }

@@ -21,7 +21,7 @@ pub struct Workspace {
     /// Twelve samples, those of 64 groups, and the rest of the last one's block.
     pub(crate) row: [i16; ROW_SIZE],
     pub(crate) taps: TapRows,
-    /// The pitches of a voice in a batch, where they are bent.
+    /// The pitches of a voice in a batch, where they are modulated.
     pub(crate) pitches: [u16; BATCH_SIZE],
     /// How far the samples of such a voice stand in the row, and the one after them.
     pub(crate) points: [u32; POINTS],

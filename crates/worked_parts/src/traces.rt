@@ -3,7 +3,7 @@ use std::test::Fail;
 use trace_form::{EventRing, Frames, Full, Record, Records, line};
 
 /// A record of voice 0.
-fn voice(sample: u32, level: u16, out: i16, block: u16, keyed: bool, looped: bool) -> Record {
+fn voice(sample: u32, level: u16, out: i16, block: u16, keyed: bool, ended: bool) -> Record {
     Record::Voice {
         sample,
         voice: 0,
@@ -11,7 +11,7 @@ fn voice(sample: u32, level: u16, out: i16, block: u16, keyed: bool, looped: boo
         out,
         block,
         keyed,
-        looped,
+        ended,
     }
 }
 

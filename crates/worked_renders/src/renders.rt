@@ -81,7 +81,7 @@ fn voice(sample: u32, level: u16, out: i16) -> Record {
         out,
         block: 0x0500,
         keyed: false,
-        looped: false,
+        ended: false,
     }
 }
 
@@ -98,7 +98,7 @@ const KEYED: Record = Record::Voice {
     out: 0,
     block: 0,
     keyed: true,
-    looped: false,
+    ended: false,
 };
 
 /// The first frames of the voice.

@@ -113,7 +113,7 @@ fn are_of_one_key_on(records: &[Record]) -> bool {
         out: 0,
         block: 0,
         keyed: true,
-        looped: false,
+        ended: false,
     };
     records.len() == 8 && records.get(0) == Some(&keyed) && records.iter().skip(1).all(is_quiet)
 }
@@ -194,7 +194,7 @@ fn what_was_saved_plays_again(rt: HostRuntime) -> Result<(), Fail> {
     Ok(())
 }
 
-/// Voice 1 loops at a pitch bent by voice 0, under ADSR, and both are heard in an echo with feedback.
+/// Voice 1 loops at a pitch modulated by voice 0, under ADSR, and both are heard in an echo with feedback.
 const BENT_VOICE: [(u8, u8); 15] = [
     (0x10, 0x40),
     (0x11, 0xc0),

@@ -148,8 +148,8 @@ fn single_voices_add_up_to_all_of_them(rt: HostRuntime) -> Result<(), Fail> {
     Ok(())
 }
 
-/// Voices 0 and 1, of which the first bends the pitch of the second, both in an echo with feedback.
-fn bent_pair(alloc: Global, muted: u8) -> Result<Stage, Fail> {
+/// Voices 0 and 1, of which the first modulates the second, both in an echo with feedback.
+fn modulated_pair(alloc: Global, muted: u8) -> Result<Stage, Fail> {
     let mut registers = choir();
     for (address, value) in [
         (0x4cusize, 0x03u8),
@@ -166,13 +166,13 @@ fn bent_pair(alloc: Global, muted: u8) -> Result<Stage, Fail> {
     Stage::with_muted(alloc, &registers, memory_of_a_wave(alloc)?, muted)
 }
 
-// Voice 0 is muted and bends voice 1 all the same; with both muted all is silent, and nothing is written to the echo.
+// Voice 0 is muted and modulates voice 1 all the same; with both muted all is silent, and nothing is written to the echo.
 #[test]
 fn muted_voices_do_all_else(rt: HostRuntime) -> Result<(), Fail> {
-    let mut all = bent_pair(rt.alloc(), 0x00)?;
+    let mut all = modulated_pair(rt.alloc(), 0x00)?;
     all.play(64, 0x03);
     for (muted, silent) in [(0x01, 0), (0x03, 64)] {
-        let mut some = bent_pair(rt.alloc(), muted)?;
+        let mut some = modulated_pair(rt.alloc(), muted)?;
         some.play(64, 0x03);
         assert!(rt; some.records.as_slice() == all.records.as_slice());
         assert!(rt; have_same_registers(&some.dsp, &all.dsp));
@@ -188,8 +188,8 @@ fn muted_voices_do_all_else(rt: HostRuntime) -> Result<(), Fail> {
 // What was saved of a chip that is heard is put back into one whose voices are muted.
 #[test]
 fn a_load_leaves_the_muted_voices(rt: HostRuntime) -> Result<(), Fail> {
-    let mut heard = bent_pair(rt.alloc(), 0x00)?;
-    let mut muted = bent_pair(rt.alloc(), 0xff)?;
+    let mut heard = modulated_pair(rt.alloc(), 0x00)?;
+    let mut muted = modulated_pair(rt.alloc(), 0xff)?;
     heard.play(1, 0);
     muted.dsp.load(&heard.dsp.save());
     heard.play(63, 0);

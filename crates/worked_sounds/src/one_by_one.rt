@@ -37,7 +37,7 @@ fn begin_with_key_ons(records: &[Record]) -> bool {
             out: 0,
             block: 0,
             keyed: true,
-            looped: false,
+            ended: false,
         };
         if *record != keyed {
             return false;

@@ -1,4 +1,4 @@
-//! Worked examples: one key on and eight steps, one by one and over a batch, and pitches that an output bends.
+//! Worked examples: one key on and eight steps, one by one and over a batch, and pitches that an output modulates.
 
 ghost use Rattle.std.specs.Prelude.{◌≡◌, ◌<◌, ℕ, slice_index};
 
@@ -106,7 +106,7 @@ fn reads_of_voice_3<'a>(
 
 /// What an answer tells but for the level and the registers.
 fn told(answer: &VoiceOut) -> (i16, u16, bool, bool) {
-    (answer.out, answer.block, answer.looped, answer.keyed)
+    (answer.out, answer.block, answer.ended, answer.keyed)
 }
 
 #[test]
@@ -145,8 +145,8 @@ fn a_silent_row_has_no_sound(rt: HostRuntime) {
 }
 
 /// The step, of 100 from a key on, in which a voice that is modulated by such an output first ends its block. It has three of
-/// the block's four groups when it is heard in step 6, and comes to the fourth, the loop with it, once it has gone 4000h.
-fn first_loop(rt: HostRuntime, pitch: u16, previous: i16) -> Result<Option<u32>, Fail>
+/// the block's four groups when it is heard in step 6, and comes to the fourth, the end with it, once it has gone 4000h.
+fn first_end(rt: HostRuntime, pitch: u16, previous: i16) -> Result<Option<u32>, Fail>
     requires { pitch < 0x4000 }
 {
     let memory = memory_of_a_source(rt.alloc())?;
@@ -160,7 +160,7 @@ fn first_loop(rt: HostRuntime, pitch: u16, previous: i16) -> Result<Option<u32>,
         input.modulated = true;
         input.previous = previous;
         clock.step();
-        if voice.step(&regs, &input, &memory, &table, &clock).looped {
+        if voice.step(&regs, &input, &memory, &table, &clock).ended {
             return Ok(Some(k));
         }
     }
@@ -168,7 +168,7 @@ fn first_loop(rt: HostRuntime, pitch: u16, previous: i16) -> Result<Option<u32>,
 }
 
 #[test]
-fn an_output_bends_the_pitch_of_the_next_voice(rt: HostRuntime) -> Result<(), Fail> {
+fn an_output_modulates_the_pitch_of_the_next_voice(rt: HostRuntime) -> Result<(), Fail> {
     for (pitch, previous, want) in [
         // at 1000h, in four steps of sound
         (0x1000, 0, Some(10)),
@@ -185,7 +185,7 @@ fn an_output_bends_the_pitch_of_the_next_voice(rt: HostRuntime) -> Result<(), Fa
         // at 7FDEh in one
         (0x3fff, 0x7fff, Some(7)),
     ] {
-        let step = first_loop(rt, pitch, previous)?;
+        let step = first_end(rt, pitch, previous)?;
         assert!(rt; step == want, "at {pitch} and {previous}");
     }
     Ok(())
@@ -193,17 +193,17 @@ fn an_output_bends_the_pitch_of_the_next_voice(rt: HostRuntime) -> Result<(), Fa
 
 /// Rows before a voice plays.
 fn unplayed() -> PlayedRows
-    ensures { (j : ℕ) → j < 64 → slice_index result.loops j ≡ 0 }
+    ensures { (j : ℕ) → j < 64 → slice_index result.ends j ≡ 0 }
 {
     PlayedRows {
         outs: [0; 64],
-        loops: [0; 64],
+        ends: [0; 64],
     }
 }
 
-/// The bit of voice 3 in each sample of a batch from its key on in which it loops, at a pitch that the outputs of voice 2 bend. It plays the batch, and
-/// beside that makes the steps one by one.
-fn loops_of_a_bent_voice(
+/// The bit of voice 3 in each sample of a batch from its key on in which it comes to an end, at a pitch that the outputs of voice 2 modulate. It plays
+/// the batch, and beside that makes the steps one by one.
+fn ends_of_a_modulated_voice(
     rt: &impl Abort,
     alloc: Global,
     pitch: u16,
@@ -231,20 +231,20 @@ fn loops_of_a_bent_voice(
         let answer = beside.step(&reads.regs, &input, &memory, &table, &clock);
         assert!(rt; answer.out == made.outs[place], "in sample {j} at {pitch}");
         assert!(rt;
-            answer.looped == (made.loops[place] == 0x08),
+            answer.ended == (made.ends[place] == 0x08),
             "in sample {j} at {pitch}"
         );
         assert!(rt; j < 63 || told(&answer) == told(&last));
     }
-    Ok(made.loops)
+    Ok(made.ends)
 }
 
 // At 7FDEh the position comes past the end of a group in each step, and stays before the end of the next one. So each sample from step 7 on reads a group,
 // of which every fourth ends a block.
 #[test]
 fn at_its_greatest_pitch_a_voice_reads_a_group_a_sample(rt: HostRuntime) -> Result<(), Fail> {
-    let loops = loops_of_a_bent_voice(&rt, rt.alloc(), 0x3fff, &[0x7fff; 64])?;
-    for (j, bit) in (0..64u32).zip(loops) {
+    let ends = ends_of_a_modulated_voice(&rt, rt.alloc(), 0x3fff, &[0x7fff; 64])?;
+    for (j, bit) in (0..64u32).zip(ends) {
         let want = if j >= 7 && j % 4 == 3 { 0x08 } else { 0 };
         assert!(rt; bit == want, "in sample {j}");
     }
@@ -254,7 +254,7 @@ fn at_its_greatest_pitch_a_voice_reads_a_group_a_sample(rt: HostRuntime) -> Resu
 // This compares two ways of making the same samples: as a batch, and step by step. At 2800h and 3FFFh the greatest of these outputs can lead the position
 // to its end, at the others none can.
 #[test]
-fn a_bent_voice_plays_a_batch_as_its_steps(rt: HostRuntime) -> Result<(), Fail> {
+fn a_modulated_voice_plays_a_batch_as_its_steps(rt: HostRuntime) -> Result<(), Fail> {
     let mut previous = [0x1234; 64];
     for k in 0..16 {
         previous[4 * k] = 0x7ffe;
@@ -262,7 +262,7 @@ fn a_bent_voice_plays_a_batch_as_its_steps(rt: HostRuntime) -> Result<(), Fail> 
         previous[4 * k + 2] = -0x0765;
     }
     for pitch in [0, 0x07d1, 0x1000, 0x1fff, 0x2800, 0x3fff] {
-        loops_of_a_bent_voice(&rt, rt.alloc(), pitch, &previous)?;
+        ends_of_a_modulated_voice(&rt, rt.alloc(), pitch, &previous)?;
     }
     Ok(())
 }

@@ -29,7 +29,7 @@ const OPENING: Pieces = &[
 ];
 
 /// Those lines, on to where its block ends, after 16 samples that are decoded by fours, and it goes to the loop word.
-const LOOPED: &str =
+const ENDED: &str =
     "V 0 0 0 0 0000 k-\nV 1 0 0 0 0500 --\nV 2 0 0 0 0500 --\nV 3 0 0 0 0500 --\nV 4 0 0 0 0500 --\n\
     V 5 0 0 0 0500 --\nV 6 0 2032 4064 0500 --\nV 7 0 2032 4064 0500 --\nV 8 0 2032 4064 0500 --\n\
     V 9 0 2032 4064 0500 --\nV 10 0 2032 4064 0600 -l\nV 11 0 2032 4064 0600 --\n";
@@ -46,13 +46,13 @@ const ENVELOPE_LINES: &str =
 /// Traces of voices and of what the program writes.
 const TRACED: &[Traced] = &[
     Traced {
-        shows: "the voice that loops",
+        shows: "the voice that comes to an end",
         sound: FIVE,
         more: &[],
         samples: 12,
         voices: Some(0x01),
         frames: &[(6, 0), (6, 4000)],
-        trace: LOOPED,
+        trace: ENDED,
         batches: ONE_BATCH,
     },
     Traced {

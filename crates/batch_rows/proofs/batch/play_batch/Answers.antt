@@ -28,12 +28,12 @@ returns-clause-state c =
     let played = rw (volumes, voices) at (c.play_voices.ensures.played k s (record { registers = sym c.step_keys-rows.ensures.registers; table = table; rows = c.step_keys-rows.ensures.rows; clock = c.requires.batch.clock })) in
     let regs : c.args.settings.now.echo ≡ echo_regs s.registers = ap (λ (settings : Settings). settings.echo) c.requires.settings in
     let echo : c.step_keys-rows.new.state.hidden.echo ≡ s.hidden.echo = ap (λ (t : ChipState). t.hidden.echo) c.step_keys-rows.ensures.state ∙ echo-keys_after k s n in
-    let ran = echo_is k n s c.args.memory.now c.play_voices.new.voices c.play_voices.new.made.last c.play_voices.new.made.rows.loops c.play_voices.new.made.sums played in
+    let ran = echo_is k n s c.args.memory.now c.play_voices.new.voices c.play_voices.new.made.last c.play_voices.new.made.rows.ends c.play_voices.new.made.sums played in
     let eight : length s.hidden.voices ≡ 8 = rw voices at c.play_voices.ensures.eight in
     let long : ENDX < length s.registers = search rules in
-    let bits = bits_are k n s c.args.memory.now c.play_voices.new.voices c.play_voices.new.made.last c.play_voices.new.made.rows.loops c.play_voices.new.made.sums played c.step_keys-rows.result eight c.step_keys-rows.ensures.rows c.step_keys-rows.ensures.taken in
+    let bits = bits_are k n s c.args.memory.now c.play_voices.new.voices c.play_voices.new.made.last c.play_voices.new.made.rows.ends c.play_voices.new.made.sums played c.step_keys-rows.result eight c.step_keys-rows.ensures.rows c.step_keys-rows.ensures.taken in
     let endx : c.endx_of_batch-endx.result ≡ endx_after (answers k s c.args.memory.now) (slice_index s.registers ENDX) n = rw c.step_keys-rows.ensures.registers at (c.endx_of_batch-endx.ensures (answers k s c.args.memory.now) bits) in
-    let registers = registers_are k n s c.args.memory.now c.play_voices.new.voices c.play_voices.new.made.last c.play_voices.new.made.rows.loops c.play_voices.new.made.sums played c.endx_of_batch-endx.result
+    let registers = registers_are k n s c.args.memory.now c.play_voices.new.voices c.play_voices.new.made.last c.play_voices.new.made.rows.ends c.play_voices.new.made.sums played c.endx_of_batch-endx.result
     c.requires.batch.some eight long endx in
     rw (c.put_all_levels.ensures, c.step_keys-rows.ensures.registers, registers, played.voices_are, c.play_echo.ensures.echo, regs, echo, ran, c.step_keys-rows.ensures.state) refl
 
@@ -49,7 +49,7 @@ returns-clause-memory c =
     let played = rw (volumes, voices) at (c.play_voices.ensures.played k s (record { registers = sym c.step_keys-rows.ensures.registers; table = table; rows = c.step_keys-rows.ensures.rows; clock = c.requires.batch.clock })) in
     let regs : c.args.settings.now.echo ≡ echo_regs s.registers = ap (λ (settings : Settings). settings.echo) c.requires.settings in
     let echo : c.step_keys-rows.new.state.hidden.echo ≡ s.hidden.echo = ap (λ (t : ChipState). t.hidden.echo) c.step_keys-rows.ensures.state ∙ echo-keys_after k s n in
-    let ran = echo_is k n s c.args.memory.now c.play_voices.new.voices c.play_voices.new.made.last c.play_voices.new.made.rows.loops c.play_voices.new.made.sums played in
+    let ran = echo_is k n s c.args.memory.now c.play_voices.new.voices c.play_voices.new.made.last c.play_voices.new.made.rows.ends c.play_voices.new.made.sums played in
     rw (c.play_echo.ensures.memory, regs, echo, ran) refl
 
 pub returns-clause-frames : goal.returns-clause-frames
@@ -64,5 +64,5 @@ returns-clause-frames c =
     let played = rw (volumes, voices) at (c.play_voices.ensures.played k s (record { registers = sym c.step_keys-rows.ensures.registers; table = table; rows = c.step_keys-rows.ensures.rows; clock = c.requires.batch.clock })) in
     let regs : c.args.settings.now.echo ≡ echo_regs s.registers = ap (λ (settings : Settings). settings.echo) c.requires.settings in
     let echo : c.step_keys-rows.new.state.hidden.echo ≡ s.hidden.echo = ap (λ (t : ChipState). t.hidden.echo) c.step_keys-rows.ensures.state ∙ echo-keys_after k s n in
-    let ran = echo_is k n s c.args.memory.now c.play_voices.new.voices c.play_voices.new.made.last c.play_voices.new.made.rows.loops c.play_voices.new.made.sums played in
+    let ran = echo_is k n s c.args.memory.now c.play_voices.new.voices c.play_voices.new.made.last c.play_voices.new.made.rows.ends c.play_voices.new.made.sums played in
     rw (c.play_echo.ensures.frames, regs, echo, ran) refl

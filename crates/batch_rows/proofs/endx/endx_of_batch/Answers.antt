@@ -9,5 +9,5 @@ loop-j-preserved c = record {
   endx = λ answers bits.
       let few : c.loop-j.j < c.args.n = c.loop-j-test.true in
       let place = c.from.ensures in
-      rw (endx_after-more, ← c.loop-j.invariant.endx answers bits, ← bits.looped c.loop-j.j few, ← bits.keyed c.loop-j.j few, c.next_endx-now.ensures, c.keyed_in.ensures, place) refl;
+      rw (endx_after-more, ← c.loop-j.invariant.endx answers bits, ← bits.ended c.loop-j.j few, ← bits.keyed c.loop-j.j few, c.next_endx-now.ensures, c.keyed_in.ensures, place) refl;
 }

@@ -19,5 +19,5 @@ loop-j-preserved c = record {
       let unkeyed : (if get_or c.args.rows.now.poll c.loop-j.j false then slice_index c.args.rows.now.kon c.loop-j.j else 0) ≡ 0 =
       none_keyed (get_or c.args.rows.now.poll c.loop-j.j false) (slice_index c.args.rows.now.kon c.loop-j.j) none in
       let keyed : bits_from (λ (answer : VoiceOut). answer.keyed) 0 (answers c.loop-j.j) ≡ 0 = sym (bits.keyed c.loop-j.j few) ∙ unkeyed in
-      rw (endx_after-more, ← c.loop-j.invariant.endx answers bits, ← bits.looped c.loop-j.j few, keyed, c.next_endx-now.ensures, place) refl;
+      rw (endx_after-more, ← c.loop-j.invariant.endx answers bits, ← bits.ended c.loop-j.j few, keyed, c.next_endx-now.ensures, place) refl;
 }

@@ -5,5 +5,5 @@ use Rattle.batch_rows.proofs.endx.gained_endx.Given as goal
 
 abbrev pub invariant-loop-j : goal.invariant-loop-j
 invariant-loop-j l = record {
-  endx : (answers : ℕ → List VoiceOut) → AreBits l.n answers l.rows l.loops → l.now ≡ endx_after answers l.endx l.j;
+  endx : (answers : ℕ → List VoiceOut) → AreBits l.n answers l.rows l.ends → l.now ≡ endx_after answers l.endx l.j;
 }

@@ -18,8 +18,8 @@ loop-v-preserved c =
     let v : ℕ = c.loop-v.v in
     let d : VoiceState = c.index-state-from.result in
     let eight : length s.hidden.voices ≡ 8 = search rules in
-    let off : c.is_voice_off.result ≡ true = search rules in
-    let this : IsVoiceApart s c.args.memory.now v (get_or s.hidden.voices v d) (slice_index_or s.registers 109 0) c.whole_pages-len.result = rw c.from.ensures at (c.is_voice_off.ensures off) in
+    let off : c.is_voice_apart.result ≡ true = search rules in
+    let this : IsVoiceApart s c.args.memory.now v (get_or s.hidden.voices v d) (slice_index_or s.registers 109 0) c.whole_pages-len.result = rw c.from.ensures at (c.is_voice_apart.ensures off) in
     let split : drop v s.hidden.voices ≡ get_or s.hidden.voices v d ∷ drop (v + 1) s.hidden.voices = drop_more s.hidden.voices v d (omega (arith, eight)) in
     record {
       rest = λ rest. c.loop-v.invariant.rest (rw split (voices_apart s c.args.memory.now v (get_or s.hidden.voices v d) (drop (v + 1) s.hidden.voices) (slice_index_or s.registers 109 0) c.whole_pages-len.result this rest));

@@ -8,8 +8,8 @@ use Rattle.batch_rows.proofs.playing.play_each.Given as goal
 abbrev pub invariant-loop-v : goal.invariant-loop-v
 invariant-loop-v l = record {
   remains : (k : ℕ) (s : ChipState) → AreReadsOf k l.n s l.reads
-      → Remains (inputs k s l.reads.memory.now) l.n l.volumes l.initial.voices l.v l.previous l.voices l.made.last l.made.rows.loops l.made.sums;
-  lower : (j : ℕ) → j < 64 → slice_index l.made.rows.loops j < 2 ^ l.v;
+      → Remains (inputs k s l.reads.memory.now) l.n l.volumes l.initial.voices l.v l.previous l.voices l.made.last l.made.rows.ends l.made.sums;
+  lower : (j : ℕ) → j < 64 → slice_index l.made.rows.ends j < 2 ^ l.v;
   eight : length l.voices ≡ 8;
   eight_answers : length l.made.last ≡ 8;
 }

@@ -1,4 +1,4 @@
-use Rattle.voice_unit.proofs.Glided.{unbent_points}
+use Rattle.voice_unit.proofs.Glided.{unmodulated_points}
 use Rattle.voice_unit.proofs.RowOfVoice.{plays_row, reads_row}
 use Rattle.voice_unit.proofs.laws.kept_rows.Goals as goal
 
@@ -8,5 +8,5 @@ returns-clause-plays c = plays_row
 pub returns-clause-stands : goal.returns-clause-stands
 returns-clause-stands c = reads_row
 
-pub returns-clause-unbent : goal.returns-clause-unbent
-returns-clause-unbent c = unbent_points
+pub returns-clause-unmodulated : goal.returns-clause-unmodulated
+returns-clause-unmodulated c = unmodulated_points

@@ -3,8 +3,8 @@ use Rattle.voice_unit.specs.Track.{MoveOn, point_at}
 use Rattle.voice_unit.proofs.Counting.{far}
 use Rattle.voice_unit.proofs.short_sounding.take_short_track_taps.Goals as goal
 
-pub take_short_bent_taps-requires-clause-within : goal.take_short_bent_taps-requires-clause-within
+pub take_short_modulated_taps-requires-clause-within : goal.take_short_modulated_taps-requires-clause-within
 unfolding point_at
-take_short_bent_taps-requires-clause-within c j below =
+take_short_modulated_taps-requires-clause-within c j below =
     let moves : MoveOn (slice_index c.args.track.now.points.now) c.args.n = rw c.if-track.true at c.requires.track.moves in
     omega (arith, far (slice_index c.args.track.now.points.now) c.args.n moves j below, c.requires.few, below)

@@ -8,7 +8,7 @@ returns-then-n-lt-FEWEST_ROWS-clause-same c = λ j below. absurd (omega arith)
 pub returns-then-far-clause-same : goal.returns-then-far-clause-same
 returns-then-far-clause-same c =
     rw (← c.self.view_is)
-    (reach_keeps_apart c.args.n c.self.inside.number c.self.inside.state c.args.memory.now c.requires c.self.invariant.valid (c.is_echo_far-far.ensures c.if-far.true))
+    (reach_keeps_apart c.args.n c.self.inside.number c.self.inside.state c.args.memory.now c.requires c.self.invariant.valid (c.is_echo_apart_from_afar-far.ensures c.if-far.true))
 
 pub returns-then-apart-lt-FEWEST_ROWS-clause-same : goal.returns-then-apart-lt-FEWEST_ROWS-clause-same
 returns-then-apart-lt-FEWEST_ROWS-clause-same c = λ j below. absurd (omega arith)

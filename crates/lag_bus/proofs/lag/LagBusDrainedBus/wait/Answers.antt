@@ -43,7 +43,7 @@ returns g c =
       batches = c.self.invariant.same_batches;
       sample = ap (λ (n : ℕ). n - late.pending) made;
       total = refl;
-      writes = λ due at few free. subst (λ (n : ℕ). byte_at (samples chip.sample due n late.chip late.memory).memory at ≡ byte_at late.memory at) made (c.writes_within.ensures due at few free);
+      writes = λ due at few free. subst (λ (n : ℕ). byte_at (samples chip.one_sample due n late.chip late.memory).memory at ≡ byte_at late.memory at) made (c.writes_within.ensures due at few free);
     } in
     let small : AreTimers io = rw (← c.self.view_is) at c.cycles_to_wait.ensures.timers in
     let free : late.pending + samples_in clock most < 64 = rw (← c.self.view_is) at c.cycles_to_wait.ensures.free in

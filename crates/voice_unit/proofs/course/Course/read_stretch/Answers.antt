@@ -1,10 +1,10 @@
 use Rattle.std.proofs.Common.{◌≡◌, ◌+◌, ◌-◌, ◌<◌, ◌≤◌, nat_lt, ℕ, Bool, true, false, List, take, slice_index, refl, sym, ap, ◌∙◌, arith}
 use Rattle.std.proofs.lemmas.Bool.Decides.{nat_tests}
-use Rattle.voice_unit.specs.Row.{groups_left, groups_before, loops_in}
+use Rattle.voice_unit.specs.Row.{groups_left, groups_before, ended_in}
 use Rattle.voice_unit.specs.Track.{point_at}
 use Rattle.voice_unit.specs.declared.row.Place.{Place}
 use Rattle.voice_unit.proofs.Counting.{fewer, groups_before-rise}
-use Rattle.voice_unit.proofs.LoopBits.{bit_if, marked, marked-none, marked-later, marked-all}
+use Rattle.voice_unit.proofs.EndBits.{bit_if, marked, marked-none, marked-later, marked-all}
 use Rattle.voice_unit.proofs.InBlock.{within_block, after_block, row_with_block, marks_with_block, marked-through, quiet_in_block, quiet_after_block}
 use Rattle.voice_unit.proofs.RowOfVoice.{kept_row-zero, place_after-zero}
 use Rattle.voice_unit.proofs.course.Course.read_stretch.Goals as goal
@@ -43,9 +43,9 @@ blocks-2-preserved c =
       there = c.next_block-next.ensures.first ∙ sym (after_block memory loop_to first d at there group left all);
       group = c.next_block-next.ensures.group;
       marks = λ j below. marks_with_block memory loop_to first d at there group left all (point_at c.args.self.now.track) c.args.self.now.voice j _ _ _
-          (c.next_block-next.ensures.loops.marks j below) (c.blocks-2.invariant.marks j below);
-      before = λ i below. c.next_block-next.ensures.loops.before_it i below ∙ c.blocks-2.invariant.before i below;
-      later = λ i above. c.next_block-next.ensures.loops.later i above ∙ c.blocks-2.invariant.later i above;
+          (c.next_block-next.ensures.ends.marks j below) (c.blocks-2.invariant.marks j below);
+      before = λ i below. c.next_block-next.ensures.ends.before_it i below ∙ c.blocks-2.invariant.before i below;
+      later = λ i above. c.next_block-next.ensures.ends.later i above ∙ c.blocks-2.invariant.later i above;
       quiet = λ awake e few loud. quiet_after_block memory loop_to first d at there group left all c.args.self.now.reset c.args.self.now.silent c.next_block-next.result.first c.next_block-next.ensures.first
           (c.blocks-2.invariant.quiet awake) (c.next_block-next.ensures.quiet c.if-next.false) e few loud;
     }
@@ -78,15 +78,15 @@ returns-then-count-d-clause-row c =
     c.groups_left-left.result c.groups_left-left.ensures.value (take 12 c.args.row.now) c.blocks-2.row c.read_rest.new.row c.blocks-2.invariant.row
     (λ e few. rw c.from.ensures at (c.read_rest.ensures c.args.self.now.loop_to e few)) e (omega (arith, few)))
 
-pub returns-then-count-d-clause-loops : goal.returns-then-count-d-clause-loops
-returns-then-count-d-clause-loops c = record {
+pub returns-then-count-d-clause-ends : goal.returns-then-count-d-clause-ends
+returns-then-count-d-clause-ends c = record {
   marks = λ j below. marks j below;
   before_it = c.blocks-2.invariant.before;
   later = c.blocks-2.invariant.later;
 }
   where
-    marks : (j : ℕ) → j < c.args.n → slice_index c.blocks-2.loops (c.args.at + j) ≡ slice_index c.args.loops.now (c.args.at + j)
-        + bit_if (loops_in c.args.memory.now c.args.self.now.loop_to c.args.self.now.first (point_at c.args.self.now.track) j) c.args.self.now.voice
+    marks : (j : ℕ) → j < c.args.n → slice_index c.blocks-2.ends (c.args.at + j) ≡ slice_index c.args.ends.now (c.args.at + j)
+        + bit_if (ended_in c.args.memory.now c.args.self.now.loop_to c.args.self.now.first (point_at c.args.self.now.track) j) c.args.self.now.voice
     marks j below =
         let d : ℕ = c.blocks-2.d in
         let v : ℕ = c.args.self.now.voice in
@@ -96,8 +96,8 @@ returns-then-count-d-clause-loops c = record {
         let through = marked-through c.args.memory.now c.args.self.now.loop_to c.args.self.now.first c.blocks-2.place (point_at c.args.self.now.track) v d j e
         c.blocks-2.invariant.group c.blocks-2.invariant.there few in
         let all = rw done at (marked-all c.args.memory.now c.args.self.now.loop_to c.args.self.now.first (point_at c.args.self.now.track) v c.args.n j c.requires.course.track.moves below) in
-        c.blocks-2.invariant.marks j below ∙ ap (λ (x : ℕ). slice_index c.args.loops.now (c.args.at + j) + x) (sym through)
-        ∙ ap (λ (b : Bool). slice_index c.args.loops.now (c.args.at + j) + bit_if b v) all
+        c.blocks-2.invariant.marks j below ∙ ap (λ (x : ℕ). slice_index c.args.ends.now (c.args.at + j) + x) (sym through)
+        ∙ ap (λ (b : Bool). slice_index c.args.ends.now (c.args.at + j) + bit_if b v) all
 
 pub returns-then-count-d-clause-quiet : goal.returns-then-count-d-clause-quiet
 returns-then-count-d-clause-quiet c awake j below loud =
@@ -124,10 +124,10 @@ returns-then-next-clause-row c =
     c.groups_left-left.result c.groups_left-left.ensures.value (take 12 c.args.row.now) c.blocks-2.row c.read_rest.new.row c.blocks-2.invariant.row
     (λ e few. rw c.from.ensures at (c.read_rest.ensures c.args.self.now.loop_to e few)) c.groups_left-left.result (omega arith)
 
-pub returns-then-next-clause-loops : goal.returns-then-next-clause-loops
-returns-then-next-clause-loops c = record {
+pub returns-then-next-clause-ends : goal.returns-then-next-clause-ends
+returns-then-next-clause-ends c = record {
   marks = λ j below. marks j below;
-  before_it = λ i below. c.next_block-next.ensures.loops.before_it i below ∙ c.blocks-2.invariant.before i below;
+  before_it = λ i below. c.next_block-next.ensures.ends.before_it i below ∙ c.blocks-2.invariant.before i below;
   later = λ i above. later i above;
 }
   where
@@ -146,36 +146,36 @@ returns-then-next-clause-loops c = record {
     after : groups_before points (q + 1) ≡ d
     after = omega (arith, c.reading_sample-last.ensures.after, c.groups_left-left.ensures.some)
 
-    grown : (j : ℕ) → j < c.args.n → slice_index c.next_block-next.new.loops (c.args.at + j) ≡ slice_index c.args.loops.now (c.args.at + j)
+    grown : (j : ℕ) → j < c.args.n → slice_index c.next_block-next.new.ends (c.args.at + j) ≡ slice_index c.args.ends.now (c.args.at + j)
         + bit_if (marked c.args.memory.now c.args.self.now.loop_to c.args.self.now.first points v d j) v
     grown j within = marks_with_block c.args.memory.now c.args.self.now.loop_to c.args.self.now.first c.blocks-2.d c.blocks-2.place c.blocks-2.invariant.there c.blocks-2.invariant.group
-        c.groups_left-left.result c.groups_left-left.ensures.value points v j _ _ _ (c.next_block-next.ensures.loops.marks j within) (c.blocks-2.invariant.marks j within)
+        c.groups_left-left.result c.groups_left-left.ensures.value points v j _ _ _ (c.next_block-next.ensures.ends.marks j within) (c.blocks-2.invariant.marks j within)
 
-    marks : (j : ℕ) → j < q + 1 → slice_index c.next_block-next.new.loops (c.args.at + j) ≡ slice_index c.args.loops.now (c.args.at + j)
-        + bit_if (loops_in c.args.memory.now c.args.self.now.loop_to c.args.self.now.first points j) v
+    marks : (j : ℕ) → j < q + 1 → slice_index c.next_block-next.new.ends (c.args.at + j) ≡ slice_index c.args.ends.now (c.args.at + j)
+        + bit_if (ended_in c.args.memory.now c.args.self.now.loop_to c.args.self.now.first points j) v
     marks j below =
         let within : j < c.args.n = omega (arith, below, c.reading_sample-last.ensures.within) in
         let all = rw after at (marked-all c.args.memory.now c.args.self.now.loop_to c.args.self.now.first points v (q + 1) j
         (fewer points c.args.n (q + 1) (omega (arith, c.reading_sample-last.ensures.within)) c.requires.course.track.moves) below) in
-        grown j within ∙ ap (λ (b : Bool). slice_index c.args.loops.now (c.args.at + j) + bit_if b v) all
+        grown j within ∙ ap (λ (b : Bool). slice_index c.args.ends.now (c.args.at + j) + bit_if b v) all
 
-    later : (i : ℕ) → c.args.at + (q + 1) ≤ i → slice_index c.next_block-next.new.loops i ≡ slice_index c.args.loops.now i
+    later : (i : ℕ) → c.args.at + (q + 1) ≤ i → slice_index c.next_block-next.new.ends i ≡ slice_index c.args.ends.now i
     later i above = by (nat_lt i (c.args.at + c.args.n)) refl
       where
-        by : (b : Bool) → nat_lt i (c.args.at + c.args.n) ≡ b → slice_index c.next_block-next.new.loops i ≡ slice_index c.args.loops.now i
+        by : (b : Bool) → nat_lt i (c.args.at + c.args.n) ≡ b → slice_index c.next_block-next.new.ends i ≡ slice_index c.args.ends.now i
         by true e =
             let below : i < c.args.at + c.args.n = grind (arith, nat_tests, e) in
             let part : c.args.at + (i - c.args.at) ≡ i = omega (arith, above) in
             let within : i - c.args.at < c.args.n = omega (arith, below, above) in
             let rise = groups_before-rise points c.args.n c.requires.course.track.moves (q + 1) (i - c.args.at) (omega (arith, above)) (omega (arith, within)) in
             let none = marked-later c.args.memory.now c.args.self.now.loop_to c.args.self.now.first points v d (i - c.args.at) (omega (arith, rise, after)) in
-            let old : ℕ = slice_index c.args.loops.now (c.args.at + (i - c.args.at)) in
+            let old : ℕ = slice_index c.args.ends.now (c.args.at + (i - c.args.at)) in
             let more : old + 0 ≡ old = omega arith in
             let kept = rw none at (grown (i - c.args.at) within) ∙ more in
             rw part at kept
         by false e =
             let late : c.args.at + c.args.n ≤ i = grind (arith, nat_tests, e) in
-            c.next_block-next.ensures.loops.later i late ∙ c.blocks-2.invariant.later i late
+            c.next_block-next.ensures.ends.later i late ∙ c.blocks-2.invariant.later i late
 
 pub returns-then-next-clause-quiet : goal.returns-then-next-clause-quiet
 returns-then-next-clause-quiet c awake j below loud =
@@ -186,21 +186,21 @@ returns-then-next-clause-quiet c awake j below loud =
     (omega (arith, rise, c.reading_sample-last.ensures.before, c.groups_left-left.ensures.some)) loud
 
 -- all groups of the stretch are read, and a block ends with them
-pub returns-clause-loops : goal.returns-clause-loops
-returns-clause-loops c = record {
+pub returns-clause-ends : goal.returns-clause-ends
+returns-clause-ends c = record {
   marks = λ j below. marks j below;
   before_it = c.blocks-2.invariant.before;
   later = c.blocks-2.invariant.later;
 }
   where
-    marks : (j : ℕ) → j < c.args.n → slice_index c.blocks-2.loops (c.args.at + j) ≡ slice_index c.args.loops.now (c.args.at + j)
-        + bit_if (loops_in c.args.memory.now c.args.self.now.loop_to c.args.self.now.first (point_at c.args.self.now.track) j) c.args.self.now.voice
+    marks : (j : ℕ) → j < c.args.n → slice_index c.blocks-2.ends (c.args.at + j) ≡ slice_index c.args.ends.now (c.args.at + j)
+        + bit_if (ended_in c.args.memory.now c.args.self.now.loop_to c.args.self.now.first (point_at c.args.self.now.track) j) c.args.self.now.voice
     marks j below =
         let d : ℕ = c.blocks-2.d in
         let v : ℕ = c.args.self.now.voice in
         let done : groups_before (point_at c.args.self.now.track) c.args.n ≡ d = omega (arith, c.groups_in-count.ensures.value, c.blocks-2-test.false, c.blocks-2.invariant.few) in
         let all = rw done at (marked-all c.args.memory.now c.args.self.now.loop_to c.args.self.now.first (point_at c.args.self.now.track) v c.args.n j c.requires.course.track.moves below) in
-        c.blocks-2.invariant.marks j below ∙ ap (λ (b : Bool). slice_index c.args.loops.now (c.args.at + j) + bit_if b v) all
+        c.blocks-2.invariant.marks j below ∙ ap (λ (b : Bool). slice_index c.args.ends.now (c.args.at + j) + bit_if b v) all
 
 pub returns-clause-quiet : goal.returns-clause-quiet
 returns-clause-quiet c awake j below loud =

@@ -7,7 +7,7 @@ returns-clause-course c = record {
   track = record {
     position = c.position.ensures.within;
     pitch = c.requires.pitch;
-    moves = track_moves _ c.args.n c.position.ensures.within c.requires.pitch (λ bent. c.requires.points (rw c.is_bent.ensures at bent));
+    moves = track_moves _ c.args.n c.position.ensures.within c.requires.pitch (λ modulated. c.requires.points (rw c.is_modulated.ensures at modulated));
   };
   level = c.level.ensures.bound;
   group = c.place.ensures.group;

@@ -2,7 +2,7 @@ use Rattle.std.proofs.Common.{rules, ◌≡◌, false, sym, ◌∙◌, ap, inr}
 use Rattle.aram_core.specs.Memory.{byte_at}
 use Rattle.voice_unit.specs.Voice.{VoiceState, needs_group, after_pitch, after_reading}
 use Rattle.voice_unit.specs.Directory.{loop_word}
-use Rattle.voice_unit.proofs.AtRest.{reads_none, loops_none, block-after_pitch, rests_on}
+use Rattle.voice_unit.proofs.AtRest.{reads_none, ends_none, block-after_pitch, rests_on}
 use Rattle.voice_unit.proofs.voice.Voice.pass_sample.Goals as goal
 
 pub returns-then-needs_group-clause-rest : goal.returns-then-needs_group-clause-rest
@@ -14,11 +14,11 @@ returns-clause-voice c =
     let between : needs_group v ≡ false = sym c.needs_group.ensures ∙ c.if-needs_group.false in
     rw (reads_none v c.args.memory.now (byte_at c.args.memory.now v.block) (loop_word c.args.input.now.dir c.args.regs.now.srcn c.args.memory.now) between) (search rules)
 
-pub returns-clause-looped : goal.returns-clause-looped
-returns-clause-looped c =
+pub returns-clause-ended : goal.returns-clause-ended
+returns-clause-ended c =
     let v : VoiceState = c.args.self.now in
     let between : needs_group v ≡ false = sym c.needs_group.ensures ∙ c.if-needs_group.false in
-    sym (loops_none v (byte_at c.args.memory.now v.block) between)
+    sym (ends_none v (byte_at c.args.memory.now v.block) between)
 
 pub returns-clause-rest : goal.returns-clause-rest
 returns-clause-rest c k at =

@@ -4,14 +4,14 @@ use Rattle.num_fix.specs.SignedWords.{number_at}
 use Rattle.voice_unit.specs.Batch.{lane_input, lane_inputs, answer_of_step}
 use Rattle.voice_unit.specs.Play.{lane_of}
 use Rattle.voice_unit.specs.declared.interface.VoiceOut.{VoiceOut}
-use Rattle.voice_unit.proofs.Played.{one_more_played, with_loop-bound}
+use Rattle.voice_unit.proofs.Played.{one_more_played, with_ended-bound}
 use Rattle.voice_unit.proofs.voice.Voice.play.Goals as goal
 
-pub mark_loop-requires-clause-lower : goal.mark_loop-requires-clause-lower
-mark_loop-requires-clause-lower c =
+pub mark_ended-requires-clause-lower : goal.mark_ended-requires-clause-lower
+mark_ended-requires-clause-lower c =
     let last : ℕ = c.args.n - 1 in
     let here : c.play_row-glided.result.at ≡ last = omega (arith, c.play_row-glided.ensures.from, c.play_row-glided.ensures.to, c.if-glided-n.false, c.requires.some) in
-    let same : slice_index c.play_row-glided.new.made.loops last ≡ slice_index c.args.made.now.loops last = c.play_row-glided.ensures.others last (omega (arith, here)) in
+    let same : slice_index c.play_row-glided.new.made.ends last ≡ slice_index c.args.made.now.ends last = c.play_row-glided.ensures.others last (omega (arith, here)) in
     rw same (c.requires.lower last (omega (arith, c.requires.some, c.requires.few)))
 
 pub returns-clause-played : goal.returns-clause-played
@@ -26,11 +26,11 @@ returns-clause-played c k at =
     let here : c.play_row-glided.result.at ≡ j = omega (arith, c.play_row-glided.ensures.from, c.play_row-glided.ensures.to, c.if-glided-n.false, c.requires.some) in
     let so_far = rw here at (c.play_row-glided.ensures.so_far k at) in
     let step = rw input at (c.play_last-answer.ensures k at (rw input so_far.at_rest)) in
-    rw (← all, place, out, c.mark_loop.ensures) (one_more_played
+    rw (← all, place, out, c.mark_ended.ensures) (one_more_played
     (lane_of c.args.reads.now c.args.previous.now c.args.self.now k) c.args.reads.now.seen.voice j
-    c.args.made.now.loops c.play_row-glided.new.made.loops c.play_row-glided.new.made.outs c.play_row-glided.new.self c.play_last-answer.new.self c.play_last-answer.result.out c.play_last-answer.result.looped
+    c.args.made.now.ends c.play_row-glided.new.made.ends c.play_row-glided.new.made.outs c.play_row-glided.new.self c.play_last-answer.new.self c.play_last-answer.result.out c.play_last-answer.result.ended
     so_far.played (search rules) (search rules)
-    step.voice (ap (λ (answer : VoiceOut). answer.out) step.answer_is) (ap (λ (answer : VoiceOut). answer.looped) step.answer_is))
+    step.voice (ap (λ (answer : VoiceOut). answer.out) step.answer_is) (ap (λ (answer : VoiceOut). answer.ended) step.answer_is))
 
 pub returns-clause-last : goal.returns-clause-last
 unfolding answer_of_step lane_input
@@ -48,9 +48,9 @@ pub returns-clause-lower : goal.returns-clause-lower
 returns-clause-lower c j below =
     let last : ℕ = c.args.n - 1 in
     let here : c.play_row-glided.result.at ≡ last = omega (arith, c.play_row-glided.ensures.from, c.play_row-glided.ensures.to, c.if-glided-n.false, c.requires.some) in
-    let same : slice_index c.play_row-glided.new.made.loops last ≡ slice_index c.args.made.now.loops last = c.play_row-glided.ensures.others last (omega (arith, here)) in
-    let own : slice_index c.play_row-glided.new.made.loops last < 2 ^ c.args.reads.now.seen.voice = rw same (c.requires.lower last (omega (arith, c.requires.some, c.requires.few))) in
-    rw c.mark_loop.ensures (with_loop-bound c.play_row-glided.new.made.loops last c.args.reads.now.seen.voice j c.play_last-answer.result.looped (search rules) own (c.play_row-glided.ensures.lower j below))
+    let same : slice_index c.play_row-glided.new.made.ends last ≡ slice_index c.args.made.now.ends last = c.play_row-glided.ensures.others last (omega (arith, here)) in
+    let own : slice_index c.play_row-glided.new.made.ends last < 2 ^ c.args.reads.now.seen.voice = rw same (c.requires.lower last (omega (arith, c.requires.some, c.requires.few))) in
+    rw c.mark_ended.ensures (with_ended-bound c.play_row-glided.new.made.ends last c.args.reads.now.seen.voice j c.play_last-answer.result.ended (search rules) own (c.play_row-glided.ensures.lower j below))
 
 pub returns-then-glided-n-clause-played : goal.returns-then-glided-n-clause-played
 returns-then-glided-n-clause-played c k at = let so_far = rw c.if-glided-n.true at (c.play_row-glided.ensures.so_far k at) in so_far.played
@@ -60,5 +60,5 @@ returns-then-glided-n-clause-last c k at =
     let all : c.args.n ≡ c.args.n - 1 + 1 = omega (arith, c.requires.some) in
     let whole : c.play_row-glided.result.at ≡ c.args.n = c.if-glided-n.true in
     let so_far = rw whole at (c.play_row-glided.ensures.so_far k at) in
-    c.glided_answer.ensures k c.args.made.now.loops c.args.self.now (rw all at so_far.played)
+    c.glided_answer.ensures k c.args.made.now.ends c.args.self.now (rw all at so_far.played)
     (c.requires.lower (c.args.n - 1) (omega (arith, c.requires.some, c.requires.few))) (c.play_row-glided.ensures.level k at whole)

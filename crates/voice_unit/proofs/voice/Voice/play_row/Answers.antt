@@ -10,13 +10,13 @@ use Rattle.voice_unit.specs.OneSample.{IsPlayedSample}
 use Rattle.voice_unit.specs.Play.{IsPlayedSoFar, lane_of}
 use Rattle.voice_unit.proofs.AtRest.{no_rest}
 use Rattle.voice_unit.proofs.Glided.{lane_glides}
-use Rattle.voice_unit.proofs.Played.{none_played, one_more_played, with_loop-other, with_loop-bound, doubled}
+use Rattle.voice_unit.proofs.Played.{none_played, one_more_played, with_ended-other, with_ended-bound, doubled}
 use Rattle.voice_unit.proofs.voice.Voice.play_row.Goals as goal
 
 pub samples-init : goal.samples-init
 samples-init c = record {
   so_far = λ k at. record {
-    played = none_played (lane_of c.args.reads.now c.args.previous.now c.args.self.now k) c.args.reads.now.seen.voice c.args.made.now.loops c.args.made.now.outs;
+    played = none_played (lane_of c.args.reads.now c.args.previous.now c.args.self.now k) c.args.reads.now.seen.voice c.args.made.now.ends c.args.made.now.outs;
     at_rest =
         let none : k + 0 ≡ k = omega arith in
         rw none (rw c.has_bit-koff.ensures at (c.rest_from-rest.ensures k at));
@@ -24,9 +24,9 @@ samples-init c = record {
   within = omega arith;
   later = λ j above. refl;
   lower = λ j below. rw (doubled c.args.reads.now.seen.voice) (omega (arith, c.requires.lower j below));
-  bent = c.put_pitches.ensures;
+  modulated = c.put_pitches.ensures;
   outs_long = search rules;
-  loops_long = search rules;
+  ends_long = search rules;
 }
 
 pub samples-preserved : goal.samples-preserved
@@ -39,8 +39,8 @@ samples-preserved c =
     let place : c.from-place.result ≡ to = c.from-place.ensures in
     let so_far : (k : ℕ) → c.args.reads.now.clock ≡ counter_at k
     → IsPlayedSoFar c.args.reads.now.seen (lane_of c.args.reads.now c.args.previous.now c.args.self.now k)
-    to c.glide-glided.result.rest c.args.made.now.loops c.glide-glided.new.made.loops c.glide-glided.new.made.outs c.glide-glided.new.self =
-    λ k at. c.glide-glided.ensures.so_far _ c.args.made.now.loops (record { regs = refl; bent = c.samples.invariant.bent; memory = refl; table = refl; noise = λ i. refl })
+    to c.glide-glided.result.rest c.args.made.now.ends c.glide-glided.new.made.ends c.glide-glided.new.made.outs c.glide-glided.new.self =
+    λ k at. c.glide-glided.ensures.so_far _ c.args.made.now.ends (record { regs = refl; modulated = c.samples.invariant.modulated; memory = refl; table = refl; noise = λ i. refl })
     (lane_glides c.args.reads.now c.args.previous.now c.args.self.now k c.samples.j c.end_from-end.result
     (λ i since below. c.plain_samples-plain.ensures i (omega (arith, below, c.end_from-end.ensures.to, c.requires.few)) (c.end_from-end.ensures.plain i since below)))
     (c.samples.invariant.so_far k at) in
@@ -56,30 +56,30 @@ samples-preserved c =
     let out : to_z w16 (of_z w16 c.play_sample-played.result.out) ≡ c.play_sample-played.result.out = search rules in
     let outs_long : length c.glide-glided.new.made.outs ≡ 64 = search rules in
     let within_outs : to < length c.glide-glided.new.made.outs = rw outs_long (omega (arith, below, c.requires.few)) in
-    let loops_long : length c.glide-glided.new.made.loops ≡ 64 = search rules in
-    let within_loops : to < length c.glide-glided.new.made.loops = rw loops_long (omega (arith, below, c.requires.few)) in
+    let ends_long : length c.glide-glided.new.made.ends ≡ 64 = search rules in
+    let within_ends : to < length c.glide-glided.new.made.ends = rw ends_long (omega (arith, below, c.requires.few)) in
     record {
       so_far = λ k at.
           let further : k + (to + 1) ≡ k + to + 1 = omega arith in
           record {
-            played = rw (place, out, c.mark_loop.ensures) (one_more_played
+            played = rw (place, out, c.mark_ended.ensures) (one_more_played
                 (lane_of c.args.reads.now c.args.previous.now c.args.self.now k) c.args.reads.now.seen.voice to
-                c.args.made.now.loops c.glide-glided.new.made.loops c.glide-glided.new.made.outs c.glide-glided.new.self c.play_sample-played.new.self c.play_sample-played.result.out c.play_sample-played.result.looped
-                (so_far k at).played within_outs within_loops
-                (sample k at).voice (sample k at).out (sample k at).looped);
+                c.args.made.now.ends c.glide-glided.new.made.ends c.glide-glided.new.made.outs c.glide-glided.new.self c.play_sample-played.new.self c.play_sample-played.result.out c.play_sample-played.result.ended
+                (so_far k at).played within_outs within_ends
+                (sample k at).voice (sample k at).out (sample k at).ended);
             at_rest = rw further (sample k at).rest;
           };
       within = omega (arith, c.if-last-to.false);
       later = λ i above.
           let other : i ≢ to = λ e. absurd (omega (arith, e, above)) in
-          rw c.mark_loop.ensures (with_loop-other c.glide-glided.new.made.loops to c.args.reads.now.seen.voice i c.play_sample-played.result.looped other
+          rw c.mark_ended.ensures (with_ended-other c.glide-glided.new.made.ends to c.args.reads.now.seen.voice i c.play_sample-played.result.ended other
           ∙ c.glide-glided.ensures.later i (omega (arith, above)) ∙ c.samples.invariant.later i (omega (arith, above, from)));
       lower = λ i under.
-          let own : slice_index c.glide-glided.new.made.loops to < 2 ^ c.args.reads.now.seen.voice = rw (c.glide-glided.ensures.later to (omega arith), c.samples.invariant.later to from) (c.requires.lower to (omega (arith, below, c.requires.few))) in
-          rw c.mark_loop.ensures (with_loop-bound c.glide-glided.new.made.loops to c.args.reads.now.seen.voice i c.play_sample-played.result.looped within_loops own (c.glide-glided.ensures.lower i under));
-      bent = λ bent i below. rw c.glide-glided.ensures.pitches (c.samples.invariant.bent bent i below);
+          let own : slice_index c.glide-glided.new.made.ends to < 2 ^ c.args.reads.now.seen.voice = rw (c.glide-glided.ensures.later to (omega arith), c.samples.invariant.later to from) (c.requires.lower to (omega (arith, below, c.requires.few))) in
+          rw c.mark_ended.ensures (with_ended-bound c.glide-glided.new.made.ends to c.args.reads.now.seen.voice i c.play_sample-played.result.ended within_ends own (c.glide-glided.ensures.lower i under));
+      modulated = λ modulated i below. rw c.glide-glided.ensures.pitches (c.samples.invariant.modulated modulated i below);
       outs_long = length-set c.glide-glided.new.made.outs c.from-place.result (to_z w16 (of_z w16 c.play_sample-played.result.out)) ∙ outs_long;
-      loops_long = c.mark_loop.array_long.1;
+      ends_long = c.mark_ended.array_long.1;
     }
 
 pub samples-smaller : goal.samples-smaller
@@ -90,14 +90,14 @@ returns-clause-so_far c k at = c.samples.invariant.so_far k at
 
 pub returns-then-last-eq0-clause-so_far : goal.returns-then-last-eq0-clause-so_far
 returns-then-last-eq0-clause-so_far c k at = record {
-  played = none_played (lane_of c.args.reads.now c.args.previous.now c.args.self.now k) c.args.reads.now.seen.voice c.args.made.now.loops c.args.made.now.outs;
+  played = none_played (lane_of c.args.reads.now c.args.previous.now c.args.self.now k) c.args.reads.now.seen.voice c.args.made.now.ends c.args.made.now.outs;
   at_rest = no_rest c.args.reads.now.seen.reset (has_bit c.args.reads.now.seen.koff c.args.reads.now.seen.voice) c.args.reads.now.regs c.args.reads.now.memory.now (k + 0) c.args.self.now;
 }
 
 pub returns-then-last-to-clause-so_far : goal.returns-then-last-to-clause-so_far
 unfolding lane_input
 returns-then-last-to-clause-so_far c k at =
-    c.glide-glided.ensures.so_far _ c.args.made.now.loops (record { regs = refl; bent = c.samples.invariant.bent; memory = refl; table = refl; noise = λ i. refl })
+    c.glide-glided.ensures.so_far _ c.args.made.now.ends (record { regs = refl; modulated = c.samples.invariant.modulated; memory = refl; table = refl; noise = λ i. refl })
     (lane_glides c.args.reads.now c.args.previous.now c.args.self.now k c.samples.j c.end_from-end.result
     (λ i since below. c.plain_samples-plain.ensures i (omega (arith, below, c.end_from-end.ensures.to, c.requires.few)) (c.end_from-end.ensures.plain i since below)))
     (c.samples.invariant.so_far k at)
@@ -105,7 +105,7 @@ returns-then-last-to-clause-so_far c k at =
 pub returns-then-last-to-clause-level : goal.returns-then-last-to-clause-level
 unfolding lane_input
 returns-then-last-to-clause-level c k at all =
-    let level = c.glide-glided.ensures.level _ c.args.made.now.loops (record { regs = refl; bent = c.samples.invariant.bent; memory = refl; table = refl; noise = λ i. refl })
+    let level = c.glide-glided.ensures.level _ c.args.made.now.ends (record { regs = refl; modulated = c.samples.invariant.modulated; memory = refl; table = refl; noise = λ i. refl })
     (lane_glides c.args.reads.now c.args.previous.now c.args.self.now k c.samples.j c.end_from-end.result
     (λ i since below. c.plain_samples-plain.ensures i (omega (arith, below, c.end_from-end.ensures.to, c.requires.few)) (c.end_from-end.ensures.plain i since below)))
     (c.samples.invariant.so_far k at) (omega (arith, all, c.samples-test.true)) in

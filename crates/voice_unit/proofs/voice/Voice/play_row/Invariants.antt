@@ -2,20 +2,20 @@ use Rattle.std.proofs.Common.{◌≡◌, ℕ, true, ◌+◌, ◌-◌, ◌≤◌,
 use Rattle.num_fix.specs.SignedWords.{number_at}
 use Rattle.rate_clock.specs.Counter.{counter_at}
 use Rattle.voice_unit.specs.Play.{IsPlayedSoFar, lane_of}
-use Rattle.voice_unit.specs.Voice.{is_modulated, bent_pitch}
+use Rattle.voice_unit.specs.Voice.{is_modulated, modulated_pitch}
 use Rattle.voice_unit.proofs.voice.Voice.play_row.Given as goal
 
 abbrev pub invariant-samples : goal.invariant-samples
 invariant-samples l = record {
   so_far : (k : ℕ) → l.reads.clock ≡ counter_at k
-      → IsPlayedSoFar l.reads.seen (lane_of l.reads l.previous l.initial.self k) l.j l.rest l.initial.made.loops l.made.loops l.made.outs l.self;
+      → IsPlayedSoFar l.reads.seen (lane_of l.reads l.previous l.initial.self k) l.j l.rest l.initial.made.ends l.made.ends l.made.outs l.self;
   within : l.j ≤ l.last;
-  later : (j : ℕ) → l.j ≤ j → slice_index l.made.loops j ≡ slice_index l.initial.made.loops j;
-  lower : (j : ℕ) → j < 64 → slice_index l.made.loops j < 2 ^ (l.reads.seen.voice + 1);
-  bent : is_modulated l.reads.seen.pmon l.reads.seen.voice ≡ true
-      → (j : ℕ) → j < 64 → slice_index l.work.pitches j ≡ bent_pitch l.reads.regs.pitch (number_at l.previous j);
+  later : (j : ℕ) → l.j ≤ j → slice_index l.made.ends j ≡ slice_index l.initial.made.ends j;
+  lower : (j : ℕ) → j < 64 → slice_index l.made.ends j < 2 ^ (l.reads.seen.voice + 1);
+  modulated : is_modulated l.reads.seen.pmon l.reads.seen.voice ≡ true
+      → (j : ℕ) → j < 64 → slice_index l.work.pitches j ≡ modulated_pitch l.reads.regs.pitch (number_at l.previous j);
   outs_long : length l.made.outs ≡ 64;
-  loops_long : length l.made.loops ≡ 64;
+  ends_long : length l.made.ends ≡ 64;
 }
 
 abbrev pub decreases-samples : goal.decreases-samples

@@ -3,10 +3,10 @@ use Rattle.std.proofs.lemmas.Bool.Decides.{nat_tests}
 use Rattle.aram_core.specs.Memory.{byte_at}
 use Rattle.voice_unit.specs.Directory.{loop_word}
 use Rattle.voice_unit.specs.Rest.{IsSilent}
-use Rattle.voice_unit.specs.Row.{place_after, groups_before, loops_in, place_of}
+use Rattle.voice_unit.specs.Row.{place_after, groups_before, ended_in, place_of}
 use Rattle.voice_unit.specs.Track.{point_at}
 use Rattle.voice_unit.specs.Voice.{is_silencing, VoiceState}
-use Rattle.voice_unit.proofs.LoopBits.{bit-bound}
+use Rattle.voice_unit.proofs.EndBits.{bit-bound}
 use Rattle.voice_unit.proofs.Glided.{track_points}
 use Rattle.voice_unit.proofs.Played.{doubled}
 use Rattle.voice_unit.proofs.PartsOfRow.{last_twelve}
@@ -30,12 +30,12 @@ returns-clause-so_far c plays before over glides so_far =
     λ loud. c.course-course.ensures.all_silent (so_far.at_rest.silencing (omega (arith, c.requires.some, c.requires.resting))
     (rw (c.course-course.ensures.reset, c.course-course.ensures.first, ← memory) at loud)) in
     let quiet = rw (c.course-course.ensures.reset, c.course-course.ensures.loop_to, c.course-course.ensures.first, ← memory, ← regs) at (c.read_stretch-stretch.ensures.quiet awake) in
-    let marks = rw (c.course-course.ensures.voice, c.course-course.ensures.loop_to, c.course-course.ensures.first, ← memory, ← regs) at c.read_stretch-stretch.ensures.loops.marks in
+    let marks = rw (c.course-course.ensures.voice, c.course-course.ensures.loop_to, c.course-course.ensures.first, ← memory, ← regs) at c.read_stretch-stretch.ensures.ends.marks in
     let outs = rw (c.course-course.ensures.noisy, c.course-course.ensures.level, ← table) at c.sound.ensures.outs in
     let is_position = ap (λ (w : VoiceState). w.position + 0x4000 * c.read_stretch-stretch.result.groups) c.go_to.ensures ∙ c.position_after-position.ensures.value in
     let position = rw groups at is_position in
     let twelve = ap (λ (w : VoiceState). w.samples) c.go_to.ensures ∙ last_twelve row (4 * c.read_stretch-stretch.result.groups) ∙ ap (drop (4 * c.read_stretch-stretch.result.groups)) kept in
-    let ends : (b : Bool) → c.read_stretch-stretch.result.woken ≡ b
+    let stops : (b : Bool) → c.read_stretch-stretch.result.woken ≡ b
     → (c.rest_after.result ≡ 0) ⊎ ((c.rest_after.result ≡ c.args.rest - m)
     × (0 < groups_before points m
     → is_silencing c.args.reads.now.seen.reset (byte_at plays.memory (place_after plays.memory (loop_word c.args.reads.now.seen.dir plays.regs.srcn plays.memory) (place_of v) (groups_before points m)).block) ≡ true
@@ -50,18 +50,18 @@ returns-clause-so_far c plays before over glides so_far =
         λ some loud. c.course-course.ensures.silent (rw (c.course-course.ensures.reset, next, groups, ← memory) at (c.read_stretch-stretch.ensures.goes_on awake e) loud),
       )
     ] in
-    glided_over c.args.reads.now.seen plays c.args.at m c.args.rest before c.args.made.now.loops c.args.made.now.outs v so_far c.begin_row.ensures.twelve
+    glided_over c.args.reads.now.seen plays c.args.at m c.args.rest before c.args.made.now.ends c.args.made.now.outs v so_far c.begin_row.ensures.twelve
     (rw c.course-course.ensures.position at c.course-course.ensures.course.track.position)
     (slice_index c.args.reads.now.rows.now.noise) over.noise (λ j below. glides (c.args.at + j) (omega arith) (omega (arith, below, few))) c.read_stretch-stretch.ensures.stretch.some (omega (arith, few, c.requires.resting))
     (point_at c.course-course.result.track)
     (track_points c.args.reads.now c.args.work.now.pitches plays c.course-course.result.track c.args.at c.args.n c.read_stretch-stretch.result.samples c.args.self.now.position c.put_points.new.points
-    over glides c.requires.few few c.requires.pitch c.course-course.ensures.position c.course-course.ensures.pitch c.course-course.ensures.bent c.course-course.ensures.points c.put_points.ensures.points)
+    over glides c.requires.few few c.requires.pitch c.course-course.ensures.position c.course-course.ensures.pitch c.course-course.ensures.modulated c.course-course.ensures.points c.put_points.ensures.points)
     (λ j below some loud. c.course-course.ensures.silent (quiet j below loud))
-    c.go_to.new.self c.rest_after.result c.read_stretch-stretch.new.loops c.sound.new.outs row
+    c.go_to.new.self c.rest_after.result c.read_stretch-stretch.new.ends c.sound.new.outs row
     (rw groups at kept) (rw groups at twelve) position
     (rw groups at (ap place_of c.go_to.ensures ∙ next)) (ap (λ (w : VoiceState). w.delay) c.go_to.ensures) (ap (λ (w : VoiceState). w.envelope) c.go_to.ensures)
-    (ends c.read_stretch-stretch.result.woken refl)
-    c.sound.ensures.before outs c.read_stretch-stretch.ensures.loops.before_it marks c.read_stretch-stretch.ensures.loops.later
+    (stops c.read_stretch-stretch.result.woken refl)
+    c.sound.ensures.before outs c.read_stretch-stretch.ensures.ends.before_it marks c.read_stretch-stretch.ensures.ends.later
 
 pub returns-clause-level : goal.returns-clause-level
 returns-clause-level c plays before over glides so_far =
@@ -72,27 +72,27 @@ returns-clause-level c plays before over glides so_far =
     λ loud. c.course-course.ensures.all_silent (so_far.at_rest.silencing (omega (arith, c.requires.some, c.requires.resting))
     (rw (c.course-course.ensures.reset, c.course-course.ensures.first, ← memory) at loud)) in
     let quiet = rw (c.course-course.ensures.reset, c.course-course.ensures.loop_to, c.course-course.ensures.first, ← memory, ← regs) at (c.read_stretch-stretch.ensures.quiet awake) in
-    let same = last_level c.args.reads.now.seen plays c.args.at c.read_stretch-stretch.result.samples c.args.rest before c.args.made.now.loops c.args.made.now.outs c.args.self.now so_far c.begin_row.ensures.twelve
+    let same = last_level c.args.reads.now.seen plays c.args.at c.read_stretch-stretch.result.samples c.args.rest before c.args.made.now.ends c.args.made.now.outs c.args.self.now so_far c.begin_row.ensures.twelve
     (rw c.course-course.ensures.position at c.course-course.ensures.course.track.position)
     (slice_index c.args.reads.now.rows.now.noise) over.noise (λ j below. glides (c.args.at + j) (omega arith) (omega (arith, below, few))) c.read_stretch-stretch.ensures.stretch.some (omega (arith, few, c.requires.resting))
     (point_at c.course-course.result.track)
     (track_points c.args.reads.now c.args.work.now.pitches plays c.course-course.result.track c.args.at c.args.n c.read_stretch-stretch.result.samples c.args.self.now.position c.put_points.new.points
-    over glides c.requires.few few c.requires.pitch c.course-course.ensures.position c.course-course.ensures.pitch c.course-course.ensures.bent c.course-course.ensures.points c.put_points.ensures.points)
+    over glides c.requires.few few c.requires.pitch c.course-course.ensures.position c.course-course.ensures.pitch c.course-course.ensures.modulated c.course-course.ensures.points c.put_points.ensures.points)
     (λ j below some loud. c.course-course.ensures.silent (quiet j below loud)) in
     ap (λ (w : VoiceState). w.envelope.level) c.go_to.ensures ∙ sym same
 
 pub returns-clause-lower : goal.returns-clause-lower
 returns-clause-lower c i from below = by (nat_lt i (c.args.at + c.read_stretch-stretch.result.samples)) refl
   where
-    by : (b : Bool) → nat_lt i (c.args.at + c.read_stretch-stretch.result.samples) ≡ b → slice_index c.read_stretch-stretch.new.loops i < 2 ^ (c.args.reads.now.seen.voice + 1)
+    by : (b : Bool) → nat_lt i (c.args.at + c.read_stretch-stretch.result.samples) ≡ b → slice_index c.read_stretch-stretch.new.ends i < 2 ^ (c.args.reads.now.seen.voice + 1)
     by true e =
         let early : i < c.args.at + c.read_stretch-stretch.result.samples = grind (arith, nat_tests, e) in
         let part : c.args.at + (i - c.args.at) ≡ i = omega (arith, from) in
-        let old : slice_index c.args.made.now.loops (c.args.at + (i - c.args.at)) < 2 ^ c.args.reads.now.seen.voice = rw part (c.requires.lower i from below) in
-        let made = rw c.course-course.ensures.voice at (c.read_stretch-stretch.ensures.loops.marks (i - c.args.at) (omega (arith, early, from))) in
-        let more = bit-bound (loops_in c.args.reads.now.memory.now c.course-course.result.loop_to c.course-course.result.first (point_at c.course-course.result.track) (i - c.args.at))
+        let old : slice_index c.args.made.now.ends (c.args.at + (i - c.args.at)) < 2 ^ c.args.reads.now.seen.voice = rw part (c.requires.lower i from below) in
+        let made = rw c.course-course.ensures.voice at (c.read_stretch-stretch.ensures.ends.marks (i - c.args.at) (omega (arith, early, from))) in
+        let more = bit-bound (ended_in c.args.reads.now.memory.now c.course-course.result.loop_to c.course-course.result.first (point_at c.course-course.result.track) (i - c.args.at))
         c.args.reads.now.seen.voice _ old in
         rw (← part) (rw made more)
     by false e =
         let late : c.args.at + c.read_stretch-stretch.result.samples ≤ i = grind (arith, nat_tests, e) in
-        rw (c.read_stretch-stretch.ensures.loops.later i late, doubled c.args.reads.now.seen.voice) (omega (arith, c.requires.lower i from below))
+        rw (c.read_stretch-stretch.ensures.ends.later i late, doubled c.args.reads.now.seen.voice) (omega (arith, c.requires.lower i from below))

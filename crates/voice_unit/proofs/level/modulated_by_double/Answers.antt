@@ -5,7 +5,7 @@ use Rattle.num_fix.specs.Arithmetic.{scaled, floor_shift}
 use Rattle.num_fix.proofs.Bounds.{scaled_at_most, floor_shift_bound}
 use Rattle.num_fix.proofs.Quotients.{rest_of-small, shift_and_rest}
 use Rattle.voice_unit.proofs.Bending.{bend_by_double, fits_times_32}
-use Rattle.voice_unit.proofs.level.bent_by_double.Goals as goal
+use Rattle.voice_unit.proofs.level.modulated_by_double.Goals as goal
 
 -- the product by the double is the bend
 value : (c : goal.After-scaled-bend) → c.scaled-bend.result ≡ scaled (floor_shift c.args.previous 5) (pos c.args.pitch) 10

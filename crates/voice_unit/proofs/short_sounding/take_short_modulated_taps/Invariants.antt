@@ -2,7 +2,7 @@ use Rattle.std.proofs.Common.{◌≡◌, ◌<◌, ◌*◌, ℕ, List, ℤ, slice
 use Rattle.gauss_table.specs.Factors.{AreFactors}
 use Rattle.voice_unit.specs.OutsOverRow.{short_mixed_at}
 use Rattle.voice_unit.specs.Voice.{interpolation}
-use Rattle.voice_unit.proofs.short_sounding.take_short_bent_taps.Given as goal
+use Rattle.voice_unit.proofs.short_sounding.take_short_modulated_taps.Given as goal
 
 abbrev pub invariant-loop-c : goal.invariant-loop-c
 invariant-loop-c l = record {

@@ -2,7 +2,7 @@ use Rattle.std.proofs.Common.{◌≡◌, ◌≤◌, ◌*◌, ◌^◌, pos, unsig
 use Rattle.std.proofs.lemmas.Int.{ints, to_z-of_z}
 use Rattle.num_fix.specs.Arithmetic.{scaled, floor_shift}
 use Rattle.num_fix.proofs.Bounds.{scaled_at_most, floor_shift_bound}
-use Rattle.voice_unit.proofs.level.bent_pitch.Goals as goal
+use Rattle.voice_unit.proofs.level.modulated_pitch.Goals as goal
 
 -- the bend is at most the pitch itself
 bend_bound : (c : goal.After-from) → unsigned_abs c.scaled-bend.result ≤ c.args.pitch

@@ -1,9 +1,9 @@
--- The bits of a voice that loops, group by group.
+-- The bits of a voice that comes to an end, group by group.
 use Rattle.std.proofs.Common.{◌≡◌, ◌≢◌, ℕ, ◌+◌, ◌^◌, ◌<◌, ◌≤◌, ◌==◌, nat_lt, ◌&&◌, List, Bool, true, false, slice_index, slice_set, length, if◌then◌else◌, refl, ◌∙◌, arith}
 use Rattle.std.proofs.lemmas.Bool.{and_parts, and_right}
 use Rattle.std.proofs.lemmas.List.{get_or-set_same, get_or-set_other}
 use Rattle.std.proofs.lemmas.Bool.Decides.{nat_tests}
-use Rattle.voice_unit.specs.Row.{place_after, groups_before, is_end, is_read_in, ends_in, loops_in}
+use Rattle.voice_unit.specs.Row.{place_after, groups_before, is_end, is_read_in, ends_in, ended_in}
 use Rattle.voice_unit.specs.Track.{MoveOn}
 use Rattle.voice_unit.specs.declared.row.Place.{Place}
 use Rattle.voice_unit.proofs.Played.{doubled}
@@ -19,21 +19,21 @@ bit-bound true v x below = rw (doubled v) (omega (arith, below))
 bit-bound false v x below = rw (doubled v) (omega (arith, below))
 
 -- the bit of a voice in the sample that reads a group which ends a block with its end bit
-pub mark_one : (loops : List ℕ) (at q j v : ℕ) (memory : List ℕ) (place : Place) (points : ℕ → ℕ) (n group : ℕ) → MoveOn points n → q < n → j < n → Reads points group q → is_end memory place ≡ true
-    → at + q < length loops
-    → slice_index (slice_set loops (at + q) (slice_index loops (at + q) + 2 ^ v)) (at + j) ≡ slice_index loops (at + j) + bit_if (ends_in memory place points group j) v
-mark_one loops at q j v memory place points n group moves early below reads ends within = by (j == q) refl
+pub mark_one : (ends : List ℕ) (at q j v : ℕ) (memory : List ℕ) (place : Place) (points : ℕ → ℕ) (n group : ℕ) → MoveOn points n → q < n → j < n → Reads points group q → is_end memory place ≡ true
+    → at + q < length ends
+    → slice_index (slice_set ends (at + q) (slice_index ends (at + q) + 2 ^ v)) (at + j) ≡ slice_index ends (at + j) + bit_if (ends_in memory place points group j) v
+mark_one ends at q j v memory place points n group moves early below reads ending within = by (j == q) refl
   where
     by : (b : Bool) → (j == q) ≡ b
-        → slice_index (slice_set loops (at + q) (slice_index loops (at + q) + 2 ^ v)) (at + j) ≡ slice_index loops (at + j) + bit_if (ends_in memory place points group j) v
+        → slice_index (slice_set ends (at + q) (slice_index ends (at + q) + 2 ^ v)) (at + j) ≡ slice_index ends (at + j) + bit_if (ends_in memory place points group j) v
     by true e =
         let here : j ≡ q = grind (arith, nat_tests, e) in
-        rw (here, is_read-same points group q reads, ends) (get_or-set_same loops (at + q) (slice_index loops (at + q) + 2 ^ v) 0 within)
+        rw (here, is_read-same points group q reads, ending) (get_or-set_same ends (at + q) (slice_index ends (at + q) + 2 ^ v) 0 within)
     by false e =
         let other : j ≢ q = grind (arith, nat_tests, e) in
         let apart : at + j ≢ at + q = λ same. other (omega (arith, same)) in
-        let none : slice_index loops (at + j) ≡ slice_index loops (at + j) + 0 = omega arith in
-        rw (is_read-other points n group q j moves early below reads other) (get_or-set_other loops (at + q) (at + j) (slice_index loops (at + q) + 2 ^ v) 0 apart ∙ none)
+        let none : slice_index ends (at + j) ≡ slice_index ends (at + j) + 0 = omega arith in
+        rw (is_read-other points n group q j moves early below reads other) (get_or-set_other ends (at + q) (at + j) (slice_index ends (at + q) + 2 ^ v) 0 apart ∙ none)
 
 -- a group that isn't the last of its block ends none
 pub no_end : (memory : List ℕ) (place : Place) (points : ℕ → ℕ) (group j v x : ℕ) → place.offset ≢ 7 → x ≡ x + bit_if (ends_in memory place points group j) v
@@ -45,12 +45,12 @@ no_end memory place points group j v x other =
 module _ (memory : List ℕ) (loop_to : ℕ) (first : Place) (points : ℕ → ℕ) (v : ℕ) where
   -- what is marked in sample j once so many groups are read
   abbrev pub marked : (groups j : ℕ) → Bool
-  marked groups j = nat_lt (groups_before points j) groups && loops_in memory loop_to first points j
+  marked groups j = nat_lt (groups_before points j) groups && ended_in memory loop_to first points j
 
   pub marked-none : (j : ℕ) → marked 0 j ≡ false
   marked-none j = by (nat_lt (groups_before points j) 0) refl
     where
-      by : (b : Bool) → nat_lt (groups_before points j) 0 ≡ b → (b && loops_in memory loop_to first points j) ≡ false
+      by : (b : Bool) → nat_lt (groups_before points j) 0 ≡ b → (b && ended_in memory loop_to first points j) ≡ false
       by false e = refl
       by true e = absurd (let below : groups_before points j < 0 = grind (arith, nat_tests, e) in omega arith)
 
@@ -58,7 +58,7 @@ module _ (memory : List ℕ) (loop_to : ℕ) (first : Place) (points : ℕ → �
   pub marked-later : (groups j : ℕ) → groups ≤ groups_before points j → marked groups j ≡ false
   marked-later groups j late = by (nat_lt (groups_before points j) groups) refl
     where
-      by : (b : Bool) → nat_lt (groups_before points j) groups ≡ b → (b && loops_in memory loop_to first points j) ≡ false
+      by : (b : Bool) → nat_lt (groups_before points j) groups ≡ b → (b && ended_in memory loop_to first points j) ≡ false
       by false e = refl
       by true e = absurd (let below : groups_before points j < groups = grind (arith, nat_tests, e) in omega (arith, late))
 
@@ -69,8 +69,8 @@ module _ (memory : List ℕ) (loop_to : ℕ) (first : Place) (points : ℕ → �
       g : ℕ
       g = groups_before points j
 
-      loops : Bool
-      loops = loops_in memory loop_to first points j
+      ends : Bool
+      ends = ended_in memory loop_to first points j
 
       other : (b : Bool) → nat_lt g d ≡ b → nat_lt g (d + 1) ≡ b → g ≢ d
           → bit_if (marked d j) v + bit_if (is_read_in points d j && is_end memory (place_after memory loop_to first d)) v ≡ bit_if (marked (d + 1) j) v
@@ -94,7 +94,7 @@ module _ (memory : List ℕ) (loop_to : ℕ) (first : Place) (points : ℕ → �
           rw (e, soon, ← same) (omega arith)
 
   -- all is marked in the samples before which fewer groups are read than in all
-  pub marked-all : (n j : ℕ) → MoveOn points n → j < n → marked (groups_before points n) j ≡ loops_in memory loop_to first points j
+  pub marked-all : (n j : ℕ) → MoveOn points n → j < n → marked (groups_before points n) j ≡ ended_in memory loop_to first points j
   marked-all n j moves below = by (is_read_in points g j) refl
     where
       g : ℕ

@@ -9,16 +9,16 @@ use Rattle.echo_unit.specs.Flg.{has_echo_writes}
 use Rattle.echo_unit.specs.declared.regs.EchoRegs.{EchoRegs}
 
 -- an address is that of no byte of a cell
-pub record IsOffCell (address at : ℕ) : Type 0 where
+pub record IsApartFromCell (address at : ℕ) : Type 0 where
   pub first : at % 0x10000 ≢ address % 0x10000
   pub second : at % 0x10000 ≢ (address + 1) % 0x10000
   pub third : at % 0x10000 ≢ (address + 2) % 0x10000 % 0x10000
   pub fourth : at % 0x10000 ≢ ((address + 2) % 0x10000 + 1) % 0x10000
 
 -- the bytes of a cell are those of no other cell of a buffer
-pub off_other : (esa these those byte : ℕ) → these % 4 ≡ 0 → those % 4 ≡ 0 → these < 0x7800 → those < 0x7800 → these ≢ those → byte < 4
-    → IsOffCell (cell_address esa these) (cell_address esa those + byte)
-off_other esa these those byte whole whole' most most' other small = record {
+pub apart_from_other : (esa these those byte : ℕ) → these % 4 ≡ 0 → those % 4 ≡ 0 → these < 0x7800 → those < 0x7800 → these ≢ those → byte < 4
+    → IsApartFromCell (cell_address esa these) (cell_address esa those + byte)
+apart_from_other esa these those byte whole whole' most most' other small = record {
   first = λ e. omega (arith, e, whole, whole', most, most', other, small);
   second = λ e. omega (arith, e, whole, whole', most, most', other, small);
   third = λ e. omega (arith, e, whole, whole', most, most', other, small);
@@ -34,13 +34,13 @@ word_elsewhere memory address at word first second =
     byte_at-with_byte_other (with_byte memory address (bits % 0x100)) (address + 1) at (bits / 0x100) second
     ∙ byte_at-with_byte_other memory address at (bits % 0x100) first
 
-cell_elsewhere : (memory : List ℕ) (address at : ℕ) (left right : ℤ) → IsOffCell address at → byte_at (with_cell memory address left right) at ≡ byte_at memory at
+cell_elsewhere : (memory : List ℕ) (address at : ℕ) (left right : ℤ) → IsApartFromCell address at → byte_at (with_cell memory address left right) at ≡ byte_at memory at
 unfolding with_cell
 cell_elsewhere memory address at left right off =
     word_elsewhere (with_word memory address left) ((address + 2) % 0x10000) at right off.third off.fourth ∙ word_elsewhere memory address at left off.first off.second
 
 -- a step of the echo writes its cell alone
-pub byte_at-echo_memory : (echo : EchoState) (regs : EchoRegs) (memory : List ℕ) (sent : Frame) (at : ℕ) → IsOffCell (cell_address regs.esa echo.offset) at
+pub byte_at-echo_memory : (echo : EchoState) (regs : EchoRegs) (memory : List ℕ) (sent : Frame) (at : ℕ) → IsApartFromCell (cell_address regs.esa echo.offset) at
     → byte_at (echo_memory echo regs memory sent) at ≡ byte_at memory at
 unfolding echo_memory
 byte_at-echo_memory echo regs memory sent at off = by (has_echo_writes regs.flg) _ _

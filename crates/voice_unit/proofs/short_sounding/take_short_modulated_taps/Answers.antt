@@ -1,7 +1,7 @@
 use Rattle.std.proofs.Common.{◌≡◌, ◌+◌, ◌*◌, ◌<◌, ◌∙◌, ℕ, slice_index, refl, arith, below_more}
 use Rattle.voice_unit.specs.OutsOverRow.{short_mixed_at}
 use Rattle.voice_unit.specs.Voice.{interpolation}
-use Rattle.voice_unit.proofs.short_sounding.take_short_bent_taps.Goals as goal
+use Rattle.voice_unit.proofs.short_sounding.take_short_modulated_taps.Goals as goal
 
 -- what holds of the entries below a number and of two from there on
 two_more : (n m : ℕ) (P : ℕ → Type 0) → m ≡ n + 2 → ((i : ℕ) → i < n → P i) → P n → P (n + 1) → (i : ℕ) → i < m → P i

@@ -1,7 +1,7 @@
 use Rattle.std.proofs.Common.{◌≡◌, ◌<◌, ℕ, slice_index, length}
 use Rattle.voice_unit.specs.OutsOverRow.{mixed_at}
 use Rattle.voice_unit.specs.Voice.{interpolation}
-use Rattle.voice_unit.proofs.sounding.take_bent_taps.Given as goal
+use Rattle.voice_unit.proofs.sounding.take_modulated_taps.Given as goal
 
 abbrev pub invariant-loop-j : goal.invariant-loop-j
 invariant-loop-j l = record {
