@@ -574,8 +574,7 @@ SLIPS = [
         (SEARCH, '(λ limit. squares < limit)', '(λ limit. squares ≤ limit)'), (SEARCH, 'limit ≤ greedy_squares', 'limit < greedy_squares')]),
     Slip('7,281 blocks encoded', ['brr_encode', 'brr_search', 'sample_rip', 'command_line'], ['worked_files', 'worked_commands'], [
         (ENCODING, 'most_samples = 116480', 'most_samples = 116496'), (ENCODING, 'most_blocks = 7280', 'most_blocks = 7281'),
-        ('brr_encode/src/encoder.rt', 'samples.len() > 116480', 'samples.len() > 116496'), ('sample_rip/src/blocks.rt', 'MOST_BLOCKS: u32 = 7280', 'MOST_BLOCKS: u32 = 7281'),
-        ('command_line/src/encode_words.rt', 'MOST_SAMPLES: u64 = 116480', 'MOST_SAMPLES: u64 = 116496')]),
+        ('brr_encode/src/encoder.rt', 'MOST_SAMPLES: usize = 116480', 'MOST_SAMPLES: usize = 116496'), ('sample_rip/src/blocks.rt', 'MOST_BLOCKS: u32 = 7280', 'MOST_BLOCKS: u32 = 7281')]),
     Slip('63 checkpoints', ['cut_form', 'mark_laws'], ['worked_renders', 'worked_tunes'], [
         ('cut_form/specs/Checkpoints.antt', 'most_checkpoints = 64', 'most_checkpoints = 63'),
         ('cut_form/src/cut.rt', 'MOST_CHECKPOINTS: u32 = 64', 'MOST_CHECKPOINTS: u32 = 63')]),

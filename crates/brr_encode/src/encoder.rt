@@ -10,6 +10,9 @@ use crate::search::best_header;
 use crate::{BlockReport, OutOfMemory};
 use std::alloc::Global;
 
+/// The most samples that are encoded.
+pub const MOST_SAMPLES: usize = 116480;
+
 /// Blocks of nine bytes, and a report of each.
 #[derive(Drop)]
 pub struct Encoded {
@@ -126,7 +129,7 @@ pub fn encode_from(
     if samples.is_empty() {
         return Err(EncodeRefusal::Empty);
     }
-    if samples.len() > 116480 {
+    if samples.len() > MOST_SAMPLES {
         return Err(EncodeRefusal::TooLong);
     }
     let targets = padded_samples(alloc, samples)?;

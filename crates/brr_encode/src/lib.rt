@@ -10,7 +10,8 @@ mod search;
 
 pub use choice::{Choice, distance, nearest};
 pub use encoder::{
-    EncodeRefusal, Encoded, encode, encode_from, end_bits, padded_samples, stands_alone,
+    EncodeRefusal, Encoded, MOST_SAMPLES, encode, encode_from, end_bits, padded_samples,
+    stands_alone,
 };
 pub use laws::{best_header_has_the_least_triple, least_place_is_first};
 pub use report::BlockReport;

@@ -7,7 +7,7 @@ use brr_search::{EncodeOptions, MOST_WAYS};
 use text_form::{decimal_value, is_number};
 
 /// The most samples of a sound that is encoded.
-const MOST_SAMPLES: u64 = 116480;
+const MOST_SAMPLES: u64 = brr_encode::MOST_SAMPLES as u64;
 
 /// The number of ways that a word says.
 fn ways_in(word: &[u8]) -> Option<u8>
