@@ -507,12 +507,12 @@ SLIPS = [
         (PAGE_CODE, 'put_word(page, at, left);\n    put_word(page, at + 2, right)', 'put_word(page, at, right);\n    put_word(page, at + 2, left)')]),
     Slip('EDL counts units of 1,024 bytes', ['reach_map', 'echo_unit'], ['worked_sounds'], [
         (WINDOW, 'edl % 16 * 0x800', 'edl % 16 * 0x400'), (ECHO, 's.length % 0x800 == 0 && nat_le s.length (15 * 0x800)', 's.length % 0x400 == 0 && nat_le s.length (15 * 0x400)'),
-        (ECHO_CODE, 'u16::from(edl % 16) * 2048', 'u16::from(edl % 16) * 1024'), (ECHO_CODE, 'u32::from(edl % 16) * 2048', 'u32::from(edl % 16) * 1024'),
+        (ECHO_CODE, 'LENGTH_UNIT: u16 = 2048', 'LENGTH_UNIT: u16 = 1024'),
         (ECHO_CODE, 'result ≤ 15 * 0x800', 'result ≤ 15 * 0x400'), (ECHO_CODE, 'result % 0x800', 'result % 0x400'),
         (ECHO_CODE, 'self.now.offset < 15 * 0x800', 'self.now.offset < 15 * 0x400'), (ECHO_CODE, 'result.len ≤ 15 * 2048', 'result.len ≤ 15 * 1024')]),
     Slip('five bits of EDL', ['reach_map', 'echo_unit'], ['worked_sounds'], [
         (WINDOW, 'edl % 16 * 0x800', 'edl % 32 * 0x800'), (ECHO, '(15 * 0x800)', '(31 * 0x800)'),
-        (ECHO_CODE, 'u16::from(edl % 16) * 2048', 'u16::from(edl % 32) * 2048'), (ECHO_CODE, 'u32::from(edl % 16) * 2048', 'u32::from(edl % 32) * 2048'),
+        (ECHO_CODE, 'u16::from(edl % 16)', 'u16::from(edl % 32)'), (ECHO_CODE, 'u32::from(edl % 16)', 'u32::from(edl % 32)'),
         (ECHO_CODE, 'regs.edl % 16 != 0', 'regs.edl % 32 != 0'), (ECHO_CODE, '{1}0 < regs.now.edl % 16', '0 < regs.now.edl % 32'), (ECHO_CODE, '0 < regs.now.edl % 16', '0 < regs.now.edl % 32'),
         (ECHO_CODE, 'result ≤ 15 * 0x800', 'result ≤ 31 * 0x800'), (ECHO_CODE, 'self.now.offset < 15 * 0x800', 'self.now.offset < 31 * 0x800'),
         (ECHO_CODE, 'result.len ≤ 15 * 2048', 'result.len ≤ 31 * 2048')]),

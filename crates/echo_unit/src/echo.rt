@@ -20,6 +20,9 @@ use aram_core::Aram;
 use num_fix::{BATCH_SIZE, Frame};
 use std::marker::Model;
 
+/// The bytes of the buffer that one step of EDL adds.
+const LENGTH_UNIT: u16 = 2048;
+
 /// The echo between two steps.
 #[derive(Clone, Copy, Debug)]
 pub struct Echo {
@@ -149,7 +152,7 @@ impl Echo {
         ensures cell { self.now.offset % 4 ≡ 0 }
     {
         if self.offset == 0 {
-            u16::from(edl % 16) * 2048
+            u16::from(edl % 16) * LENGTH_UNIT
         } else {
             self.length
         }
@@ -295,7 +298,7 @@ impl Echo {
         ensures least { 4 ≤ result.len }
         ensures most { result.len ≤ 15 * 2048 }
     {
-        let asked = u32::from(edl % 16) * 2048;
+        let asked = u32::from(edl % 16) * LENGTH_UNIT as u32;
         Window {
             start: u16::from(esa) * 256,
             len: u32::from(self.length).max(asked).max(4),
