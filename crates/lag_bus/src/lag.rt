@@ -270,7 +270,7 @@ impl<C: Chip> LagBus<C> {
     /// A write of F0h to FFh.
     // Out of line, as what is rarer than an access of memory alone.
     #[inline(never)]
-    fn write_port(&mut self, addr: u16, value: u8)
+    fn write_io(&mut self, addr: u16, value: u8)
         requires { self.old.machine.calls < most_calls }
         ensures { self.new ≡ (lagging C.meaning).write self.old addr value }
     {
@@ -391,7 +391,7 @@ impl<C: Chip> Bus for LagBus<C> {
 
     fn write(&mut self, addr: u16, value: u8) {
         match addr {
-            0xF0..=0xFF => self.write_port(addr, value),
+            0xF0..=0xFF => self.write_io(addr, value),
             _ => {
                 self.time.count();
                 if self.late.pending() > 0 && self.late.may_be_read(addr) {
@@ -538,7 +538,7 @@ impl<C: Chip> DrainedBus for LagBus<C> {
         (self.time.clock() / CYCLES_PER_SAMPLE) as u32
     }
 
-    fn has_room(&self) -> bool {
+    fn has_room_for_step(&self) -> bool {
         self.time.calls() <= MOST_CALLS_BEFORE_STEP
     }
 

@@ -105,7 +105,7 @@ impl<'a, B: BehindBus> RunningBus<'a, B> {
 
     /// Whether there is room for the calls of one more step.
     #[inline(always)]
-    fn has_room(&self) -> bool
+    fn has_room_for_step(&self) -> bool
         ensures { result ≡ nat_le self.now.bus.machine.calls most_calls_before_step }
     {
         self.calls <= MOST_CALLS_BEFORE_STEP
@@ -206,7 +206,7 @@ fn step_on<'a, B: BehindBus>(cpu: &mut Cpu, running: &mut RunningBus<'a, B>, roo
         if cpu.halted {
             break;
         }
-        if !running.has_room() {
+        if !running.has_room_for_step() {
             if left == 0 {
                 break;
             }

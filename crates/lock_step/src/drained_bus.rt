@@ -21,7 +21,7 @@ pub trait DrainedBus: Bus {
         ensures { result ≡ Self.means.made self.now };
 
     /// Whether there is room for one more step before the next drain, for who makes the steps one by one.
-    fn has_room(&self) -> bool
+    fn has_room_for_step(&self) -> bool
         ensures { result ≡ nat_le (Self.means.calls self.now) most_calls_before_step };
 
     /// Takes steps of the processor, one at least, of which none begins at the end of a run to so many samples. The bus may begin its

@@ -194,7 +194,7 @@ impl<C: Chip> DrainedBus for PlainBus<C> {
         (self.clock / CYCLES_PER_SAMPLE) as u32
     }
 
-    fn has_room(&self) -> bool {
+    fn has_room_for_step(&self) -> bool {
         self.calls <= MOST_CALLS_BEFORE_STEP
     }
 

@@ -30,7 +30,7 @@ pub const SOURCE: [(u16, &[u8]); 4] = [
 ];
 
 /// The registers that play this source on voice 0 from the first sample on.
-pub const KEYED: [(usize, u8); 10] = [
+pub const KEYED_REGISTERS: [(usize, u8); 10] = [
     (0x00, 0x7F),
     (0x01, 0x7F),
     (0x03, 0x10),
@@ -171,7 +171,7 @@ fn wait_and_step<B: DrainedBus>(cpu: &mut Cpu, bus: &mut B, samples: u32) {
     if bus.made() < samples && samples <= 1000 {
         bus.wait(cpu, samples);
     }
-    if bus.has_room() && bus.made() < 1000 {
+    if bus.has_room_for_step() && bus.made() < 1000 {
         step(cpu, bus);
     }
 }

@@ -14,7 +14,7 @@ fn take_all<B: DrainedBus>(alloc: Global, bus: &mut B) -> Result<Emitted, Fail> 
     let mut cpu = START;
     let mut all = Emitted::none(alloc)?;
     for _ in 0u32..2000 {
-        if bus.has_room() && bus.made() < 100 {
+        if bus.has_room_for_step() && bus.made() < 100 {
             bus.take_steps(&mut cpu, 100, 3);
             all.drain(bus)?;
         }

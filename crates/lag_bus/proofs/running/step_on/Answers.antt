@@ -19,8 +19,8 @@ steps-init g c = record {
 }
 
 -- one step more, since the run wasn't at its end
-pub steps-preserved-then-not-has_room : goal.steps-preserved-then-not-has_room
-steps-preserved-then-not-has_room g c =
+pub steps-preserved-then-not-has_room_for_step : goal.steps-preserved-then-not-has_room_for_step
+steps-preserved-then-not-has_room_for_step g c =
     let chip = g.B.C.Chip.meaning in
     let run = c.steps.invariant.samples in
     let made = c.if-is_at_end.ensures in
@@ -44,7 +44,7 @@ steps-preserved g c =
     let run = c.steps.invariant.samples in
     let made = c.if-is_at_end.ensures in
     let more : c.steps.running.bus.machine.clock / CYCLES_PER_SAMPLE < c.steps.running.samples = grind (arith, nat_tests) in
-    let room = c.if-not-has_room.ensures in
+    let room = c.if-not-has_room_for_step.ensures in
     let later = c.step_once.ensures.some in
     let on = c.steps.invariant.on in
     record {
