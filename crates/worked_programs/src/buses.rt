@@ -26,7 +26,7 @@ enum Call {
 
 /// Makes a call, and gives the byte that was read, or the number of frames that were drained, or 0.
 fn make<B: DrainedBus>(bus: &mut B, call: Call, all: &mut Emitted) -> Result<u8, Fail> {
-    if !bus.has_room_for_step() || bus.made() > 1000 {
+    if !bus.has_room_for_step() || bus.due() > 1000 {
         return Ok(0xEE);
     }
     match call {
@@ -73,7 +73,7 @@ fn call_over<B: CountedBus>(alloc: Global, bus: &mut B, calls: &[Call]) -> Resul
         answers,
         emitted,
         counts: bus.batches_of_each(),
-        time: (bus.made(), bus.to_sample()),
+        time: (bus.due(), bus.to_sample()),
     })
 }
 

@@ -38,7 +38,7 @@ fn run_both(
     Ok((plain, late))
 }
 
-/// Whether both runs emitted the same, made so many samples, and the chip of the first one made each of them at once.
+/// Whether both runs emitted the same, have so many samples due, and the chip of the first one made each of them at once.
 fn are_alike(plain: &Run, late: &Run, samples: u32) -> bool {
     late.emitted.frames.as_slice() == plain.emitted.frames.as_slice()
         && late.emitted.records.as_slice() == plain.emitted.records.as_slice()
