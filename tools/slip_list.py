@@ -159,7 +159,7 @@ SLIPS = [
         ('spc700_alu/src/word_arithmetic.rt', 'x % 0x10 <= y % 0x10', 'x % 0x10 < y % 0x10')]),
     Slip('V and P exchanged in the status', ['spc700_alu'], ['worked_parts'], [
         (FLAGS, 'V = 0x40', 'V = 0x20'), (FLAGS, 'P = 0x20', 'P = 0x40'),
-        (FLAGS_CODE, 'OVERFLOW: u8 = 0x40', 'OVERFLOW: u8 = 0x20'), (FLAGS_CODE, 'PAGE: u8 = 0x20', 'PAGE: u8 = 0x40')]),
+        (FLAGS_CODE, 'OVERFLOW: u8 = 0x40', 'OVERFLOW: u8 = 0x20'), (FLAGS_CODE, 'DIRECT_PAGE: u8 = 0x20', 'DIRECT_PAGE: u8 = 0x40')]),
     Slip('H and I exchanged in the status', ['spc700_alu'], ['worked_parts'], [
         (FLAGS, 'H = 0x08', 'H = 0x04'), (FLAGS, 'I = 0x04', 'I = 0x08'),
         (FLAGS_CODE, 'HALF: u8 = 0x08', 'HALF: u8 = 0x04'), (FLAGS_CODE, 'INTERRUPT: u8 = 0x04', 'INTERRUPT: u8 = 0x08')]),
@@ -519,7 +519,7 @@ SLIPS = [
     Slip("the echo's window by EDL alone", ['reach_map', 'echo_unit', 'reach_laws'], ['worked_sounds'], [
         (WINDOW, 'max (max length (echo_length edl)) 4', 'max (echo_length edl) 4'), (ECHO_CODE, 'u32::from(self.length).max(asked).max(4)', 'asked.max(4)')]),
     Slip('chains of 17 blocks', ['reach_map', 'reach_laws'], ['worked_parts'], [
-        ('reach_map/specs/Reach.antt', 'start.loop_word 18 start.block', 'start.loop_word 17 start.block'), ('reach_map/src/voices.rt', 'BLOCKS: u32 = 18', 'BLOCKS: u32 = 17')]),
+        ('reach_map/specs/Reach.antt', 'start.loop_word 18 start.block', 'start.loop_word 17 start.block'), ('reach_map/src/voices.rt', 'CHAIN_BLOCKS: u32 = 18', 'CHAIN_BLOCKS: u32 = 17')]),
 
     # statuses and complaints
     Slip('the numbers 5 and 6 exchanged', ['exit_status'], ['worked_files'], [

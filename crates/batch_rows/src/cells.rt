@@ -21,7 +21,7 @@ use voice_unit::{Voice, entry_address, loop_word, start_word};
 const BLOCK: u16 = 9;
 
 /// How many bytes from its start, and from its loop word, a chain lies within.
-const CHAIN: u16 = 162;
+const CHAIN_BYTES: u16 = 162;
 
 /// The bytes of an entry of the directory.
 const ENTRY: u16 = 4;
@@ -74,8 +74,8 @@ fn chain_cells(memory: &Aram, chain: ChainStart, first: u16, cells: u8) -> u8
     ensures few { result ≤ cells }
     ensures miss { CellsMissChain (line_from first) memory.now result chain }
 {
-    let start = cells_before(first, cells, chain.block, CHAIN);
-    let again = cells_before(first, cells, chain.loop_word, CHAIN);
+    let start = cells_before(first, cells, chain.block, CHAIN_BYTES);
+    let again = cells_before(first, cells, chain.loop_word, CHAIN_BYTES);
     if start == cells && again == cells {
         return cells;
     }

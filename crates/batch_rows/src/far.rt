@@ -15,10 +15,10 @@ use echo_unit::has_echo_writes;
 use voice_unit::{Voice, entry_address, loop_word, start_word};
 
 /// How many bytes from its start, and from its loop word, a chain lies within.
-const CHAIN: u16 = 162;
+const CHAIN_BYTES: u16 = 162;
 
 /// The bytes of a page.
-const PAGE: u16 = PAGE_SIZE as u16;
+const PAGE_BYTES: u16 = PAGE_SIZE as u16;
 
 /// Whether a few bytes have no page of a window of whole pages: from its start to the last of them it is further than both are long.
 #[inline]
@@ -30,7 +30,9 @@ fn are_bytes_apart(start: u16, count: u16, esa: u8, len: u32) -> bool
     ensures { result ≡ true → AreApart (pages_of_bytes start count) (window_from esa len) }
 {
     let more = count - 1;
-    let way = start.wrapping_sub(PAGE * u16::from(esa)).wrapping_add(more);
+    let way = start
+        .wrapping_sub(PAGE_BYTES * u16::from(esa))
+        .wrapping_add(more);
     len + u32::from(more) <= u32::from(way)
 }
 
@@ -41,10 +43,10 @@ fn is_chain_apart(block: u16, loop_word: u16, esa: u8, len: u32) -> bool
     requires whole { len % PAGE_SIZE ≡ 0 }
     ensures { result ≡ true → AreApart (far_pages (record { block = block; loop_word = loop_word })) (window_from esa len) }
 {
-    if !are_bytes_apart(block, CHAIN, esa, len) {
+    if !are_bytes_apart(block, CHAIN_BYTES, esa, len) {
         return false;
     }
-    are_bytes_apart(loop_word, CHAIN, esa, len)
+    are_bytes_apart(loop_word, CHAIN_BYTES, esa, len)
 }
 
 /// Whether what voice `v` can read has no page of a window of whole pages.
@@ -77,7 +79,7 @@ fn whole_pages(len: u32) -> u32
     ensures most { result ≤ 0x10000 }
     ensures whole { result % PAGE_SIZE ≡ 0 }
 {
-    let page = u32::from(PAGE);
+    let page = u32::from(PAGE_BYTES);
     (len + (page - 1)) / page * page
 }
 

@@ -145,7 +145,7 @@ fn idle_rows(state: &ChipState, number: u32) -> BatchRows
 }
 
 /// The first samples of a batch, of which two poll the keys: later ones change them no more.
-const KEYED: u8 = 4;
+const KEYED_SAMPLES: u8 = 4;
 
 /// Polls the keys in n samples of a batch whose noise stays as it is, and puts the key-ons that are taken in each.
 fn poll_each(state: &mut ChipState, number: u32, n: u8, kon: &mut [u8; BATCH_SIZE])
@@ -176,7 +176,7 @@ fn step_keys_alone(state: &mut ChipState, number: u32, n: u8) -> BatchRows
     ensures taken { (j : ℕ) → j < n → slice_index result.kon j < 0x100 }
     ensures registers { state.new.registers ≡ state.old.registers }
 {
-    let few = n.min(KEYED);
+    let few = n.min(KEYED_SAMPLES);
     let _waiting = state.hidden.waiting;
     let mut rows = idle_rows(state, number);
     poll_each(state, number, few, &mut rows.kon);

@@ -11,7 +11,7 @@ use std::alloc::Global;
 use std::marker::Model;
 
 /// How many blocks are remembered.
-const BLOCKS: usize = 2048;
+const REMEMBERED_BLOCKS: usize = 2048;
 
 /// The place of the block at an address among the remembered blocks.
 fn place_of(address: u16) -> usize
@@ -82,7 +82,7 @@ impl BlockMemory {
     /// what it was decoded from.
     pub fn new(alloc: Global) -> Result<BlockMemory, OutOfMemory> {
         let zeros = RememberedBlock::decoded(0, 0, 0, 0, 0);
-        let blocks = vec![in alloc; zeros; BLOCKS]?;
+        let blocks = vec![in alloc; zeros; REMEMBERED_BLOCKS]?;
         Ok(BlockMemory { blocks })
     }
 

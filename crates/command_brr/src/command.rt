@@ -17,14 +17,14 @@ use input_files::{INPUT_LIMIT, read_input};
 use report_text::put_named;
 use snd_host::Host;
 use std::alloc::Global;
-use wav_form::header;
+use wav_form::{HEADER_SIZE, header};
 
 /// The bytes of a sound file of one channel.
 fn wave(alloc: Global, samples: &[i16]) -> Result<Vec<u8>, OutOfMemory>
     requires { length samples.now ≤ most_frames }
     ensures { IfOk result (λ wave. wave.items ≡ mono_wave samples.now) }
 {
-    let mut wave = Vec::with_capacity(alloc, 44 + 2 * samples.len())?;
+    let mut wave = Vec::with_capacity(alloc, HEADER_SIZE + 2 * samples.len())?;
     wave.extend_from_slice(&header(1, samples.len() as u32))?;
     for sample in samples {
         let mut bytes = [0u8; 2];

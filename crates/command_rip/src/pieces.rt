@@ -12,14 +12,14 @@ use sample_rip::{RipFound, RipWalk};
 use std::marker::Model;
 
 /// The bytes of a block's samples.
-const BLOCK_BYTES: usize = 32;
+const SAMPLES_BYTES: usize = 32;
 
 /// The samples of a rip, which are decoded block by block from the memory that it stands in.
 #[derive(Drop)]
 pub struct RipPieces<'a> {
     memory: &'a Aram,
     walk: RipWalk,
-    piece: [u8; BLOCK_BYTES],
+    piece: [u8; SAMPLES_BYTES],
     is_done: bool,
 }
 
@@ -35,10 +35,10 @@ impl<'a> Model for RipPieces<'a> {
 }
 
 /// The bytes of a block's samples, each with its low byte first.
-fn wave_bytes(block: [i16; 16]) -> [u8; BLOCK_BYTES]
+fn wave_bytes(block: [i16; 16]) -> [u8; SAMPLES_BYTES]
     ensures { result ≡ wave_bytes block }
 {
-    let mut bytes = [0u8; BLOCK_BYTES];
+    let mut bytes = [0u8; SAMPLES_BYTES];
     LittleEndian::write_i16_into(&block, &mut bytes);
     bytes
 }
@@ -51,7 +51,7 @@ impl<'a> RipPieces<'a> {
         RipPieces {
             memory,
             walk: RipWalk::new(found),
-            piece: [0; BLOCK_BYTES],
+            piece: [0; SAMPLES_BYTES],
             is_done: false,
         }
     }

@@ -11,7 +11,7 @@ use Rattle.wav_form.specs.Wave.{frame_bytes, header_of, stereo_wave}
 use Rattle.chip_form.specs.ChipMeaning.{ChipMeaning}
 use Rattle.chip_form.specs.ChipSaving.{ChipSaving}
 use Rattle.cut_form.specs.declared.cut.Cut.{Cut}
-use Rattle.cut_form.specs.Checkpoints.{Checkpoint, slots_used, slots_free, slots_needed, own_slots, shared_with_newest, has_room, stands_at}
+use Rattle.cut_form.specs.Checkpoints.{Checkpoint, slots_used, slots_free, slots_needed, own_slots, shared_with_newest, has_room_for_one, stands_at}
 use Rattle.cut_form.specs.CutBook.{CutBook, after_seek, after_play, after_cut, counted_book, with_live, with_one_if_room, slots_for_cuts}
 use Rattle.cut_form.specs.Slices.{slice_of, cut_frames, cut_samples}
 use Rattle.cut_server.specs.ServerState.{book_of, slots_of, pages_after}
@@ -58,7 +58,7 @@ played_more book some all within =
 
 -- A checkpoint that is taken where there is room changes nothing else, and the slots in use stay slots of the pool.
 pub kept_if_room : (slots : ℕ) (pages : ℕ → List (List ℕ)) (book : CutBook) → with_one_if_room slots pages book ≡ with_live book (with_one_if_room slots pages book).live
-kept_if_room slots pages book = elim (cases_Bool (not (stands_at book.live book.position) && has_room slots (pages book.position) book.live)) [
+kept_if_room slots pages book = elim (cases_Bool (not (stands_at book.live book.position) && has_room_for_one slots (pages book.position) book.live)) [
   | inl room ↦ rw room refl
   | inr full ↦ rw full refl
 ]
@@ -75,7 +75,7 @@ used_with_one slots pages live sample used room =
     omega (arith, used, needed, sum_by_push (λ (c : Checkpoint). own_slots c.shared) live (record { sample = sample; pages = pages; shared = shared_with_newest live pages }))
 
 pub used_if_room : (slots : ℕ) (pages : ℕ → List (List ℕ)) (book : CutBook) → slots_used book.live ≤ slots → slots_used (with_one_if_room slots pages book).live ≤ slots
-used_if_room slots pages book used = elim (cases_Bool (not (stands_at book.live book.position) && has_room slots (pages book.position) book.live)) [
+used_if_room slots pages book used = elim (cases_Bool (not (stands_at book.live book.position) && has_room_for_one slots (pages book.position) book.live)) [
   | inl room ↦ rw room (used_with_one slots (pages book.position) book.live book.position used
       (last_of_three (not (stands_at book.live book.position)) (nat_lt (length book.live) 64) (nat_le (slots_needed book.live (pages book.position)) (slots_free slots book.live)) room))
   | inr full ↦ rw full used

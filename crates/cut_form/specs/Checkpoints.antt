@@ -62,8 +62,8 @@ abbrev pub slots_free : (slots : ℕ) → List Checkpoint → ℕ
 slots_free slots live = slots - slots_used live
 
 -- whether there is room for one more with these pages: fewer than 64 are live, and there are slots enough
-abbrev pub has_room : (slots : ℕ) → (pages : List (List ℕ)) → List Checkpoint → Bool
-has_room slots pages live = nat_lt (length live) most_checkpoints && nat_le (slots_needed live pages) (slots_free slots live)
+abbrev pub has_room_for_one : (slots : ℕ) → (pages : List (List ℕ)) → List Checkpoint → Bool
+has_room_for_one slots pages live = nat_lt (length live) most_checkpoints && nat_le (slots_needed live pages) (slots_free slots live)
 
 -- one more is taken
 abbrev pub with_checkpoint : List Checkpoint → (sample : ℕ) → (pages : List (List ℕ)) → List Checkpoint

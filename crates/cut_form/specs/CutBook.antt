@@ -2,7 +2,7 @@
 -- memory that the run from the opening has once k samples are made.
 use Rattle.std.specs.Prelude.{ℕ, ◌+◌, ◌-◌, ◌*◌, ◌^◌, min, not, ◌&&◌, nat_le, if◌then◌else◌, List, [], fold}
 use Rattle.cut_form.specs.declared.cut.Cut.{Cut}
-use Rattle.cut_form.specs.Checkpoints.{Checkpoint, with_checkpoint, without_checkpoint, slots_needed, has_room, stands_at, nearest}
+use Rattle.cut_form.specs.Checkpoints.{Checkpoint, with_checkpoint, without_checkpoint, slots_needed, has_room_for_one, stands_at, nearest}
 
 pub record CutBook : Type 0 where
   -- the samples before the position
@@ -64,7 +64,7 @@ slots_for_cuts = 4096
 -- one more is taken where none stands and there is room for it
 abbrev pub with_one_if_room : (slots : ℕ) → (pages_at : ℕ → List (List ℕ)) → CutBook → CutBook
 with_one_if_room slots pages_at book =
-    if not (stands_at book.live book.position) && has_room slots (pages_at book.position) book.live then with_one_here pages_at book else book
+    if not (stands_at book.live book.position) && has_room_for_one slots (pages_at book.position) book.live then with_one_here pages_at book else book
 
 abbrev pub after_cut : (pages_at : ℕ → List (List ℕ)) → CutBook → Cut → CutBook
 after_cut pages_at book cut = after_play (with_one_if_room slots_for_cuts pages_at (after_seek book cut.start)) cut.count

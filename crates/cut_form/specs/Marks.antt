@@ -2,7 +2,7 @@
 use Rattle.std.specs.Prelude.{ℕ, zero, suc, ◌+◌, ◌-◌, if◌then◌else◌, List, length}
 use Rattle.cut_form.specs.declared.mark.Marked.{Marked}
 use Rattle.cut_form.specs.declared.mark.Marked.TheVariants.{Kept, Taken, NoPages}
-use Rattle.cut_form.specs.Checkpoints.{Checkpoint, with_checkpoint, without_entry, slots_needed, slots_free, stands_at, has_room}
+use Rattle.cut_form.specs.Checkpoints.{Checkpoint, with_checkpoint, without_entry, slots_needed, slots_free, stands_at, has_room_for_one}
 use Rattle.cut_form.specs.CutBook.{CutBook}
 
 -- the live checkpoints that remain once so many were given up
@@ -18,7 +18,7 @@ without_oldest live = without_entry live 1
 abbrev pub room_made : (most : ℕ) → (slots : ℕ) → (pages : List (List ℕ)) → Remaining → Remaining
 room_made zero slots pages remaining = remaining
 room_made (suc most) slots pages remaining =
-    if has_room slots pages remaining.live then remaining
+    if has_room_for_one slots pages remaining.live then remaining
     else room_made most slots pages (record { live = without_oldest remaining.live; gave = remaining.gave + 1 })
 
 -- the live checkpoints after a mark, and what came of it
@@ -29,7 +29,7 @@ pub record MarkOutcome : Type 0 where
 -- one is taken where there is room for it
 abbrev pub mark_in : (slots : ℕ) → (pages : List (List ℕ)) → (sample : ℕ) → Remaining → MarkOutcome
 mark_in slots pages sample remaining =
-    if has_room slots pages remaining.live then record { live = with_checkpoint remaining.live sample pages; marked = Taken remaining.gave }
+    if has_room_for_one slots pages remaining.live then record { live = with_checkpoint remaining.live sample pages; marked = Taken remaining.gave }
     else record { live = remaining.live; marked = NoPages remaining.gave (slots_needed remaining.live pages) (slots_free slots remaining.live) }
 
 -- A mark keeps the checkpoint that stands there, or makes room and takes one. All but that of sample 0 may be given up.

@@ -15,7 +15,7 @@ use Rattle.render_core.specs.Items.{run_frames}
 use Rattle.render_core.specs.RenderState.{RenderState, frames_to_come, whole_at_length}
 use Rattle.render_core.specs.RunCounts.{with_opened_book}
 use Rattle.render_core.specs.Saved.{saved_whole, CanBePlayed, loaded_render}
-use Rattle.render_core.specs.Whole.{made_by, with_lists_of, IsPlayedLawfully}
+use Rattle.render_core.specs.Whole.{due_in, with_lists_of, IsPlayedLawfully}
 use Rattle.render_core.proofs.WholeRuns.{is_played_lawfully}
 use Rattle.cut_form.specs.Checkpoints.{pages_of, slots_needed, with_checkpoint}
 use Rattle.cut_form.specs.CutBook.{with_live, with_one_here}
@@ -44,10 +44,10 @@ machines_lawful chip saving saves =
     }
 
 -- what was saved of a machine can be loaded
-can_be_played : {S V : Type 0} {chip : ChipMeaning S} {saving : ChipSaving S V} → IsLawfulSaving chip saving → (w : Whole (Machine S)) → made_by w ≤ most_frames → CanBePlayed saving (saved_whole saving w)
+can_be_played : {S V : Type 0} {chip : ChipMeaning S} {saving : ChipSaving S V} → IsLawfulSaving chip saving → (w : Whole (Machine S)) → due_in w ≤ most_frames → CanBePlayed saving (saved_whole saving w)
 can_be_played saves w few = record {
-  bus = record { number = sym (saves.number_saved w.1.chip (made_by w)); few = omega (arith, few) };
-  few = omega (arith, few, saves.number_saved w.1.chip (made_by w));
+  bus = record { number = sym (saves.number_saved w.1.chip (due_in w)); few = omega (arith, few) };
+  few = omega (arith, few, saves.number_saved w.1.chip (due_in w));
 }
 
 pub played_at : {S V : Type 0} {chip : ChipMeaning S} {saving : ChipSaving S V} → IsLawfulSaving chip saving → (w start : Whole (Machine S)) (saved : Saved (PlayState V)) → IsOnCourse (lock_step_machines chip saving) w start saved

@@ -3,7 +3,7 @@ use Rattle.std.proofs.Common.{◌≡◌, ℕ, zero, suc, ◌+◌, ◌-◌, ◌<�
 use Rattle.std.specs.List.{remove, remove_range}
 use Rattle.std.proofs.lemmas.List.{drop-drop}
 use Rattle.std.proofs.lemmas.Bool.{cases_Bool, or_parts}
-use Rattle.cut_form.specs.Checkpoints.{Checkpoint, next_to_dropped, without_entry, has_room, stands_at}
+use Rattle.cut_form.specs.Checkpoints.{Checkpoint, next_to_dropped, without_entry, has_room_for_one, stands_at}
 use Rattle.cut_form.specs.Marks.{Remaining, room_made}
 use Rattle.cut_server.specs.Table.{TableState, saved_of, live_checkpoints}
 
@@ -18,7 +18,7 @@ length-without_entry (x ∷ xs) zero within = omega (arith, length-next_to_dropp
 length-without_entry (x ∷ xs) (suc i) within = omega (arith, length-without_entry xs i (omega arith))
 
 -- one more is given up
-pub room_less : (slots : ℕ) (pages : List (List ℕ)) (live : List Checkpoint) (gave : ℕ) → 1 < length live → has_room slots pages live ≡ false
+pub room_less : (slots : ℕ) (pages : List (List ℕ)) (live : List Checkpoint) (gave : ℕ) → 1 < length live → has_room_for_one slots pages live ≡ false
     → room_made (length live - 1) slots pages (record { live = live; gave = gave }) ≡ room_made (length (without_entry live 1) - 1) slots pages (record { live = without_entry live 1; gave = gave + 1 })
 room_less slots pages [] gave more none = absurd (omega arith)
 room_less slots pages (x ∷ []) gave more none = absurd (omega arith)
@@ -48,7 +48,7 @@ pub record MakesRoom {S : Type 0} (pages : List (List ℕ)) (before : ℕ) (old 
       ≡ room_made (length (live_checkpoints old) - 1) (length old.pool) pages (record { live = live_checkpoints old; gave = 0 })
   pub size : length new.pool ≡ length old.pool
 
-pub makes_more : {S : Type 0} {pages : List (List ℕ)} {before : ℕ} {old mid : TableState S} → MakesRoom pages before old mid → (new : TableState S) → 1 < length (live_checkpoints mid) → has_room (length mid.pool) pages (live_checkpoints mid) ≡ false
+pub makes_more : {S : Type 0} {pages : List (List ℕ)} {before : ℕ} {old mid : TableState S} → MakesRoom pages before old mid → (new : TableState S) → 1 < length (live_checkpoints mid) → has_room_for_one (length mid.pool) pages (live_checkpoints mid) ≡ false
     → saved_of new ≡ remove (saved_of mid) 1 → live_checkpoints new ≡ without_entry (live_checkpoints mid) 1 → length new.pool ≡ length mid.pool → MakesRoom pages before old new
 makes_more {pages = pages} {before} {old} {mid} makes new more none saved live size =
     let gave = before - length (live_checkpoints mid) in
@@ -78,7 +78,7 @@ none_without (x ∷ xs) (suc i) sample none =
 
 none_in_room : (most slots : ℕ) (pages : List (List ℕ)) (live : List Checkpoint) (gave sample : ℕ) → stands_at live sample ≡ false → stands_at (room_made most slots pages (record { live = live; gave = gave })).live sample ≡ false
 none_in_room zero slots pages live gave sample none = none
-none_in_room (suc most) slots pages live gave sample none = elim (cases_Bool (has_room slots pages live)) [
+none_in_room (suc most) slots pages live gave sample none = elim (cases_Bool (has_room_for_one slots pages live)) [
   | inl room ↦ rw room none
   | inr full ↦ rw full (none_in_room most slots pages (without_entry live 1) (gave + 1) sample (none_without live 1 sample none))
 ]

@@ -5,7 +5,7 @@ ghost use Rattle.std.specs.List.{list_any, position, remove, remove_range};
 ghost use Rattle.std.specs.Vec.{SameBlock};
 ghost use Rattle.page_pool.specs.Pool.{most_pages, free_slots};
 ghost use Rattle.cut_form.specs.Checkpoints.{page_count, most_checkpoints, fewest_pages, pages_of, with_checkpoint, without_checkpoint, without_entry, stands_at, nearest};
-ghost use Rattle.cut_form.specs.Checkpoints.{shared_with_newest, own_slots, slots_needed, slots_free, has_room};
+ghost use Rattle.cut_form.specs.Checkpoints.{shared_with_newest, own_slots, slots_needed, slots_free, has_room_for_one};
 ghost use Rattle.cut_form.specs.Marks.{room_made};
 ghost use Rattle.cut_server.specs.Table.{Saved, live_checkpoints, saved_of, samples_of, newest_from, AreOwnersCounted};
 ghost use Rattle.cut_server.specs.IsServed.{BeginAtOpening};
@@ -229,8 +229,8 @@ impl<S: Copy> Table<S> {
     }
 
     /// Whether there is room for one of a memory.
-    fn has_room(&self, memory: &Aram) -> bool
-        ensures { result ≡ has_room (length self.now.pool) (pages_of memory.now) (live_checkpoints self.now) }
+    fn has_room_for_one(&self, memory: &Aram) -> bool
+        ensures { result ≡ has_room_for_one (length self.now.pool) (pages_of memory.now) (live_checkpoints self.now) }
     {
         self.len() < MOST_CHECKPOINTS as usize
             && own_slots(&self.shared_pages(memory)) <= self.free()
@@ -247,7 +247,7 @@ impl<S: Copy> Table<S> {
         ensures size { length self.new.pool ≡ length self.old.pool }
     {
         let before = self.len();
-        'marks: while self.len() > 1 && !self.has_room(memory) {
+        'marks: while self.len() > 1 && !self.has_room_for_one(memory) {
             self.remove(1);
         }
         (before - self.len()) as u32

@@ -8,7 +8,7 @@ ghost use Rattle.echo_unit.specs.EchoOverBatch.{pair_of};
 
 use crate::EchoRegs;
 use crate::echo::Echo;
-use crate::page::{PAGE, pair_in, put_pair};
+use crate::page::{PAGE_BYTES, pair_in, put_pair};
 use crate::rows::READ_SIZE;
 use aram_core::{Aram, PAGE_SIZE, page_of};
 use num_fix::BATCH_SIZE;
@@ -35,7 +35,7 @@ impl Echo {
     {
         let address = self.cell(regs.esa);
         let page = memory.page(page_of(address));
-        let at = usize::from(address % PAGE);
+        let at = usize::from(address % PAGE_BYTES);
         let from = 8 + usize::from(before);
         for i in 0..usize::from(cells) {
             let pair = pair_in(page, at + 4 * i);
@@ -91,7 +91,7 @@ impl Echo {
     {
         let address = self.cell(regs.esa);
         let page = page_of(address);
-        let at = usize::from(address % PAGE);
+        let at = usize::from(address % PAGE_BYTES);
         let from = usize::from(before);
         let mut bytes = [0; PAGE_SIZE];
         bytes.copy_from_slice(memory.page(page));

@@ -9,7 +9,7 @@ ghost use Rattle.echo_unit.specs.EchoOverBatch.{echo_over, pair_of, main_of, sen
 use crate::cell::{cell_address, cell_pair, put_cell};
 use crate::filter::filtered_pair;
 use crate::flg::has_echo_writes;
-use crate::page::PAGE;
+use crate::page::PAGE_BYTES;
 use crate::rows::{
     HeardRows, READ_SIZE, SILENCE, SumRows, feedback_row, filtered_row, frame_at, last_pairs,
     output_row, put_history,
@@ -178,7 +178,7 @@ impl Echo {
         if self.length_in_force(edl) == 0 {
             return 1;
         }
-        let in_page = (PAGE - self.offset % PAGE) / 4;
+        let in_page = (PAGE_BYTES - self.offset % PAGE_BYTES) / 4;
         u16::from(most).min(in_page) as u8
     }
 

@@ -6,7 +6,7 @@ use aram_core::PAGE_SIZE;
 use num_fix::{Frame, half};
 
 /// The bytes of a page, for addresses.
-pub(crate) const PAGE: u16 = PAGE_SIZE as u16;
+pub(crate) const PAGE_BYTES: u16 = PAGE_SIZE as u16;
 
 /// The word at a place of a page, read with a sign and halved.
 #[tactic(auto, unfolding(crate::specs::Page::halved_at))]

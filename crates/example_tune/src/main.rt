@@ -8,7 +8,7 @@ use spc_form::{Length, SpcRefusal, read_spc};
 use std::alloc::Global;
 use std::rt::Stdout;
 use std::{fs, io};
-use test_support::{Outcome, ROOM, host_with};
+use test_support::{OUTPUT_ROOM, Outcome, host_with};
 
 /// The tune, the table of weights that it is rendered over, and what a render of it writes.
 const TUNE: &str = "tune.spc";
@@ -37,14 +37,14 @@ fn length_of(alloc: Global, bytes: &[u8]) -> io::Result<Option<Length>> {
 
 /// What `info` tells of a file.
 fn told_of(alloc: Global, file: &[u8]) -> io::Result<Outcome> {
-    let mut host = host_with(alloc, &[(TUNE, file)], &[], ROOM)?;
+    let mut host = host_with(alloc, &[(TUNE, file)], &[], OUTPUT_ROOM)?;
     let refusal = info(alloc, &mut host, TUNE);
     Ok(Outcome::of(refusal, host))
 }
 
 /// A render of the first second.
 fn first_second(alloc: Global, file: &[u8], table: &[u8]) -> io::Result<Outcome> {
-    let mut host = host_with(alloc, &[(TUNE, file), (TABLE, table)], &[], ROOM)?;
+    let mut host = host_with(alloc, &[(TUNE, file), (TABLE, table)], &[], OUTPUT_ROOM)?;
     let options = RenderOptions {
         samples: Some(SECOND),
         trace: None,

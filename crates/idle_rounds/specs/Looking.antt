@@ -58,7 +58,7 @@ look_meaning sees = record {
   pass = λ s cycles. record s { clock = s.clock + cycles; calls = s.calls + 1 };
   calls = λ s. s.calls;
   clock = λ s. s.clock;
-  made = λ s. s.clock / CYCLES_PER_SAMPLE;
+  due = λ s. s.clock / CYCLES_PER_SAMPLE;
 }
 
 -- where the cycles of a script are those to the next sample, the processor halted

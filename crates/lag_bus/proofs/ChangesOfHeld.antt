@@ -264,10 +264,10 @@ module _ {S : Type 0} {chip : ChipMeaning S} (laws : IsLawfulChip chip) where
           records_used = length (late_of chip h).records;
         }
     late_settled batches total =
-        let made : h.number + h.pending + 0 ≡ h.number + h.pending = omega arith in
+        let due : h.number + h.pending + 0 ≡ h.number + h.pending = omega arith in
         let frames : length (h.frames ++ (pending_samples chip h).frames) + 0 ≡ length h.frames + h.pending = omega (arith, frames_count) in
         let records : length (late_of chip h).records + 0 + 8 * 0 ≡ length (late_of chip h).records = omega arith in
-        rw (samples_none, made, frames) (simp (merge_nothing, append-nil, records) refl)
+        rw (samples_none, due, frames) (simp (merge_nothing, append-nil, records) refl)
 
     -- nothing that is pending stands before the first pending sample
     pending_after : Each (λ r. is_before_sample h.number r ≡ false) (merge (filter (in_mask h.mask) (pending_samples chip h).records) h.ring)
@@ -338,8 +338,8 @@ module _ {S : Type 0} {chip : ChipMeaning S} (laws : IsLawfulChip chip) where
     pub late_chip : h.pending ≡ 0 → (late_of chip h).chip ≡ h.state
     late_chip none = rw (none, samples_none) refl
 
-    pub late_made : h.pending ≡ 0 → (late_of chip h).made ≡ h.number
-    late_made none = rw none (omega arith)
+    pub late_due : h.pending ≡ 0 → (late_of chip h).due ≡ h.number
+    late_due none = rw none (omega arith)
 
     pub late_memory : h.pending ≡ 0 → (late_of chip h).memory ≡ h.memory
     late_memory none = rw (none, samples_none) refl
@@ -371,12 +371,12 @@ module _ {S : Type 0} {chip : ChipMeaning S} (laws : IsLawfulChip chip) where
         record (late_of chip h) {
           chip = load (late_of chip h).chip;
           memory = memory;
-          made = number;
+          due = number;
           events = 0;
           reach = chip.reach (load (late_of chip h).chip) memory;
           frames_used = 0;
           records_used = 0;
         }
     late_loaded load number memory none frames records =
-        let made : number + 0 ≡ number = omega arith in
-        rw (none, is.none_waits none, held_frames none frames, held_records none records) (simp (samples_none, merge_nothing, made) refl)
+        let due : number + 0 ≡ number = omega arith in
+        rw (none, is.none_waits none, held_frames none frames, held_records none records) (simp (samples_none, merge_nothing, due) refl)

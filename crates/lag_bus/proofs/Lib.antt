@@ -14,10 +14,10 @@ pub mod PendingSamples
 pub mod CountsAddUp
 -- PageMarks: marks of pages that samples don't write
 pub mod PageMarks
--- SamplesDue: a bus at which some samples more are pending, and a pass from there
-pub mod SamplesDue
--- RoomOfDue: the room that samples take which fall due
-pub mod RoomOfDue
+-- FallenDue: a bus at which some samples more are pending, and a pass from there
+pub mod FallenDue
+-- RoomOfFallen: the room that samples take which fall due
+pub mod RoomOfFallen
 -- PassesOfAWait: the machine with its lag book passes cycles in which it is only looked at
 pub mod PassesOfAWait
 -- RoundsOfAWait: and it makes rounds of steps that only look

@@ -6,10 +6,10 @@ use Rattle.ports_timers.specs.Io.{is_within, read_answer, after_read, after_writ
 use Rattle.chip_form.specs.ChipMeaning.{ChipMeaning}
 use Rattle.lag_bus.specs.Held.{IsMemoryAlone}
 use Rattle.lag_bus.specs.Lagging.{Lagging, lagging, with_book, MatchesBook}
-use Rattle.lag_bus.specs.Waiting.{with_due}
-use Rattle.lag_bus.specs.Running.{due_at, caught_up, IsBehind}
+use Rattle.lag_bus.specs.Waiting.{with_fallen}
+use Rattle.lag_bus.specs.Running.{fallen_at, caught_up, IsBehind}
 use Rattle.lag_bus.proofs.LateTicks.{no_ticks, ticks_to_come}
-use Rattle.lag_bus.proofs.SamplesDue.{with_due-none, pass-with_due}
+use Rattle.lag_bus.proofs.FallenDue.{with_fallen-none, pass-with_fallen}
 use Rattle.spc700_exec.specs.declared.bus.TheConstants.{CYCLES_PER_SAMPLE}
 
 -- where memory alone is neither a port nor a timer nor the ROM is asked or told
@@ -50,8 +50,8 @@ module _ {S : Type 0} (chip : ChipMeaning S) (bus : Lagging S) where
   pub caught_up-book : caught_up chip bus.machine.clock bus.machine.calls bus ≡ with_book bus.machine bus.book
   caught_up-book =
       let m = bus.machine in
-      let none : due_at m.clock bus ≡ 0 = omega arith in
-      (λ i. with_due chip bus (none i) m.clock (no_ticks m.io m.clock i) m.calls) ∙ with_due-none chip bus
+      let none : fallen_at m.clock bus ≡ 0 = omega arith in
+      (λ i. with_fallen chip bus (none i) m.clock (no_ticks m.io m.clock i) m.calls) ∙ with_fallen-none chip bus
 
   pub caught_up-none : MatchesBook bus → caught_up chip bus.machine.clock bus.machine.calls bus ≡ bus
   caught_up-none matches =
@@ -60,12 +60,12 @@ module _ {S : Type 0} (chip : ChipMeaning S) (bus : Lagging S) where
 
   module _ (clock calls : ℕ) (behind : IsBehind clock calls bus) where
     -- cycles up to a moment at which fewer samples are pending than one batch has
-    pub pass-caught_up : (cycles : ℕ) → cycles ≤ CYCLES_PER_SAMPLE → bus.book.pending + due_at (clock + cycles) bus < 64
+    pub pass-caught_up : (cycles : ℕ) → cycles ≤ CYCLES_PER_SAMPLE → bus.book.pending + fallen_at (clock + cycles) bus < 64
         → (lagging chip).pass (caught_up chip clock calls bus) cycles ≡ caught_up chip (clock + cycles) (calls + 1) bus
     pass-caught_up cycles few free =
         let m = bus.machine in
-        pass-with_due chip bus (due_at clock bus) clock (after_ticks_of m.io m.clock (clock - m.clock)) calls cycles few behind.earlier refl free
-        ∙ (λ i. with_due chip bus (due_at (clock + cycles) bus) (clock + cycles) (sym (ticks_to_come m.io m.clock clock cycles behind.earlier) i) (calls + 1))
+        pass-with_fallen chip bus (fallen_at clock bus) clock (after_ticks_of m.io m.clock (clock - m.clock)) calls cycles few behind.earlier refl free
+        ∙ (λ i. with_fallen chip bus (fallen_at (clock + cycles) bus) (clock + cycles) (sym (ticks_to_come m.io m.clock clock cycles behind.earlier) i) (calls + 1))
 
-    few : bus.book.pending + due_at clock bus ≤ 64
+    few : bus.book.pending + fallen_at clock bus ≤ 64
     few = let free = behind.free in omega arith

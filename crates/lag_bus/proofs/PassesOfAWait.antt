@@ -4,8 +4,8 @@ use Rattle.ports_timers.specs.Io.{after_ticks_of}
 use Rattle.chip_form.specs.ChipMeaning.{ChipMeaning}
 use Rattle.lock_step.specs.LockStep.{crosses_sample}
 use Rattle.lag_bus.specs.Lagging.{Lagging, lagging}
-use Rattle.lag_bus.specs.Waiting.{samples_in, with_due, after_wait, without_calls, IsKept}
-use Rattle.lag_bus.proofs.SamplesDue.{with_due-none, pass-with_due}
+use Rattle.lag_bus.specs.Waiting.{samples_in, with_fallen, after_wait, without_calls, IsKept}
+use Rattle.lag_bus.proofs.FallenDue.{with_fallen-none, pass-with_fallen}
 use Rattle.ports_timers.proofs.Ticks.{after_ticks_of-then, after_ticks_of-none}
 use Rattle.spc700_exec.specs.declared.bus.TheConstants.{CYCLES_PER_SAMPLE}
 
@@ -23,8 +23,8 @@ module _ {S : Type 0} (chip : ChipMeaning S) where
       let clock : m.clock + n + cycles ≡ m.clock + (n + cycles) = omega arith in
       let there : bus.book.pending + ((m.clock + n + cycles) / CYCLES_PER_SAMPLE - m.clock / CYCLES_PER_SAMPLE) < 64 = omega arith in
       ap (λ (x : Lagging S). without_calls x)
-      (pass-with_due chip bus (samples_in m.clock n) (m.clock + n) (after_ticks_of m.io m.clock n) m.calls cycles few (omega arith) refl there)
-      ∙ (λ i. without_calls (with_due chip bus (clock i / CYCLES_PER_SAMPLE - m.clock / CYCLES_PER_SAMPLE) (clock i) (sym (after_ticks_of-then m.io m.clock n cycles) i) m.calls))
+      (pass-with_fallen chip bus (samples_in m.clock n) (m.clock + n) (after_ticks_of m.io m.clock n) m.calls cycles few (omega arith) refl there)
+      ∙ (λ i. without_calls (with_fallen chip bus (clock i / CYCLES_PER_SAMPLE - m.clock / CYCLES_PER_SAMPLE) (clock i) (sym (after_ticks_of-then m.io m.clock n cycles) i) m.calls))
 
   pub pass-wait : (bus s : Lagging S) (n cycles : ℕ) → without_calls s ≡ without_calls (after_wait chip bus n) → cycles ≤ CYCLES_PER_SAMPLE
       → bus.book.pending + samples_in bus.machine.clock (n + cycles) < 64
@@ -41,5 +41,5 @@ module _ {S : Type 0} (chip : ChipMeaning S) where
       let none : 0 ≡ samples_in m.clock 0 = omega arith in
       let clock : m.clock ≡ m.clock + 0 = omega arith in
       (λ i. record (without_calls bus) { chip_batches = kept.batches i; chip_sample = kept.sample i; chip_total = kept.total i })
-      ∙ ap (λ (x : Lagging S). without_calls x) (sym (with_due-none chip bus))
-      ∙ (λ i. without_calls (with_due chip bus (none i) (clock i) (sym (after_ticks_of-none m.io m.clock) i) m.calls))
+      ∙ ap (λ (x : Lagging S). without_calls x) (sym (with_fallen-none chip bus))
+      ∙ (λ i. without_calls (with_fallen chip bus (none i) (clock i) (sym (after_ticks_of-none m.io m.clock) i) m.calls))

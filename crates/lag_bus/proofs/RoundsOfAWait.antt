@@ -22,7 +22,7 @@ use Rattle.lag_bus.specs.Book.{may_be_written, cause_of_read, after_cause}
 use Rattle.lag_bus.specs.Lagging.{Lagging, lagging, with_book}
 use Rattle.idle_rounds.specs.Looking.{look_of_steps, after_n_steps, IsWaiting}
 use Rattle.ports_timers.specs.Zeros.{zeros_stay, counter_is_0, AreTimers}
-use Rattle.lag_bus.specs.Waiting.{only_looks, byte_seen, samples_in, with_due, after_wait, without_calls, IsKept}
+use Rattle.lag_bus.specs.Waiting.{only_looks, byte_seen, samples_in, with_fallen, after_wait, without_calls, IsKept}
 use Rattle.ports_timers.proofs.Stays.{read_answer-stays, after_read-stays}
 use Rattle.ports_timers.proofs.Fewer.{zeros_stay-less}
 use Rattle.lag_bus.proofs.PassesOfAWait.{pass-wait, wait-none}
@@ -126,30 +126,30 @@ module _ {S : Type 0} (chip : ChipMeaning S) where
       }
 
   -- what a bus shows with some samples more that are pending, at a later moment of the clock
-  pub lagging_of-due : (late : Late S) (io there : Io) (counts : Counts) (calls now clock later due : ℕ) → late.batches ≡ counts.batches → late.made ≡ clock / CYCLES_PER_SAMPLE → late.made + due ≡ later / CYCLES_PER_SAMPLE
-      → lagging_of (late_with_samples chip late due) there later counts now ≡ with_due chip (lagging_of late io clock counts calls) due later there now
-  lagging_of-due late io there counts calls now clock later due batches made number =
+  pub lagging_of-fallen : (late : Late S) (io there : Io) (counts : Counts) (calls now clock later fallen : ℕ) → late.batches ≡ counts.batches → late.due ≡ clock / CYCLES_PER_SAMPLE → late.due + fallen ≡ later / CYCLES_PER_SAMPLE
+      → lagging_of (late_with_samples chip late fallen) there later counts now ≡ with_fallen chip (lagging_of late io clock counts calls) fallen later there now
+  lagging_of-fallen late io there counts calls now clock later fallen batches due number =
       λ i. record {
         machine = record {
-          memory = (samples chip.one_sample due (made i) late.chip late.memory).memory;
+          memory = (samples chip.one_sample fallen (due i) late.chip late.memory).memory;
           io = there;
-          chip = (samples chip.one_sample due (made i) late.chip late.memory).state;
+          chip = (samples chip.one_sample fallen (due i) late.chip late.memory).state;
           mask = late.mask;
           clock = later;
-          frames = late.frames ++ (samples chip.one_sample due (made i) late.chip late.memory).frames;
-          records = late.records ++ filter (in_mask late.mask) (samples chip.one_sample due (made i) late.chip late.memory).records;
+          frames = late.frames ++ (samples chip.one_sample fallen (due i) late.chip late.memory).frames;
+          records = late.records ++ filter (in_mask late.mask) (samples chip.one_sample fallen (due i) late.chip late.memory).records;
           calls = now;
         };
-        book = record { pending = late.pending + due; events = late.events; reach = late.reach; counts = counts; total = late.total };
+        book = record { pending = late.pending + fallen; events = late.events; reach = late.reach; counts = counts; total = late.total };
         chip_batches = batches i;
-        chip_sample = number i - (late.pending + due);
+        chip_sample = number i - (late.pending + fallen);
         chip_total = late.total;
       }
 
   -- what a bus shows after a wait
-  pub lagging_of-wait : (late : Late S) (io : Io) (clock : ℕ) (counts : Counts) (calls cycles due : ℕ) → late.batches ≡ counts.batches → late.made ≡ clock / CYCLES_PER_SAMPLE → due ≡ samples_in clock cycles
-      → lagging_of (late_with_samples chip late due) (after_ticks_of io clock cycles) (clock + cycles) counts calls ≡ after_wait chip (lagging_of late io clock counts calls) cycles
-  lagging_of-wait late io clock counts calls cycles due batches made is =
+  pub lagging_of-wait : (late : Late S) (io : Io) (clock : ℕ) (counts : Counts) (calls cycles fallen : ℕ) → late.batches ≡ counts.batches → late.due ≡ clock / CYCLES_PER_SAMPLE → fallen ≡ samples_in clock cycles
+      → lagging_of (late_with_samples chip late fallen) (after_ticks_of io clock cycles) (clock + cycles) counts calls ≡ after_wait chip (lagging_of late io clock counts calls) cycles
+  lagging_of-wait late io clock counts calls cycles fallen batches due is =
       let ticked = after_ticks_of io clock cycles in
-      lagging_of-due late io ticked counts calls calls clock (clock + cycles) due batches made (omega arith)
-      ∙ (λ i. with_due chip (lagging_of late io clock counts calls) (is i) (clock + cycles) ticked calls)
+      lagging_of-fallen late io ticked counts calls calls clock (clock + cycles) fallen batches due (omega arith)
+      ∙ (λ i. with_fallen chip (lagging_of late io clock counts calls) (is i) (clock + cycles) ticked calls)

@@ -47,7 +47,7 @@ module _ {B : Type 0} (bus : BusMeaning B) where
 module _ {S : Type 0} (chip : ChipMeaning S) (samples : ℕ) (cpu : Cpu) (old : Lagging S) (here next : Cpu) where
   -- one step more on the bus
   pub one_step_on : (there new : Lagging S)
-      → AreStepsOf (lagging chip) (lag_emits chip) samples cpu old here there → (lagging chip).made there < samples
+      → AreStepsOf (lagging chip) (lag_emits chip) samples cpu old here there → (lagging chip).due there < samples
       → (next, new) ≡ step_outcome (lagging chip) here there
       → AreStepsOf (lagging chip) (lag_emits chip) samples cpu old next new
   one_step_on there new = one_step_more (lagging chip) (lag_emits chip) samples cpu old (lagging-lawful chip) (emits_frames chip) (emits_records chip) here there next new

@@ -36,10 +36,10 @@ module _ {S V : Type 0} (chip : ChipMeaning S) (saving : ChipSaving S V) where
   of_book bus sample total (Load saved memory ∷ calls) = of_book ((lagging_calls chip saving).load saved memory bus) refl refl calls
 
 -- a chip that counts on, by the numbers of its samples
-pub samples_of_count : (made pending total new_made new_pending new_total : ℕ) → CountsOn made pending total new_made new_pending new_total
-    → pending ≤ made → total < 2 ^ 64
-    → (made - pending ≤ new_made - new_pending) × (new_total ≡ count_after total (new_made - new_pending - (made - pending)))
-samples_of_count made pending total new_made new_pending new_total counts few fits =
+pub samples_of_count : (due pending total new_due new_pending new_total : ℕ) → CountsOn due pending total new_due new_pending new_total
+    → pending ≤ due → total < 2 ^ 64
+    → (due - pending ≤ new_due - new_pending) × (new_total ≡ count_after total (new_due - new_pending - (due - pending)))
+samples_of_count due pending total new_due new_pending new_total counts few fits =
     let rises = counts.rises in
     let all = counts.counted fits in
     (omega arith, omega arith)

@@ -36,30 +36,30 @@ both_then {S} sample (suc n) p k s memory =
     ∙ ap (λ (j : ℕ). and_then before (samples sample j (k + p) before.state before.memory)) (sym one)
 
 module _ {S : Type 0} {chip : ChipMeaning S} (laws : IsLawfulChip chip) {h : Held S} (is : IsHeld chip h) where
-  pub late_writes : AreWritesWithin chip (late_of chip h).reach (late_of chip h).pending (late_of chip h).made (late_of chip h).chip (late_of chip h).memory
-  late_writes due at few free =
-      let both = both_then chip.one_sample due h.pending h.number h.state h.memory in
+  pub late_writes : AreWritesWithin chip (late_of chip h).reach (late_of chip h).pending (late_of chip h).due (late_of chip h).chip (late_of chip h).memory
+  late_writes fallen at few free =
+      let both = both_then chip.one_sample fallen h.pending h.number h.state h.memory in
       sym (ap (λ (r : SamplesResult S). byte_at r.memory at) both)
-      ∙ laws.writes_inside (due + h.pending) h.number h.state h.memory at (omega arith) is.is_valid free
+      ∙ laws.writes_inside (fallen + h.pending) h.number h.state h.memory at (omega arith) is.is_valid free
       ∙ sym (laws.writes_inside h.pending h.number h.state h.memory at is.pending is.is_valid free)
 
-  pub late_reads : AreReadsWithin chip (late_of chip h).reach (late_of chip h).pending (late_of chip h).made (late_of chip h).chip (late_of chip h).memory
-  late_reads due at value few free =
+  pub late_reads : AreReadsWithin chip (late_of chip h).reach (late_of chip h).pending (late_of chip h).due (late_of chip h).chip (late_of chip h).memory
+  late_reads fallen at value few free =
       let put = with_byte h.memory at value in
       let before : SamplesResult S = pending_samples chip h in
-      let more : SamplesResult S = samples chip.one_sample due (h.number + h.pending) before.state before.memory in
-      let after : SamplesResult S = samples chip.one_sample due (h.number + h.pending) before.state (with_byte before.memory at value) in
+      let more : SamplesResult S = samples chip.one_sample fallen (h.number + h.pending) before.state before.memory in
+      let after : SamplesResult S = samples chip.one_sample fallen (h.number + h.pending) before.state (with_byte before.memory at value) in
       let apart = or_parts _ _ free in
       let law : (n : ℕ) → n ≤ 64 → samples chip.one_sample n h.number h.state put
       ≡ record (samples chip.one_sample n h.number h.state h.memory) { memory = with_byte (samples chip.one_sample n h.number h.state h.memory).memory at value } =
       λ n most. laws.reads_inside n h.number h.state h.memory at value most is.is_valid apart.0 apart.1 in
-      let both = both_then chip.one_sample due h.pending h.number h.state h.memory in
-      let both_put = both_then chip.one_sample due h.pending h.number h.state put in
+      let both = both_then chip.one_sample fallen h.pending h.number h.state h.memory in
+      let both_put = both_then chip.one_sample fallen h.pending h.number h.state put in
       let first = law h.pending is.pending in
       let same : and_then before after ≡ record (and_then before more) { memory = with_byte more.memory at value } =
-      sym (ap (λ (r : SamplesResult S). and_then r (samples chip.one_sample due (h.number + h.pending) r.state r.memory)) first)
+      sym (ap (λ (r : SamplesResult S). and_then r (samples chip.one_sample fallen (h.number + h.pending) r.state r.memory)) first)
       ∙ sym both_put
-      ∙ law (due + h.pending) (omega arith)
+      ∙ law (fallen + h.pending) (omega arith)
       ∙ ap (λ (r : SamplesResult S). record r { memory = with_byte r.memory at value }) both in
       let state = ap (λ (r : SamplesResult S). r.state) same in
       let memory = ap (λ (r : SamplesResult S). r.memory) same in

@@ -25,13 +25,13 @@ lagging_of late io clock counts calls = record {
   };
   book = record { pending = late.pending; events = late.events; reach = late.reach; counts = counts; total = late.total };
   chip_batches = late.batches;
-  chip_sample = late.made - late.pending;
+  chip_sample = late.due - late.pending;
   chip_total = late.total;
 }
 
 pub record IsLagging {S : Type 0} (late : Late S) (counts : Counts) (clock calls : ℕ) : Type 0 where
   pub same_batches : late.batches ≡ counts.batches
-  pub same_made : late.made ≡ clock / CYCLES_PER_SAMPLE
+  pub same_due : late.due ≡ clock / CYCLES_PER_SAMPLE
   pub pending : late.pending < most_samples_of_batch
   pub events : late.events ≤ event_room
   -- each call takes room for at most a frame and eight records, beside what the pending samples and the events took before

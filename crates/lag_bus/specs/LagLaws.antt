@@ -98,7 +98,7 @@ module _ {S : Type 0} (chip : ChipMeaning S) where
     pass_frames = λ bus cycles few. (plain.frame_each chip).pass_frames bus.machine cycles few;
   }
 
-  -- a settling, where k samples are made or pending
+  -- a settling, where k samples are due
   settled : (k p t : ℕ) (b : Bool) → (p == 0) ≡ b → CountsOn k p t k 0 (if b then t else count_after t p)
   settled k p t true is = let none : p ≡ 0 = grind (arith, nat_tests) in record { rises = omega arith; counted = λ fits. omega arith }
   settled k p t false is = record { rises = omega arith; counted = λ fits. omega arith }
@@ -129,9 +129,9 @@ module _ {S : Type 0} (chip : ChipMeaning S) where
 
   counts-pass : (bus : Lagging S) (cycles : ℕ) (m : Machine S) (b : Bool) → crosses_sample bus.machine.clock cycles ≡ b → cycles ≤ CYCLES_PER_SAMPLE
       → (let new = if b then with_sample chip m bus.book else bus.book in
-      let made = bus.machine.clock / CYCLES_PER_SAMPLE in
+      let due = bus.machine.clock / CYCLES_PER_SAMPLE in
       let next = (bus.machine.clock + cycles) / CYCLES_PER_SAMPLE in
-      CountsOn made bus.book.pending bus.book.total next new.pending new.total)
+      CountsOn due bus.book.pending bus.book.total next new.pending new.total)
   counts-pass bus cycles m true is few =
       let next : (bus.machine.clock + cycles) / CYCLES_PER_SAMPLE ≡ bus.machine.clock / CYCLES_PER_SAMPLE + 1 = grind (arith, nat_tests) in
       one_more next (counts-full (bus.machine.clock / CYCLES_PER_SAMPLE) m (record bus.book { pending = bus.book.pending + 1 }) _)

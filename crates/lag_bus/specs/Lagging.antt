@@ -4,7 +4,7 @@ use Rattle.spc700_exec.specs.Bus.{BusMeaning}
 use Rattle.lag_bus.specs.declared.cause.Cause.TheVariants.{End}
 use Rattle.chip_form.specs.ChipMeaning.{ChipMeaning}
 use Rattle.lock_step.specs.Machine.{Machine}
-use Rattle.lock_step.specs.LockStep.{samples_made, bus_answer, after_bus_read, after_bus_write, after_bus_pass, crosses_sample}
+use Rattle.lock_step.specs.LockStep.{samples_due, bus_answer, after_bus_read, after_bus_write, after_bus_pass, crosses_sample}
 use Rattle.lag_bus.specs.Book.{Book, cause_of_read, cause_of_write, after_cause, with_event, with_sample, settled_book, with_reach_of, opened_lag_book}
 
 pub record Lagging (S : Type 0) : Type 0 where
@@ -22,16 +22,16 @@ with_book machine book = record {
   machine = machine;
   book = book;
   chip_batches = book.counts.batches;
-  chip_sample = samples_made machine - book.pending;
+  chip_sample = samples_due machine - book.pending;
   chip_total = book.total;
 }
 
 -- What each bus in hand tells of its chip: its numbers are those of the book.
 pub record MatchesBook {S : Type 0} (bus : Lagging S) : Type 0 where
   pub batches : bus.chip_batches ≡ bus.book.counts.batches
-  pub sample : bus.chip_sample ≡ samples_made bus.machine - bus.book.pending
+  pub sample : bus.chip_sample ≡ samples_due bus.machine - bus.book.pending
   pub total : bus.chip_total ≡ bus.book.total
-  pub pending : bus.book.pending ≤ samples_made bus.machine
+  pub pending : bus.book.pending ≤ samples_due bus.machine
   pub fits : bus.chip_total < 2 ^ 64
 
 -- at its opening, over a chip that made so many samples in all
@@ -68,5 +68,5 @@ lagging chip = record {
   pass = λ bus cycles. with_book (after_bus_pass chip bus.machine cycles) (book_after_pass chip bus cycles);
   calls = λ bus. bus.machine.calls;
   clock = λ bus. bus.machine.clock;
-  made = λ bus. samples_made bus.machine;
+  due = λ bus. samples_due bus.machine;
 }

@@ -17,8 +17,8 @@ pub record Late (S : Type 0) : Type 0 where
   pub frames : List Frame
   pub records : List Record
   pub mask : ℕ
-  -- the samples made or pending, those pending, and the events that wait for them
-  pub made : ℕ
+  -- the samples that are due, those pending, and the events that wait for them
+  pub due : ℕ
   pub pending : ℕ
   pub events : ℕ
   -- the reach before the pending samples, and the batches and the samples that the chip made in all
@@ -32,43 +32,43 @@ pub record Late (S : Type 0) : Type 0 where
 -- one sample more that is pending
 abbrev pub late_with_sample : {S : Type 0} → ChipMeaning S → Late S → Late S
 late_with_sample chip late =
-    let made = chip.one_sample late.made late.chip late.memory in
+    let made = chip.one_sample late.due late.chip late.memory in
     record late {
       chip = made.state;
       memory = made.memory;
       frames = late.frames ++ made.frame ∷ [];
       records = late.records ++ filter (in_mask late.mask) made.records;
-      made = late.made + 1;
+      due = late.due + 1;
       pending = late.pending + 1;
       frames_used = late.frames_used + 1;
       records_used = late.records_used + 8;
     }
 
 -- and so many of them
-abbrev pub late_with_samples : {S : Type 0} → ChipMeaning S → Late S → (due : ℕ) → Late S
-late_with_samples chip late due =
-    let made = samples chip.one_sample due late.made late.chip late.memory in
+abbrev pub late_with_samples : {S : Type 0} → ChipMeaning S → Late S → (fallen : ℕ) → Late S
+late_with_samples chip late fallen =
+    let made = samples chip.one_sample fallen late.due late.chip late.memory in
     record late {
       chip = made.state;
       memory = made.memory;
       frames = late.frames ++ made.frames;
       records = late.records ++ filter (in_mask late.mask) made.records;
-      made = late.made + due;
-      pending = late.pending + due;
-      frames_used = late.frames_used + due;
-      records_used = late.records_used + 8 * due;
+      due = late.due + fallen;
+      pending = late.pending + fallen;
+      frames_used = late.frames_used + fallen;
+      records_used = late.records_used + 8 * fallen;
     }
 
 -- Samples to come write where the reach before the pending ones says: from a state and memory after these, as many as make no
 -- more than one batch with them.
-abbrev pub AreWritesWithin : {S : Type 0} → ChipMeaning S → ReachPages → (pending made : ℕ) → S → (memory : List ℕ) → Type 0
-AreWritesWithin chip reach pending made state memory =
-    (due at : ℕ) → pending + due ≤ most_samples_of_batch → may_be_written reach at ≡ false
-    → byte_at (samples chip.one_sample due made state memory).memory at ≡ byte_at memory at
+abbrev pub AreWritesWithin : {S : Type 0} → ChipMeaning S → ReachPages → (pending due : ℕ) → S → (memory : List ℕ) → Type 0
+AreWritesWithin chip reach pending due state memory =
+    (fallen at : ℕ) → pending + fallen ≤ most_samples_of_batch → may_be_written reach at ≡ false
+    → byte_at (samples chip.one_sample fallen due state memory).memory at ≡ byte_at memory at
 
 -- Samples to come read where the reach before the pending ones says: a byte put elsewhere is put into what they leave, and else changes nothing.
-abbrev pub AreReadsWithin : {S : Type 0} → ChipMeaning S → ReachPages → (pending made : ℕ) → S → (memory : List ℕ) → Type 0
-AreReadsWithin chip reach pending made state memory =
-    (due at value : ℕ) → pending + due ≤ most_samples_of_batch → may_be_read reach at ≡ false
-    → samples chip.one_sample due made state (with_byte memory at value)
-    ≡ record (samples chip.one_sample due made state memory) { memory = with_byte (samples chip.one_sample due made state memory).memory at value }
+abbrev pub AreReadsWithin : {S : Type 0} → ChipMeaning S → ReachPages → (pending due : ℕ) → S → (memory : List ℕ) → Type 0
+AreReadsWithin chip reach pending due state memory =
+    (fallen at value : ℕ) → pending + fallen ≤ most_samples_of_batch → may_be_read reach at ≡ false
+    → samples chip.one_sample fallen due state (with_byte memory at value)
+    ≡ record (samples chip.one_sample fallen due state memory) { memory = with_byte (samples chip.one_sample fallen due state memory).memory at value }

@@ -4,28 +4,28 @@ use Rattle.spc700_exec.specs.Bus.{BusMeaning, most_calls}
 use Rattle.ports_timers.specs.Io.{after_ticks_of}
 use Rattle.chip_form.specs.Limits.{most_samples_of_batch, most_samples_of_chip}
 use Rattle.chip_form.specs.ChipMeaning.{ChipMeaning}
-use Rattle.lock_step.specs.LockStep.{samples_made}
+use Rattle.lock_step.specs.LockStep.{samples_due}
 use Rattle.lag_bus.specs.Lagging.{Lagging}
 use Rattle.lag_bus.specs.Late.{AreWritesWithin, AreReadsWithin}
 use Rattle.lag_bus.specs.Ready.{NoneIsReady}
-use Rattle.lag_bus.specs.Waiting.{samples_due, with_due}
+use Rattle.lag_bus.specs.Waiting.{samples_between, with_fallen}
 use Rattle.spc700_exec.specs.declared.bus.TheConstants.{CYCLES_PER_SAMPLE}
 
 -- the samples that fall due up to a later moment of the clock
-abbrev pub due_at : {S : Type 0} → (clock : ℕ) → Lagging S → ℕ
-due_at clock bus = samples_due bus.machine.clock clock
+abbrev pub fallen_at : {S : Type 0} → (clock : ℕ) → Lagging S → ℕ
+fallen_at clock bus = samples_between bus.machine.clock clock
 
 -- the bus at a later moment of the clock with so many calls: the timers ticked, and the samples that fell due are pending
 abbrev pub caught_up : {S : Type 0} → ChipMeaning S → (clock calls : ℕ) → Lagging S → Lagging S
 caught_up chip clock calls bus =
-    with_due chip bus (due_at clock bus) clock (after_ticks_of bus.machine.io bus.machine.clock (clock - bus.machine.clock)) calls
+    with_fallen chip bus (fallen_at clock bus) clock (after_ticks_of bus.machine.io bus.machine.clock (clock - bus.machine.clock)) calls
 
 -- samples to come write and read where the book's reach says
 abbrev pub WritesWithin : {S : Type 0} → ChipMeaning S → Lagging S → Type 0
-WritesWithin chip bus = AreWritesWithin chip bus.book.reach bus.book.pending (samples_made bus.machine) bus.machine.chip bus.machine.memory
+WritesWithin chip bus = AreWritesWithin chip bus.book.reach bus.book.pending (samples_due bus.machine) bus.machine.chip bus.machine.memory
 
 abbrev pub ReadsWithin : {S : Type 0} → ChipMeaning S → Lagging S → Type 0
-ReadsWithin chip bus = AreReadsWithin chip bus.book.reach bus.book.pending (samples_made bus.machine) bus.machine.chip bus.machine.memory
+ReadsWithin chip bus = AreReadsWithin chip bus.book.reach bus.book.pending (samples_due bus.machine) bus.machine.chip bus.machine.memory
 
 -- nothing is to be handed over but what waits for pending samples
 abbrev pub IsDrained : {S : Type 0} → Lagging S → Type 0
@@ -35,14 +35,14 @@ IsDrained bus = NoneIsReady bus.book.pending bus.chip_sample bus.machine.frames 
 -- have room for those that fell due: each had a call of its own, or all that can be handed over had been.
 pub record IsBehind {S : Type 0} (clock calls : ℕ) (bus : Lagging S) : Type 0 where
   pub earlier : bus.machine.clock ≤ clock
-  pub free : bus.book.pending + due_at clock bus < most_samples_of_batch
-  pub counted : (bus.machine.calls + due_at clock bus ≤ calls) ⊎ IsDrained bus
+  pub free : bus.book.pending + fallen_at clock bus < most_samples_of_batch
+  pub counted : (bus.machine.calls + fallen_at clock bus ≤ calls) ⊎ IsDrained bus
   pub few : calls ≤ most_calls
   pub fits : clock / CYCLES_PER_SAMPLE ≤ most_samples_of_chip
 
 -- It may be left behind up to such a moment: before it, fewer samples are pending than one batch has at most, and the run isn't at its end.
 pub record MayFallBehind {S : Type 0} (until samples : ℕ) (bus : Lagging S) : Type 0 where
-  pub free : bus.book.pending + due_at (until - 1) bus < most_samples_of_batch
+  pub free : bus.book.pending + fallen_at (until - 1) bus < most_samples_of_batch
   pub before_end : until ≤ CYCLES_PER_SAMPLE * samples
 
 -- a bus in hand, which one it is, and the samples of the run that it is in hand for
@@ -59,5 +59,5 @@ running bus = record {
   pass = λ r cycles. record r { bus = bus.pass r.bus cycles };
   calls = λ r. bus.calls r.bus;
   clock = λ r. bus.clock r.bus;
-  made = λ r. bus.made r.bus;
+  due = λ r. bus.due r.bus;
 }

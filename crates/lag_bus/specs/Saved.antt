@@ -4,7 +4,7 @@ use Rattle.chip_form.specs.Limits.{most_samples_of_chip}
 use Rattle.chip_form.specs.ChipMeaning.{ChipMeaning}
 use Rattle.chip_form.specs.ChipSaving.{ChipSaving}
 use Rattle.lock_step.specs.Machine.{Machine}
-use Rattle.lock_step.specs.LockStep.{samples_made}
+use Rattle.lock_step.specs.LockStep.{samples_due}
 use Rattle.lag_bus.specs.declared.saved.BusState.{BusState}
 use Rattle.lag_bus.specs.Book.{book_after_load}
 use Rattle.lag_bus.specs.Lagging.{Lagging, with_book}
@@ -12,7 +12,7 @@ use Rattle.spc700_exec.specs.declared.bus.TheConstants.{CYCLES_PER_SAMPLE}
 
 -- what is saved of a machine
 abbrev pub saved_bus : {S V : Type 0} → ChipSaving S V → Machine S → BusState V
-saved_bus saving m = record { io = m.io; clock = m.clock; chip = saving.saved m.chip (samples_made m) }
+saved_bus saving m = record { io = m.io; clock = m.clock; chip = saving.saved m.chip (samples_due m) }
 
 -- What can be loaded, as all that is saved: the clock stands before the chip's next sample, and the chip may still make it.
 pub record CanBeLoaded {S V : Type 0} (saving : ChipSaving S V) (saved : BusState V) : Type 0 where

@@ -6,7 +6,7 @@ use Rattle.ports_timers.specs.declared.io.Io.{Io}
 use Rattle.ports_timers.specs.Io.{after_ticks_of}
 use Rattle.chip_form.specs.Samples.{samples, in_mask}
 use Rattle.chip_form.specs.ChipMeaning.{ChipMeaning}
-use Rattle.lock_step.specs.LockStep.{samples_made, bus_answer}
+use Rattle.lock_step.specs.LockStep.{samples_due, bus_answer}
 use Rattle.lag_bus.specs.Book.{may_be_written}
 use Rattle.lag_bus.specs.Lagging.{Lagging, lagging, with_book}
 use Rattle.lag_bus.specs.Late.{AreWritesWithin}
@@ -26,18 +26,18 @@ abbrev pub byte_seen : {S : Type 0} → ChipMeaning S → Lagging S → (at : �
 byte_seen chip bus at = if only_looks bus.book.reach bus.machine.io at then Some (bus_answer chip bus.machine at) else None
 
 -- the samples that fall due from one moment of the clock to a later one
-abbrev pub samples_due : (from to : ℕ) → ℕ
-samples_due from to = to / CYCLES_PER_SAMPLE - from / CYCLES_PER_SAMPLE
+abbrev pub samples_between : (from to : ℕ) → ℕ
+samples_between from to = to / CYCLES_PER_SAMPLE - from / CYCLES_PER_SAMPLE
 
 -- the samples that fall due in some cycles
 abbrev pub samples_in : (clock cycles : ℕ) → ℕ
-samples_in clock cycles = samples_due clock (clock + cycles)
+samples_in clock cycles = samples_between clock (clock + cycles)
 
 -- The bus at a later moment of the clock, at which so many samples more are pending: the machine has what they leave and emit, as it always has.
-abbrev pub with_due : {S : Type 0} → ChipMeaning S → Lagging S → (due clock : ℕ) → Io → (calls : ℕ) → Lagging S
-with_due chip bus due clock io calls =
+abbrev pub with_fallen : {S : Type 0} → ChipMeaning S → Lagging S → (fallen clock : ℕ) → Io → (calls : ℕ) → Lagging S
+with_fallen chip bus fallen clock io calls =
     let m = bus.machine in
-    let made = samples chip.one_sample due (samples_made m) m.chip m.memory in
+    let made = samples chip.one_sample fallen (samples_due m) m.chip m.memory in
     with_book
     (record m {
       memory = made.memory;
@@ -48,14 +48,14 @@ with_due chip bus due clock io calls =
       records = m.records ++ filter (in_mask m.mask) made.records;
       calls = calls;
     })
-    (record bus.book { pending = bus.book.pending + due })
+    (record bus.book { pending = bus.book.pending + fallen })
 
 -- The bus after so many cycles alone, while fewer samples are pending than one batch has at most: the timers ticked, and the samples that fell due
 -- are pending.
 abbrev pub after_wait : {S : Type 0} → ChipMeaning S → Lagging S → (cycles : ℕ) → Lagging S
 after_wait chip bus cycles =
     let m = bus.machine in
-    with_due chip bus (samples_in m.clock cycles) (m.clock + cycles) (after_ticks_of m.io m.clock cycles) m.calls
+    with_fallen chip bus (samples_in m.clock cycles) (m.clock + cycles) (after_ticks_of m.io m.clock cycles) m.calls
 
 -- a bus but for the number of its calls, which nothing depends on but the next drain
 abbrev pub without_calls : {S : Type 0} → Lagging S → Lagging S
@@ -64,9 +64,9 @@ without_calls bus = record bus { machine = record bus.machine { calls = 0 } }
 -- what a bus that lags keeps: its chip made what the book says, and samples that come write where the book's reach says
 pub record IsKept {S : Type 0} (chip : ChipMeaning S) (bus : Lagging S) : Type 0 where
   pub batches : bus.chip_batches ≡ bus.book.counts.batches
-  pub sample : bus.chip_sample ≡ samples_made bus.machine - bus.book.pending
+  pub sample : bus.chip_sample ≡ samples_due bus.machine - bus.book.pending
   pub total : bus.chip_total ≡ bus.book.total
-  pub writes : AreWritesWithin chip bus.book.reach bus.book.pending (samples_made bus.machine) bus.machine.chip bus.machine.memory
+  pub writes : AreWritesWithin chip bus.book.reach bus.book.pending (samples_due bus.machine) bus.machine.chip bus.machine.memory
 
 -- Over cycles in which no counter that is 0 leaves 0, and at whose end fewer samples are pending than one batch has at most, rounds of
 -- steps that only look bring the registers back, and the bus to where their cycles alone bring it, but for the number of its calls.

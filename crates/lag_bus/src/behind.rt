@@ -4,7 +4,7 @@ ghost use Rattle.aram_core.specs.Memory.{byte_at, with_byte};
 ghost use Rattle.chip_form.specs.Limits.{most_samples_of_batch, most_samples_of_chip};
 ghost use Rattle.spc700_exec.specs.Bus.{most_calls, most_calls_before_step};
 ghost use Rattle.spc700_exec.specs.Instruction.{step_outcome};
-ghost use Rattle.lock_step.specs.LockStep.{samples_made};
+ghost use Rattle.lock_step.specs.LockStep.{samples_due};
 ghost use Rattle.lag_bus.specs.Book.{may_be_read, may_be_written};
 ghost use Rattle.lag_bus.specs.Held.{IsMemoryAlone};
 ghost use Rattle.lag_bus.specs.Lagging.{Lagging, lagging, MatchesBook};
@@ -61,7 +61,7 @@ pub trait BehindBus {
 
     /// The clock at which as many samples are pending as one batch has at most, unless some are made before.
     fn full_clock(&self) -> u64
-        ensures clock { result ≡ CYCLES_PER_SAMPLE * (samples_made (shows self.now).machine + (most_samples_of_batch - (shows self.now).book.pending)) }
+        ensures clock { result ≡ CYCLES_PER_SAMPLE * (samples_due (shows self.now).machine + (most_samples_of_batch - (shows self.now).book.pending)) }
         ensures free { (shows self.now).book.pending < most_samples_of_batch };
 
     /// Begins the calls anew, where nothing is to be drained but what waits for pending samples.

@@ -7,7 +7,7 @@ ghost use Rattle.trace_form.specs.Rooms.{record_room, event_room};
 ghost use Rattle.num_fix.specs.Limits.{most_frames};
 ghost use Rattle.chip_form.specs.Limits.{most_samples_of_batch};
 ghost use Rattle.lock_step.specs.Machine.{opened_machine};
-ghost use Rattle.lock_step.specs.LockStep.{samples_made, writes_register, writes_port, write_records};
+ghost use Rattle.lock_step.specs.LockStep.{samples_due, writes_register, writes_port, write_records};
 ghost use Rattle.lag_bus.specs.Ready.{ready_frames, ready_records};
 ghost use Rattle.lag_bus.specs.Book.{counts_with_batch, AddsUp, may_be_read, may_be_written};
 ghost use Rattle.lag_bus.specs.Lagging.{lagging, opened_lagging, after_settle, MatchesBook};
@@ -116,7 +116,7 @@ impl<C: Chip> LagBus<C> {
         ensures sample { C.sample result.now ≡ self.now.chip_sample }
         ensures total { C.total result.now ≡ self.now.chip_total }
         ensures counted { C.batches result.now ≡ self.now.book.counts.batches }
-        ensures made { C.sample result.now ≡ samples_made self.now.machine - self.now.book.pending }
+        ensures made { C.sample result.now ≡ samples_due self.now.machine - self.now.book.pending }
         ensures all { C.total result.now ≡ self.now.book.total }
         ensures state { self.now.book.pending ≡ 0 → C.state result.now ≡ self.now.machine.chip }
     {
@@ -136,7 +136,7 @@ impl<C: Chip> LagBus<C> {
         ensures counts { result ≡ self.now.book.counts }
         ensures adds_up { AddsUp result }
         ensures batches { self.now.chip_batches ≡ result.batches }
-        ensures sample { self.now.chip_sample ≡ samples_made self.now.machine - self.now.book.pending }
+        ensures sample { self.now.chip_sample ≡ samples_due self.now.machine - self.now.book.pending }
     {
         self.counts
     }
@@ -252,7 +252,7 @@ impl<C: Chip> LagBus<C> {
 
     /// Cycles for which it can be waited before the end of a run to so many samples.
     fn cycles_to_wait(&self, samples: u32) -> u64
-        requires more { samples_made self.now.machine < samples }
+        requires more { samples_due self.now.machine < samples }
         requires few { samples ≤ most_frames }
         ensures zeros { zeros_stay self.now.machine.io self.now.machine.clock result ≡ true }
         ensures free { self.now.book.pending + samples_in self.now.machine.clock result < most_samples_of_batch }
@@ -270,12 +270,12 @@ impl<C: Chip> LagBus<C> {
     /// A write of F0h to FFh.
     // Out of line, as what is rarer than an access of memory alone.
     #[inline(never)]
-    fn write_port(&mut self, addr: u16, value: u8)
+    fn write_io(&mut self, addr: u16, value: u8)
         requires { self.old.machine.calls < most_calls }
         ensures { self.new ≡ (lagging C.meaning).write self.old addr value }
     {
         self.time.count();
-        let sample = self.made();
+        let sample = self.due();
         let address = self.time.dsp_address();
         self.time.write(addr, value);
         if self.late.pending() == 0 {
@@ -319,7 +319,7 @@ fn answer_of<C: Chip>(late: &LateChip<C>, address: u8, told: Option<u8>, at: u16
 /// What a write does while no sample is pending.
 fn write_now<C: Chip>(late: &mut LateChip<C>, address: u8, at: u16, value: u8, sample: u32)
     requires none { late.old.pending ≡ 0 }
-    requires sample { sample ≡ late.old.made }
+    requires sample { sample ≡ late.old.due }
     requires room { late.old.records_used < record_room }
     ensures late { late.new ≡ record late.old {
       memory = with_byte late.old.memory at value;
@@ -354,7 +354,7 @@ fn write_beside_pending<C: Chip>(late: &mut LateChip<C>, at: u16, value: u8, sam
     requires free { may_be_read late.old.reach at ≡ false }
     requires some { 0 < late.old.pending }
     requires ring { writes_port at ≡ true → late.old.events < event_room }
-    requires sample { sample ≡ late.old.made }
+    requires sample { sample ≡ late.old.due }
     requires room { late.old.records_used < record_room }
     ensures late { late.new ≡ record late.old {
       memory = with_byte late.old.memory at value;
@@ -391,7 +391,7 @@ impl<C: Chip> Bus for LagBus<C> {
 
     fn write(&mut self, addr: u16, value: u8) {
         match addr {
-            0xF0..=0xFF => self.write_port(addr, value),
+            0xF0..=0xFF => self.write_io(addr, value),
             _ => {
                 self.time.count();
                 if self.late.pending() > 0 && self.late.may_be_read(addr) {
@@ -472,9 +472,9 @@ impl<C: Chip> BehindBus for LagBus<C> {
 
     fn catch_up(&mut self, clock: u64, calls: u8) {
         self.late.holds_only_what_waits();
-        let due = (clock / CYCLES_PER_SAMPLE - self.time.clock() / CYCLES_PER_SAMPLE) as u8;
+        let fallen = (clock / CYCLES_PER_SAMPLE - self.time.clock() / CYCLES_PER_SAMPLE) as u8;
         self.time.catch_up(clock, calls);
-        pend_all(&mut self.late, due);
+        pend_all(&mut self.late, fallen);
     }
 
     // Out of line and cold, as what is rarer than an access of memory alone: what a step keeps in registers is put away where it is called,
@@ -534,11 +534,11 @@ impl<C: Chip> Looks for LagBus<C> {
 impl<C: Chip> DrainedBus for LagBus<C> {
     ghost emits = { lag_emits C.meaning };
 
-    fn made(&self) -> u32 {
+    fn due(&self) -> u32 {
         (self.time.clock() / CYCLES_PER_SAMPLE) as u32
     }
 
-    fn has_room(&self) -> bool {
+    fn has_room_for_step(&self) -> bool {
         self.time.calls() <= MOST_CALLS_BEFORE_STEP
     }
 
@@ -557,9 +557,9 @@ impl<C: Chip> DrainedBus for LagBus<C> {
         let rounds = self.cycles_to_wait(samples) / u64::from(round);
         let cycles = rounds * u64::from(round);
         let clock = self.time.clock();
-        let due = ((clock + cycles) / CYCLES_PER_SAMPLE - clock / CYCLES_PER_SAMPLE) as u8;
+        let fallen = ((clock + cycles) / CYCLES_PER_SAMPLE - clock / CYCLES_PER_SAMPLE) as u8;
         self.time.wait(cycles);
-        pend_all(&mut self.late, due);
+        pend_all(&mut self.late, fallen);
     }
 
     /// Makes the pending samples, as one batch.

@@ -131,7 +131,7 @@ impl<C: Chip> LateChip<C> {
     /// The chip in hand.
     pub fn chip(&self) -> &C
         ensures batches { C.batches result.now ≡ self.now.batches }
-        ensures sample { C.sample result.now ≡ self.now.made - self.now.pending }
+        ensures sample { C.sample result.now ≡ self.now.due - self.now.pending }
         ensures total { C.total result.now ≡ self.now.total }
         ensures state { self.now.pending ≡ 0 → C.state result.now ≡ self.now.chip }
     {
@@ -243,7 +243,7 @@ impl<C: Chip> LateChip<C> {
     pub fn get(&self, at: u16) -> u8
         requires { (self.now.pending == 0 || not (may_be_written self.now.reach at)) ≡ true }
         ensures byte { result ≡ byte_at self.now.memory at }
-        ensures writes { AreWritesWithin C.meaning self.now.reach self.now.pending self.now.made self.now.chip self.now.memory }
+        ensures writes { AreWritesWithin C.meaning self.now.reach self.now.pending self.now.due self.now.chip self.now.memory }
     {
         self.memory.get(at)
     }
@@ -269,7 +269,7 @@ impl<C: Chip> LateChip<C> {
     pub fn put_unread(&mut self, at: u16, value: u8)
         requires { may_be_read self.old.reach at ≡ false }
         ensures memory { self.new ≡ record self.old { memory = with_byte self.old.memory at value } }
-        ensures reads { AreReadsWithin C.meaning self.old.reach self.old.pending self.old.made self.old.chip self.old.memory }
+        ensures reads { AreReadsWithin C.meaning self.old.reach self.old.pending self.old.due self.old.chip self.old.memory }
     {
         self.memory.put(at, value);
     }
@@ -286,8 +286,8 @@ impl<C: Chip> LateChip<C> {
 
     /// Emits the record of a write. While samples are pending it waits for them.
     pub fn emit(&mut self, item: Record)
-        requires number { sample_number item ≡ self.old.made }
-        requires before { is_before_sample self.old.made item ≡ true }
+        requires number { sample_number item ≡ self.old.due }
+        requires before { is_before_sample self.old.due item ≡ true }
         requires few { 0 < self.old.pending → self.old.events < event_room }
         requires room { self.old.records_used < record_room }
         ensures { self.new ≡ record self.old {
@@ -312,7 +312,7 @@ impl<C: Chip> LateChip<C> {
 
     /// Samples to come, too, write on the write pages of the reach alone.
     pub fn writes_within(&self)
-        ensures { AreWritesWithin C.meaning self.now.reach self.now.pending self.now.made self.now.chip self.now.memory }
+        ensures { AreWritesWithin C.meaning self.now.reach self.now.pending self.now.due self.now.chip self.now.memory }
     {
         let _pending = self.pending;
     }
@@ -321,8 +321,8 @@ impl<C: Chip> LateChip<C> {
     pub fn is_drained(&self) -> bool
         ensures frames { result ≡ true → self.now.frames_used ≡ self.now.pending }
         ensures records { result ≡ true → self.now.records_used ≡ self.now.events + 8 * self.now.pending }
-        ensures drained { result ≡ true → NoneIsReady self.now.pending (self.now.made - self.now.pending) self.now.frames self.now.records }
-        ensures none { NoneIsReady self.now.pending (self.now.made - self.now.pending) self.now.frames self.now.records → result ≡ true }
+        ensures drained { result ≡ true → NoneIsReady self.now.pending (self.now.due - self.now.pending) self.now.frames self.now.records }
+        ensures none { NoneIsReady self.now.pending (self.now.due - self.now.pending) self.now.frames self.now.records → result ≡ true }
     {
         self.frames.as_slice().is_empty() && self.records.as_slice().is_empty()
     }
@@ -330,9 +330,9 @@ impl<C: Chip> LateChip<C> {
     /// Where nothing is ready to be drained, the room is taken by what pending samples and events will be alone.
     pub fn holds_only_what_waits(&self)
         ensures frames { let late = self.now in
-            NoneIsReady late.pending (late.made - late.pending) late.frames late.records → late.frames_used ≡ late.pending }
+            NoneIsReady late.pending (late.due - late.pending) late.frames late.records → late.frames_used ≡ late.pending }
         ensures records { let late = self.now in
-            NoneIsReady late.pending (late.made - late.pending) late.frames late.records → late.records_used ≡ late.events + 8 * late.pending }
+            NoneIsReady late.pending (late.due - late.pending) late.frames late.records → late.records_used ≡ late.events + 8 * late.pending }
     {
         let _drained = self.is_drained();
     }
@@ -340,7 +340,7 @@ impl<C: Chip> LateChip<C> {
     /// Counts one sample more.
     pub fn pend(&mut self)
         requires few { self.old.pending < most_samples_of_batch }
-        requires number { self.old.made < most_samples_of_chip }
+        requires number { self.old.due < most_samples_of_chip }
         requires frames { self.old.frames_used < frame_room }
         requires records { self.old.records_used + 8 ≤ record_room }
         ensures { self.new ≡ late_with_sample C.meaning self.old }
@@ -377,10 +377,10 @@ impl<C: Chip> LateChip<C> {
     /// Clears two lists and moves into them what was emitted before the first pending sample.
     pub fn drain(&mut self, frames: &mut Frames, records: &mut Records)
         ensures frames { frames.new ≡ ready_frames self.old.pending self.old.frames }
-        ensures records { records.new ≡ ready_records (self.old.made - self.old.pending) self.old.records }
+        ensures records { records.new ≡ ready_records (self.old.due - self.old.pending) self.old.records }
         ensures rest { self.new ≡ record self.old {
           frames = waiting_frames self.old.pending self.old.frames;
-          records = waiting_records (self.old.made - self.old.pending) self.old.records;
+          records = waiting_records (self.old.due - self.old.pending) self.old.records;
           frames_used = self.old.pending;
           records_used = self.old.events + 8 * self.old.pending;
         } }
@@ -395,7 +395,7 @@ impl<C: Chip> LateChip<C> {
     /// Saves the chip while no sample is pending.
     pub fn save(&self) -> C::Saved
         requires { self.now.pending ≡ 0 }
-        ensures { result ≡ C.saving.saved self.now.chip self.now.made }
+        ensures { result ≡ C.saving.saved self.now.chip self.now.due }
     {
         self.chip.save()
     }
@@ -418,7 +418,7 @@ impl<C: Chip> LateChip<C> {
             self.new ≡ record self.old {
               chip = loaded;
               memory = memory.now;
-              made = C.saving.number saved.now;
+              due = C.saving.number saved.now;
               events = 0;
               reach = C.meaning.reach loaded memory.now;
               frames_used = 0;
@@ -437,10 +437,10 @@ impl<C: Chip> LateChip<C> {
         self.chip.total()
     }
 
-    /// The total is a number of 64 bits, and the pending samples are among those made or due.
+    /// The total is a number of 64 bits, and the pending samples are among those that are due.
     pub fn counts_fit(&self)
         ensures fits { self.now.total < 2 ^ 64 }
-        ensures pending { self.now.pending ≤ self.now.made }
+        ensures pending { self.now.pending ≤ self.now.due }
     {
         is_in_hand(&self.chip);
     }
@@ -466,7 +466,7 @@ impl<C: Chip> LateChip<C> {
           frames = [];
           records = [];
           mask = mask;
-          made = 0;
+          due = 0;
           pending = 0;
           events = 0;
           reach = C.meaning.reach (C.state chip) memory;

@@ -5,7 +5,7 @@ ghost use Rattle.num_fix.specs.Limits.{most_frames};
 ghost use Rattle.chip_form.specs.Limits.{most_samples_of_batch, most_samples_of_chip};
 ghost use Rattle.spc700_exec.specs.Bus.{most_calls, most_calls_before_step};
 ghost use Rattle.spc700_exec.specs.Instruction.{step_outcome};
-ghost use Rattle.lock_step.specs.LockStep.{samples_made};
+ghost use Rattle.lock_step.specs.LockStep.{samples_due};
 ghost use Rattle.lock_step.specs.StepsOfRun.{AreStepsOf};
 ghost use Rattle.lag_bus.specs.Lagging.{lagging};
 ghost use Rattle.lag_bus.specs.LagEmits.{lag_emits};
@@ -97,7 +97,7 @@ impl<'a, B: BehindBus> RunningBus<'a, B> {
     /// Whether the run is at its end.
     #[inline(always)]
     fn is_at_end(&self) -> bool
-        ensures { result ≡ nat_le self.now.samples (samples_made self.now.bus.machine) }
+        ensures { result ≡ nat_le self.now.samples (samples_due self.now.bus.machine) }
     {
         !self.may_fall_behind()
             && (self.until - self.left) / CYCLES_PER_SAMPLE >= u64::from(self.samples)
@@ -105,7 +105,7 @@ impl<'a, B: BehindBus> RunningBus<'a, B> {
 
     /// Whether there is room for the calls of one more step.
     #[inline(always)]
-    fn has_room(&self) -> bool
+    fn has_room_for_step(&self) -> bool
         ensures { result ≡ nat_le self.now.bus.machine.calls most_calls_before_step }
     {
         self.calls <= MOST_CALLS_BEFORE_STEP
@@ -130,7 +130,7 @@ impl<'a, B: BehindBus> RunningBus<'a, B> {
         requires room { self.old.bus.machine.calls < most_calls }
         requires some { 1 ≤ cycles }
         requires few { cycles ≤ CYCLES_PER_SAMPLE }
-        requires time { samples_made self.old.bus.machine < most_samples_of_chip }
+        requires time { samples_due self.old.bus.machine < most_samples_of_chip }
         ensures { self.new ≡ record self.old { bus = (lagging B.C.meaning).pass self.old.bus cycles } }
     {
         let clock = self.until - self.left;
@@ -145,7 +145,7 @@ impl<'a, B: BehindBus> RunningBus<'a, B> {
     fn step_on_bus(&mut self, cpu: &mut Cpu)
         requires few { self.old.samples ≤ most_frames }
         requires calls { self.old.bus.machine.calls ≤ most_calls_before_step }
-        requires more { samples_made self.old.bus.machine < self.old.samples }
+        requires more { samples_due self.old.bus.machine < self.old.samples }
         ensures does { (cpu.new, self.new.bus) ≡ step_outcome (lagging B.C.meaning) cpu.old self.old.bus }
         ensures name { self.new.name ≡ self.old.name }
         ensures samples { self.new.samples ≡ self.old.samples }
@@ -165,7 +165,7 @@ impl<'a, B: BehindBus> RunningBus<'a, B> {
 fn step_once<'a, B: BehindBus>(cpu: &mut Cpu, running: &mut RunningBus<'a, B>)
     requires few { running.old.samples ≤ most_frames }
     requires calls { running.old.bus.machine.calls ≤ most_calls_before_step }
-    requires more { samples_made running.old.bus.machine < running.old.samples }
+    requires more { samples_due running.old.bus.machine < running.old.samples }
     requires awake { cpu.old.halted ≡ false }
     ensures does { (cpu.new, running.new.bus) ≡ step_outcome (lagging B.C.meaning) cpu.old running.old.bus }
     ensures name { running.new.name ≡ running.old.name }
@@ -186,7 +186,7 @@ fn step_once<'a, B: BehindBus>(cpu: &mut Cpu, running: &mut RunningBus<'a, B>)
 #[inline(always)]
 fn step_on<'a, B: BehindBus>(cpu: &mut Cpu, running: &mut RunningBus<'a, B>, rooms: u8) -> u8
     requires calls { running.old.bus.machine.calls ≤ most_calls_before_step }
-    requires more { samples_made running.old.bus.machine < running.old.samples }
+    requires more { samples_due running.old.bus.machine < running.old.samples }
     requires few { running.old.samples ≤ most_frames }
     ensures name { running.new.name ≡ running.old.name }
     ensures steps { AreStepsOf (lagging B.C.meaning) (lag_emits B.C.meaning) running.old.samples cpu.old running.old.bus cpu.new running.new.bus }
@@ -206,7 +206,7 @@ fn step_on<'a, B: BehindBus>(cpu: &mut Cpu, running: &mut RunningBus<'a, B>, roo
         if cpu.halted {
             break;
         }
-        if !running.has_room() {
+        if !running.has_room_for_step() {
             if left == 0 {
                 break;
             }
@@ -219,12 +219,12 @@ fn step_on<'a, B: BehindBus>(cpu: &mut Cpu, running: &mut RunningBus<'a, B>, roo
     left
 }
 
-/// Takes steps of the processor on a bus, one at least, until so many samples are made or pending, the processor halts, or the room
+/// Takes steps of the processor on a bus, one at least, until so many samples are due, the processor halts, or the room
 /// for calls is filled and something is to be drained or it was filled so many times before. Of a processor that has halted it is
 /// one step. The answer is how many of these times are left.
 pub(crate) fn take_steps<B: BehindBus>(bus: &mut B, cpu: &mut Cpu, samples: u32, rooms: u8) -> u8
     requires calls { (B.shows bus.old).machine.calls ≤ most_calls_before_step }
-    requires more { samples_made (B.shows bus.old).machine < samples }
+    requires more { samples_due (B.shows bus.old).machine < samples }
     requires few { samples ≤ most_frames }
     ensures steps { AreStepsOf (lagging B.C.meaning) (lag_emits B.C.meaning) samples cpu.old (B.shows bus.old) cpu.new (B.shows bus.new) }
     ensures some { (B.shows bus.old).machine.clock < (B.shows bus.new).machine.clock }

@@ -10,12 +10,12 @@ use chip_form::Chip;
 use ports_timers::Io;
 
 /// Counts some samples more.
-pub(crate) fn pend_all<C: Chip>(late: &mut LateChip<C>, due: u8)
-    requires few { late.old.pending + due ≤ most_samples_of_batch }
-    requires number { late.old.made + due ≤ most_samples_of_chip }
-    requires frames { late.old.frames_used + due ≤ frame_room }
-    requires records { late.old.records_used + 8 * due ≤ record_room }
-    ensures { late.new ≡ late_with_samples C.meaning late.old due }
+pub(crate) fn pend_all<C: Chip>(late: &mut LateChip<C>, fallen: u8)
+    requires few { late.old.pending + fallen ≤ most_samples_of_batch }
+    requires number { late.old.due + fallen ≤ most_samples_of_chip }
+    requires frames { late.old.frames_used + fallen ≤ frame_room }
+    requires records { late.old.records_used + 8 * fallen ≤ record_room }
+    ensures { late.new ≡ late_with_samples C.meaning late.old fallen }
 {
     'samples: for _ in 0..due {
         late.pend();

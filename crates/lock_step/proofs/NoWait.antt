@@ -8,7 +8,7 @@ use Rattle.lock_step.proofs.ChipCounts.{counts_on_none}
 use Rattle.lock_step.proofs.StepsTaken.{after_no_steps}
 
 -- a bus that didn't wait
-pub no_wait : {X : Type 0} (bus : BusMeaning X) (emits : Emits X) (samples : ℕ) (cpu : Cpu) (s : X) → bus.made s < samples → IsWaitOf bus emits samples cpu s s
+pub no_wait : {X : Type 0} (bus : BusMeaning X) (emits : Emits X) (samples : ℕ) (cpu : Cpu) (s : X) → bus.due s < samples → IsWaitOf bus emits samples cpu s s
 no_wait {X} bus emits samples cpu s more =
     let none = after_no_steps bus (cpu, s) in
     record {
@@ -17,7 +17,7 @@ no_wait {X} bus emits samples cpu s more =
       cleared = ap (λ (w : Cpu × X). emits.cleared w.1) none;
       frames = ap (λ (w : Cpu × X). emits.frames w.1) none;
       records = ap (λ (w : Cpu × X). emits.records w.1) none;
-      counts = counts_on_none (bus.made s) (emits.pending s) (emits.total s);
+      counts = counts_on_none (bus.due s) (emits.pending s) (emits.total s);
       calls = refl;
       below = more;
     }

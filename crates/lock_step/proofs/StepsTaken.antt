@@ -46,13 +46,13 @@ module _ {S : Type 0} (bus : BusMeaning S) (emits : Emits S) (samples : ℕ) (cp
   module _ (lawful : IsLawful bus) (emits_frames : IsEmitting bus emits.cleared emits.frames) (emits_records : IsEmitting bus emits.cleared emits.records) where
     -- one step more, of a bus that was brought as far
     pub one_step_more : (here : Cpu) (there : S) (next : Cpu) (new : S)
-        → AreStepsOf bus emits samples cpu old here there → bus.made there < samples → (next, new) ≡ step_outcome bus here there
+        → AreStepsOf bus emits samples cpu old here there → bus.due there < samples → (next, new) ≡ step_outcome bus here there
         → AreStepsOf bus emits samples cpu old next new
     one_step_more here there next new taken more does =
         let reached : S = (after_n_steps bus taken.steps (cpu, old)).1 in
         let clock : bus.clock reached ≡ bus.clock there = clock-cleared bus emits.cleared emits.frames emits_frames reached there taken.cleared in
-        let made : bus.made reached ≡ bus.made there = lawful.samples reached ∙ ap (λ (n : ℕ). n / CYCLES_PER_SAMPLE) clock ∙ sym (lawful.samples there) in
-        let last : bus.made reached < samples = subst (λ (n : ℕ). n < samples) (sym made) more in
+        let due : bus.due reached ≡ bus.due there = lawful.samples reached ∙ ap (λ (n : ℕ). n / CYCLES_PER_SAMPLE) clock ∙ sym (lawful.samples there) in
+        let last : bus.due reached < samples = subst (λ (n : ℕ). n < samples) (sym due) more in
         let ahead_frames : IsAhead emits.cleared emits.frames [] reached there = record { same = taken.cleared; front = taken.frames } in
         let ahead_records : IsAhead emits.cleared emits.records [] reached there = record { same = taken.cleared; front = taken.records } in
         let frames = IsAhead-step_outcome bus emits.cleared emits.frames emits_frames here [] reached there ahead_frames in
@@ -63,7 +63,7 @@ module _ {S : Type 0} (bus : BusMeaning S) (emits : Emits S) (samples : ℕ) (cp
           steps = suc taken.steps;
           begun = λ k few. elim (below_or_same k taken.steps few) [
             | inl before ↦ taken.begun k before
-            | inr same ↦ subst (λ (n : ℕ). bus.made (after_n_steps bus n (cpu, old)).1 < samples) (sym same) last
+            | inr same ↦ subst (λ (n : ℕ). bus.due (after_n_steps bus n (cpu, old)).1 < samples) (sym same) last
           ];
           registers = ap (λ (w : Cpu × S). w.0) one ∙ frames.0 ∙ sym (ap (λ (w : Cpu × S). w.0) does);
           cleared = ap (λ (w : Cpu × S). emits.cleared w.1) one ∙ frames.1.same ∙ sym (ap (λ (w : Cpu × S). emits.cleared w.1) does);

@@ -17,15 +17,15 @@ pub record Emits (B : Type 0) : Type 0 where
   -- the bus once it has made those that are pending, without what was emitted and without the number of its calls
   pub at_rest : B → B
 
--- Of a chip that made so many samples in all, where a bus has made or pending so many of which so many are pending: it then made as
+-- Of a chip that made so many samples in all, where so many of a bus are due, of which so many are pending: it then made as
 -- many more as the number of its next sample rose by, up to the end of 64 bits.
-pub record CountsOn (made pending total new_made new_pending new_total : ℕ) : Type 0 where
-  pub rises : made + new_pending ≤ new_made + pending
-  pub counted : total < 2 ^ 64 → new_total ≡ count_after total (new_made + pending - (made + new_pending))
+pub record CountsOn (due pending total new_due new_pending new_total : ℕ) : Type 0 where
+  pub rises : due + new_pending ≤ new_due + pending
+  pub counted : total < 2 ^ 64 → new_total ≡ count_after total (new_due + pending - (due + new_pending))
 
 -- the chip beneath a bus between two of its states
 abbrev pub IsCountedOn : {B : Type 0} → BusMeaning B → Emits B → (old new : B) → Type 0
-IsCountedOn bus emits old new = CountsOn (bus.made old) (emits.pending old) (emits.total old) (bus.made new) (emits.pending new) (emits.total new)
+IsCountedOn bus emits old new = CountsOn (bus.due old) (emits.pending old) (emits.total old) (bus.due new) (emits.pending new) (emits.total new)
 
 -- reads, writes and passes of at most 32 cycles count on what the chip makes
 pub record IsCounting {B : Type 0} (bus : BusMeaning B) (emits : Emits B) : Type 0 where
@@ -38,7 +38,7 @@ pub record IsFrameEach {B : Type 0} (bus : BusMeaning B) (frames : B → List Fr
   pub read_frames : (b : B) (at : ℕ) → length (frames (bus.read b at).1) ≡ length (frames b)
   pub write_frames : (b : B) (at value : ℕ) → length (frames (bus.write b at value)) ≡ length (frames b)
   pub pass_frames : (b : B) (cycles : ℕ) → cycles ≤ CYCLES_PER_SAMPLE
-      → length (frames (bus.pass b cycles)) + bus.made b ≡ length (frames b) + bus.made (bus.pass b cycles)
+      → length (frames (bus.pass b cycles)) + bus.due b ≡ length (frames b) + bus.due (bus.pass b cycles)
 
 -- what a bus is at rest doesn't depend on what was emitted, nor does what its chip made and has pending
 pub record IsBeside {B : Type 0} (emits : Emits B) : Type 0 where

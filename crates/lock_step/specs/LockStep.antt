@@ -13,9 +13,9 @@ use Rattle.chip_form.specs.ChipMeaning.{ChipMeaning}
 use Rattle.lock_step.specs.Machine.{Machine}
 use Rattle.spc700_exec.specs.declared.bus.TheConstants.{CYCLES_PER_SAMPLE}
 
--- the samples made so far: one every 32 cycles
-abbrev pub samples_made : {S : Type 0} → Machine S → ℕ
-samples_made m = m.clock / CYCLES_PER_SAMPLE
+-- the samples that are due so far: one every 32 cycles. In step they are made, too.
+abbrev pub samples_due : {S : Type 0} → Machine S → ℕ
+samples_due m = m.clock / CYCLES_PER_SAMPLE
 
 -- What answers a read: at F3h a chip in this state, at the ports and timers and in the ROM these, and elsewhere memory.
 abbrev pub byte_answered : {S : Type 0} → ChipMeaning S → S → Io → (memory : List ℕ) → (at : ℕ) → ℕ
@@ -50,7 +50,7 @@ after_bus_write chip m at value = record m {
   memory = with_byte m.memory at value;
   io = io.after_write m.io at value;
   chip = if writes_register m.io.dsp_address at then chip.register_write m.chip m.io.dsp_address value else m.chip;
-  records = m.records ++ write_records (samples_made m) m.io.dsp_address at value;
+  records = m.records ++ write_records (samples_due m) m.io.dsp_address at value;
   calls = m.calls + 1;
 }
 
@@ -61,7 +61,7 @@ crosses_sample clock cycles = nat_lt (clock / CYCLES_PER_SAMPLE) ((clock + cycle
 -- one sample more: its frame, and the records of the voices in the mask, stand after what was emitted
 abbrev pub after_sample : {S : Type 0} → ChipMeaning S → Machine S → Machine S
 after_sample chip m =
-    let made = chip.one_sample (samples_made m) m.chip m.memory in
+    let made = chip.one_sample (samples_due m) m.chip m.memory in
     record m {
       chip = made.state;
       memory = made.memory;
@@ -87,5 +87,5 @@ lock_step chip = record {
   pass = after_bus_pass chip;
   calls = λ m. m.calls;
   clock = λ m. m.clock;
-  made = samples_made;
+  due = samples_due;
 }

@@ -3,7 +3,7 @@ use Rattle.std.specs.Prelude.{[]}
 use Rattle.chip_form.specs.Samples.{count_after}
 use Rattle.lock_step.specs.declared.counts.Counts.{Counts}
 use Rattle.lock_step.specs.Machine.{Machine}
-use Rattle.lock_step.specs.LockStep.{samples_made}
+use Rattle.lock_step.specs.LockStep.{samples_due}
 use Rattle.lock_step.specs.Emits.{Emits}
 
 -- the machine without what it emitted, and with no calls
@@ -13,7 +13,7 @@ drained_machine m = record m { frames = []; records = []; calls = 0 }
 -- each sample is a batch of its own, and none of them has a cause
 abbrev pub lock_step_counts : {S : Type 0} → Machine S → Counts
 lock_step_counts m = record {
-  batches = samples_made m;
+  batches = samples_due m;
   register = 0;
   memory = 0;
   echo = 0;
@@ -29,6 +29,6 @@ lock_step_emits = record {
   records = λ m. m.records;
   cleared = drained_machine;
   pending = λ m. 0;
-  total = λ m. count_after 0 (samples_made m);
+  total = λ m. count_after 0 (samples_due m);
   at_rest = drained_machine;
 }

@@ -93,8 +93,8 @@ module _ {S : Type 0} (chip : ChipMeaning S) where
     pass_frames = λ m cycles few. frames_of_pass m cycles (crosses_sample m.clock cycles) refl few;
   }
 
-  all_counted : (made new_made : ℕ) → made ≤ new_made → CountsOn made 0 (count_after 0 made) new_made 0 (count_after 0 new_made)
-  all_counted made new_made later = record { rises = omega arith; counted = λ fits. omega arith }
+  all_counted : (due new_due : ℕ) → due ≤ new_due → CountsOn due 0 (count_after 0 due) new_due 0 (count_after 0 new_due)
+  all_counted due new_due later = record { rises = omega arith; counted = λ fits. omega arith }
 
   pub counting : IsCounting (lock_step chip) lock_step_emits
   counting = record {

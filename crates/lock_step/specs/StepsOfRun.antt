@@ -9,7 +9,7 @@ use Rattle.idle_rounds.specs.Looking.{after_n_steps}
 -- one, but for the number of its calls.
 pub record AreStepsOf {S : Type 0} (bus : BusMeaning S) (emits : Emits S) (samples : ℕ) (cpu : Cpu) (old : S) (next : Cpu) (new : S) : Type 0 where
   pub steps : ℕ
-  pub begun : (k : ℕ) → k < steps → bus.made (after_n_steps bus k (cpu, old)).1 < samples
+  pub begun : (k : ℕ) → k < steps → bus.due (after_n_steps bus k (cpu, old)).1 < samples
   pub registers : (after_n_steps bus steps (cpu, old)).0 ≡ next
   pub cleared : emits.cleared (after_n_steps bus steps (cpu, old)).1 ≡ emits.cleared new
   pub frames : emits.frames (after_n_steps bus steps (cpu, old)).1 ≡ emits.frames new

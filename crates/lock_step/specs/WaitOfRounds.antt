@@ -15,4 +15,4 @@ pub record IsWaitOf {S : Type 0} (bus : BusMeaning S) (emits : Emits S) (samples
   pub records : emits.records (after_n_steps bus steps (cpu, old)).1 ≡ emits.records new
   pub counts : IsCountedOn bus emits old new
   pub calls : bus.calls new ≡ bus.calls old
-  pub below : bus.made new < samples
+  pub below : bus.due new < samples

@@ -16,12 +16,12 @@ pub trait DrainedBus: Bus {
     /// and the bus at rest.
     ghost emits: { Emits Self };
 
-    /// The samples of the machine, made or pending.
-    fn made(&self) -> u32
-        ensures { result ≡ Self.means.made self.now };
+    /// The samples of the machine that are due: made or pending.
+    fn due(&self) -> u32
+        ensures { result ≡ Self.means.due self.now };
 
     /// Whether there is room for one more step before the next drain, for who makes the steps one by one.
-    fn has_room(&self) -> bool
+    fn has_room_for_step(&self) -> bool
         ensures { result ≡ nat_le (Self.means.calls self.now) most_calls_before_step };
 
     /// Takes steps of the processor, one at least, of which none begins at the end of a run to so many samples. The bus may begin its
@@ -29,7 +29,7 @@ pub trait DrainedBus: Bus {
     /// are left.
     fn take_steps(&mut self, cpu: &mut Cpu, samples: u32, rooms: u8) -> u8
         requires calls { Self.means.calls self.old ≤ most_calls_before_step }
-        requires more { Self.means.made self.old < samples }
+        requires more { Self.means.due self.old < samples }
         requires few { samples ≤ most_frames }
         ensures steps { AreStepsOf Self.means emits samples cpu.old self.old cpu.new self.new }
         ensures some { Self.means.clock self.old < Self.means.clock self.new };
@@ -38,7 +38,7 @@ pub trait DrainedBus: Bus {
     /// to the end of a run to so many samples. How many it makes is free, down to none: no clause says it, and step by step
     /// they leave the same.
     fn wait(&mut self, cpu: &Cpu, samples: u32)
-        requires more { Self.means.made self.old < samples }
+        requires more { Self.means.due self.old < samples }
         requires few { samples ≤ most_frames }
         ensures { IsWaitOf Self.means emits samples cpu.now self.old self.new };
 

@@ -3,7 +3,7 @@ use Rattle.std.proofs.Common.{◌≡◌, ℕ, zero, suc, ◌+◌, ◌-◌, ◌<�
 use Rattle.std.specs.Prelude.{if◌then◌else◌}
 use Rattle.std.proofs.lemmas.Bool.Decides.{nat_tests}
 use Rattle.cut_form.specs.declared.mark.Marked.TheVariants.{Kept, Taken, NoPages}
-use Rattle.cut_form.specs.Checkpoints.{Checkpoint, with_checkpoint, next_to_dropped, slots_needed, slots_free, has_room}
+use Rattle.cut_form.specs.Checkpoints.{Checkpoint, with_checkpoint, next_to_dropped, slots_needed, slots_free, has_room_for_one}
 use Rattle.cut_form.specs.Marks.{Remaining, without_oldest, room_made, MarkOutcome, mark_in}
 use Rattle.mark_laws.specs.GivenUp.{left_after, samples_of, TakenFirstGoFirst, gave_up, LeavesRoom, AsFewAsLeaveRoom}
 
@@ -31,30 +31,30 @@ left-one_more (suc count) live = left-one_more count (without_oldest live)
 -- What making room leaves, of what a mark had given up before: no fewer leave room, and where there is none, all were given up.
 record Makes (slots : ℕ) (pages : List (List ℕ)) (live : List Checkpoint) (most : ℕ) (room : Remaining) : Type 0 where
   left : room.live ≡ left_after room.gave live
-  fewest : (fewer : ℕ) → fewer < room.gave → has_room slots pages (left_after fewer live) ≡ false
+  fewest : (fewer : ℕ) → fewer < room.gave → has_room_for_one slots pages (left_after fewer live) ≡ false
   within : room.gave ≤ most
-  all : has_room slots pages room.live ≡ false → room.gave ≡ most
+  all : has_room_for_one slots pages room.live ≡ false → room.gave ≡ most
 
 -- where so many and each fewer leave none, each below one more leaves none
 none_yet : (slots : ℕ) (pages : List (List ℕ)) (live : List Checkpoint) (gave : ℕ)
-    → ((fewer : ℕ) → fewer < gave → has_room slots pages (left_after fewer live) ≡ false) → has_room slots pages (left_after gave live) ≡ false
-    → (fewer : ℕ) → fewer < gave + 1 → has_room slots pages (left_after fewer live) ≡ false
+    → ((fewer : ℕ) → fewer < gave → has_room_for_one slots pages (left_after fewer live) ≡ false) → has_room_for_one slots pages (left_after gave live) ≡ false
+    → (fewer : ℕ) → fewer < gave + 1 → has_room_for_one slots pages (left_after fewer live) ≡ false
 none_yet slots pages live gave fewest none fewer below = by (nat_lt fewer gave) refl
   where
-    by : (b : Bool) → nat_lt fewer gave ≡ b → has_room slots pages (left_after fewer live) ≡ false
+    by : (b : Bool) → nat_lt fewer gave ≡ b → has_room_for_one slots pages (left_after fewer live) ≡ false
     by true less = fewest fewer (let is : fewer < gave = grind (arith, nat_tests, less) in is)
     by false least =
         let same : fewer ≡ gave = grind (arith, nat_tests, least, below) in
-        subst (λ (n : ℕ). has_room slots pages (left_after n live) ≡ false) (sym same) none
+        subst (λ (n : ℕ). has_room_for_one slots pages (left_after n live) ≡ false) (sym same) none
 
 makes : (slots : ℕ) (pages : List (List ℕ)) (live : List Checkpoint) (more gave : ℕ)
-    → ((fewer : ℕ) → fewer < gave → has_room slots pages (left_after fewer live) ≡ false)
+    → ((fewer : ℕ) → fewer < gave → has_room_for_one slots pages (left_after fewer live) ≡ false)
     → Makes slots pages live (gave + more) (room_made more slots pages (record { live = left_after gave live; gave = gave }))
 makes slots pages live zero gave fewest = record { left = refl; fewest = fewest; within = omega arith; all = λ none. omega arith }
-makes slots pages live (suc more) gave fewest = by (has_room slots pages (left_after gave live)) refl (makes slots pages live more (gave + 1))
+makes slots pages live (suc more) gave fewest = by (has_room_for_one slots pages (left_after gave live)) refl (makes slots pages live more (gave + 1))
   where
-    by : (b : Bool) → has_room slots pages (left_after gave live) ≡ b
-        → (((fewer : ℕ) → fewer < gave + 1 → has_room slots pages (left_after fewer live) ≡ false)
+    by : (b : Bool) → has_room_for_one slots pages (left_after gave live) ≡ b
+        → (((fewer : ℕ) → fewer < gave + 1 → has_room_for_one slots pages (left_after fewer live) ≡ false)
         → Makes slots pages live (gave + 1 + more) (room_made more slots pages (record { live = left_after (gave + 1) live; gave = gave + 1 })))
         → Makes slots pages live (gave + suc more)
         (if b then record { live = left_after gave live; gave = gave } else room_made more slots pages (record { live = without_oldest (left_after gave live); gave = gave + 1 }))
@@ -68,17 +68,17 @@ makes slots pages live (suc more) gave fewest = by (has_room slots pages (left_a
 
 leaves : (slots : ℕ) (pages : List (List ℕ)) (sample : ℕ) (live : List Checkpoint) (room : Remaining) → Makes slots pages live (length live - 1) room
     → LeavesRoom slots pages sample live (gave_up (mark_in slots pages sample room).marked) (mark_in slots pages sample room)
-leaves slots pages sample live room made = by (has_room slots pages room.live) refl
+leaves slots pages sample live room made = by (has_room_for_one slots pages room.live) refl
   where
     outcome : Bool → MarkOutcome
     outcome b =
         if b then record { live = with_checkpoint room.live sample pages; marked = Taken room.gave }
         else record { live = room.live; marked = NoPages room.gave (slots_needed room.live pages) (slots_free slots room.live) }
 
-    has : (b : Bool) → has_room slots pages room.live ≡ b → has_room slots pages (left_after room.gave live) ≡ b
-    has b is = ap (λ (l : List Checkpoint). has_room slots pages l) (sym made.left) ∙ is
+    has : (b : Bool) → has_room_for_one slots pages room.live ≡ b → has_room_for_one slots pages (left_after room.gave live) ≡ b
+    has b is = ap (λ (l : List Checkpoint). has_room_for_one slots pages l) (sym made.left) ∙ is
 
-    by : (b : Bool) → has_room slots pages room.live ≡ b → LeavesRoom slots pages sample live (gave_up (outcome b).marked) (outcome b)
+    by : (b : Bool) → has_room_for_one slots pages room.live ≡ b → LeavesRoom slots pages sample live (gave_up (outcome b).marked) (outcome b)
     by true is = record {
       fewest = made.fewest;
       others = made.within;

@@ -2,7 +2,7 @@
 use Rattle.std.specs.Prelude.{◌≡◌, ℕ, zero, suc, ◌-◌, ◌<◌, ◌≤◌, true, false, List, ◌∷◌, length, map, drop}
 use Rattle.cut_form.specs.declared.mark.Marked.{Marked}
 use Rattle.cut_form.specs.declared.mark.Marked.TheVariants.{Kept, Taken, NoPages}
-use Rattle.cut_form.specs.Checkpoints.{Checkpoint, with_checkpoint, slots_needed, slots_free, stands_at, has_room}
+use Rattle.cut_form.specs.Checkpoints.{Checkpoint, with_checkpoint, slots_needed, slots_free, stands_at, has_room_for_one}
 use Rattle.cut_form.specs.Marks.{without_oldest, MarkOutcome, mark_at}
 
 -- the live checkpoints that are left once so many were given up
@@ -37,11 +37,11 @@ TakesNone slots pages left gave outcome =
 -- A mark where none stands gave up so many: no fewer leave room for one more, and the first one is not among them. Where they
 -- leave room, one is taken; where they don't, all but the first are gone, and it tells what one more needs and what is free.
 pub record LeavesRoom (slots : ℕ) (pages : List (List ℕ)) (sample : ℕ) (live : List Checkpoint) (gave : ℕ) (outcome : MarkOutcome) : Type 0 where
-  pub fewest : (fewer : ℕ) → fewer < gave → has_room slots pages (left_after fewer live) ≡ false
+  pub fewest : (fewer : ℕ) → fewer < gave → has_room_for_one slots pages (left_after fewer live) ≡ false
   pub others : gave ≤ length live - 1
-  pub taken : has_room slots pages (left_after gave live) ≡ true → Takes pages sample (left_after gave live) gave outcome
-  pub all : has_room slots pages (left_after gave live) ≡ false → gave ≡ length live - 1
-  pub told : has_room slots pages (left_after gave live) ≡ false → TakesNone slots pages (left_after gave live) gave outcome
+  pub taken : has_room_for_one slots pages (left_after gave live) ≡ true → Takes pages sample (left_after gave live) gave outcome
+  pub all : has_room_for_one slots pages (left_after gave live) ≡ false → gave ≡ length live - 1
+  pub told : has_room_for_one slots pages (left_after gave live) ≡ false → TakesNone slots pages (left_after gave live) gave outcome
 
 abbrev pub AsFewAsLeaveRoom : Type 0
 AsFewAsLeaveRoom = (slots : ℕ) (pages : List (List ℕ)) (sample : ℕ) (live : List Checkpoint) → stands_at live sample ≡ false

@@ -12,7 +12,7 @@ use Rattle.spc700_exec.specs.Instruction.{script}
 use Rattle.chip_form.specs.ChipMeaning.{ChipMeaning}
 use Rattle.chip_form.specs.Samples.{SampleResult}
 use Rattle.lock_step.specs.Machine.{Machine}
-use Rattle.lock_step.specs.LockStep.{lock_step, crosses_sample, samples_made, writes_register}
+use Rattle.lock_step.specs.LockStep.{lock_step, crosses_sample, samples_due, writes_register}
 use Rattle.render_core.specs.MachineRun.{Whole, after_step, after_steps, after_run}
 use Rattle.muted_runs.specs.Watching.{Watched, watched, reads_hidden, begun_watching}
 
@@ -56,7 +56,7 @@ module _ {S : Type 0} (chip : ChipMeaning S) (hidden : ℕ → Bool) where
   steps_seen : (samples steps : ℕ) (w : Whole (Watched S))
       → after_steps (lock_step chip) samples steps (seen_through w) ≡ seen_through (after_steps (watched chip hidden) samples steps w)
   steps_seen samples zero w = refl
-  steps_seen samples (suc steps) w = by (nat_le samples (samples_made w.1.machine)) (steps_seen samples steps (after_step (watched chip hidden) w))
+  steps_seen samples (suc steps) w = by (nat_le samples (samples_due w.1.machine)) (steps_seen samples steps (after_step (watched chip hidden) w))
     where
       next : Whole (Watched S)
       next = after_step (watched chip hidden) w
@@ -90,7 +90,7 @@ module _ {S : Type 0} (chip : ChipMeaning S) (hidden : ℕ → Bool) where
   steps_noted : (samples steps : ℕ) (w : Whole (Watched S)) → w.1.noted ≡ true → (after_steps (watched chip hidden) samples steps w).1.noted ≡ true
   steps_noted samples zero w noted = noted
   steps_noted samples (suc steps) w noted =
-      by (nat_le samples (samples_made w.1.machine)) (steps_noted samples steps (after_step (watched chip hidden) w) (step_noted w noted))
+      by (nat_le samples (samples_due w.1.machine)) (steps_noted samples steps (after_step (watched chip hidden) w) (step_noted w noted))
     where
       next : Whole (Watched S)
       next = after_step (watched chip hidden) w
@@ -135,7 +135,7 @@ module _ {S : Type 0} (chip : ChipMeaning S) (hidden : ℕ → Bool) where
         m = w.machine
 
         k : ℕ
-        k = samples_made m
+        k = samples_due m
 
         by : (b : Bool) → crosses_sample m.clock cycles ≡ b → PassesBeside w s cycles
         by true crosses = record {
@@ -210,7 +210,7 @@ module _ {S : Type 0} (chip : ChipMeaning S) (hidden : ℕ → Bool) where
         → IsBeside (after_steps (watched chip hidden) samples steps w) (after_steps (lock_step chip) samples steps (w.0, with_chip w.1.machine s))
     steps_beside samples zero w s alike none = record { other = s; is = refl; alike = alike }
     steps_beside samples (suc steps) w s alike none =
-        by (nat_le samples (samples_made w.1.machine)) (steps_beside samples steps (after_step (watched chip hidden) w)) none
+        by (nat_le samples (samples_due w.1.machine)) (steps_beside samples steps (after_step (watched chip hidden) w)) none
       where
         next : Whole (Watched S)
         next = after_step (watched chip hidden) w

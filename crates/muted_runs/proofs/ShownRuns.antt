@@ -7,7 +7,7 @@ use Rattle.spc700_exec.specs.Script.{Script, Read, Write, End, cycles_at, outcom
 use Rattle.spc700_exec.specs.Instruction.{script}
 use Rattle.chip_form.specs.ChipMeaning.{ChipMeaning}
 use Rattle.lock_step.specs.Machine.{Machine}
-use Rattle.lock_step.specs.LockStep.{samples_made}
+use Rattle.lock_step.specs.LockStep.{samples_due}
 use Rattle.render_core.specs.MachineRun.{Whole, after_step, after_steps, after_run}
 use Rattle.muted_runs.specs.Watching.{Watched, watched, begun_watching, nothing_hidden, reads_in_run}
 
@@ -35,7 +35,7 @@ module _ {S : Type 0} (chip : ChipMeaning S) where
 
   steps_quiet : (samples steps : ℕ) (w : Whole (Watched S)) → w.1.noted ≡ false → (after_steps all_shown samples steps w).1.noted ≡ false
   steps_quiet samples zero w quiet = quiet
-  steps_quiet samples (suc steps) w quiet = by (nat_le samples (samples_made w.1.machine)) (steps_quiet samples steps (after_step all_shown w) (step_quiet w quiet))
+  steps_quiet samples (suc steps) w quiet = by (nat_le samples (samples_due w.1.machine)) (steps_quiet samples steps (after_step all_shown w) (step_quiet w quiet))
     where
       next : Whole (Watched S)
       next = after_step all_shown w

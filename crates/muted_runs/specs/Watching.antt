@@ -27,7 +27,7 @@ watched chip hidden =
       pass = λ w cycles. record w { machine = bus.pass w.machine cycles };
       calls = λ w. bus.calls w.machine;
       clock = λ w. bus.clock w.machine;
-      made = λ w. bus.made w.machine;
+      due = λ w. bus.due w.machine;
     }
 
 -- a whole machine, watched from now on

@@ -5,19 +5,19 @@ use Rattle.std.proofs.lemmas.Nat.{mod-mul-add}
 use Rattle.std.proofs.lemmas.Bool.{cases_Bool}
 use Rattle.std.proofs.lemmas.Bool.Decides.{nat_tests}
 use Rattle.std.proofs.lemmas.List.Folds.{list_any-append}
-use Rattle.cut_form.specs.Checkpoints.{Checkpoint, has_room, stands_at, with_checkpoint, shared_with_newest}
+use Rattle.cut_form.specs.Checkpoints.{Checkpoint, has_room_for_one, stands_at, with_checkpoint, shared_with_newest}
 use Rattle.cut_form.specs.Marks.{room_made, mark_in, mark_at, without_oldest}
 use Rattle.player.specs.OwnMarks.{is_own_mark, with_own_mark, marks_after}
 use Rattle.player.specs.Heard.{last_multiple, HasRoomForEach}
 
 -- with room nothing is given up
-room_kept : (most slots : ℕ) (pages : List (List ℕ)) (live : List Checkpoint) → has_room slots pages live ≡ true
+room_kept : (most slots : ℕ) (pages : List (List ℕ)) (live : List Checkpoint) → has_room_for_one slots pages live ≡ true
     → room_made most slots pages (record { live = live; gave = 0 }) ≡ record { live = live; gave = 0 }
 room_kept zero slots pages live has = refl
 room_kept (suc most) slots pages live has =
     ap (λ b. if b then record { live = live; gave = 0 } else room_made most slots pages (record { live = without_oldest live; gave = 1 })) has
 
-marked_in : (slots : ℕ) (pages : List (List ℕ)) (sample : ℕ) (live : List Checkpoint) → has_room slots pages live ≡ true
+marked_in : (slots : ℕ) (pages : List (List ℕ)) (sample : ℕ) (live : List Checkpoint) → has_room_for_one slots pages live ≡ true
     → (mark_in slots pages sample (room_made (length live - 1) slots pages (record { live = live; gave = 0 }))).live ≡ with_checkpoint live sample pages
 marked_in slots pages sample live has =
     ap (λ room. (mark_in slots pages sample room).live) (room_kept (length live - 1) slots pages live has) ∙ rw has refl
@@ -26,9 +26,9 @@ is_there : (live : List Checkpoint) (at sample : ℕ) (pages : List (List ℕ)) 
 is_there live at sample pages = list_any-append (λ (c : Checkpoint). c.sample == sample) live (record { sample = at; pages = pages; shared = shared_with_newest live pages } ∷ [])
 
 -- what stood stands, and what is taken stands
-module _ (slots : ℕ) (pages : List (List ℕ)) (at : ℕ) (live : List Checkpoint) (has : (stands_at live at ≡ true) ⊎ (has_room slots pages live ≡ true)) where
+module _ (slots : ℕ) (pages : List (List ℕ)) (at : ℕ) (live : List Checkpoint) (has : (stands_at live at ≡ true) ⊎ (has_room_for_one slots pages live ≡ true)) where
   -- where none stands there is room
-  has_for : stands_at live at ≡ false → has_room slots pages live ≡ true
+  has_for : stands_at live at ≡ false → has_room_for_one slots pages live ≡ true
   has_for none = elim has [
     | inl here ↦ cc
     | inr room ↦ room
@@ -47,7 +47,7 @@ module _ (slots : ℕ) (pages : List (List ℕ)) (at : ℕ) (live : List Checkpo
   ]
 
 module _ (room : ℕ) (memory : ℕ → List (List ℕ)) (spacing from : ℕ) (marks : List Checkpoint) where
-  own_stays : (at : ℕ) (live : List Checkpoint) (sample : ℕ) → (is_own_mark spacing at ≡ true → (stands_at live at ≡ true) ⊎ (has_room room (memory at) live ≡ true)) → stands_at live sample ≡ true
+  own_stays : (at : ℕ) (live : List Checkpoint) (sample : ℕ) → (is_own_mark spacing at ≡ true → (stands_at live at ≡ true) ⊎ (has_room_for_one room (memory at) live ≡ true)) → stands_at live sample ≡ true
       → stands_at (with_own_mark room memory spacing at live) sample ≡ true
   own_stays at live sample has stands = elim (cases_Bool (is_own_mark spacing at)) [
     | inl own ↦ ap (λ b. stands_at (if b then (mark_at room (memory at) at live).live else live) sample) own ∙ mark_stays room (memory at) at live (has own) sample stands

@@ -1,6 +1,6 @@
 -- That what was heard is near: laws of the marks that a player takes by itself.
 use Rattle.std.specs.Prelude.{◌≡◌, ◌⊎◌, ℕ, suc, ◌+◌, ◌-◌, ◌%◌, ◌<◌, ◌≤◌, true, List}
-use Rattle.cut_form.specs.Checkpoints.{Checkpoint, has_room, stands_at}
+use Rattle.cut_form.specs.Checkpoints.{Checkpoint, has_room_for_one, stands_at}
 use Rattle.player.specs.OwnMarks.{is_own_mark, marks_after}
 
 -- the last multiple of the spacing up to a sample
@@ -11,7 +11,7 @@ last_multiple spacing at = at - at % spacing
 abbrev pub HasRoomForEach : (room : ℕ) → (memory : ℕ → List (List ℕ)) → (spacing from : ℕ) → List Checkpoint → (count : ℕ) → Type 0
 HasRoomForEach room memory spacing from marks count =
     (k : ℕ) → k < count → is_own_mark spacing (from + suc k) ≡ true → let before = marks_after room memory spacing from marks k in
-    (stands_at before (from + suc k) ≡ true) ⊎ (has_room room (memory (from + suc k)) before ≡ true)
+    (stands_at before (from + suc k) ≡ true) ⊎ (has_room_for_one room (memory (from + suc k)) before ≡ true)
 
 -- then each mark that stood stands once so many frames are played
 abbrev pub MarksStay : Type 0

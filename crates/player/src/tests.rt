@@ -4,7 +4,7 @@ use cut_form::Marked;
 use spc_form::Tag;
 use std::process::Abort;
 use std::test::Fail;
-use test_support::{DSP, FIVE, Pieces, file_of, straight_table};
+use test_support::{DSP, FILE_LENGTH, FIVE, Pieces, file_of, straight_table};
 
 /// Tags that tell a title, a second, and a fade of a millisecond, 32 frames.
 const TOLD: &[(usize, &[u8])] = &[
@@ -74,7 +74,7 @@ fn look_at_the_title(rt: &impl Abort, player: &Player) {
 #[test]
 fn a_made_file_is_played(rt: HostRuntime) -> Result<(), Fail> {
     let alloc = rt.alloc();
-    let image = file_of(alloc, 66048, FIVE, TOLD)?;
+    let image = file_of(alloc, FILE_LENGTH, FIVE, TOLD)?;
     let table = straight_table(alloc)?;
     let mut player = Player::open_bytes(alloc, &image, &table, OPTIONS)?;
     look_at_the_title(&rt, &player);
@@ -96,7 +96,7 @@ const TWO_VOICES: Pieces = &[
 #[test]
 fn muted_voices_are_not_played(rt: HostRuntime) -> Result<(), Fail> {
     let alloc = rt.alloc();
-    let image = file_of(alloc, 66048, FIVE, TWO_VOICES)?;
+    let image = file_of(alloc, FILE_LENGTH, FIVE, TWO_VOICES)?;
     let table = straight_table(alloc)?;
     for (muted, side) in [(0x00, 6016), (0x01, 2016), (0xfe, 4000), (0x03, 0)] {
         let options = PlayerOptions { muted, ..OPTIONS };

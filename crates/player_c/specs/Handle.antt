@@ -14,11 +14,11 @@ use Rattle.player_c.specs.declared.handle.SpcwavePlayer.{SpcwavePlayer}
 
 -- it says itself whether it has a player
 abbrev pub IsKept : SpcwavePlayer → Type 0
-IsKept handle = is_some handle.engine.playing ≡ handle.is_open
+IsKept handle = is_some handle.owned.playing ≡ handle.is_open
 
 -- the player of a handle that has one
 abbrev pub playing : SpcwavePlayer → Option PlayerState
-playing handle = handle.engine.playing
+playing handle = handle.owned.playing
 
 -- how many frames are given where there is room for so many
 abbrev pub frames_given : Option PlayerState → (room : ℕ) → ℕ

@@ -41,7 +41,7 @@ fn close_in(alloc: Global, player: &mut SpcwavePlayer)
     ensures none { playing player.new ≡ None }
 {
     if player.is_open {
-        let _player = player.engine.take(alloc);
+        let _player = player.owned.take(alloc);
         player.is_open = false;
     }
 }
@@ -64,7 +64,7 @@ fn open_in(
 {
     match open_boxed(alloc, spc, table, options) {
         Ok(opened) => {
-            player.engine.put(opened);
+            player.owned.put(opened);
             player.is_open = true;
             OK
         }
@@ -128,7 +128,7 @@ pub extern "C" fn spcwave_play(player: &mut SpcwavePlayer, frames: &mut [StereoF
     if !player.is_open {
         return 0;
     }
-    player.engine.player().play(frames)
+    player.owned.player().play(frames)
 }
 
 /// Plays the next frames of a render, which is as long as the tags tell and fades as they tell; tells how many: 0 where none is open.
@@ -146,7 +146,7 @@ pub extern "C" fn spcwave_play_faded(
     if !player.is_open {
         return 0;
     }
-    player.engine.player().play_faded(frames)
+    player.owned.player().play_faded(frames)
 }
 
 /// Goes to a frame, 0 to 115,200,000: 32,000 are a second. It makes at most the frames from any mark up to it.
@@ -165,7 +165,7 @@ pub extern "C" fn spcwave_seek(player: &mut SpcwavePlayer, frame: u32) -> u32
     if frame > MOST_FRAMES {
         return OUT_OF_RANGE;
     }
-    player.engine.player().seek(frame);
+    player.owned.player().seek(frame);
     OK
 }
 
@@ -180,6 +180,6 @@ pub extern "C" fn spcwave_mark(player: &mut SpcwavePlayer) -> u32
     if !player.is_open {
         return NOT_OPEN;
     }
-    player.engine.player().mark();
+    player.owned.player().mark();
     OK
 }

@@ -3,26 +3,26 @@ ghost use Rattle.std.specs.Prelude.{◌≡◌, Some, None, IsSome};
 ghost use Rattle.std.specs.Borrow.{sem};
 ghost use Rattle.player_c.specs.Lending.{LendsPlayer};
 
-use crate::engine::Engine;
+use crate::owned_player::OwnedPlayer;
 use crate::parts::Parts;
 use player::Player;
 use std::alloc::Global;
 use std::ptr::null_mut;
 
-impl Engine {
+impl OwnedPlayer {
     /// No player, at any address.
-    fn at_nothing(at: *mut u8) -> Engine
+    fn at_nothing(at: *mut u8) -> OwnedPlayer
         ensures { result.playing ≡ None }
     {
-        Engine { at }
+        OwnedPlayer { at }
     }
 
     /// No player.
-    pub fn none() -> Engine
+    pub fn none() -> OwnedPlayer
         ensures { result.playing ≡ None }
     {
         let at = null_mut();
-        Engine::at_nothing(at)
+        OwnedPlayer::at_nothing(at)
     }
 
     /// Keeps what a box owns.

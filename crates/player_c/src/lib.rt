@@ -1,11 +1,11 @@
 //! The player for C: exported functions, each with its contract.
 #![tactic(auto)]
 
-mod engine;
 mod exports;
 mod handle;
 mod keeping;
 mod lending;
+mod owned_player;
 mod parts;
 mod pointer;
 mod status;
@@ -13,11 +13,11 @@ mod tags;
 mod telling;
 mod threads;
 
-pub use engine::Engine;
 pub use exports::{
     spcwave_close, spcwave_mark, spcwave_open, spcwave_play, spcwave_play_faded, spcwave_seek,
 };
 pub use handle::SpcwavePlayer;
+pub use owned_player::OwnedPlayer;
 pub use pointer::SpcwavePointer;
 pub use telling::{
     spcwave_free_pages, spcwave_length, spcwave_position, spcwave_registers, spcwave_tag,

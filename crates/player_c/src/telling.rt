@@ -34,7 +34,7 @@ pub extern "C" fn spcwave_position(player: &mut SpcwavePlayer) -> u32
     if !player.is_open {
         return 0;
     }
-    player.engine.player().position()
+    player.owned.player().position()
 }
 
 /// How many pages are free for marks; 0 where none is open.
@@ -49,7 +49,7 @@ pub extern "C" fn spcwave_free_pages(player: &mut SpcwavePlayer) -> u32
     if !player.is_open {
         return 0;
     }
-    player.engine.player().free_pages()
+    player.owned.player().free_pages()
 }
 
 /// The length by the tags of the file, and how many of its last frames fade out, in frames. Where none is open both stay as they were.
@@ -70,7 +70,7 @@ pub extern "C" fn spcwave_length(
     if !player.is_open {
         return NOT_OPEN;
     }
-    let length = player.engine.player().length();
+    let length = player.owned.player().length();
     *frames = length.frames;
     *fade = length.fade;
     OK
@@ -88,7 +88,7 @@ pub extern "C" fn spcwave_tagged(player: &mut SpcwavePlayer) -> bool
     if !player.is_open {
         return false;
     }
-    player.engine.player().is_tagged()
+    player.owned.player().is_tagged()
 }
 
 /// Writes the text of a tag as `player::Player::tag` does, and tells its whole length. It is empty where none is open, or no tag has the
@@ -103,7 +103,7 @@ pub extern "C" fn spcwave_tag(player: &mut SpcwavePlayer, number: u32, text: &mu
 {
     if player.is_open {
         if let Some(tag) = tag_of(number) {
-            return player.engine.player().tag(tag, text);
+            return player.owned.player().tag(tag, text);
         }
     }
     put_text(&[], text);
@@ -123,7 +123,7 @@ pub extern "C" fn spcwave_registers(player: &mut SpcwavePlayer, registers: &mut 
     if !player.is_open {
         return NOT_OPEN;
     }
-    *registers = *player.engine.player().registers();
+    *registers = *player.owned.player().registers();
     OK
 }
 
@@ -147,6 +147,6 @@ pub extern "C" fn spcwave_voice(
     if number >= 8 {
         return OUT_OF_RANGE;
     }
-    *voice = player.engine.player().voice(number as u8);
+    *voice = player.owned.player().voice(number as u8);
     OK
 }

@@ -11,7 +11,7 @@ use crate::Window;
 use aram_core::{PAGE_SIZE, PageSet, page_of};
 
 /// The bytes of a page, for addresses.
-const PAGE: u16 = PAGE_SIZE as u16;
+const PAGE_BYTES: u16 = PAGE_SIZE as u16;
 
 /// Whether some of so many bytes from an address on lie on a page.
 #[inline]
@@ -21,7 +21,7 @@ pub fn bytes_have_page(start: u16, count: u32, page: u8) -> bool
     ensures { result ≡ has_page (pages_of_bytes start count) page }
 {
     let ahead = page.wrapping_sub(page_of(start));
-    u32::from(PAGE) * u32::from(ahead) < count + u32::from(start % PAGE)
+    u32::from(PAGE_BYTES) * u32::from(ahead) < count + u32::from(start % PAGE_BYTES)
 }
 
 /// Puts the pages of a few bytes into a set: those of the first and of the last one.
@@ -45,7 +45,7 @@ pub fn window_pages(window: Window) -> PageSet
     ensures { result ≡ set.from_list (window_pages window) }
 {
     let last = (window.len - 1) as u16;
-    let mut pages = PageSet::pages_from(page_of(window.start), last / PAGE + 1);
+    let mut pages = PageSet::pages_from(page_of(window.start), last / PAGE_BYTES + 1);
     pages.add(page_of(window.start.wrapping_add(last)));
     pages
 }

@@ -19,10 +19,10 @@ const BLOCK: u32 = 9;
 const ENTRY: u32 = 4;
 
 /// The blocks in which a voice can be in 64 samples.
-const BLOCKS: u32 = 18;
+const CHAIN_BLOCKS: u32 = 18;
 
 /// The bytes from its start on, and those from its loop word on, within which the blocks of a chain stand.
-const NEAR: u32 = BLOCK * BLOCKS;
+const CHAIN_BYTES: u32 = BLOCK * CHAIN_BLOCKS;
 
 /// How many blocks stand one after another from a block on, up to the first that has its end bit, and at most so many.
 fn blocks_to_end(memory: &Aram, start: u16, most: u32) -> u32
@@ -61,14 +61,14 @@ fn add_blocks(pages: &mut PageSet, memory: &Aram, start: ChainStart, count: u32)
 fn blocks_have_page(memory: &Aram, start: ChainStart, page: u8) -> bool
     ensures { result ≡ has_page (chain_pages memory.now start) page }
 {
-    let first = blocks_to_end(memory, start.block, BLOCKS);
+    let first = blocks_to_end(memory, start.block, CHAIN_BLOCKS);
     if bytes_have_page(start.block, BLOCK * first, page) {
         return true;
     }
-    if first == BLOCKS {
+    if first == CHAIN_BLOCKS {
         return false;
     }
-    let again = blocks_to_end(memory, start.loop_word, BLOCKS - first);
+    let again = blocks_to_end(memory, start.loop_word, CHAIN_BLOCKS - first);
     bytes_have_page(start.loop_word, BLOCK * again, page)
 }
 
@@ -76,10 +76,10 @@ fn blocks_have_page(memory: &Aram, start: ChainStart, page: u8) -> bool
 pub fn chain_has_page(memory: &Aram, start: ChainStart, page: u8) -> bool
     ensures { result ≡ has_page (chain_pages memory.now start) page }
 {
-    if bytes_have_page(start.block, NEAR, page) {
+    if bytes_have_page(start.block, CHAIN_BYTES, page) {
         return blocks_have_page(memory, start, page);
     }
-    if !bytes_have_page(start.loop_word, NEAR, page) {
+    if !bytes_have_page(start.loop_word, CHAIN_BYTES, page) {
         return false;
     }
     blocks_have_page(memory, start, page)
@@ -98,7 +98,7 @@ fn add_chains(pages: &mut PageSet, memory: &Aram, starts: &[ChainStart])
     ensures { pages.new ≡ with_pages pages.old (flat_map (chain_pages memory.now) starts.now) }
 {
     for start in starts {
-        add_blocks(pages, memory, *start, BLOCKS);
+        add_blocks(pages, memory, *start, CHAIN_BLOCKS);
     }
 }
 

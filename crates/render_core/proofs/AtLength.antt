@@ -15,20 +15,20 @@ use Rattle.render_core.specs.Items.{run_frames, whole_at_rest, end_of_run}
 use Rattle.render_core.proofs.RunBySteps.{after_run-reached}
 use Rattle.spc700_exec.specs.declared.bus.TheConstants.{CYCLES_PER_SAMPLE}
 
-module _ {S : Type 0} (chip : ChipMeaning S) (samples : ℕ) (cpu : Cpu) (bus : Lagging S) (between : IsBetweenSteps (lagging chip) (lag_emits chip) samples bus) (made : ℕ)
-    (is : made ≡ bus.machine.clock / CYCLES_PER_SAMPLE) (there : nat_le samples made ≡ true) where
-  pub all_made : samples ≤ bus.machine.clock / CYCLES_PER_SAMPLE
-  all_made = let all : samples ≤ made = grind (arith, nat_tests) in omega arith
+module _ {S : Type 0} (chip : ChipMeaning S) (samples : ℕ) (cpu : Cpu) (bus : Lagging S) (between : IsBetweenSteps (lagging chip) (lag_emits chip) samples bus) (due : ℕ)
+    (is : due ≡ bus.machine.clock / CYCLES_PER_SAMPLE) (there : nat_le samples due ≡ true) where
+  pub all_due : samples ≤ bus.machine.clock / CYCLES_PER_SAMPLE
+  all_due = let all : samples ≤ due = grind (arith, nat_tests) in omega arith
 
   pub none_to_come : run_frames (lock_step chip) lock_step_emits samples (cpu, bus.machine) ≡ []
   none_to_come =
-      ap (λ (w : Whole (Machine S)). w.1.frames) (after_run-reached (lock_step chip) (lock_step-lawful chip) samples (cpu, bus.machine) all_made)
-      ∙ between.frames all_made
+      ap (λ (w : Whole (Machine S)). w.1.frames) (after_run-reached (lock_step chip) (lock_step-lawful chip) samples (cpu, bus.machine) all_due)
+      ∙ between.frames all_due
 
   pub whole_there : (cpu, bus.machine) ≡ end_of_run (lock_step chip) lock_step_emits samples (cpu, bus.machine)
   whole_there =
-      (λ i. (cpu, record bus.machine { frames = between.frames all_made i; records = between.records all_made i; calls = between.calls i }))
-      ∙ sym (ap (λ (w : Whole (Machine S)). whole_at_rest lock_step_emits w) (after_run-reached (lock_step chip) (lock_step-lawful chip) samples (cpu, bus.machine) all_made))
+      (λ i. (cpu, record bus.machine { frames = between.frames all_due i; records = between.records all_due i; calls = between.calls i }))
+      ∙ sym (ap (λ (w : Whole (Machine S)). whole_at_rest lock_step_emits w) (after_run-reached (lock_step chip) (lock_step-lawful chip) samples (cpu, bus.machine) all_due))
 
 -- nor is anything to come of a machine that has made all samples and emitted nothing
 pub none_after : {S : Type 0} (chip : ChipMeaning S) (samples : ℕ) (w : Whole (Machine S)) → samples ≤ w.1.clock / CYCLES_PER_SAMPLE → w.1.frames ≡ [] → run_frames (lock_step chip) lock_step_emits samples w ≡ []

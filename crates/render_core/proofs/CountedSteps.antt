@@ -13,13 +13,13 @@ use Rattle.lock_step.proofs.ChipCounts.{counts_on_none, counts_on_then, counts_o
 use Rattle.lock_step.specs.StepsOfRun.{AreStepsOf}
 use Rattle.idle_rounds.specs.Looking.{after_n_steps}
 use Rattle.render_core.specs.MachineRun.{Whole}
-use Rattle.render_core.proofs.ItemsBeforeRun.{made-cleared}
+use Rattle.render_core.proofs.ItemsBeforeRun.{due-cleared}
 use Rattle.spc700_exec.specs.declared.bus.TheConstants.{CYCLES_PER_SAMPLE}
 
 module _ {S : Type 0} (bus : BusMeaning S) (emits : Emits S) (law : IsCounting bus emits) where
   counted-either : (s : S) (b : Bool) (cycles : ℕ) → cycles ≤ CYCLES_PER_SAMPLE → IsCountedOn bus emits s (if b then bus.pass s cycles else s)
   counted-either s true cycles few = law.pass_counts s cycles few
-  counted-either s false cycles few = counts_on_none (bus.made s) (emits.pending s) (emits.total s)
+  counted-either s false cycles few = counts_on_none (bus.due s) (emits.pending s) (emits.total s)
 
   counted-outcome : (t : Script) (k start made : ℕ) (s : S) → IsShort k t → IsCountedOn bus emits s (outcome bus start made t s).1
   counted-outcome (Read at next) zero start made s short = absurd short
@@ -42,13 +42,13 @@ module _ {S : Type 0} (bus : BusMeaning S) (emits : Emits S) (law : IsCounting b
 
   pub counted-drained : IsLawful bus → {I : Type 0} (items : S → List I) → IsEmitting bus emits.cleared items → IsBeside emits → (s t : S) → emits.cleared t ≡ emits.cleared s → IsCountedOn bus emits s t
   counted-drained lawful items emitting beside s t same =
-      counts_on_same (made-cleared bus lawful emits.cleared items emitting t s same)
+      counts_on_same (due-cleared bus lawful emits.cleared items emitting t s same)
       (sym (beside.pending t) ∙ ap emits.pending same ∙ beside.pending s)
       (sym (beside.total t) ∙ ap emits.total same ∙ beside.total s)
 
   counted-after_n_steps : (n : ℕ) (w : Whole S) → IsCountedOn bus emits w.1 (after_n_steps bus n w).1
   unfolding after_n_steps
-  counted-after_n_steps zero w = counts_on_none (bus.made w.1) (emits.pending w.1) (emits.total w.1)
+  counted-after_n_steps zero w = counts_on_none (bus.due w.1) (emits.pending w.1) (emits.total w.1)
   counted-after_n_steps (suc n) w =
       let v : Whole S = after_n_steps bus n w in
       counts_on_then (counted-after_n_steps n w) (counted-stepped v.0 (step_outcome bus v.0 v.1).0 v.1 (step_outcome bus v.0 v.1).1 refl)

@@ -13,6 +13,6 @@ use Rattle.spc700_exec.specs.declared.bus.TheConstants.{CYCLES_PER_SAMPLE}
 pub length-opened : {S : Type 0} (chip : ChipMeaning S) (samples : ℕ) (cpu : Cpu) (m : Machine S) → m.clock ≡ 0 → m.frames ≡ [] → length (after_run (lock_step chip) samples (cpu, m)).1.frames ≡ samples
 length-opened chip samples cpu m clock frames =
     let none : length m.frames ≡ 0 = ap (length {A = Frame}) frames in
-    let made : m.clock / CYCLES_PER_SAMPLE ≡ 0 = ap (λ (k : ℕ). k / CYCLES_PER_SAMPLE) clock in
+    let due : m.clock / CYCLES_PER_SAMPLE ≡ 0 = ap (λ (k : ℕ). k / CYCLES_PER_SAMPLE) clock in
     let all = length-frames-after_run (lock_step chip) (lock_step-lawful chip) (λ m. m.frames) (frame_each chip) samples (cpu, m) (omega arith) in
     omega arith

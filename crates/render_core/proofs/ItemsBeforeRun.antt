@@ -24,8 +24,8 @@ module _ {S I : Type 0} (bus : BusMeaning S) (lawful : IsLawful bus) (cleared : 
   abbrev pub resting : (at_rest : S → S) → Whole S → Whole S
   resting at_rest w = (w.0, at_rest w.1)
 
-  pub made-cleared : (s t : S) → cleared s ≡ cleared t → bus.made s ≡ bus.made t
-  made-cleared s t same = lawful.samples s ∙ ap (λ (k : ℕ). k / CYCLES_PER_SAMPLE) (clock-cleared bus cleared items law s t same) ∙ sym (lawful.samples t)
+  pub due-cleared : (s t : S) → cleared s ≡ cleared t → bus.due s ≡ bus.due t
+  due-cleared s t same = lawful.samples s ∙ ap (λ (k : ℕ). k / CYCLES_PER_SAMPLE) (clock-cleared bus cleared items law s t same) ∙ sym (lawful.samples t)
 
   AreAhead-step : (before : List I) (w v : Whole S) → AreAhead before w v → AreAhead before (after_step bus w) (after_step bus v)
   unfolding after_step
@@ -43,8 +43,8 @@ module _ {S I : Type 0} (bus : BusMeaning S) (lawful : IsLawful bus) (cleared : 
     AreAhead-steps (suc steps) before w v a =
         let x = after_steps bus samples steps (after_step bus w) in
         let y = after_steps bus samples steps (after_step bus v) in
-        subst (λ (made : ℕ). AreAhead before (if nat_le samples (bus.made w.1) then w else x) (if nat_le samples made then v else y)) (made-cleared w.1 v.1 a.1.same)
-        (AreAhead-if before (nat_le samples (bus.made w.1)) w v x y a (AreAhead-steps steps before (after_step bus w) (after_step bus v) (AreAhead-step before w v a)))
+        subst (λ (due : ℕ). AreAhead before (if nat_le samples (bus.due w.1) then w else x) (if nat_le samples due then v else y)) (due-cleared w.1 v.1 a.1.same)
+        (AreAhead-if before (nat_le samples (bus.due w.1)) w v x y a (AreAhead-steps steps before (after_step bus w) (after_step bus v) (AreAhead-step before w v a)))
 
     AreAhead-run : (before : List I) (w v : Whole S) → AreAhead before w v → AreAhead before (after_run bus samples w) (after_run bus samples v)
     unfolding after_run
@@ -67,30 +67,30 @@ module _ {S I : Type 0} (bus : BusMeaning S) (lawful : IsLawful bus) (cleared : 
         let rest = sym (beside _) ∙ ap at_rest run.1.same ∙ beside _ in
         λ i. (run.0 i, rest i)
 
-    -- a bus that is settled once the samples are made, and then drained
-    module _ (cpu : Cpu) (next settled drained : S) (got : List I) (kept : items settled ≡ items next) (clock : bus.clock settled ≡ bus.clock next) (still : bus.made next < samples → settled ≡ next)
+    -- a bus that is settled once the samples are due, and then drained
+    module _ (cpu : Cpu) (next settled drained : S) (got : List I) (kept : items settled ≡ items next) (clock : bus.clock settled ≡ bus.clock next) (still : bus.due next < samples → settled ≡ next)
         (split : items settled ≡ got ++ items drained) (same : cleared drained ≡ cleared settled) where
-      made-settled : bus.made settled ≡ bus.made next
-      made-settled = lawful.samples settled ∙ ap (λ (k : ℕ). k / CYCLES_PER_SAMPLE) clock ∙ sym (lawful.samples next)
+      due-settled : bus.due settled ≡ bus.due next
+      due-settled = lawful.samples settled ∙ ap (λ (k : ℕ). k / CYCLES_PER_SAMPLE) clock ∙ sym (lawful.samples next)
 
-      made-drained : bus.made drained ≡ bus.made next
-      made-drained = made-cleared drained settled same ∙ made-settled
+      due-drained : bus.due drained ≡ bus.due next
+      due-drained = due-cleared drained settled same ∙ due-settled
 
       pub items-after_run-settled : items (after_run bus samples (cpu, next)).1 ≡ got ++ items (after_run bus samples (cpu, drained)).1
-      items-after_run-settled = elim (cases_lt (bus.made next) samples) [
+      items-after_run-settled = elim (cases_lt (bus.due next) samples) [
         | inl more ↦ items-after_run-drained cpu next drained got (ap items (sym (still more)) ∙ split) (same ∙ ap cleared (still more))
         | inr all ↦
-            let all_drained : samples ≤ bus.made drained = subst (λ (n : ℕ). samples ≤ n) (sym made-drained) all in
+            let all_drained : samples ≤ bus.due drained = subst (λ (n : ℕ). samples ≤ n) (sym due-drained) all in
             ap (λ (w : Whole S). items w.1) (after_run-reached bus lawful samples (cpu, next) all)
             ∙ sym kept ∙ split ∙ ap (λ (w : Whole S). got ++ items w.1) (sym (after_run-reached bus lawful samples (cpu, drained) all_drained))
       ]
 
       pub end-after_run-settled : (at_rest : S → S) → ((s : S) → at_rest (cleared s) ≡ at_rest s) → at_rest settled ≡ at_rest next
           → resting at_rest (after_run bus samples (cpu, next)) ≡ resting at_rest (after_run bus samples (cpu, drained))
-      end-after_run-settled at_rest beside told = elim (cases_lt (bus.made next) samples) [
+      end-after_run-settled at_rest beside told = elim (cases_lt (bus.due next) samples) [
         | inl more ↦ end-after_run-drained at_rest beside cpu next drained got (ap items (sym (still more)) ∙ split) (same ∙ ap cleared (still more))
         | inr all ↦
-            let all_drained : samples ≤ bus.made drained = subst (λ (n : ℕ). samples ≤ n) (sym made-drained) all in
+            let all_drained : samples ≤ bus.due drained = subst (λ (n : ℕ). samples ≤ n) (sym due-drained) all in
             let rest = sym told ∙ sym (beside settled) ∙ ap at_rest (sym same) ∙ beside drained in
             ap (resting at_rest) (after_run-reached bus lawful samples (cpu, next) all)
             ∙ ap (λ (s : S). (cpu, s)) rest

@@ -19,7 +19,7 @@ module _ {S : Type 0} (chip : ChipMeaning S) where
     write = λ bus at value. refl;
     pass = λ bus cycles. refl;
     clock = λ bus. refl;
-    made = λ bus. refl;
+    due = λ bus. refl;
   }
 
   pub machine-after_run : (samples : ℕ) (cpu : Cpu) (bus : Lagging S) → after_run (lock_step chip) samples (cpu, bus.machine) ≡ (let w = after_run (lagging chip) samples (cpu, bus) in (w.0, w.1.machine))

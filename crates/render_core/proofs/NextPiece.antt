@@ -12,7 +12,7 @@ use Rattle.render_core.specs.Items.{run_frames, run_records, end_of_run}
 use Rattle.render_core.specs.RenderState.{IsNextPiece}
 use Rattle.lag_bus.proofs.TotalOfCalls.{samples_of_count}
 use Rattle.spc700_exec.specs.Bus.{IsLawful}
-use Rattle.render_core.proofs.RunBySteps.{made-after_run}
+use Rattle.render_core.proofs.RunBySteps.{due-after_run}
 use Rattle.render_core.proofs.LaggingRun.{run_frames-lagging, run_records-lagging, end_of_run-lagging, counts-settled}
 use Rattle.spc700_exec.specs.declared.bus.TheConstants.{CYCLES_PER_SAMPLE}
 
@@ -67,15 +67,15 @@ module _ {S : Type 0} (chip : ChipMeaning S) (samples : ℕ) (cpu next_cpu : Cpu
         total = rw (matches.sample, next_matches.sample, matches.total, next_matches.total) made.1;
       }
 
--- no more samples are made than wanted
+-- no more samples are due than wanted
 module _ {S : Type 0} (chip : ChipMeaning S) (lawful : IsLawful (lagging chip)) (samples : ℕ) (cpu next_cpu : Cpu) (bus next : Lagging S) where
-  pub made_at_most : (is_last : Bool) → bus.machine.clock / CYCLES_PER_SAMPLE ≤ samples → end_from chip samples cpu bus ≡ end_from chip samples next_cpu next
+  pub due_at_most : (is_last : Bool) → bus.machine.clock / CYCLES_PER_SAMPLE ≤ samples → end_from chip samples cpu bus ≡ end_from chip samples next_cpu next
       → (is_last ≡ true → after_run (lagging chip) samples (next_cpu, next) ≡ (next_cpu, next)) → (is_last ≡ false → next.machine.clock < CYCLES_PER_SAMPLE * samples)
       → next.machine.clock / CYCLES_PER_SAMPLE ≤ samples
-  made_at_most false few ends over below = let less = below refl in omega arith
-  made_at_most true few ends over below =
+  due_at_most false few ends over below = let less = below refl in omega arith
+  due_at_most true few ends over below =
       let there : (end_from chip samples next_cpu next).1.machine.clock ≡ next.machine.clock = ap (λ (w : Whole (Lagging S)). w.1.machine.clock) (over refl) in
       let same : (end_from chip samples cpu bus).1.machine.clock ≡ (end_from chip samples next_cpu next).1.machine.clock = ap (λ (w : Whole (Lagging S)). w.1.machine.clock) ends in
-      let made : (after_run (lagging chip) samples (cpu, bus)).1.machine.clock / CYCLES_PER_SAMPLE ≡ samples = made-after_run (lagging chip) lawful samples (cpu, bus) few in
+      let due : (after_run (lagging chip) samples (cpu, bus)).1.machine.clock / CYCLES_PER_SAMPLE ≡ samples = due-after_run (lagging chip) lawful samples (cpu, bus) few in
       let clock : (after_run (lagging chip) samples (cpu, bus)).1.machine.clock ≡ next.machine.clock = same ∙ there in
       omega arith

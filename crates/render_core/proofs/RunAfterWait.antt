@@ -17,19 +17,19 @@ use Rattle.spc700_exec.specs.declared.bus.TheConstants.{CYCLES_PER_SAMPLE}
 
 module _ {S : Type 0} (bus : BusMeaning S) (lawful : IsLawful bus) (samples : ℕ) where
   -- steps that end before the last sample are the first ones of the run
-  after_run-steps : (n : ℕ) (w : Whole S) → bus.made (after_n_steps bus n w).1 < samples → after_run bus samples w ≡ after_run bus samples (after_n_steps bus n w)
+  after_run-steps : (n : ℕ) (w : Whole S) → bus.due (after_n_steps bus n w).1 < samples → after_run bus samples w ≡ after_run bus samples (after_n_steps bus n w)
   unfolding after_n_steps after_step
   after_run-steps zero w more = refl
   after_run-steps (suc n) w more =
       let v : Whole S = after_n_steps bus n w in
       let later = clock-step_outcome-least bus lawful v.0 v.1 in
-      let made = lawful.samples v.1 in
-      let next_made = lawful.samples (step_outcome bus v.0 v.1).1 in
-      let before : bus.made v.1 < samples = omega arith in
+      let due = lawful.samples v.1 in
+      let next_due = lawful.samples (step_outcome bus v.0 v.1).1 in
+      let before : bus.due v.1 < samples = omega arith in
       after_run-steps n w before ∙ after_run-next bus lawful samples v before
 
   -- steps of which none begins at the end of the run are its first ones
-  after_run-begun : (n : ℕ) (w : Whole S) → ((k : ℕ) → k < n → bus.made (after_n_steps bus k w).1 < samples) → after_run bus samples w ≡ after_run bus samples (after_n_steps bus n w)
+  after_run-begun : (n : ℕ) (w : Whole S) → ((k : ℕ) → k < n → bus.due (after_n_steps bus k w).1 < samples) → after_run bus samples w ≡ after_run bus samples (after_n_steps bus n w)
   unfolding after_n_steps after_step
   after_run-begun zero w begun = refl
   after_run-begun (suc n) w begun =
@@ -48,16 +48,16 @@ module _ {S : Type 0} (bus : BusMeaning S) (lawful : IsLawful bus) (samples : �
     abbrev reached : S
     reached = (after_n_steps bus wait.steps (cpu, old)).1
 
-    -- the bus that was reached is made as far as the other one
-    made-reached : {I : Type 0} (items : S → List I) → IsEmitting bus emits.cleared items → bus.made reached ≡ bus.made new
-    made-reached items law =
+    -- the bus that was reached has as many samples due as the other one
+    due-reached : {I : Type 0} (items : S → List I) → IsEmitting bus emits.cleared items → bus.due reached ≡ bus.due new
+    due-reached items law =
         let clock : bus.clock reached ≡ bus.clock new = sym (law.clock reached) ∙ ap bus.clock wait.cleared ∙ law.clock new in
         lawful.samples reached ∙ ap (λ (c : ℕ). c / CYCLES_PER_SAMPLE) clock ∙ sym (lawful.samples new)
 
     pub after_run-reached-wait : {I : Type 0} (items : S → List I) → IsEmitting bus emits.cleared items
         → after_run bus samples (cpu, old) ≡ after_run bus samples (cpu, reached)
     after_run-reached-wait items law =
-        let made = made-reached items law in
+        let due = due-reached items law in
         let below = wait.below in
         after_run-steps wait.steps (cpu, old) (omega arith) ∙ ap (λ (c : Cpu). after_run bus samples (c, reached)) wait.registers
 

@@ -14,7 +14,7 @@ pub record IsSeen {S T : Type 0} (bus : BusMeaning S) (other : BusMeaning T) (se
   pub write : (s : S) (at value : ℕ) → other.write (seen s) at value ≡ seen (bus.write s at value)
   pub pass : (s : S) (cycles : ℕ) → other.pass (seen s) cycles ≡ seen (bus.pass s cycles)
   pub clock : (s : S) → other.clock (seen s) ≡ bus.clock s
-  pub made : (s : S) → other.made (seen s) ≡ bus.made s
+  pub due : (s : S) → other.due (seen s) ≡ bus.due s
 
 module _ {S T : Type 0} (bus : BusMeaning S) (other : BusMeaning T) (seen : S → T) (law : IsSeen bus other seen) where
   -- the processor with the other bus
@@ -51,7 +51,7 @@ module _ {S T : Type 0} (bus : BusMeaning S) (other : BusMeaning T) (seen : S �
   seen-after_steps samples (suc steps) w =
       let rest : after_steps other samples steps (after_step other (seen_whole w)) ≡ seen_whole (after_steps bus samples steps (after_step bus w)) =
       ap (λ (v : Whole T). after_steps other samples steps v) (seen-after_step w) ∙ seen-after_steps samples steps (after_step bus w) in
-      (λ i. if nat_le samples (law.made w.1 i) then seen_whole w else rest i) ∙ seen-if (nat_le samples (bus.made w.1)) w (after_steps bus samples steps (after_step bus w))
+      (λ i. if nat_le samples (law.due w.1 i) then seen_whole w else rest i) ∙ seen-if (nat_le samples (bus.due w.1)) w (after_steps bus samples steps (after_step bus w))
 
   pub seen-after_run : (samples : ℕ) (w : Whole S) → after_run other samples (seen_whole w) ≡ seen_whole (after_run bus samples w)
   unfolding after_run

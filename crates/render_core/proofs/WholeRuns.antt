@@ -15,7 +15,7 @@ use Rattle.lock_step.specs.LockStepEmits.{drained_machine}
 use Rattle.lock_step.specs.LockStepLaws.{lock_step-lawful, emits_frames, frame_each}
 use Rattle.render_core.specs.MachineRun.{Whole, after_step, after_steps, after_run}
 use Rattle.render_core.specs.Whole.{with_lists_of, whole_after_run, frames_of_run, IsPlayedLawfully}
-use Rattle.render_core.proofs.RunBySteps.{after_steps-reached, after_run-next, after_run-reached, made-after_run}
+use Rattle.render_core.proofs.RunBySteps.{after_steps-reached, after_run-next, after_run-reached, due-after_run}
 use Rattle.render_core.proofs.ItemsBeforeRun.{items-after_run-drained, end-after_run-drained}
 use Rattle.render_core.proofs.FrameEachSample.{length-frames-after_run}
 use Rattle.spc700_exec.specs.declared.bus.TheConstants.{CYCLES_PER_SAMPLE}
@@ -24,9 +24,9 @@ use Rattle.spc700_exec.specs.declared.bus.TheConstants.{CYCLES_PER_SAMPLE}
 module _ {S : Type 0} (bus : BusMeaning S) (lawful : IsLawful bus) (k n : ℕ) (less : k ≤ n) where
   after_run-after_steps : (steps : ℕ) (w : Whole S) → after_run bus n (after_steps bus k steps w) ≡ after_run bus n w
   after_run-after_steps zero w = refl
-  after_run-after_steps (suc steps) w = elim (cases_lt (bus.made w.1) k) [
+  after_run-after_steps (suc steps) w = elim (cases_lt (bus.due w.1) k) [
     | inl more ↦
-        ap (λ (b : Bool). after_run bus n (if b then w else after_steps bus k steps (after_step bus w))) (lt-leb k (bus.made w.1) more)
+        ap (λ (b : Bool). after_run bus n (if b then w else after_steps bus k steps (after_step bus w))) (lt-leb k (bus.due w.1) more)
         ∙ after_run-after_steps steps (after_step bus w)
         ∙ sym (after_run-next bus lawful n w (omega arith))
     | inr all ↦ ap (λ (v : Whole S). after_run bus n v) (after_steps-reached bus lawful k (suc steps) w all)
@@ -131,7 +131,7 @@ module _ {S V : Type 0} (chip : ChipMeaning S) (saving : ChipSaving S V) (laws :
         let kept = kept-after_run laws s.bus.chip n w in
         λ i. (s.cpu, record w.1 { memory = memory; io = s.bus.io; chip = kept.fixed i; clock = s.bus.clock; mask = kept.mask i });
     stays = λ w. ap (λ (x : Whole (Machine S)). with_lists_of w.1 x) (after_run-reached (lock_step chip) (lock_step-lawful chip) (w.1.clock / CYCLES_PER_SAMPLE) w (omega arith));
-    makes = λ n w few. made-after_run (lock_step chip) (lock_step-lawful chip) n w few;
+    makes = λ n w few. due-after_run (lock_step chip) (lock_step-lawful chip) n w few;
     goes_on = goes_on;
     counts = λ n w few.
         let all = length-frames-after_run (lock_step chip) (lock_step-lawful chip) (λ m. m.frames) (frame_each chip) n (w.0, drained_machine w.1) few in

@@ -11,24 +11,24 @@ use Rattle.render_core.specs.Items.{run_frames, run_records, records_before}
 use Rattle.render_core.specs.RenderState.{RenderState, frames_to_come, records_to_come, IsNextPiece}
 use Rattle.render_core.specs.Fade.{faded_frame, faded_frames}
 
--- as long as samples are to be made a run takes a step, and goes on from there
+-- as long as fewer samples are due a run takes a step, and goes on from there
 abbrev pub GoesOnByAStep : {S : Type 0} → BusMeaning S → Type 0
 GoesOnByAStep {S} bus =
-    (samples : ℕ) (w : Whole S) → bus.made w.1 < samples → after_run bus samples w ≡ after_run bus samples (after_step bus w)
+    (samples : ℕ) (w : Whole S) → bus.due w.1 < samples → after_run bus samples w ≡ after_run bus samples (after_step bus w)
 
--- once they are made it takes no more
-abbrev pub EndsWhereMade : {S : Type 0} → BusMeaning S → Type 0
-EndsWhereMade {S} bus = (samples : ℕ) (w : Whole S) → samples ≤ bus.made w.1 → after_run bus samples w ≡ w
+-- once they are due it takes no more
+abbrev pub EndsWhereDue : {S : Type 0} → BusMeaning S → Type 0
+EndsWhereDue {S} bus = (samples : ℕ) (w : Whole S) → samples ≤ bus.due w.1 → after_run bus samples w ≡ w
 
--- and at its end it made these samples and no more
-abbrev pub MakesItsSamples : {S : Type 0} → BusMeaning S → Type 0
-MakesItsSamples {S} bus = (samples : ℕ) (w : Whole S) → bus.made w.1 ≤ samples → bus.made (after_run bus samples w).1 ≡ samples
+-- and at its end these samples are due and no more
+abbrev pub EndsWithItsSamplesDue : {S : Type 0} → BusMeaning S → Type 0
+EndsWithItsSamplesDue {S} bus = (samples : ℕ) (w : Whole S) → bus.due w.1 ≤ samples → bus.due (after_run bus samples w).1 ≡ samples
 
 -- a run emits a frame for each sample that it makes, after those that are still to be drained
 abbrev pub EmitsAFrameASample : {S : Type 0} → BusMeaning S → Emits S → Type 0
 EmitsAFrameASample {S} bus emits =
-    (samples : ℕ) (w : Whole S) → bus.made w.1 ≤ samples
-    → length (run_frames bus emits samples w) + bus.made w.1 ≡ length (emits.frames w.1) + samples
+    (samples : ℕ) (w : Whole S) → bus.due w.1 ≤ samples
+    → length (run_frames bus emits samples w) + bus.due w.1 ≡ length (emits.frames w.1) + samples
 
 -- what a drain hands over is taken from the front of what a run emits, and the rest is emitted as before
 abbrev pub DrainTakesFrames : {S : Type 0} → BusMeaning S → Emits S → Type 0

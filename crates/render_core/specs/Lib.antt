@@ -1,7 +1,7 @@
 -- What a reader of the promises needs:
 -- the whole machine that a file opens
 pub mod Opening
--- a run of the machine: steps until so many samples are made
+-- a run of the machine: steps until so many samples are due
 pub mod MachineRun
 -- the frames and records that a run emits
 pub mod Items

@@ -7,7 +7,7 @@ use Rattle.chip_form.specs.ChipMeaning.{ChipMeaning}
 use Rattle.lock_step.specs.declared.counts.Counts.{Counts}
 use Rattle.lag_bus.specs.Lagging.{Lagging}
 use Rattle.lock_step.specs.Machine.{Machine}
-use Rattle.lock_step.specs.LockStep.{lock_step, samples_made}
+use Rattle.lock_step.specs.LockStep.{lock_step, samples_due}
 use Rattle.lock_step.specs.LockStepEmits.{lock_step_emits}
 use Rattle.chip_form.specs.Samples.{count_after}
 use Rattle.render_core.specs.MachineRun.{Whole}
@@ -38,7 +38,7 @@ counts_to_come chip render = run_counts chip render.samples (render.cpu, render.
 
 -- whether it is at its length
 abbrev pub is_at_length : {S : Type 0} → RenderState S → Bool
-is_at_length render = nat_le render.samples (samples_made render.bus.machine)
+is_at_length render = nat_le render.samples (samples_due render.bus.machine)
 
 -- the whole machine there: the one that the machine in lock step reaches from here
 abbrev pub whole_at_length : {S : Type 0} → ChipMeaning S → RenderState S → Whole (Machine S)

@@ -5,7 +5,7 @@ use Rattle.num_fix.specs.declared.Frame.{Frame}
 use Rattle.chip_form.specs.ChipMeaning.{ChipMeaning}
 use Rattle.chip_form.specs.ChipSaving.{ChipSaving}
 use Rattle.lock_step.specs.Machine.{Machine}
-use Rattle.lock_step.specs.LockStep.{lock_step, samples_made}
+use Rattle.lock_step.specs.LockStep.{lock_step, samples_due}
 use Rattle.lock_step.specs.LockStepEmits.{lock_step_emits, drained_machine}
 use Rattle.lag_bus.specs.Saved.{loaded_machine}
 use Rattle.render_core.specs.declared.saved.PlayState.{PlayState}
@@ -13,9 +13,9 @@ use Rattle.render_core.specs.MachineRun.{Whole, after_run}
 use Rattle.render_core.specs.Items.{run_frames}
 use Rattle.render_core.specs.Saved.{saved_whole}
 
--- the samples that it made
-abbrev pub made_by : {S : Type 0} → Whole (Machine S) → ℕ
-made_by w = samples_made w.1
+-- the samples that are due in it
+abbrev pub due_in : {S : Type 0} → Whole (Machine S) → ℕ
+due_in w = samples_due w.1
 
 -- a whole machine with what another one emitted and was called for
 abbrev pub with_lists_of : {S : Type 0} → Machine S → Whole (Machine S) → Whole (Machine S)
@@ -42,9 +42,9 @@ pub record IsPlayedLawfully {S V : Type 0} (chip : ChipMeaning S) (saving : Chip
   pub loads_after : (n : ℕ) (w : Whole (Machine S)) (s : PlayState V) (memory : List ℕ)
       → loaded_whole saving (whole_after_run chip n w) s memory ≡ loaded_whole saving w s memory
   -- a run makes its samples, with a frame for each, and goes on where another one ended
-  pub stays : (w : Whole (Machine S)) → whole_after_run chip (made_by w) w ≡ w
-  pub makes : (n : ℕ) (w : Whole (Machine S)) → made_by w ≤ n → made_by (whole_after_run chip n w) ≡ n
+  pub stays : (w : Whole (Machine S)) → whole_after_run chip (due_in w) w ≡ w
+  pub makes : (n : ℕ) (w : Whole (Machine S)) → due_in w ≤ n → due_in (whole_after_run chip n w) ≡ n
   pub goes_on : (k n : ℕ) (w : Whole (Machine S)) → k ≤ n → whole_after_run chip n (whole_after_run chip k w) ≡ whole_after_run chip n w
-  pub counts : (n : ℕ) (w : Whole (Machine S)) → made_by w ≤ n → length (frames_of_run chip n w) + made_by w ≡ n
+  pub counts : (n : ℕ) (w : Whole (Machine S)) → due_in w ≤ n → length (frames_of_run chip n w) + due_in w ≡ n
   pub emits : (k n : ℕ) (w : Whole (Machine S)) → k ≤ n
       → frames_of_run chip n w ≡ frames_of_run chip k w ++ frames_of_run chip n (whole_after_run chip k w)

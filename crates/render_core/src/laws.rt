@@ -1,5 +1,5 @@
 // Laws of the definitions.
-ghost use Rattle.render_core.specs.Laws.{GoesOnByAStep, EndsWhereMade, MakesItsSamples, EmitsAFrameASample};
+ghost use Rattle.render_core.specs.Laws.{GoesOnByAStep, EndsWhereDue, EndsWithItsSamplesDue, EmitsAFrameASample};
 ghost use Rattle.render_core.specs.Laws.{DrainTakesFrames, DrainTakesRecords, IsEmptyAfterTheLast};
 ghost use Rattle.render_core.specs.Laws.{AreFadedAtTheirPlaces, AreAsManyFaded};
 ghost use Rattle.render_core.specs.Whole.{IsPlayedLawfully};
@@ -8,11 +8,11 @@ use chip_form::Chip;
 use lock_step::DrainedBus;
 use spc700_exec::Bus;
 
-/// A run takes steps as long as samples are to be made, and then no more; no step makes two samples.
+/// A run takes steps as long as fewer samples are due, and then no more; no step makes two samples.
 pub fn a_run_ends_with_its_last_sample<B: Bus>(_bus: &B)
     ensures step { GoesOnByAStep B.means }
-    ensures end_reached { EndsWhereMade B.means }
-    ensures made { MakesItsSamples B.means }
+    ensures end_reached { EndsWhereDue B.means }
+    ensures due { EndsWithItsSamplesDue B.means }
 {}
 
 /// A run emits a frame for each sample that it makes, after those that are still to be drained.

@@ -28,14 +28,14 @@ fn keep_records_before(drained: &Records, samples: u32, records: &mut Records)
 fn settle_at_end<B: DrainedBus>(bus: &mut B, samples: u32)
     ensures frames { B.emits.frames bus.new ≡ B.emits.frames bus.old }
     ensures records { B.emits.records bus.new ≡ B.emits.records bus.old }
-    ensures still { B.means.made bus.old < samples → bus.new ≡ bus.old }
+    ensures still { B.means.due bus.old < samples → bus.new ≡ bus.old }
     ensures clock { B.means.clock bus.new ≡ B.means.clock bus.old }
     ensures calls { B.means.calls bus.new ≡ B.means.calls bus.old }
     ensures at_rest { B.emits.at_rest bus.new ≡ B.emits.at_rest bus.old }
     ensures counted { IsCountedOn B.means B.emits bus.old bus.new }
-    ensures pending { samples ≤ B.means.made bus.old → B.emits.pending bus.new ≡ 0 }
+    ensures pending { samples ≤ B.means.due bus.old → B.emits.pending bus.new ≡ 0 }
 {
-    if bus.made() >= samples {
+    if bus.due() >= samples {
         bus.settle();
     }
 }
@@ -69,14 +69,14 @@ impl Lists {
 
 /// Makes at once whole rounds of the loop at which the processor stands, as far as they only wait.
 fn make_rounds<B: DrainedBus>(cpu: &Cpu, bus: &mut B, samples: u32)
-    requires more { B.means.made bus.old < samples }
+    requires more { B.means.due bus.old < samples }
     requires few { samples ≤ most_frames }
     ensures frames { B.emits.frames (after_run B.means samples (cpu.now, bus.old)).1 ≡ B.emits.frames (after_run B.means samples (cpu.now, bus.new)).1 }
     ensures records { B.emits.records (after_run B.means samples (cpu.now, bus.old)).1 ≡ B.emits.records (after_run B.means samples (cpu.now, bus.new)).1 }
     ensures at_end { end_of_run B.means B.emits samples (cpu.now, bus.old) ≡ end_of_run B.means B.emits samples (cpu.now, bus.new) }
     ensures counted { IsCountedOn B.means B.emits bus.old bus.new }
     ensures later { B.means.clock bus.old ≤ B.means.clock bus.new }
-    ensures more { B.means.made bus.new < samples }
+    ensures more { B.means.due bus.new < samples }
     ensures calls { B.means.calls bus.new ≡ B.means.calls bus.old }
 {
     bus.wait(cpu, samples);
@@ -113,20 +113,20 @@ impl TrialPause {
 
 /// Makes rounds at once, where it is time for a trial.
 fn make_rounds_if_due<B: DrainedBus>(cpu: &Cpu, bus: &mut B, samples: u32, pause: &mut TrialPause)
-    requires more { B.means.made bus.old < samples }
+    requires more { B.means.due bus.old < samples }
     requires few { samples ≤ most_frames }
     ensures frames { B.emits.frames (after_run B.means samples (cpu.now, bus.old)).1 ≡ B.emits.frames (after_run B.means samples (cpu.now, bus.new)).1 }
     ensures records { B.emits.records (after_run B.means samples (cpu.now, bus.old)).1 ≡ B.emits.records (after_run B.means samples (cpu.now, bus.new)).1 }
     ensures at_end { end_of_run B.means B.emits samples (cpu.now, bus.old) ≡ end_of_run B.means B.emits samples (cpu.now, bus.new) }
     ensures counted { IsCountedOn B.means B.emits bus.old bus.new }
     ensures later { B.means.clock bus.old ≤ B.means.clock bus.new }
-    ensures more { B.means.made bus.new < samples }
+    ensures more { B.means.due bus.new < samples }
     ensures calls { B.means.calls bus.new ≡ B.means.calls bus.old }
 {
     if pause.is_over() {
-        let before = bus.made();
+        let before = bus.due();
         make_rounds(cpu, bus, samples);
-        pause.begin(before < bus.made());
+        pause.begin(before < bus.due());
     }
 }
 
@@ -139,7 +139,7 @@ fn take_rounds_and_steps<B: DrainedBus>(
     pause: &mut TrialPause,
 )
     requires calls { B.means.calls bus.old ≡ 0 }
-    requires more { B.means.made bus.old < samples }
+    requires more { B.means.due bus.old < samples }
     requires few { samples ≤ most_frames }
     ensures frames { B.emits.frames (after_run B.means samples (cpu.old, bus.old)).1 ≡ B.emits.frames (after_run B.means samples (cpu.new, bus.new)).1 }
     ensures records { B.emits.records (after_run B.means samples (cpu.old, bus.old)).1 ≡ B.emits.records (after_run B.means samples (cpu.new, bus.new)).1 }
@@ -154,7 +154,7 @@ fn take_rounds_and_steps<B: DrainedBus>(
 /// Some steps, and what was emitted with them.
 fn step_and_drain<B: DrainedBus>(cpu: &mut Cpu, bus: &mut B, samples: u32, lists: &mut Lists)
     requires idle { B.means.calls bus.old ≡ 0 }
-    requires more { B.means.made bus.old < samples }
+    requires more { B.means.due bus.old < samples }
     requires few { samples ≤ most_frames }
     ensures frames { run_frames B.means B.emits samples (cpu.old, bus.old) ≡ lists.new.frames ++ run_frames B.means B.emits samples (cpu.new, bus.new) }
     ensures records { run_records B.means B.emits samples (cpu.old, bus.old) ≡ lists.new.records ++ run_records B.means B.emits samples (cpu.new, bus.new) }
@@ -192,15 +192,15 @@ pub(crate) fn make_piece<B: DrainedBus>(
     ensures more { result ≡ false → 0 < length (run_frames B.means B.emits samples (cpu.new, bus.new)) }
     ensures later { result ≡ false → B.means.clock bus.old < B.means.clock bus.new }
     ensures below { result ≡ false → B.means.clock bus.new < CYCLES_PER_SAMPLE * samples }
-    ensures at_length { result ≡ nat_le samples (B.means.made bus.new) }
+    ensures at_length { result ≡ nat_le samples (B.means.due bus.new) }
 {
     lists.frames.clear();
     lists.records.clear();
-    'steps: while bus.made() < samples
+    'steps: while bus.due() < samples
         && lists.frames.as_slice().is_empty()
         && lists.records.as_slice().is_empty()
     {
         step_and_drain(cpu, bus, samples, lists);
     }
-    bus.made() >= samples
+    bus.due() >= samples
 }

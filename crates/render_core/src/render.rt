@@ -4,7 +4,7 @@ ghost use Rattle.std.specs.Borrow.{sem};
 ghost use Rattle.std.specs.Io.BufRead.{Rests};
 ghost use Rattle.trace_form.specs.Rooms.{frame_room, record_room};
 ghost use Rattle.num_fix.specs.Limits.{most_frames};
-ghost use Rattle.lock_step.specs.LockStep.{lock_step, samples_made};
+ghost use Rattle.lock_step.specs.LockStep.{lock_step, samples_due};
 ghost use Rattle.lock_step.specs.LockStepEmits.{lock_step_emits};
 ghost use Rattle.lag_bus.specs.Lagging.{MatchesBook};
 ghost use Rattle.render_core.specs.Items.{run_frames, run_records, end_of_run};
@@ -39,7 +39,7 @@ pub struct Render<C: Chip> {
 impl<C: Chip> Model for Render<C> {
     ghost use Rattle.std.specs.Prelude.{◌≤◌};
     ghost use Rattle.num_fix.specs.Limits.{most_frames};
-    ghost use Rattle.lock_step.specs.LockStep.{samples_made};
+    ghost use Rattle.lock_step.specs.LockStep.{samples_due};
     ghost use Rattle.lag_bus.specs.Lagging.{lagging};
     ghost use Rattle.lag_bus.specs.LagEmits.{lag_emits};
     ghost use Rattle.render_core.specs.BetweenSteps.{IsBetweenSteps};
@@ -61,7 +61,7 @@ impl<C: Chip> Model for Render<C> {
 
     ghost invariant = { λ r. (r.samples ≤ most_frames)
         × IsBetweenSteps (lagging C.meaning) (lag_emits C.meaning) r.samples r.bus
-        × (samples_made r.bus.machine ≤ r.samples) };
+        × (samples_due r.bus.machine ≤ r.samples) };
 }
 
 /// The registers of a file.
@@ -165,7 +165,7 @@ impl<C: Chip> Render<C> {
         ensures whole { result ≡ true → (self.now.cpu, self.now.bus.machine) ≡ whole_at_length C.meaning self.now }
     {
         self.bus.matches_its_book();
-        self.bus.made() >= self.samples
+        self.bus.due() >= self.samples
     }
 
     /// Saves the machine but for its memory.
@@ -200,7 +200,7 @@ impl<C: Chip> Render<C> {
     {
         self.bus.load(&saved.bus, memory);
         self.cpu = saved.cpu;
-        self.samples = self.bus.made();
+        self.samples = self.bus.due();
         self.lists.pause = TrialPause::none();
     }
 
@@ -235,7 +235,7 @@ impl<C: Chip> Render<C> {
         ensures sample { C.sample result.now ≡ self.now.bus.chip_sample }
         ensures total { C.total result.now ≡ self.now.bus.chip_total }
         ensures counted { C.batches result.now ≡ self.now.bus.book.counts.batches }
-        ensures made { C.sample result.now ≡ samples_made self.now.bus.machine - self.now.bus.book.pending }
+        ensures made { C.sample result.now ≡ samples_due self.now.bus.machine - self.now.bus.book.pending }
         ensures state { is_at_length self.now ≡ true → C.state result.now ≡ self.now.bus.machine.chip }
     {
         self.bus.chip()
@@ -246,7 +246,7 @@ impl<C: Chip> Render<C> {
     pub fn counts(&self) -> Counts
         ensures counts { result ≡ self.now.bus.book.counts }
         ensures batches { self.now.bus.chip_batches ≡ result.batches }
-        ensures sample { self.now.bus.chip_sample ≡ samples_made self.now.bus.machine - self.now.bus.book.pending }
+        ensures sample { self.now.bus.chip_sample ≡ samples_due self.now.bus.machine - self.now.bus.book.pending }
     {
         self.bus.counts()
     }

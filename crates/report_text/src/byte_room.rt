@@ -7,7 +7,7 @@ use std::alloc::Global;
 use std::marker::Model;
 
 /// How many bytes there is room for.
-const ROOM: usize = 131072;
+const ROOM_SIZE: usize = 131072;
 
 /// Up to 131,072 bytes, so that adding some takes no memory. Room that isn't used is never written.
 #[derive(Drop)]
@@ -31,7 +31,7 @@ impl ByteRoom {
     pub fn new(alloc: Global) -> Result<ByteRoom, OutOfMemory>
         ensures { IfOk result (λ room. room ≡ []) }
     {
-        let bytes = Vec::with_capacity(alloc, ROOM)?;
+        let bytes = Vec::with_capacity(alloc, ROOM_SIZE)?;
         Ok(ByteRoom { bytes })
     }
 
@@ -40,7 +40,7 @@ impl ByteRoom {
         requires { more ≤ room_size }
         ensures { (result ≡ true) ↔ (length self.now + more ≤ room_size) }
     {
-        self.bytes.len() + more <= ROOM
+        self.bytes.len() + more <= ROOM_SIZE
     }
 
     /// Drops all bytes.

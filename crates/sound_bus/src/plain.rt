@@ -118,7 +118,7 @@ impl<C: Chip> PlainBus<C> {
         ensures { result ≡ lock_step_counts self.now }
     {
         Counts {
-            batches: u64::from(self.made()),
+            batches: u64::from(self.due()),
             register: 0,
             memory: 0,
             echo: 0,
@@ -145,7 +145,7 @@ impl<C: Chip> Bus for PlainBus<C> {
 
     fn write(&mut self, addr: u16, value: u8) {
         self.calls += 1;
-        let sample = self.made();
+        let sample = self.due();
         let address = self.io.dsp_address();
         if writes_register(address, addr) {
             self.chip.reg_write(address, value);
@@ -190,11 +190,11 @@ impl<C: Chip> Bus for PlainBus<C> {
 impl<C: Chip> DrainedBus for PlainBus<C> {
     ghost emits = { lock_step_emits };
 
-    fn made(&self) -> u32 {
+    fn due(&self) -> u32 {
         (self.clock / CYCLES_PER_SAMPLE) as u32
     }
 
-    fn has_room(&self) -> bool {
+    fn has_room_for_step(&self) -> bool {
         self.calls <= MOST_CALLS_BEFORE_STEP
     }
 

@@ -12,7 +12,7 @@ pub const NEGATIVE: u8 = 0x80;
 pub const OVERFLOW: u8 = 0x40;
 
 /// P: the direct page is page 1.
-pub const PAGE: u8 = 0x20;
+pub const DIRECT_PAGE: u8 = 0x20;
 
 /// B: BRK was the cause.
 pub const BREAK: u8 = 0x10;

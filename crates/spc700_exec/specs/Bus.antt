@@ -2,7 +2,7 @@
 use Rattle.std.specs.Prelude.{◌≡◌, ℕ, ◌+◌, ◌/◌}
 use Rattle.spc700_exec.specs.declared.bus.TheConstants.{CYCLES_PER_SAMPLE, MOST_CALLS, MOST_CALLS_BEFORE_STEP}
 
--- a bus has made fewer samples than so many before a pass
+-- of a bus fewer samples than so many are due before a pass
 abbrev pub most_samples_of_bus : ℕ
 most_samples_of_bus = 4000000000
 
@@ -20,10 +20,10 @@ pub record BusMeaning (S : Type 0) : Type 0 where
   pub write : S → ℕ → ℕ → S
   -- the passing of cycles
   pub pass : S → ℕ → S
-  -- the calls since the last drain, the clock, and the samples made
+  -- the calls since the last drain, the clock, and the samples that are due
   pub calls : S → ℕ
   pub clock : S → ℕ
-  pub made : S → ℕ
+  pub due : S → ℕ
 
 -- the laws that each bus keeps
 pub record IsLawful {S : Type 0} (bus : BusMeaning S) : Type 0 where
@@ -35,8 +35,8 @@ pub record IsLawful {S : Type 0} (bus : BusMeaning S) : Type 0 where
   -- a pass of cycles adds 1 to the calls and the cycles to the clock
   pub pass_calls : (s : S) (cycles : ℕ) → bus.calls (bus.pass s cycles) ≡ bus.calls s + 1
   pub pass_clock : (s : S) (cycles : ℕ) → bus.clock (bus.pass s cycles) ≡ bus.clock s + cycles
-  -- a sample is made each time that so many cycles have passed
-  pub samples : (s : S) → bus.made s ≡ bus.clock s / CYCLES_PER_SAMPLE
+  -- a sample more is due each time that so many cycles have passed
+  pub samples : (s : S) → bus.due s ≡ bus.clock s / CYCLES_PER_SAMPLE
 
 -- an access of an instruction passes one cycle before it acts: the byte that a read gives, and the bus after a read and
 -- after a write

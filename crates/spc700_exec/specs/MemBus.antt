@@ -18,5 +18,5 @@ plain_memory = record {
   pass = λ m cycles. record m { clock = m.clock + cycles; calls = m.calls + 1 };
   calls = λ m. m.calls;
   clock = λ m. m.clock;
-  made = λ m. m.clock / CYCLES_PER_SAMPLE;
+  due = λ m. m.clock / CYCLES_PER_SAMPLE;
 }

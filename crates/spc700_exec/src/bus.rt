@@ -33,7 +33,7 @@ pub trait Bus {
         requires room { means.calls self.old < most_calls }
         requires some { 1 ≤ cycles }
         requires few { cycles ≤ CYCLES_PER_SAMPLE }
-        requires time { means.made self.old < most_samples_of_bus }
+        requires time { means.due self.old < most_samples_of_bus }
         ensures { self.new ≡ means.pass self.old cycles };
 
     /// The cycles up to the next sample, 1 to 32.

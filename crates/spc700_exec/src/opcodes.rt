@@ -19,7 +19,7 @@ use crate::registers::{
     AdjustDifference, AdjustSum, ClearOverflow, Divide, Exchange, Multiply, Nop, PutFlag, TurnCarry,
 };
 use crate::word_instructions::{MoveWord, WordCalculation, WordDown, WordUp};
-use spc700_alu::flags::{CARRY, INTERRUPT, NEGATIVE, OVERFLOW, PAGE, ZERO};
+use spc700_alu::flags::{CARRY, DIRECT_PAGE, INTERRUPT, NEGATIVE, OVERFLOW, ZERO};
 use spc700_alu::{BitKind, LogicKind, ShiftKind};
 
 /// The instruction of an opcode by its low digit: a line for the digits of each operation. The last arm is that of the digit F: as no
@@ -83,7 +83,7 @@ fn from_20<B: Bus>(cpu: &mut Cpu, bus: &mut B, low: u8)
     ensures { IsWholeInstruction B.means (row_of (0x20 + low)) cpu.old bus.old cpu.new bus.new }
 {
     instruction_of!(cpu, bus, 0x20, low,
-        0x0 => PutFlag { mask: PAGE, on: false },
+        0x0 => PutFlag { mask: DIRECT_PAGE, on: false },
         0x1 => TableCall,
         0x2 => BitInPlace(BitKind::Set),
         0x3 => BranchOnBit(true),
@@ -125,7 +125,7 @@ fn from_40<B: Bus>(cpu: &mut Cpu, bus: &mut B, low: u8)
     ensures { IsWholeInstruction B.means (row_of (0x40 + low)) cpu.old bus.old cpu.new bus.new }
 {
     instruction_of!(cpu, bus, 0x40, low,
-        0x0 => PutFlag { mask: PAGE, on: true },
+        0x0 => PutFlag { mask: DIRECT_PAGE, on: true },
         0x1 => TableCall,
         0x2 => BitInPlace(BitKind::Set),
         0x3 => BranchOnBit(true),

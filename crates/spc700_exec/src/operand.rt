@@ -11,7 +11,7 @@ ghost use Rattle.spc700_exec.specs.Pieces.{HasAccessesLeft, IsWithin, Gives, Giv
 use crate::access::{read, write};
 use crate::bus::Bus;
 use crate::cpu::Cpu;
-use spc700_alu::flags::{PAGE, is_set};
+use spc700_alu::flags::{DIRECT_PAGE, is_set};
 use spc700_table::{Form, OpRow, byte_count, is_in_text_order};
 
 /// An operand, once the bytes that name it were read.
@@ -95,7 +95,7 @@ fn read_word<B: Bus>(bus: &mut B, at_low: u16, at_high: u16) -> u16
 fn direct_address(cpu: &Cpu, d: u8) -> u16
     ensures { result ≡ direct cpu.now d }
 {
-    if is_set(cpu.psw, PAGE) {
+    if is_set(cpu.psw, DIRECT_PAGE) {
         0x100 + d as u16
     } else {
         d as u16

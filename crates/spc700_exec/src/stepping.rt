@@ -47,12 +47,12 @@ fn advance<B: Bus>(cpu: &mut Cpu, bus: &mut B)
 #[inline(always)]
 pub fn step<B: Bus>(cpu: &mut Cpu, bus: &mut B)
     requires room { B.means.calls bus.old ≤ most_calls_before_step }
-    requires time { B.means.made bus.old < most_samples_of_bus - 1 }
+    requires time { B.means.due bus.old < most_samples_of_bus - 1 }
     ensures does { (cpu.new, bus.new) ≡ step_outcome B.means cpu.old bus.old }
     ensures calls { B.means.calls bus.new ≤ B.means.calls bus.old + 13 }
     ensures some { B.means.clock bus.old + 1 ≤ B.means.clock bus.new }
     ensures short { B.means.clock bus.new ≤ B.means.clock bus.old + CYCLES_PER_SAMPLE }
-    ensures sample { B.means.made bus.new ≤ B.means.made bus.old + 1 }
+    ensures sample { B.means.due bus.new ≤ B.means.due bus.old + 1 }
 {
     advance(cpu, bus);
 }
@@ -61,13 +61,13 @@ pub fn step<B: Bus>(cpu: &mut Cpu, bus: &mut B)
 #[inline(always)]
 pub fn step_awake<B: Bus>(cpu: &mut Cpu, bus: &mut B)
     requires room { B.means.calls bus.old ≤ most_calls_before_step }
-    requires time { B.means.made bus.old < most_samples_of_bus - 1 }
+    requires time { B.means.due bus.old < most_samples_of_bus - 1 }
     requires awake { cpu.old.halted ≡ false }
     ensures does { (cpu.new, bus.new) ≡ step_outcome B.means cpu.old bus.old }
     ensures calls { B.means.calls bus.new ≤ B.means.calls bus.old + 13 }
     ensures some { B.means.clock bus.old + 1 ≤ B.means.clock bus.new }
     ensures short { B.means.clock bus.new ≤ B.means.clock bus.old + CYCLES_PER_SAMPLE }
-    ensures sample { B.means.made bus.new ≤ B.means.made bus.old + 1 }
+    ensures sample { B.means.due bus.new ≤ B.means.due bus.old + 1 }
 {
     advance_awake(cpu, bus);
 }

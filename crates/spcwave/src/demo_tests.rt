@@ -4,7 +4,7 @@ use exit_status::Status;
 use std::alloc::Global;
 use std::process::Abort;
 use std::test::Fail;
-use test_support::{Outcome, ROOM};
+use test_support::{OUTPUT_ROOM, Outcome};
 
 /// Sums over the frames of a sound file.
 #[derive(Clone, Copy)]
@@ -84,7 +84,7 @@ fn look_at_check(rt: &impl Abort, played: &Outcome, checked: &Outcome, lines: &[
 /// The demo file of 7, rendered for ten seconds, has the sums that the check tells, and is made in the same batches.
 #[test]
 fn the_check_of_seven_is_that_of_its_frames(rt: HostRuntime) -> Result<(), Fail> {
-    let played = render_seven(rt.alloc(), &["--samples", "320000"], ROOM)?;
+    let played = render_seven(rt.alloc(), &["--samples", "320000"], OUTPUT_ROOM)?;
     let lines = lines_of_wave(rt.alloc(), played.first())?;
     let checked = run_words(rt.alloc(), &["check", "7"], &[])?;
     look_at_check(&rt, &played, &checked, lines.as_bytes());

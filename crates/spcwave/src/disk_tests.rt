@@ -13,7 +13,8 @@ use std::rt::{Env, Files};
 use std::test::Fail;
 use std::{env, fs};
 use test_support::{
-    BLOCK, BLOCK_WAV, DSP, FIVE, MEMORY, Outcome, Pieces, STEADY_WAV, file_of, straight_table,
+    BLOCK, BLOCK_WAV, DSP, FILE_LENGTH, FIVE, MEMORY, Outcome, Pieces, STEADY_WAV, file_of,
+    straight_table,
 };
 
 /// The room for a trace of eight voices over a thousand samples: 8,000 lines of at most 28 bytes, and a few of what the program
@@ -93,7 +94,7 @@ fn render_words(alloc: Global, names: &Names) -> Result<Vec<String>, Fail> {
 }
 
 /// What the trace begins with: all voices are keyed in the first sample.
-const KEYED: &[u8] = b"V 0 0 0 0 0000 k-\nV 0 1 0 0 0000 k-\nV 0 2 0 0 0000 k-\n";
+const KEYED_LINES: &[u8] = b"V 0 0 0 0 0000 k-\nV 0 1 0 0 0000 k-\nV 0 2 0 0 0000 k-\n";
 
 /// Runs these words over real files, the report and the complaint of these names among them.
 fn run_on_disk<R: Files>(
@@ -211,7 +212,7 @@ fn is_alike(held: &Held, inside: &Outcome) -> bool {
 fn look_at(rt: &impl Abort, made: Status, ended: Status, held: &Held, inside: &Outcome) {
     assert!(rt; made == Status::Ok && ended == Status::Ok && inside.status() == Status::Ok);
     assert!(rt; held.wave.len() == 44 + 4 * 1000 && held.trace.len() >= TRACE_LEAST);
-    assert!(rt; held.trace.starts_with(KEYED) && held.report.starts_with(b"samples 1000\n"));
+    assert!(rt; held.trace.starts_with(KEYED_LINES) && held.report.starts_with(b"samples 1000\n"));
     assert!(rt; is_alike(held, inside));
 }
 
@@ -312,7 +313,7 @@ fn rip_on_disk<R: Files>(
     names: &SoundNames,
     front: &str,
 ) -> Result<Status, Fail> {
-    let tune = file_of(alloc, 66048, FIVE, LAST)?;
+    let tune = file_of(alloc, FILE_LENGTH, FIVE, LAST)?;
     fs::write(files, names.input.as_str(), tune.as_slice())?;
     let words = ["rip", names.input.as_str(), front];
     run_for_sound(alloc, files, names, &words)

@@ -2,7 +2,9 @@
 use crate::runs::{list_words, run_failing};
 use std::alloc::Global;
 use std::test::Fail;
-use test_support::{FIVE, Frames, MONO, Outcome, STEADY_WAV, file_of, straight_table, wave_of};
+use test_support::{
+    FILE_LENGTH, FIVE, Frames, MONO, Outcome, STEADY_WAV, file_of, straight_table, wave_of,
+};
 
 /// The first output of a command.
 enum First {
@@ -101,7 +103,7 @@ const COMMANDS: &[Command] = &[
     Command {
         words: &["demo", "7", "OUT"],
         reads: 0,
-        first: First::Front(66048, b"SNES-SPC700 Sound File Data v0.30\x1a\x1a"),
+        first: First::Front(FILE_LENGTH, b"SNES-SPC700 Sound File Data v0.30\x1a\x1a"),
         trace: "",
         report: "bytes 66048\n",
     },
@@ -167,7 +169,7 @@ struct Inputs {
 impl Inputs {
     fn open(alloc: Global) -> Result<Inputs, Fail> {
         Ok(Inputs {
-            file: file_of(alloc, 66048, FIVE, &[])?,
+            file: file_of(alloc, FILE_LENGTH, FIVE, &[])?,
             table: straight_table(alloc)?,
             sound: zero_sound(alloc)?,
         })

@@ -6,8 +6,8 @@ use std::alloc::Global;
 use std::process::Abort;
 use std::test::Fail;
 use test_support::{
-    DSP, ENDS_THE_BLOCK, FIVE, Frames, MEMORY, MONO, Outcome, Pieces, ROOM, file_of,
-    straight_table, wave_of,
+    DSP, ENDS_THE_BLOCK, FILE_LENGTH, FIVE, Frames, MEMORY, MONO, OUTPUT_ROOM, Outcome, Pieces,
+    file_of, straight_table, wave_of,
 };
 
 /// A run over an SPC file `SPC` and a table `TABLE`, and how it ends.
@@ -64,7 +64,7 @@ impl Hostile {
     /// Whether it ends so over both hosts with these inputs.
     fn holds_over(&self, alloc: Global, inputs: &[(&str, &[u8])]) -> Result<bool, Fail> {
         let words = list_words(alloc, self.words)?;
-        let outcome = run_over(alloc, words.as_slice(), inputs, ROOM)?;
+        let outcome = run_over(alloc, words.as_slice(), inputs, OUTPUT_ROOM)?;
         Ok(
             self.is_ended(alloc, &outcome)?
                 && drips_alike(alloc, words.as_slice(), inputs, &outcome)?,
@@ -103,7 +103,7 @@ const REFUSED: &[Hostile] = &[
     Hostile {
         shows: "a file that is not there",
         words: &["render", "NONE", "TABLE", "OUT"],
-        length: 66048,
+        length: FILE_LENGTH,
         sound: &[],
         more: &[],
         table: Some(3),
@@ -116,7 +116,7 @@ const REFUSED: &[Hostile] = &[
     Hostile {
         shows: "a table that is not there",
         words: &["render", "SPC", "NONE", "OUT"],
-        length: 66048,
+        length: FILE_LENGTH,
         sound: &[],
         more: &[],
         table: None,
@@ -129,7 +129,7 @@ const REFUSED: &[Hostile] = &[
     Hostile {
         shows: "a table that is too long",
         words: RENDER,
-        length: 66048,
+        length: FILE_LENGTH,
         sound: &[],
         more: &[],
         table: Some(1048577),
@@ -142,7 +142,7 @@ const REFUSED: &[Hostile] = &[
     Hostile {
         shows: "a signature that differs, and a table that is too short",
         words: RENDER,
-        length: 66048,
+        length: FILE_LENGTH,
         sound: &[],
         more: &[(3, b"\0")],
         table: Some(3),
@@ -167,7 +167,7 @@ const AWKWARD: &[Hostile] = &[
     Hostile {
         shows: "a block that repeats itself",
         words: &["render", "SPC", "TABLE", "OUT", "--samples", "200"],
-        length: 66048,
+        length: FILE_LENGTH,
         sound: FIVE,
         more: &[(MEMORY + 0x0200, b"\x00\x05\x00\x05")],
         table: None,
@@ -180,7 +180,7 @@ const AWKWARD: &[Hostile] = &[
     Hostile {
         shows: "a program that wraps round the end of memory",
         words: &["render", "SPC", "TABLE", "OUT", "--samples", "2"],
-        length: 66048,
+        length: FILE_LENGTH,
         sound: &[],
         more: &[
             (0x25, b"\xff\xff"),
@@ -197,7 +197,7 @@ const AWKWARD: &[Hostile] = &[
     Hostile {
         shows: "a program that sleeps",
         words: &["render", "SPC", "TABLE", "OUT", "--samples", "200"],
-        length: 66048,
+        length: FILE_LENGTH,
         sound: FIVE,
         more: &[(MEMORY + 0x0400, b"\xef")],
         table: None,
@@ -231,7 +231,7 @@ const WAITING: &[Hostile] = &[
             "--trace",
             "TRACE",
         ],
-        length: 66048,
+        length: FILE_LENGTH,
         sound: &[],
         more: &[
             (DSP + 0x6c, b"\x00\x04"),
@@ -247,7 +247,7 @@ const WAITING: &[Hostile] = &[
     Hostile {
         shows: "an echo in the page of the directory",
         words: &["render", "SPC", "TABLE", "OUT", "--samples", "3"],
-        length: 66048,
+        length: FILE_LENGTH,
         sound: &[],
         more: &[
             (DSP + 0x5d, b"\x03"),
@@ -264,7 +264,7 @@ const WAITING: &[Hostile] = &[
     Hostile {
         shows: "a header that is written while it is played",
         words: &["render", "SPC", "TABLE", "OUT", "--samples", "70"],
-        length: 66048,
+        length: FILE_LENGTH,
         sound: FIVE,
         more: ENDS_THE_BLOCK,
         table: None,
@@ -286,7 +286,7 @@ const WAITING: &[Hostile] = &[
             "--trace",
             "TRACE",
         ],
-        length: 66048,
+        length: FILE_LENGTH,
         sound: &[],
         more: &[(MEMORY + 0x0400, b"\x8f\x6c\xf2\x8f\x20\xf3\x2f\xfe")],
         table: None,
@@ -310,7 +310,7 @@ fn programs_that_meet_their_own_sound_are_heard_in_time(rt: HostRuntime) -> Resu
 fn is_refused(alloc: Global, bytes: &[u8], status: Status, complaint: &str) -> Result<bool, Fail> {
     let words = list_words(alloc, &["encode", "IN", "OUT"])?;
     let inputs = [("IN", bytes)];
-    let outcome = run_over(alloc, words.as_slice(), &inputs, ROOM)?;
+    let outcome = run_over(alloc, words.as_slice(), &inputs, OUTPUT_ROOM)?;
     Ok(
         outcome.is_refused(status, complaint)
             && drips_alike(alloc, words.as_slice(), &inputs, &outcome)?,
@@ -344,7 +344,7 @@ const SILENCE: &[&str] = &["render", "SPC", "TABLE", "OUT", "--samples", "4"];
 
 /// Renders silence to an output of this room, over the host in memory.
 fn render_into(alloc: Global, room: usize) -> Result<Outcome, Fail> {
-    let file = file_of(alloc, 66048, &[], &[])?;
+    let file = file_of(alloc, FILE_LENGTH, &[], &[])?;
     render_straight(alloc, file.as_slice(), &["--samples", "4"], room)
 }
 
@@ -366,7 +366,7 @@ fn is_filled(dripped: &Dripped, wave: &[u8]) -> bool {
 
 /// Whether the same to an output of 50 bytes, one byte at a time, fills it with the beginning of this sound file.
 fn fills_drop_by_drop(alloc: Global, wave: &[u8]) -> Result<bool, Fail> {
-    let file = file_of(alloc, 66048, &[], &[])?;
+    let file = file_of(alloc, FILE_LENGTH, &[], &[])?;
     let table = straight_table(alloc)?;
     let dripped = drip_silence(alloc, file.as_slice(), table.as_slice())?;
     Ok(is_filled(&dripped, wave))
@@ -383,7 +383,7 @@ fn look_at_rooms(rt: &impl Abort, whole: &Outcome, cut: &Outcome, wave: &[u8]) {
 #[test]
 fn an_output_without_room_is_cut_off(rt: HostRuntime) -> Result<(), Fail> {
     let wave = wave_of(rt.alloc(), &[(4, 0)])?;
-    let whole = render_into(rt.alloc(), ROOM)?;
+    let whole = render_into(rt.alloc(), OUTPUT_ROOM)?;
     let cut = render_into(rt.alloc(), 50)?;
     look_at_rooms(&rt, &whole, &cut, wave.as_slice());
     assert!(rt; fills_drop_by_drop(rt.alloc(), wave.as_slice())?);

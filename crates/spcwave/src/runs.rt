@@ -5,7 +5,7 @@ use exit_status::Status;
 use snd_host::{DripHost, OutFile};
 use std::alloc::Global;
 use std::test::Fail;
-use test_support::{Outcome, ROOM, file_of, host_with, straight_table};
+use test_support::{FILE_LENGTH, OUTPUT_ROOM, Outcome, file_of, host_with, straight_table};
 
 /// Adds these words.
 fn add_words(alloc: Global, given: &mut Vec<String>, words: &[&str]) -> Result<(), Fail> {
@@ -60,7 +60,7 @@ pub fn run_failing(
     inputs: &[(&str, &[u8])],
     failing: &[u32],
 ) -> Result<Outcome, Fail> {
-    run_with(alloc, words, inputs, failing, ROOM)
+    run_with(alloc, words, inputs, failing, OUTPUT_ROOM)
 }
 
 /// How a run ended over a host that gives and takes one byte at a time.
@@ -105,19 +105,19 @@ pub fn drips_alike(
     inputs: &[(&str, &[u8])],
     outcome: &Outcome,
 ) -> Result<bool, Fail> {
-    let dripped = run_dripping(alloc, words, inputs, ROOM)?;
+    let dripped = run_dripping(alloc, words, inputs, OUTPUT_ROOM)?;
     Ok(dripped.is_like(outcome))
 }
 
 /// Runs these words over a host that has the input `IN`.
 pub fn run_words(alloc: Global, words: &[&str], input: &[u8]) -> Result<Outcome, Fail> {
     let given = list_words(alloc, words)?;
-    run_over(alloc, given.as_slice(), &[("IN", input)], ROOM)
+    run_over(alloc, given.as_slice(), &[("IN", input)], OUTPUT_ROOM)
 }
 
 /// Runs a script that asks what is free, with these words more.
 pub fn serve_free(alloc: Global, words: &[&str]) -> Result<Outcome, Fail> {
-    let file = file_of(alloc, 66048, &[], &[])?;
+    let file = file_of(alloc, FILE_LENGTH, &[], &[])?;
     let table = straight_table(alloc)?;
     let serve = ["serve", "SPC", "TABLE", "SCRIPT", "OUT"];
     let given = extend_words(alloc, &serve, words)?;
@@ -126,12 +126,12 @@ pub fn serve_free(alloc: Global, words: &[&str]) -> Result<Outcome, Fail> {
         ("TABLE", table.as_slice()),
         ("SCRIPT", b"free".as_slice()),
     ];
-    run_over(alloc, given.as_slice(), &inputs, ROOM)
+    run_over(alloc, given.as_slice(), &inputs, OUTPUT_ROOM)
 }
 
 /// The number that the process exits with for what the command line gives, and the complaint.
 pub fn give(alloc: Global, given: &Given) -> Result<(u8, Vec<u8>), Fail> {
-    let mut host = host_with(alloc, &[], &[], ROOM)?;
+    let mut host = host_with(alloc, &[], &[], OUTPUT_ROOM)?;
     let code = run_given(alloc, given, &mut host);
     Ok((code, Vec::from_slice(alloc, host.output(OutFile(1)))?))
 }

@@ -8,6 +8,9 @@ pub const MEMORY: usize = 0x100;
 /// The place of the registers of the S-DSP in a file.
 pub const DSP: usize = 0x10100;
 
+/// The bytes of a whole file without extended tags.
+pub const FILE_LENGTH: usize = 66048;
+
 /// Bytes at places.
 pub type Pieces = &'static [(usize, &'static [u8])];
 

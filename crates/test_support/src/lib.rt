@@ -8,8 +8,10 @@ mod outcome;
 mod sounds;
 mod waves;
 
-pub use files::{DSP, ENDS_THE_BLOCK, FIVE, MEMORY, Pieces, TAGS, file_of, straight_table};
+pub use files::{
+    DSP, ENDS_THE_BLOCK, FILE_LENGTH, FIVE, MEMORY, Pieces, TAGS, file_of, straight_table,
+};
 pub use machine::{has_exactly, writes_of};
-pub use outcome::{Outcome, ROOM, host_with};
+pub use outcome::{OUTPUT_ROOM, Outcome, host_with};
 pub use sounds::{BLOCK, BLOCK_WAV, MONO, STEADY_WAV};
 pub use waves::{Frames, wave_of};

@@ -8,7 +8,7 @@ use snd_host::{MemHost, OutFile};
 use std::alloc::Global;
 
 /// The bytes of the first output that there is room for, but where a test says more.
-pub const ROOM: usize = 2000000;
+pub const OUTPUT_ROOM: usize = 2000000;
 
 /// A host with inputs of these names, whose calls of these numbers fail, and whose first output has this room. There is
 /// room for a second output, too.

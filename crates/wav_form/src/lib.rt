@@ -9,4 +9,4 @@ mod written;
 pub use mono::read_mono;
 pub use refusal::WavRefusal;
 pub use std::alloc::AllocError as OutOfMemory;
-pub use written::{header, put_frame};
+pub use written::{HEADER_SIZE, header, put_frame};

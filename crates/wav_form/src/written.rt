@@ -6,9 +6,12 @@ ghost use Rattle.wav_form.specs.Wave.{header_of, frame_bytes};
 use byteorder::{ByteOrder, LittleEndian};
 use num_fix::{Frame, SAMPLE_RATE};
 
-/// The 44 bytes before the frames of a file: PCM of 16 bits at 32,000 frames a second (RIFF/WAVE).
+/// The bytes before the frames of a file.
+pub const HEADER_SIZE: usize = 44;
+
+/// The bytes before the frames of a file: PCM of 16 bits at 32,000 frames a second (RIFF/WAVE).
 #[tactic(auto, unfolding(crate::specs::Wave::header_of))]
-pub fn header(channels: u16, frames: u32) -> [u8; 44]
+pub fn header(channels: u16, frames: u32) -> [u8; HEADER_SIZE]
     requires some { 1 ≤ channels }
     requires mono_or_stereo { channels ≤ 2 }
     requires limit { frames ≤ most_frames }

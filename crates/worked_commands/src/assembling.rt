@@ -3,11 +3,11 @@ use command_asm::asm;
 use exit_status::Status;
 use std::alloc::Global;
 use std::test::Fail;
-use test_support::{Outcome, ROOM, host_with};
+use test_support::{OUTPUT_ROOM, Outcome, host_with};
 
 /// Assembles a source from an origin on, where the calls of these numbers fail.
 fn assembled(alloc: Global, source: &[u8], origin: u16, failing: &[u32]) -> Result<Outcome, Fail> {
-    let mut host = host_with(alloc, &[("IN", source)], failing, ROOM)?;
+    let mut host = host_with(alloc, &[("IN", source)], failing, OUTPUT_ROOM)?;
     let refusal = asm(alloc, &mut host, "IN", origin, "OUT");
     Ok(Outcome::of(refusal, host))
 }

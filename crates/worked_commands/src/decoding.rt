@@ -3,14 +3,14 @@ use command_brr::brr;
 use exit_status::Status;
 use std::alloc::Global;
 use std::test::Fail;
-use test_support::{BLOCK, BLOCK_WAV, Outcome, ROOM, host_with};
+use test_support::{BLOCK, BLOCK_WAV, OUTPUT_ROOM, Outcome, host_with};
 
 /// What is reported on the block.
 const BLOCK_REPORT: &str = "blocks 1 samples 16\n";
 
 /// Decodes an input, where the calls of these numbers fail.
 fn decode_file(alloc: Global, input: &[u8], failing: &[u32]) -> Result<Outcome, Fail> {
-    let mut host = host_with(alloc, &[("IN", input)], failing, ROOM)?;
+    let mut host = host_with(alloc, &[("IN", input)], failing, OUTPUT_ROOM)?;
     let refusal = brr(alloc, &mut host, "IN", "OUT");
     Ok(Outcome::of(refusal, host))
 }

@@ -3,11 +3,11 @@ use command_demo::demo;
 use exit_status::Status;
 use std::alloc::Global;
 use std::test::Fail;
-use test_support::{Outcome, ROOM, host_with};
+use test_support::{FILE_LENGTH, OUTPUT_ROOM, Outcome, host_with};
 
 /// Makes the demo file of 7, where the calls of these numbers fail.
 fn demo_of_seven(alloc: Global, failing: &[u32]) -> Result<Outcome, Fail> {
-    let mut host = host_with(alloc, &[], failing, ROOM)?;
+    let mut host = host_with(alloc, &[], failing, OUTPUT_ROOM)?;
     let refusal = demo(alloc, &mut host, 7, "OUT");
     Ok(Outcome::of(refusal, host))
 }
@@ -21,7 +21,7 @@ const FRONT: &[u8] =
 
 /// Whether a file is that of 7: its length, what it begins with, and its first two draws, at 1000h in the memory.
 fn is_of_seven(file: &[u8]) -> bool {
-    file.len() == 66048
+    file.len() == FILE_LENGTH
         && file.starts_with(FRONT)
         && file.get(0x1100..0x1102) == Some(b"\x90\xe9".as_slice())
 }

@@ -6,7 +6,7 @@ use command_encode::encode;
 use exit_status::Status;
 use std::alloc::Global;
 use std::test::Fail;
-use test_support::{MONO, Outcome, ROOM, host_with};
+use test_support::{MONO, OUTPUT_ROOM, Outcome, host_with};
 
 /// As it is encoded where the words say no more.
 const PLAIN: EncodeOptions = EncodeOptions {
@@ -68,7 +68,7 @@ fn encode_file(
     failing: &[u32],
 ) -> Result<Outcome, Fail> {
     let bytes = sound_of(alloc, front, samples, length)?;
-    let mut host = host_with(alloc, &[("IN", bytes.as_slice())], failing, ROOM)?;
+    let mut host = host_with(alloc, &[("IN", bytes.as_slice())], failing, OUTPUT_ROOM)?;
     let refusal = encode(alloc, &mut host, "IN", "OUT", in_range(options));
     Ok(Outcome::of(refusal, host))
 }

@@ -3,12 +3,12 @@ use command_info::info;
 use exit_status::Status;
 use std::alloc::Global;
 use std::test::Fail;
-use test_support::{Outcome, Pieces, ROOM, file_of, host_with};
+use test_support::{FILE_LENGTH, OUTPUT_ROOM, Outcome, Pieces, file_of, host_with};
 
 /// The report on the base file of so many bytes with these pieces, where the calls of these numbers fail.
 fn fields(alloc: Global, length: usize, pieces: Pieces, failing: &[u32]) -> Result<Outcome, Fail> {
     let file = file_of(alloc, length, pieces, &[])?;
-    let mut host = host_with(alloc, &[("IN", file.as_slice())], failing, ROOM)?;
+    let mut host = host_with(alloc, &[("IN", file.as_slice())], failing, OUTPUT_ROOM)?;
     let refusal = info(alloc, &mut host, "IN");
     Ok(Outcome::of(refusal, host))
 }
@@ -48,7 +48,7 @@ const FULL: &str = "tags yes\ntitle A title of thirty-two characters\n\
     artist Artist, whose name is very long.\n";
 
 /// A title, and 60 bytes of extended tags behind the file, which nobody reads.
-const EXTENDED: Pieces = &[(0x23, b"\x1a"), (0x2e, b"Theme"), (66048, b"xid6")];
+const EXTENDED: Pieces = &[(0x23, b"\x1a"), (0x2e, b"Theme"), (FILE_LENGTH, b"xid6")];
 
 /// The lines on that title.
 const TITLED: &str =
@@ -57,11 +57,11 @@ const TITLED: &str =
 /// Files, and the lines on their tags.
 const SHOWN: &[(usize, Pieces, &str)] = &[
     (65920, &[], "tags no\n"),
-    (66048, &[], "tags no\n"),
+    (FILE_LENGTH, &[], "tags no\n"),
     (1048576, &[], "tags no\n"),
-    (66048, &[(31, b"1")], "tags no\n"),
-    (66048, TAGS, TAGGED),
-    (66048, FILLED, FULL),
+    (FILE_LENGTH, &[(31, b"1")], "tags no\n"),
+    (FILE_LENGTH, TAGS, TAGGED),
+    (FILE_LENGTH, FILLED, FULL),
     (66108, EXTENDED, TITLED),
 ];
 
@@ -81,7 +81,7 @@ const REGISTERS: Pieces = &[(0x24, b"\x0a\x34\x12\x01\x02\x03\x04\x05")];
 
 #[test]
 fn each_register_is_shown(rt: HostRuntime) -> Result<(), Fail> {
-    let outcome = fields(rt.alloc(), 66048, REGISTERS, &[])?;
+    let outcome = fields(rt.alloc(), FILE_LENGTH, REGISTERS, &[])?;
     let report = "length 66048\nminor 10\ntags no\npc 1234 a 01 x 02 y 03 psw 04 sp 05\n";
     assert!(rt; outcome.is_done(&[], report));
     Ok(())
@@ -108,13 +108,13 @@ const REFUSED: &[(usize, Pieces, Status, &str)] = &[
         "spcwave: length 100 is not that of an SPC file\n",
     ),
     (
-        66048,
+        FILE_LENGTH,
         &[(26, b"\0")],
         Status::SpcSignature,
         "spcwave: signature differs at 26\n",
     ),
     (
-        66048,
+        FILE_LENGTH,
         &[(26, b"\0"), (3, b"\0")],
         Status::SpcSignature,
         "spcwave: signature differs at 3\n",
@@ -145,10 +145,10 @@ fn may_end_so(outcome: &Outcome, call: u32) -> bool {
 
 #[test]
 fn each_call_of_the_host_may_fail(rt: HostRuntime) -> Result<(), Fail> {
-    let calls = fields(rt.alloc(), 66048, &[], &[])?.calls();
+    let calls = fields(rt.alloc(), FILE_LENGTH, &[], &[])?.calls();
     assert!(rt; calls == 20);
     for call in 0..20 {
-        let outcome = fields(rt.alloc(), 66048, &[], &[call])?;
+        let outcome = fields(rt.alloc(), FILE_LENGTH, &[], &[call])?;
         assert!(rt; may_end_so(&outcome, call), "at {call}");
     }
     Ok(())

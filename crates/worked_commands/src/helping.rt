@@ -3,7 +3,7 @@ use command_help::{help, version};
 use exit_status::Status;
 use std::alloc::Global;
 use std::test::Fail;
-use test_support::{Outcome, ROOM, host_with};
+use test_support::{OUTPUT_ROOM, Outcome, host_with};
 
 /// The commands with their arguments and options, in the order in which they are told: as the manual page has them.
 const COMMANDS: [&str; 13] = [
@@ -44,14 +44,14 @@ fn tells_all(text: &[u8]) -> bool {
 
 /// Asks for the commands, where the calls of these numbers fail.
 fn ask_for_help(alloc: Global, failing: &[u32]) -> Result<Outcome, Fail> {
-    let mut host = host_with(alloc, &[], failing, ROOM)?;
+    let mut host = host_with(alloc, &[], failing, OUTPUT_ROOM)?;
     let refusal = help(alloc, &mut host);
     Ok(Outcome::of(refusal, host))
 }
 
 /// Asks for the version, where the calls of these numbers fail.
 fn ask_for_version(alloc: Global, failing: &[u32]) -> Result<Outcome, Fail> {
-    let mut host = host_with(alloc, &[], failing, ROOM)?;
+    let mut host = host_with(alloc, &[], failing, OUTPUT_ROOM)?;
     let refusal = version(alloc, &mut host);
     Ok(Outcome::of(refusal, host))
 }

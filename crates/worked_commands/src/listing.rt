@@ -3,11 +3,11 @@ use command_dis::dis;
 use exit_status::Status;
 use std::alloc::Global;
 use std::test::Fail;
-use test_support::{Outcome, ROOM, host_with};
+use test_support::{OUTPUT_ROOM, Outcome, host_with};
 
 /// Lists code from an origin on, where the calls of these numbers fail.
 fn listed(alloc: Global, code: &[u8], origin: u16, failing: &[u32]) -> Result<Outcome, Fail> {
-    let mut host = host_with(alloc, &[("IN", code)], failing, ROOM)?;
+    let mut host = host_with(alloc, &[("IN", code)], failing, OUTPUT_ROOM)?;
     let refusal = dis(alloc, &mut host, "IN", origin, "OUT");
     Ok(Outcome::of(refusal, host))
 }

@@ -5,11 +5,11 @@ use snd_host::MemHost;
 use std::alloc::Global;
 use std::process::Abort;
 use std::test::Fail;
-use test_support::{DSP, FIVE, MEMORY, Outcome, Pieces, STEADY_WAV, file_of};
+use test_support::{DSP, FILE_LENGTH, FIVE, MEMORY, Outcome, Pieces, STEADY_WAV, file_of};
 
 /// A file of the base file and these pieces.
 fn files_of(alloc: Global, pieces: (Pieces, Pieces)) -> Result<Vec<(String, Vec<u8>)>, Fail> {
-    let file = file_of(alloc, 66048, pieces.0, pieces.1)?;
+    let file = file_of(alloc, FILE_LENGTH, pieces.0, pieces.1)?;
     let name = String::from_str(alloc, "SPC")?;
     Ok(vec![in alloc; (name, file)]?)
 }

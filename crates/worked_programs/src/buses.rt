@@ -1,7 +1,7 @@
 //! Calls of both buses.
 
 use crate::machines::{
-    CountedBus, Emitted, KEYED, SILENCE, SOURCE, open_late, open_plain, opening_of,
+    CountedBus, Emitted, KEYED_REGISTERS, SILENCE, SOURCE, open_late, open_plain, opening_of,
 };
 use crate::waits::counts_of;
 use aram_core::Aram;
@@ -26,7 +26,7 @@ enum Call {
 
 /// Makes a call, and gives the byte that was read, or the number of frames that were drained, or 0.
 fn make<B: DrainedBus>(bus: &mut B, call: Call, all: &mut Emitted) -> Result<u8, Fail> {
-    if !bus.has_room() || bus.made() > 1000 {
+    if !bus.has_room_for_step() || bus.due() > 1000 {
         return Ok(0xEE);
     }
     match call {
@@ -73,7 +73,7 @@ fn call_over<B: CountedBus>(alloc: Global, bus: &mut B, calls: &[Call]) -> Resul
         answers,
         emitted,
         counts: bus.batches_of_each(),
-        time: (bus.made(), bus.to_sample()),
+        time: (bus.due(), bus.to_sample()),
     })
 }
 
@@ -135,7 +135,7 @@ fn look_at(rt: &impl Abort, told: &Told, answers: &[(u8, u8)], counts: Counts) {
 
 #[test]
 fn each_call_acts_at_once(rt: HostRuntime) -> Result<(), Fail> {
-    let told = call_plain(rt.alloc(), &KEYED, &CALLS)?;
+    let told = call_plain(rt.alloc(), &KEYED_REGISTERS, &CALLS)?;
     let answers = [
         (0, 0),
         (0, 0),
@@ -156,7 +156,7 @@ fn each_call_acts_at_once(rt: HostRuntime) -> Result<(), Fail> {
 /// The same calls: no sample is made before one of them needs it.
 #[test]
 fn samples_wait_until_they_are_needed(rt: HostRuntime) -> Result<(), Fail> {
-    let told = call_late(rt.alloc(), &KEYED, &CALLS)?;
+    let told = call_late(rt.alloc(), &KEYED_REGISTERS, &CALLS)?;
     let answers = [
         (0, 1),
         (0, 2),

@@ -30,7 +30,7 @@ pub const SOURCE: [(u16, &[u8]); 4] = [
 ];
 
 /// The registers that play this source on voice 0 from the first sample on.
-pub const KEYED: [(usize, u8); 10] = [
+pub const KEYED_REGISTERS: [(usize, u8); 10] = [
     (0x00, 0x7F),
     (0x01, 0x7F),
     (0x03, 0x10),
@@ -168,20 +168,20 @@ pub const START: Cpu = Cpu {
 
 /// Lets the processor wait, where the bus makes rounds at once, and then make a step.
 fn wait_and_step<B: DrainedBus>(cpu: &mut Cpu, bus: &mut B, samples: u32) {
-    if bus.made() < samples && samples <= 1000 {
+    if bus.due() < samples && samples <= 1000 {
         bus.wait(cpu, samples);
     }
-    if bus.has_room() && bus.made() < 1000 {
+    if bus.has_room_for_step() && bus.due() < 1000 {
         step(cpu, bus);
     }
 }
 
-/// Runs a program at 0400h until some samples are made or pending, makes those that are pending, and gives the steps that it took.
+/// Runs a program at 0400h until some samples are due, makes those that are pending, and gives the steps that it took.
 fn run_to<B: DrainedBus>(bus: &mut B, samples: u32, all: &mut Emitted) -> Result<u32, Fail> {
     let mut cpu = START;
     let mut steps = 0u32;
     for _ in 0u32..10000 {
-        if bus.made() < samples {
+        if bus.due() < samples {
             wait_and_step(&mut cpu, bus, samples);
             all.drain(bus)?;
             steps = steps.wrapping_add(1);
@@ -210,7 +210,7 @@ fn run_over<B: CountedBus>(alloc: Global, bus: &mut B, samples: u32) -> Result<R
         emitted,
         counts: bus.batches_of_each(),
         steps,
-        time: (bus.made(), bus.to_sample()),
+        time: (bus.due(), bus.to_sample()),
     })
 }
 

@@ -9,12 +9,12 @@ use std::test::Fail;
 use test_support::writes_of;
 use trace_form::Record;
 
-/// What a bus emits that takes steps until 100 samples are made or pending, with three rooms more for its calls each time.
+/// What a bus emits that takes steps until 100 samples are due, with three rooms more for its calls each time.
 fn take_all<B: DrainedBus>(alloc: Global, bus: &mut B) -> Result<Emitted, Fail> {
     let mut cpu = START;
     let mut all = Emitted::none(alloc)?;
     for _ in 0u32..2000 {
-        if bus.has_room() && bus.made() < 100 {
+        if bus.has_room_for_step() && bus.due() < 100 {
             bus.take_steps(&mut cpu, 100, 3);
             all.drain(bus)?;
         }
@@ -29,7 +29,7 @@ fn take_all<B: DrainedBus>(alloc: Global, bus: &mut B) -> Result<Emitted, Fail> 
 struct Taken {
     emitted: Emitted,
     counts: Counts,
-    made: u32,
+    due: u32,
 }
 
 /// What comes of steps that a bus takes.
@@ -38,7 +38,7 @@ fn take_over<B: CountedBus>(alloc: Global, bus: &mut B) -> Result<Taken, Fail> {
     Ok(Taken {
         emitted,
         counts: bus.batches_of_each(),
-        made: bus.made(),
+        due: bus.due(),
     })
 }
 
@@ -69,8 +69,8 @@ fn look_at(
     let late = take_late(alloc, code)?;
     assert!(rt; plain.emitted.records.as_slice() == records);
     assert!(rt; late.emitted.records.as_slice() == records);
-    assert!(rt; (plain.counts, plain.made) == (counts_of(100, 0, 0, 0), 100));
-    assert!(rt; (late.counts, late.made) == (counts, 100));
+    assert!(rt; (plain.counts, plain.due) == (counts_of(100, 0, 0, 0), 100));
+    assert!(rt; (late.counts, late.due) == (counts, 100));
     assert!(rt; are_100_of_silence(&plain.emitted) && are_100_of_silence(&late.emitted));
     Ok(())
 }

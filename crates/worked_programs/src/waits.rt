@@ -1,6 +1,6 @@
 //! Loops that wait, over both buses. The bus that makes samples late makes their rounds at once, the other one step by step.
 
-use crate::machines::{KEYED, Run, SILENCE, SOURCE, opening_of, run_late, run_plain};
+use crate::machines::{KEYED_REGISTERS, Run, SILENCE, SOURCE, opening_of, run_late, run_plain};
 use num_fix::Frame;
 use sound_bus::Counts;
 use std::alloc::Global;
@@ -38,7 +38,7 @@ fn run_both(
     Ok((plain, late))
 }
 
-/// Whether both runs emitted the same, made so many samples, and the chip of the first one made each of them at once.
+/// Whether both runs emitted the same, have so many samples due, and the chip of the first one made each of them at once.
 fn are_alike(plain: &Run, late: &Run, samples: u32) -> bool {
     late.emitted.frames.as_slice() == plain.emitted.frames.as_slice()
         && late.emitted.records.as_slice() == plain.emitted.records.as_slice()
@@ -231,7 +231,7 @@ fn a_loop_polls_a_port(rt: HostRuntime) -> Result<(), Fail> {
         (0, [written].as_slice()),
         (0xC3, [written, sent].as_slice()),
     ] {
-        let runs = run_both(rt.alloc(), &pieces, &KEYED, latch, 200)?;
+        let runs = run_both(rt.alloc(), &pieces, &KEYED_REGISTERS, latch, 200)?;
         look_at(&rt, &runs, 200, records, counts_of(4, 0, 3, 1));
         assert!(rt; are_heard_from_6_on(runs.1.emitted.frames.as_slice()));
     }
@@ -257,7 +257,7 @@ fn each_step_of_a_halted_processor_is_a_sample(rt: HostRuntime) -> Result<(), Fa
     for halt in [0xEF, 0xFF] {
         let code = [0x00, 0x00, 0x00, halt, 0x2F, 0xFE];
         let pieces = [directory, first, second, (0x0400, &code)];
-        let (plain, late) = run_both(rt.alloc(), &pieces, &KEYED, 0, 200)?;
+        let (plain, late) = run_both(rt.alloc(), &pieces, &KEYED_REGISTERS, 0, 200)?;
         assert!(rt; are_alike(&plain, &late, 200) && late.emitted.records.is_empty());
         assert!(rt; are_heard_from_6_on(late.emitted.frames.as_slice()));
         assert!(rt; (plain.steps, late.steps) == (203, 203));

@@ -11,12 +11,12 @@ use num_fix::Frame;
 use spc_form::{SpcFile, read_spc};
 use std::alloc::Global;
 use std::test::Fail;
-use test_support::{ENDS_THE_BLOCK, FIVE, Pieces, file_of};
+use test_support::{ENDS_THE_BLOCK, FILE_LENGTH, FIVE, Pieces, file_of};
 use trace_form::Frames;
 
 /// A file whose voice 0 plays a block that repeats itself, with these pieces more.
 fn file(alloc: Global, more: Pieces) -> Result<SpcFile, Fail> {
-    let image = file_of(alloc, 66048, FIVE, more)?;
+    let image = file_of(alloc, FILE_LENGTH, FIVE, more)?;
     Ok(read_spc(alloc, &image)?)
 }
 

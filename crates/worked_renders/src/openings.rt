@@ -7,11 +7,11 @@ use num_fix::Frame;
 use spc_form::{SpcFile, read_spc};
 use std::alloc::Global;
 use std::test::Fail;
-use test_support::{MEMORY, file_of};
+use test_support::{FILE_LENGTH, MEMORY, file_of};
 
 /// The base file with these pieces, and with a program at 0400h.
 pub fn file(alloc: Global, sound: &[(usize, &[u8])], program: &[u8]) -> Result<SpcFile, Fail> {
-    let image = file_of(alloc, 66048, sound, &[(MEMORY + 0x0400, program)])?;
+    let image = file_of(alloc, FILE_LENGTH, sound, &[(MEMORY + 0x0400, program)])?;
     Ok(read_spc(alloc, &image)?)
 }
 

@@ -91,7 +91,7 @@ const LOUD: Frame = Frame {
 };
 
 /// The key on of voice 0.
-const KEYED: Record = Record::Voice {
+const KEYED_RECORD: Record = Record::Voice {
     sample: 0,
     voice: 0,
     level: 0,
@@ -107,7 +107,7 @@ const EIGHT: [Frame; 8] = [SILENT, SILENT, SILENT, SILENT, SILENT, SILENT, LOUD,
 /// The records of the voice in eight samples.
 fn records_of_eight() -> [Record; 8] {
     [
-        KEYED,
+        KEYED_RECORD,
         voice(1, 0, 0),
         voice(2, 0, 0),
         voice(3, 0, 0),

@@ -2,11 +2,11 @@
 use command_check::check;
 use std::alloc::Global;
 use std::test::Fail;
-use test_support::{Outcome, ROOM, host_with};
+use test_support::{OUTPUT_ROOM, Outcome, host_with};
 
 /// Checks the demo file of 3456189438, where the calls of these numbers fail.
 fn check_failing(alloc: Global, failing: &[u32]) -> Result<Outcome, Fail> {
-    let mut host = host_with(alloc, &[], failing, ROOM)?;
+    let mut host = host_with(alloc, &[], failing, OUTPUT_ROOM)?;
     let refusal = check(alloc, &mut host, 3456189438);
     Ok(Outcome::of(refusal, host))
 }

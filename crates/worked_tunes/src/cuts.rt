@@ -5,8 +5,8 @@ use std::alloc::Global;
 use std::process::Abort;
 use std::test::Fail;
 use test_support::{
-    DSP, ENDS_THE_BLOCK, FIVE, Frames, MEMORY, Outcome, Pieces, ROOM, TAGS, file_of, host_with,
-    straight_table, wave_of,
+    DSP, ENDS_THE_BLOCK, FILE_LENGTH, FIVE, Frames, MEMORY, OUTPUT_ROOM, Outcome, Pieces, TAGS,
+    file_of, host_with, straight_table, wave_of,
 };
 
 /// A program that goes round the pages from 10h on and changes a byte of each, and counts its steps in page 0.
@@ -23,14 +23,14 @@ const CHANGES_A_PAGE_A_SAMPLE: Pieces = &[(
 
 /// Renders the cuts of a list over these inputs, with these voices muted.
 fn cut_over(alloc: Global, inputs: &[(&str, &[u8])], muted: u8) -> Result<Outcome, Fail> {
-    let mut host = host_with(alloc, inputs, &[], ROOM)?;
+    let mut host = host_with(alloc, inputs, &[], OUTPUT_ROOM)?;
     let refusal = cuts(alloc, &mut host, "SPC", "TABLE", "LIST", "OUT", muted);
     Ok(Outcome::of(refusal, host))
 }
 
 /// Renders the cuts of a list, of file five with these pieces more and these voices muted.
 fn cut_muted(alloc: Global, pieces: Pieces, list: &[u8], muted: u8) -> Result<Outcome, Fail> {
-    let file = file_of(alloc, 66048, FIVE, pieces)?;
+    let file = file_of(alloc, FILE_LENGTH, FIVE, pieces)?;
     let table = straight_table(alloc)?;
     let list = Vec::from_slice(alloc, list)?;
     let inputs = [

@@ -6,7 +6,9 @@ use command_render::render;
 use render_options::RenderOptions;
 use std::alloc::Global;
 use std::test::Fail;
-use test_support::{Frames, Outcome, Pieces, ROOM, file_of, host_with, straight_table, wave_of};
+use test_support::{
+    FILE_LENGTH, Frames, OUTPUT_ROOM, Outcome, Pieces, file_of, host_with, straight_table, wave_of,
+};
 
 /// No options.
 pub fn no_options() -> RenderOptions<'static>
@@ -55,7 +57,7 @@ pub fn render_failing(
     requires { SamplesWithinHour options.samples }
 {
     let inputs = [("SPC", file), ("TABLE", table)];
-    let mut host = host_with(alloc, &inputs, failing, ROOM)?;
+    let mut host = host_with(alloc, &inputs, failing, OUTPUT_ROOM)?;
     let refusal = render(alloc, &mut host, "SPC", "TABLE", "OUT", options);
     Ok(Outcome::of(refusal, host))
 }
@@ -74,7 +76,7 @@ pub fn render_straight(
 
 /// A file of these pieces over the base file, later ones over earlier ones.
 pub fn tune_of(alloc: Global, pieces: Pieces, more: Pieces) -> Result<Vec<u8>, Fail> {
-    Ok(file_of(alloc, 66048, pieces, more)?)
+    Ok(file_of(alloc, FILE_LENGTH, pieces, more)?)
 }
 
 /// Whether all was done, with the sound file of these frames and this report.

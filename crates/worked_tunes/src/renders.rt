@@ -11,8 +11,8 @@ use render_options::RenderOptions;
 use std::alloc::Global;
 use std::test::Fail;
 use test_support::{
-    DSP, ENDS_THE_BLOCK, FIVE, Frames, MEMORY, Outcome, Pieces, ROOM, TAGS, file_of, host_with,
-    straight_table, wave_of,
+    DSP, ENDS_THE_BLOCK, FILE_LENGTH, FIVE, Frames, MEMORY, OUTPUT_ROOM, Outcome, Pieces, TAGS,
+    file_of, host_with, straight_table, wave_of,
 };
 
 /// The program stops.
@@ -270,7 +270,7 @@ const REFUSED: &[Refused] = &[
         line: "spcwave: length 100 is not that of an SPC file\n",
     },
     Refused {
-        length: 66048,
+        length: FILE_LENGTH,
         more: &[(3, b"\0")],
         name: "TABLE",
         zeros: 3,
@@ -278,7 +278,7 @@ const REFUSED: &[Refused] = &[
         line: "spcwave: signature differs at 3\n",
     },
     Refused {
-        length: 66048,
+        length: FILE_LENGTH,
         more: &[],
         name: "NONE",
         zeros: 3,
@@ -286,7 +286,7 @@ const REFUSED: &[Refused] = &[
         line: "spcwave: input could not be read\n",
     },
     Refused {
-        length: 66048,
+        length: FILE_LENGTH,
         more: &[],
         name: "TABLE",
         zeros: 1023,
@@ -294,7 +294,7 @@ const REFUSED: &[Refused] = &[
         line: "spcwave: table has 1023 bytes, not 1024\n",
     },
     Refused {
-        length: 66048,
+        length: FILE_LENGTH,
         more: &[],
         name: "TABLE",
         zeros: 1048577,
@@ -305,7 +305,7 @@ const REFUSED: &[Refused] = &[
 
 /// Whether it is refused so over these inputs.
 fn is_refused_over(alloc: Global, row: &Refused, inputs: &[(&str, &[u8])]) -> Result<bool, Fail> {
-    let mut host = host_with(alloc, inputs, &[], ROOM)?;
+    let mut host = host_with(alloc, inputs, &[], OUTPUT_ROOM)?;
     let options = with_trace(None, None);
     let refusal = render(alloc, &mut host, "SPC", row.name, "OUT", options);
     Ok(Outcome::of(refusal, host).is_refused(row.status, row.line))

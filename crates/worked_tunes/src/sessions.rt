@@ -9,8 +9,8 @@ use render_options::SessionOptions;
 use std::alloc::Global;
 use std::test::Fail;
 use test_support::{
-    DSP, ENDS_THE_BLOCK, FIVE, MEMORY, Outcome, Pieces, ROOM, file_of, host_with, straight_table,
-    wave_of,
+    DSP, ENDS_THE_BLOCK, FILE_LENGTH, FIVE, MEMORY, OUTPUT_ROOM, Outcome, Pieces, file_of,
+    host_with, straight_table, wave_of,
 };
 
 /// A program that counts at 0700h, 224 times in 70 samples.
@@ -25,7 +25,7 @@ fn serve_over(
     requires enough { fewest_pages ≤ options.pages }
     requires few { options.pages ≤ most_pages }
 {
-    let mut host = host_with(alloc, inputs, &[], ROOM)?;
+    let mut host = host_with(alloc, inputs, &[], OUTPUT_ROOM)?;
     let refusal = serve(alloc, &mut host, "SPC", "TABLE", "SCRIPT", "OUT", options);
     Ok(Outcome::of(refusal, host))
 }
@@ -40,7 +40,7 @@ fn served_with(
     requires enough { fewest_pages ≤ options.pages }
     requires few { options.pages ≤ most_pages }
 {
-    let file = file_of(alloc, 66048, FIVE, more)?;
+    let file = file_of(alloc, FILE_LENGTH, FIVE, more)?;
     let table = straight_table(alloc)?;
     let script = Vec::from_slice(alloc, script)?;
     let inputs = [

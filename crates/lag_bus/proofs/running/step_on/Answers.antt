@@ -19,11 +19,11 @@ steps-init g c = record {
 }
 
 -- one step more, since the run wasn't at its end
-pub steps-preserved-then-not-has_room : goal.steps-preserved-then-not-has_room
-steps-preserved-then-not-has_room g c =
+pub steps-preserved-then-not-has_room_for_step : goal.steps-preserved-then-not-has_room_for_step
+steps-preserved-then-not-has_room_for_step g c =
     let chip = g.B.C.Chip.meaning in
     let run = c.steps.invariant.samples in
-    let made = c.if-is_at_end.ensures in
+    let due = c.if-is_at_end.ensures in
     let more : c.steps.running.bus.machine.clock / CYCLES_PER_SAMPLE < c.steps.running.samples = grind (arith, nat_tests) in
     let taken = one_step_on chip c.args.running.now.samples c.args.cpu.now c.args.running.now.bus c.steps.cpu c.step_once.new.cpu c.steps.running.bus c.step_once.new.running.bus c.steps.invariant.taken (rw run at more) c.step_once.ensures.does in
     let later = c.step_once.ensures.some in
@@ -42,9 +42,9 @@ pub steps-preserved : goal.steps-preserved
 steps-preserved g c =
     let chip = g.B.C.Chip.meaning in
     let run = c.steps.invariant.samples in
-    let made = c.if-is_at_end.ensures in
+    let due = c.if-is_at_end.ensures in
     let more : c.steps.running.bus.machine.clock / CYCLES_PER_SAMPLE < c.steps.running.samples = grind (arith, nat_tests) in
-    let room = c.if-not-has_room.ensures in
+    let room = c.if-not-has_room_for_step.ensures in
     let later = c.step_once.ensures.some in
     let on = c.steps.invariant.on in
     record {
@@ -65,21 +65,21 @@ returns-then-cpu-clause-steps g c =
 pub returns-then-cpu-2-clause-steps : goal.returns-then-cpu-2-clause-steps
 returns-then-cpu-2-clause-steps g c =
     let run = c.steps.invariant.samples in
-    let made = c.if-is_at_end.ensures in
+    let due = c.if-is_at_end.ensures in
     let more : c.steps.running.bus.machine.clock / CYCLES_PER_SAMPLE < c.steps.running.samples = grind (arith, nat_tests) in
     one_step_on g.B.C.Chip.meaning c.args.running.now.samples c.args.cpu.now c.args.running.now.bus c.steps.cpu c.step_once.new.cpu c.steps.running.bus c.step_once.new.running.bus c.steps.invariant.taken (rw run at more) c.step_once.ensures.does
 
 pub returns-then-left-eq0-clause-steps : goal.returns-then-left-eq0-clause-steps
 returns-then-left-eq0-clause-steps g c =
     let run = c.steps.invariant.samples in
-    let made = c.if-is_at_end.ensures in
+    let due = c.if-is_at_end.ensures in
     let more : c.steps.running.bus.machine.clock / CYCLES_PER_SAMPLE < c.steps.running.samples = grind (arith, nat_tests) in
     one_step_on g.B.C.Chip.meaning c.args.running.now.samples c.args.cpu.now c.args.running.now.bus c.steps.cpu c.step_once.new.cpu c.steps.running.bus c.step_once.new.running.bus c.steps.invariant.taken (rw run at more) c.step_once.ensures.does
 
 pub returns-then-not-begin_calls_anew-clause-steps : goal.returns-then-not-begin_calls_anew-clause-steps
 returns-then-not-begin_calls_anew-clause-steps g c =
     let run = c.steps.invariant.samples in
-    let made = c.if-is_at_end.ensures in
+    let due = c.if-is_at_end.ensures in
     let more : c.steps.running.bus.machine.clock / CYCLES_PER_SAMPLE < c.steps.running.samples = grind (arith, nat_tests) in
     rw c.if-not-begin_calls_anew.ensures.same
     (one_step_on g.B.C.Chip.meaning c.args.running.now.samples c.args.cpu.now c.args.running.now.bus c.steps.cpu c.step_once.new.cpu c.steps.running.bus c.step_once.new.running.bus c.steps.invariant.taken (rw run at more) c.step_once.ensures.does)

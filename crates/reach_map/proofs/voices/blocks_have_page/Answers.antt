@@ -8,14 +8,14 @@ returns-then-bytes_have_page c =
     in_first_part c.args.memory.now c.args.start.loop_word 18 c.args.start.block c.args.page c.blocks_to_end-first.result c.blocks_to_end-first.ensures.length
     (sym c.if-bytes_have_page.true ∙ c.bytes_have_page.ensures)
 
-pub returns-then-first-eq-BLOCKS : goal.returns-then-first-eq-BLOCKS
-returns-then-first-eq-BLOCKS c =
+pub returns-then-first-eq-CHAIN_BLOCKS : goal.returns-then-first-eq-CHAIN_BLOCKS
+returns-then-first-eq-CHAIN_BLOCKS c =
     in_one_part c.args.memory.now c.args.start.loop_word 18 c.args.start.block c.args.page c.blocks_to_end-first.result c.blocks_to_end-first.ensures.length
-    c.if-first-eq-BLOCKS.true (sym c.if-bytes_have_page.false ∙ c.bytes_have_page.ensures)
+    c.if-first-eq-CHAIN_BLOCKS.true (sym c.if-bytes_have_page.false ∙ c.bytes_have_page.ensures)
 
 pub bytes_have_page-requires-2-clause-some : goal.bytes_have_page-requires-2-clause-some
 bytes_have_page-requires-2-clause-some c =
-    let left : 0 < 18 - c.blocks_to_end-first.result = omega (arith, c.blocks_to_end-first.ensures.most, c.if-first-eq-BLOCKS.false) in
+    let left : 0 < 18 - c.blocks_to_end-first.result = omega (arith, c.blocks_to_end-first.ensures.most, c.if-first-eq-CHAIN_BLOCKS.false) in
     let some = blocks_have_first c.args.memory.now c.args.start.loop_word (18 - c.blocks_to_end-first.result) left in
     omega (arith, some, c.blocks_to_end-again.ensures.length)
 

@@ -9,4 +9,4 @@ marks-smaller g c =
 
 pub marks-preserved : goal.marks-preserved
 marks-preserved g c =
-    makes_more c.marks.invariant c.remove.new.self (omega (arith, c.marks-test.true, c.len.ensures.live)) (sym c.has_room.ensures ∙ c.if-not-has_room.true) c.remove.ensures.saved c.remove.ensures.live c.remove.ensures.size
+    makes_more c.marks.invariant c.remove.new.self (omega (arith, c.marks-test.true, c.len.ensures.live)) (sym c.has_room_for_one.ensures ∙ c.if-not-has_room_for_one.true) c.remove.ensures.saved c.remove.ensures.live c.remove.ensures.size

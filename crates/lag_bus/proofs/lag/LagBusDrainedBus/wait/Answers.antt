@@ -38,12 +38,12 @@ returns g c =
     let most : ℕ = c.cycles_to_wait.result in
     let d : ℕ = c.from-2.result in
     let k : ℕ = most / c.from.result in
-    let made : late.made ≡ clock / CYCLES_PER_SAMPLE = c.self.invariant.same_made in
+    let due : late.due ≡ clock / CYCLES_PER_SAMPLE = c.self.invariant.same_due in
     let kept : IsKept chip (lagging_of late io clock counts calls) = record {
       batches = c.self.invariant.same_batches;
-      sample = ap (λ (n : ℕ). n - late.pending) made;
+      sample = ap (λ (n : ℕ). n - late.pending) due;
       total = refl;
-      writes = λ due at few free. subst (λ (n : ℕ). byte_at (samples chip.one_sample due n late.chip late.memory).memory at ≡ byte_at late.memory at) made (c.writes_within.ensures due at few free);
+      writes = λ fallen at few free. subst (λ (n : ℕ). byte_at (samples chip.one_sample fallen n late.chip late.memory).memory at ≡ byte_at late.memory at) due (c.writes_within.ensures fallen at few free);
     } in
     let small : AreTimers io = rw (← c.self.view_is) at c.cycles_to_wait.ensures.timers in
     let free : late.pending + samples_in clock most < 64 = rw (← c.self.view_is) at c.cycles_to_wait.ensures.free in
@@ -55,10 +55,10 @@ returns g c =
     let parts = mod-add-div' most c.from.result in
     let whole : k * c.from.result ≤ most = omega arith in
     let fits : k * d ≤ most = subst (λ (n : ℕ). k * n ≤ most) same whole in
-    let due : ℕ = samples_in clock (k * d) in
+    let fallen : ℕ = samples_in clock (k * d) in
     let moment : c.clock-clock.result ≡ clock = c.clock-clock.ensures.clock in
-    let pends : c.pend_all.new.late ≡ late_with_samples chip late due = c.pend_all.ensures ∙ (λ i. late_with_samples chip late (samples_in (moment i) (k * d))) in
+    let pends : c.pend_all.new.late ≡ late_with_samples chip late fallen = c.pend_all.ensures ∙ (λ i. late_with_samples chip late (samples_in (moment i) (k * d))) in
     rw (← c.self.view_is)
     (is_wait chip c.args.samples c.args.cpu.now (lagging_of late io clock counts calls) (lagging_of c.pend_all.new.late c.wait.new.self.io c.wait.new.self.clock counts c.wait.new.self.calls)
     most k tried.0 d kept small (rw (← c.self.view_is) at c.cycles_to_wait.ensures.zeros) free (rw (← c.self.view_is) at c.cycles_to_wait.ensures.below) round fits
-    ((λ i. lagging_of (pends i) (c.wait.ensures i).io (c.wait.ensures i).clock counts (c.wait.ensures i).calls) ∙ lagging_of-wait chip late io clock counts calls (k * d) due c.self.invariant.same_batches made refl))
+    ((λ i. lagging_of (pends i) (c.wait.ensures i).io (c.wait.ensures i).clock counts (c.wait.ensures i).calls) ∙ lagging_of-wait chip late io clock counts calls (k * d) fallen c.self.invariant.same_batches due refl))

@@ -1,5 +1,5 @@
 use Rattle.std.proofs.Common.{◌≡◌, ◌+◌, ◌-◌, ◌<◌, sym, ◌∙◌, arith}
-use Rattle.lag_bus.specs.Running.{due_at, caught_up}
+use Rattle.lag_bus.specs.Running.{fallen_at, caught_up}
 use Rattle.lag_bus.proofs.PassesInHand.{pass-caught_up}
 use Rattle.lag_bus.proofs.running.RunningBusBus.pass.Goals as goal
 
@@ -13,7 +13,7 @@ returns-then-from-self g c =
     let cycles = c.from-then-from-self.ensures in
     let less = c.if-from-self.true in
     let before = c.self.invariant.0 in
-    let free : bus.book.pending + due_at (clock + c.args.cycles) bus < 64 =
+    let free : bus.book.pending + fallen_at (clock + c.args.cycles) bus < 64 =
     let may = c.self.invariant.2 (omega arith) in let there = may.free in omega arith in
     let moment : until - (left - c.from-then-from-self.result) ≡ clock + c.args.cycles = omega arith in
     rw (← c.self.view_is)

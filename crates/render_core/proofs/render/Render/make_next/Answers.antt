@@ -1,5 +1,5 @@
 use Rattle.lag_bus.specs.LagLaws.{lagging-lawful}
-use Rattle.render_core.proofs.NextPiece.{is_next_piece, made_at_most}
+use Rattle.render_core.proofs.NextPiece.{is_next_piece, due_at_most}
 use Rattle.render_core.proofs.render.Render.make_next.Goals as goal
 
 pub invariant_of-self : goal.invariant_of-self
@@ -7,7 +7,7 @@ invariant_of-self g c =
     let e = c.make_piece-is_last.ensures in (
       c.self.invariant.0,
       e.idle,
-      made_at_most g.C.Chip.meaning (lagging-lawful g.C.Chip.meaning) c.self.inside.samples c.self.inside.cpu c.make_piece-is_last.new.cpu c.self.inside.bus c.make_piece-is_last.new.bus
+      due_at_most g.C.Chip.meaning (lagging-lawful g.C.Chip.meaning) c.self.inside.samples c.self.inside.cpu c.make_piece-is_last.new.cpu c.self.inside.bus c.make_piece-is_last.new.bus
           c.make_piece-is_last.result c.self.invariant.2 e.at_end e.over e.below,
     )
 

@@ -9,16 +9,16 @@ use std::marker::Model;
 /// A pointer to a player on the heap, or any pointer where there is none.
 #[repr(C)]
 #[derive(Drop)]
-pub struct Engine {
+pub struct OwnedPlayer {
     pub(crate) at: *mut u8,
     pub ghost playing: { Option PlayerState } by { coded_option the_code },
 }
 
-impl Model for Engine {
+impl Model for OwnedPlayer {
     ghost use Rattle.player_c.specs.Owned.{owns_playing};
 
     ghost also_owns = { λ e. owns_playing e.at e.playing };
 }
 
 // What it owns may go to another thread, as its proof shows.
-unsafe impl Send for Engine {}
+unsafe impl Send for OwnedPlayer {}

@@ -27,15 +27,15 @@ use denote.Triple.Walked.{Stays, walk_of, says, stay_ref, stay_dropped, Goes-ref
 use Rattle.std_heap.specs.contracts.Global.{the_row as Z}
 use Rattle.std_heap.specs.contracts.GlobalAllocator.TheImpl.{ghosts}
 use Rattle.std_heap.proofs.Global.TheLaws.{the_row_laws as LZ}
-use Rattle.player_c.specs.contracts.engine.Engine.{the_row as R, the_type}
-use Rattle.player_c.specs.declared.engine.Engine.{Engine}
+use Rattle.player_c.specs.contracts.owned_player.OwnedPlayer.{the_row as R, the_type}
+use Rattle.player_c.specs.declared.owned_player.OwnedPlayer.{OwnedPlayer}
 use Rattle.player.specs.contracts.player.Player.{the_row as I}
 use Rattle.player_c.specs.contracts.parts.Parts.{the_row as parts_row}
-use Rattle.player_c.proofs.engine.Engine.TheLaws.{lowers}
+use Rattle.player_c.proofs.owned_player.OwnedPlayer.TheLaws.{lowers}
 use Rattle.player_c.proofs.PartsSteps.{both, parts_good, parts_out}
-use Rattle.player_c.specs.contracts.engine.Engine.put_parts as f
-use Rattle.player_c.proofs.engine.Engine.put_parts.Statement.{statement}
-use Rattle.player_c.proofs.engine.Engine.put_parts.Code as code
+use Rattle.player_c.specs.contracts.owned_player.OwnedPlayer.put_parts as f
+use Rattle.player_c.proofs.owned_player.OwnedPlayer.put_parts.Statement.{statement}
+use Rattle.player_c.proofs.owned_player.OwnedPlayer.put_parts.Code as code
 
 abbrev stayed : Stays f.ended.signature.params f.ended.kept
 stayed = (stay_ref (0 ∷ []) tt (plain (λ _. R)), (stay_dropped (plain (λ _. parts_row I Z ghosts)) yes, tt))
@@ -64,7 +64,7 @@ put_parts_spec 𝓤 𝓛 𝓜 𝓡 wired =
     sets ! (of_opd ! (get ! refl)) refl (tt, tt) $
     assigns ! (of_opd ! (get ! refl)) (through ! refl (fld ! refl (stop !))) (store_in ! 0 (sub ! 0 refl (whole !)) (tt, tt)) $
     sets ! (of_opd ! (unit_lit !)) refl (tt, tt) $
-    let w = vstruct (vcons (vptr b o) vnil) in let kept : Engine = record { at = block_ptr b o; playing = Some v.value } in
+    let w = vstruct (vcons (vptr b o) vnil) in let kept : OwnedPlayer = record { at = block_ptr b o; playing = Some v.value } in
     -- [the handle's cell; the open borrow, in three entries; what is left of the reference; what the box owned]
     move ! (5 ∷ []) $ nothing ! $ feq_i ! (List Val) (vptr b o ∷ []) (vptr b o ∷ []) refl $ fjoin ! $ feq_i ! (List Val) (w ∷ []) (w ∷ []) refl $ fjoin ! $
     fpack ! (Valss (RawPtr ∷ [])) (within (shape the_type) (block_ptr b o, tt) (w ∷ [])) (vptr b o ∷ [], tt) $ fjoin ! $ move ! (1 ∷ 0 ∷ []) $

@@ -28,17 +28,17 @@ use Rattle.std_heap.specs.contracts.Global.{the_row as Z}
 use Rattle.std_heap.specs.contracts.GlobalAllocator.TheImpl.{ghosts}
 use Rattle.std_heap.proofs.Global.TheLaws.{the_row_laws as LZ}
 use Rattle.std_heap.proofs.Handle.{heap_val, heap_Tells}
-use Rattle.player_c.specs.contracts.engine.Engine.{the_row as R}
-use Rattle.player_c.specs.declared.engine.Engine.{Engine}
+use Rattle.player_c.specs.contracts.owned_player.OwnedPlayer.{the_row as R}
+use Rattle.player_c.specs.declared.owned_player.OwnedPlayer.{OwnedPlayer}
 use Rattle.player.specs.contracts.player.Player.{the_row as I}
 use Rattle.player.specs.Player.{PlayerState}
 use Rattle.player_c.specs.Owned.{chunk, owns_playing}
 use Rattle.player_c.proofs.Open.{some_of}
-use Rattle.player_c.proofs.engine.Engine.TheLaws.{lowers}
+use Rattle.player_c.proofs.owned_player.OwnedPlayer.TheLaws.{lowers}
 use Rattle.player_c.proofs.PartsSteps.{both, parts_good, parts_in}
-use Rattle.player_c.specs.contracts.engine.Engine.take_parts as f
-use Rattle.player_c.proofs.engine.Engine.take_parts.Statement.{statement}
-use Rattle.player_c.proofs.engine.Engine.take_parts.Code as code
+use Rattle.player_c.specs.contracts.owned_player.OwnedPlayer.take_parts as f
+use Rattle.player_c.proofs.owned_player.OwnedPlayer.take_parts.Statement.{statement}
+use Rattle.player_c.proofs.owned_player.OwnedPlayer.take_parts.Code as code
 
 abbrev stayed : Stays f.ended.signature.params f.ended.kept
 stayed = (stay_ref (0 ∷ []) tt (plain (λ _. R)), (stay_dropped (plain (λ _. Z)) yes, tt))
@@ -62,7 +62,7 @@ take_parts_spec 𝓤 𝓛 𝓜 𝓡 wired =
     in_a_block ! h.at (λ p. box_owns chunk I p x) (fst∗ 𝓤 (never 𝓤) (sem 𝓛 (chunk (bare (lone I.mir)) null_ptr))) (λ b o e.
     let word = lowers.val_is h ws is ∙ ap (λ (p : Ptr). lowers.lowered (record h { at = p }) ∷ []) e in
     let Cell = λ (us : List Val). ‵ (cell_at full_share R.mir us rb ro) in
-    let left : Engine = record { at = h.at; playing = None } in
+    let left : OwnedPlayer = record { at = h.at; playing = None } in
     rewrite ! 2 Cell word refl $
     -- [what a box owns; the fields; the handle's cell; the open borrow, in three entries; what is left of the reference; the allocator]
     sets ! (of_opd ! (load ! (through ! refl (fld ! refl (stop !))) (look_in ! 2 (sub ! 0 refl (whole !))))) refl (tt, tt) $

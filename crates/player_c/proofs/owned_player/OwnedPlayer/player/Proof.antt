@@ -28,22 +28,22 @@ use denote.Follow.{follows, Part, lends_Part}
 use denote.Triple.Walked.{Stays, walk_of, says, stay_dropped, Goes-spent_ref, ends_at}
 use Rattle.std_alloc.specs.Box.Ownership.{box_owns}
 use Rattle.std_alloc.proofs.VecSteps.Shapes.{after}
-use Rattle.player_c.specs.declared.engine.Engine.{Engine}
-use Rattle.player_c.specs.contracts.engine.Engine.{the_row as R, the_type}
+use Rattle.player_c.specs.declared.owned_player.OwnedPlayer.{OwnedPlayer}
+use Rattle.player_c.specs.contracts.owned_player.OwnedPlayer.{the_row as R, the_type}
 use Rattle.player.specs.contracts.player.Player.{the_row as I}
 use Rattle.player.specs.Player.{PlayerState}
 use Rattle.player_c.specs.Owned.{chunk, owns_playing}
 use Rattle.player_c.specs.Lending.{with_player}
-use Rattle.player_c.proofs.engine.Engine.TheLaws.{lowers}
+use Rattle.player_c.proofs.owned_player.OwnedPlayer.TheLaws.{lowers}
 use Rattle.player_c.proofs.Open.{some_of}
-use Rattle.player_c.specs.contracts.engine.Engine.player as f
-use Rattle.player_c.proofs.engine.Engine.player.Statement.{statement}
-use Rattle.player_c.proofs.engine.Engine.player.Code as code
+use Rattle.player_c.specs.contracts.owned_player.OwnedPlayer.player as f
+use Rattle.player_c.proofs.owned_player.OwnedPlayer.player.Statement.{statement}
+use Rattle.player_c.proofs.owned_player.OwnedPlayer.player.Code as code
 
 abbrev stayed : Stays f.ended.signature.params f.ended.kept
 stayed = (stay_dropped (mut_ref_to (0 ∷ []) tt (plain (λ _. R))) no, tt)
 
-module _ {M : Type 1} {𝓤 : Ura M} (𝓛 : Logic 𝓤) (h : Engine) (us : List Val) (rb ro b o : ℕ) where
+module _ {M : Type 1} {𝓤 : Ura M} (𝓛 : Logic 𝓤) (h : OwnedPlayer) (us : List Val) (rb ro b o : ℕ) where
   -- all of the handle but its player
   abbrev Rest : Fml
   Rest = fsep (chunk (bare (lone I.mir)) (block_ptr b o)) (fsep ((Struct (shape the_type)).own_val (to the_type h) us) (cell_at full_share R.mir us rb ro))

@@ -1,4 +1,4 @@
--- An engine with no player: a walk of the MIR by hand.
+-- No player that is owned: a walk of the MIR by hand.
 use Rattle.std.proofs.Common.{◌≡◌, refl, List, [], ◌∷◌, None}
 use Rattle.std.proofs.raw_atomic.Walks.{proved}
 use mathlib.Core.Bool.{true, ◌&&◌}
@@ -20,11 +20,11 @@ use denote.Struct.Struct.{within}
 use denote.Steps.{nothing}
 use denote.Triple.Entry.{on_entry}
 use denote.Triple.Walked.{Stays, walk_of, says, stay_dropped, Goes-dropped, ends_at}
-use Rattle.player_c.specs.contracts.engine.Engine.{the_type}
-use Rattle.player_c.specs.declared.engine.Engine.{Engine}
-use Rattle.player_c.specs.contracts.engine.Engine.at_nothing as f
-use Rattle.player_c.proofs.engine.Engine.at_nothing.Statement.{statement}
-use Rattle.player_c.proofs.engine.Engine.at_nothing.Code as code
+use Rattle.player_c.specs.contracts.owned_player.OwnedPlayer.{the_type}
+use Rattle.player_c.specs.declared.owned_player.OwnedPlayer.{OwnedPlayer}
+use Rattle.player_c.specs.contracts.owned_player.OwnedPlayer.at_nothing as f
+use Rattle.player_c.proofs.owned_player.OwnedPlayer.at_nothing.Statement.{statement}
+use Rattle.player_c.proofs.owned_player.OwnedPlayer.at_nothing.Code as code
 
 -- a pointer has its type, and so has a struct of it alone
 pointer_good : (p : Ptr) → T (has_ty ty_ptr (ptr_val p)) × WT (ptr_val p)
@@ -45,7 +45,7 @@ at_nothing_spec 𝓤 𝓛 𝓜 𝓡 wired =
     f.Key.name code.function (code.unfolded 𝓤 𝓛.H 𝓜 𝓡 wired)
     (λ κs. (rawptr_vals, tt)) (λ κs. (rawptr_Tells, tt)) (λ κs qs bounds a n are.
     let p = a.0 in let v = ptr_val p in let w = vstruct (vcons v vnil) in
-    let made : Engine = record { at = p; playing = None } in
+    let made : OwnedPlayer = record { at = p; playing = None } in
     let y : W.Ghost = ((κs, qs, bounds, a, (rawptr_vals p, tt)), n) in
     qed 𝓛 (raw (on_entry 𝓛 f.signature κs qs a y.0.4) ∷ ‵ ftrue ∷ []) ∵ drop ! $ drop ! $
     enter ! _ _ _ _ _ $ alloc_all ! (λ l. pass_all ! refl (pointer_good p, tt) $

@@ -14,7 +14,7 @@ use Rattle.player.specs.Player.{PlayerState}
 use Rattle.player.specs.contracts.player.Player.{the_row as I}
 use Rattle.player.proofs.player.Player.TheSendSync.{the_send as player_send}
 use Rattle.player_c.specs.Owned.{heap, owns_playing}
-use Rattle.player_c.specs.contracts.engine.Engine.{the_row, the_type}
+use Rattle.player_c.specs.contracts.owned_player.OwnedPlayer.{the_row, the_type}
 
 pointer_send : IsSend RawPtr
 pointer_send = search sendable
