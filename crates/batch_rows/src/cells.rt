@@ -18,10 +18,10 @@ use reach_map::ChainStart;
 use voice_unit::{Voice, entry_address, loop_word, start_word};
 
 /// The bytes of a block.
-const BLOCK: u16 = 9;
+const BLOCK_SIZE: u16 = 9;
 
 /// How many bytes from its start, and from its loop word, a chain lies within.
-const CHAIN_BYTES: u16 = 162;
+pub(crate) const CHAIN_BYTES: u16 = 162;
 
 /// The bytes of an entry of the directory.
 const ENTRY: u16 = 4;
@@ -46,7 +46,7 @@ fn next_block(memory: &Aram, block: u16, loop_word: u16) -> u16
     if has_end(memory.get(block)) {
         loop_word
     } else {
-        block.wrapping_add(BLOCK)
+        block.wrapping_add(BLOCK_SIZE)
     }
 }
 
@@ -60,7 +60,7 @@ fn walked_cells(memory: &Aram, chain: ChainStart, first: u16, cells: u8) -> u8
     let mut block = chain.block;
     let mut i = 0;
     'walk: while 4 * i <= left + 2 {
-        let before = cells_before(first, left, block, BLOCK);
+        let before = cells_before(first, left, block, BLOCK_SIZE);
         left = before.max((4 * i).saturating_sub(3));
         block = next_block(memory, block, chain.loop_word);
         i += 1;

@@ -8,14 +8,12 @@ ghost use Rattle.dsp_state.specs.Reach.{chip_reach};
 ghost use Rattle.dsp_state.specs.declared.registers.TheConstants.{FLG};
 ghost use Rattle.batch_rows.specs.Afar.{AreApart, IsVoiceApart, far_pages, window_from};
 
+use crate::cells::CHAIN_BYTES;
 use aram_core::{Aram, PAGE_SIZE};
 use dsp_state::ChipState;
 use dsp_state::registers::{DIR, EDL, ESA, FLG, SRCN, voice_register};
 use echo_unit::has_echo_writes;
 use voice_unit::{Voice, entry_address, loop_word, start_word};
-
-/// How many bytes from its start, and from its loop word, a chain lies within.
-const CHAIN_BYTES: u16 = 162;
 
 /// The bytes of a page.
 const PAGE_BYTES: u16 = PAGE_SIZE as u16;

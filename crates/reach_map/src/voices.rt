@@ -13,7 +13,7 @@ use aram_core::{Aram, PageSet};
 use brr_decode::has_end;
 
 /// The bytes of a block.
-const BLOCK: u32 = 9;
+const BLOCK_SIZE: u32 = 9;
 
 /// The bytes of an entry of the directory.
 const ENTRY: u32 = 4;
@@ -22,7 +22,7 @@ const ENTRY: u32 = 4;
 const CHAIN_BLOCKS: u32 = 18;
 
 /// The bytes from its start on, and those from its loop word on, within which the blocks of a chain stand.
-const CHAIN_BYTES: u32 = BLOCK * CHAIN_BLOCKS;
+const CHAIN_BYTES: u32 = BLOCK_SIZE * CHAIN_BLOCKS;
 
 /// How many blocks stand one after another from a block on, up to the first that has its end bit, and at most so many.
 fn blocks_to_end(memory: &Aram, start: u16, most: u32) -> u32
@@ -36,7 +36,7 @@ fn blocks_to_end(memory: &Aram, start: u16, most: u32) -> u32
         if has_end(memory.get(block)) {
             break;
         }
-        block = block.wrapping_add(BLOCK as u16);
+        block = block.wrapping_add(BLOCK_SIZE as u16);
     }
     most - left
 }
@@ -49,10 +49,10 @@ fn add_blocks(pages: &mut PageSet, memory: &Aram, start: ChainStart, count: u32)
     ensures { pages.new ≡ with_pages pages.old (flat_map block_pages (chain memory.now start.loop_word count start.block)) }
 {
     let first = blocks_to_end(memory, start.block, count);
-    add_bytes(pages, start.block, BLOCK * first);
+    add_bytes(pages, start.block, BLOCK_SIZE * first);
     if first < count {
         let again = blocks_to_end(memory, start.loop_word, count - first);
-        add_bytes(pages, start.loop_word, BLOCK * again);
+        add_bytes(pages, start.loop_word, BLOCK_SIZE * again);
     }
 }
 
@@ -62,14 +62,14 @@ fn blocks_have_page(memory: &Aram, start: ChainStart, page: u8) -> bool
     ensures { result ≡ has_page (chain_pages memory.now start) page }
 {
     let first = blocks_to_end(memory, start.block, CHAIN_BLOCKS);
-    if bytes_have_page(start.block, BLOCK * first, page) {
+    if bytes_have_page(start.block, BLOCK_SIZE * first, page) {
         return true;
     }
     if first == CHAIN_BLOCKS {
         return false;
     }
     let again = blocks_to_end(memory, start.loop_word, CHAIN_BLOCKS - first);
-    bytes_have_page(start.loop_word, BLOCK * again, page)
+    bytes_have_page(start.loop_word, BLOCK_SIZE * again, page)
 }
 
 /// Whether a voice on a chain can read bytes of a page. The chain is walked only where the page is near to its start or to its loop word.
