@@ -76,7 +76,11 @@ fn a_loop_sends_the_envelope_to_a_port(rt: HostRuntime) -> Result<(), Fail> {
         0x0400,
         &[0x8F, 0x08, 0xF2, 0xE4, 0xF3, 0xC4, 0xF4, 0x2F, 0xFA],
     );
-    let opening = opening_of(rt.alloc(), &[directory, first, second, code], &KEYED_REGISTERS)?;
+    let opening = opening_of(
+        rt.alloc(),
+        &[directory, first, second, code],
+        &KEYED_REGISTERS,
+    )?;
     let all = run_plain(rt.alloc(), opening, 8)?.emitted;
     assert!(rt; all.records.len() == 23);
     for (place, record) in all.records.iter().enumerate() {
