@@ -58,6 +58,7 @@ OPENED = 'render_core/specs/Opening.antt'
 OPENED_CODE = 'render_core/src/render.rt'
 BATCHES = 'render_files/specs/RenderReport.antt'
 BATCHES_CODE = 'render_files/src/sound_report.rt'
+STREAMING = 'command_frame/src/streaming.rt'
 SESSION = 'cut_form/specs/Session.antt'
 REPLIES = 'session_files/src/replies.rt'
 STATE = 'spc_form/specs/Opening.antt'
@@ -558,6 +559,11 @@ SLIPS = [
         (BATCHES, 'codes " echo " ++ decimal counts.echo', 'codes " echo " ++ decimal counts.events'),
         (BATCHES, 'codes " events " ++ decimal counts.events', 'codes " events " ++ decimal counts.echo'),
         (BATCHES_CODE, 'b" echo ", counts.echo', 'b" echo ", counts.events'), (BATCHES_CODE, 'b" events ", counts.events', 'b" events ", counts.echo')]),
+
+    Slip('the trace before the head of the sound file', ['command_frame'], ['worked_tunes'], [
+        (STREAMING, '    put(host, targets, head, &[])?;\n    pump(host, targets, source)?;\n',
+         '    let done = source.make_next();\n    put(host, targets, &[], source.trace())?;\n    put(host, targets, head, &[])?;\n'
+         '    put(host, targets, source.wave(), &[])?;\n    if !done {\n        pump(host, targets, source)?;\n    }\n')]),
 
     # demo files, encodings, cuts and sessions
     Slip('another factor of the draws', ['demo_gen'], ['worked_files'], [

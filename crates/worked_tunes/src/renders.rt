@@ -339,6 +339,14 @@ struct Eight<'a> {
     trace: &'a [u8],
 }
 
+/// The bytes of a sound file before its first frame.
+const HEAD: usize = 44;
+
+/// Whether the trace has no byte before the head of the sound file is whole.
+fn has_head_first(outcome: &Outcome) -> bool {
+    outcome.second().is_empty() || outcome.first().len() >= HEAD
+}
+
 impl Eight<'_> {
     /// Whether it may end so where this call fails, of so many.
     fn may_end_so(&self, outcome: &Outcome, call: u32, calls: u32) -> bool {
@@ -346,7 +354,7 @@ impl Eight<'_> {
         if call < 22 {
             outcome.is_unread(call)
         } else if call < calls {
-            outcome.is_cut_off(call, self.wave, self.trace, EIGHT)
+            outcome.is_cut_off(call, self.wave, self.trace, EIGHT) && has_head_first(outcome)
         } else {
             outcome.is_done(self.wave, EIGHT) && outcome.second() == self.trace
         }
