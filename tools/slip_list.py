@@ -87,6 +87,7 @@ WRAPPED = 'echo_unit/src/wrapped.rt'
 ECHO = 'echo_unit/specs/Echo.antt'
 ECHO_CODE = 'echo_unit/src/echo.rt'
 CELL = 'echo_unit/src/cell.rt'
+VOLUME = 'echo_unit/src/volume.rt'
 PAGE = 'echo_unit/specs/Page.antt'
 PAGE_CODE = 'echo_unit/src/page.rt'
 WINDOW = 'reach_map/specs/Window.antt'
@@ -366,6 +367,18 @@ SLIPS = [
         (ENVELOPE, '(if gain_rules adsr1 then gain else adsr2) / 32', 'adsr2 / 32'), (TARGET, 'if adsr1 < ADSR { gain / 32 } else { adsr2 / 32 }', 'adsr2 / 32')]),
     Slip('GAIN rules only where bits 7 and 6 of ADSR1 are clear', ['envelope', 'envelope_laws'], ['worked_parts'], [
         (ENVELOPE, 'nat_lt adsr1 0x80', 'nat_lt adsr1 0x40'), (TARGET, 'ADSR: u8 = 0x80', 'ADSR: u8 = 0x40')]),
+    Slip('mode and hidden value change only where the rate fires', ['envelope', 'envelope_laws'], ['worked_parts'], [
+        (ENVELOPE, 'mode = next_mode s.mode target.value sustain;', 'mode = if fires target.rate counter then next_mode s.mode target.value sustain else s.mode;'),
+        (ENVELOPE, 'hidden = target.value;', 'hidden = if fires target.rate counter then target.value else s.hidden;'),
+        (ENVELOPE_CODE, '                self.mode = next_mode(self.mode, target.value, sustain_level(adsr1, adsr2, gain));\n                self.hidden = target.value;\n'
+         '                if clock.fires(target.rate) {\n',
+         '                if clock.fires(target.rate) {\n                    self.mode = next_mode(self.mode, target.value, sustain_level(adsr1, adsr2, gain));\n'
+         '                    self.hidden = target.value;\n')]),
+    Slip('an attack goes on below 0', ['envelope', 'envelope_laws'], ['worked_parts'], [
+        (ENVELOPE, 'not (int_lt value (pos 0)) && not (int_lt (pos 0x7ff) value)', 'not (int_lt (pos 0x7ff) value)'), (ENVELOPE, 'Bool, ◌&&◌, not', 'Bool, not'),
+        (ENVELOPE_CODE, 'value < 0 || value > 0x7ff', 'value > 0x7ff')]),
+    Slip('an attack ends above 7F0h', ['envelope', 'envelope_laws'], ['worked_parts'], [
+        (ENVELOPE, 'not (int_lt (pos 0x7ff) value)', 'not (int_lt (pos 0x7f0) value)'), (ENVELOPE_CODE, 'value < 0 || value > 0x7ff', 'value < 0 || value > 0x7f0')]),
 
     # BRR and interpolation
     Slip('filter 1 takes a 16th', ['brr_decode'], ['worked_parts'], [
@@ -479,6 +492,9 @@ SLIPS = [
         (LEVEL, 'scaled(previous >> 5, pitch as i16, 10)', 'scaled(previous >> 4, pitch as i16, 11)'), (LEVEL, '(previous >> 5) * 32', '(previous >> 4) * 16')]),
     Slip('a bit of PMON bends the voice after its own', ['voice_unit'], ['worked_sounds'], [
         (VOICE, 'has_bit pmon voice', 'has_bit pmon (voice - 1)'), ('voice_unit/src/interface.rt', 'has_bit(pmon, voice)', 'has_bit(pmon, voice - 1)')]),
+    Slip('a key on clears the last samples', ['voice_unit'], ['worked_sounds'], [
+        (VOICE, 'samples = v.samples;', 'samples = if v.delay == 5 then replicate 12 (pos 0) else v.samples;'),
+        (VOICE_CODE, 'self.block = start_word(input.dir, regs.srcn, memory);', 'self.block = start_word(input.dir, regs.srcn, memory);\n            self.samples = [0; 12];')]),
 
     # the echo's filter and its buffer, and what a batch can meet
     Slip('taps over 128', ['echo_unit'], ['worked_sounds'], [
@@ -506,6 +522,14 @@ SLIPS = [
         (CELL, 'address, left);\n    put_word(memory, address.wrapping_add(2), right)', 'address, right);\n    put_word(memory, address.wrapping_add(2), left)'),
         (PAGE_CODE, 'left: halved_at(page, at),\n        right: halved_at(page, at + 2)', 'left: halved_at(page, at + 2),\n        right: halved_at(page, at)'),
         (PAGE_CODE, 'put_word(page, at, left);\n    put_word(page, at + 2, right)', 'put_word(page, at, right);\n    put_word(page, at + 2, left)')]),
+    Slip('a word goes back with its bit 0', ['echo_unit'], ['worked_sounds'], [
+        (ECHO, 'clear_bit0 (clamp16 (sent +ℤ at_volume echo efb))', 'clamp16 (sent +ℤ at_volume echo efb)'), (ECHO, 'clamp16, clear_bit0, sign8}', 'clamp16, sign8}'),
+        (VOLUME, 'clear_bit0(add_clamped(sent, at_volume(echo, efb)))', 'add_clamped(sent, at_volume(echo, efb))'),
+        (VOLUME, 'add_clamped, clear_bit0, scaled', 'add_clamped, scaled')]),
+    Slip('a product with a volume limited', ['echo_unit'], ['worked_sounds'], [
+        (ECHO, 'wrap16 (scaled sample (sign8 volume) 7)', 'clamp16 (scaled sample (sign8 volume) 7)'), (ECHO, 'scaled, wrap16, clamp16', 'scaled, clamp16'),
+        (VOLUME, 'wrap16(scaled(sample, signed(volume), 7))', 'clamp16(scaled(sample, signed(volume), 7))'),
+        (VOLUME, 'add_clamped, clear_bit0, scaled, sign8, wrap16}', 'add_clamped, clamp16, clear_bit0, scaled, sign8}')]),
     Slip('EDL counts units of 1,024 bytes', ['reach_map', 'echo_unit'], ['worked_sounds'], [
         (WINDOW, 'edl % 16 * 0x800', 'edl % 16 * 0x400'), (ECHO, 's.length % 0x800 == 0 && nat_le s.length (15 * 0x800)', 's.length % 0x400 == 0 && nat_le s.length (15 * 0x400)'),
         (ECHO_CODE, 'u16::from(edl % 16) * 2048', 'u16::from(edl % 16) * 1024'), (ECHO_CODE, 'u32::from(edl % 16) * 2048', 'u32::from(edl % 16) * 1024'),
