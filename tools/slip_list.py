@@ -285,6 +285,13 @@ SLIPS = [
     Slip("the echo's batches counted as the memory's", ['lag_bus'], ['worked_tunes'], [
         ('lag_bus/specs/Book.antt', 'echo = count_after counts.echo 1', 'memory = count_after counts.memory 1'),
         ('lag_bus/src/counting.rt', 'counts.echo = counts.echo.saturating_add(1)', 'counts.memory = counts.memory.saturating_add(1)')]),
+    Slip('a read is for the echo before it is for a register', ['lag_bus'], ['worked_tunes'], [
+        ('lag_bus/specs/Book.antt', 'if at == 0xF3 && chip.is_result (dsp_address % 0x80) then Some Register\n    else if may_be_written reach at then Some Echo',
+         'if may_be_written reach at then Some Echo\n    else if at == 0xF3 && chip.is_result (dsp_address % 0x80) then Some Register'),
+        ('lag_bus/src/cause.rt', 'if at == 0xF3 && chip.is_result(dsp_address % 0x80) {\n        Some(Cause::Register)\n'
+         '    } else if chip.writes_page(memory, page_of(at)) {\n        Some(Cause::Echo)\n',
+         'if chip.writes_page(memory, page_of(at)) {\n        Some(Cause::Echo)\n'
+         '    } else if at == 0xF3 && chip.is_result(dsp_address % 0x80) {\n        Some(Cause::Register)\n')]),
 
     # rates, noise, timers and ports
     Slip('rate 1 fires every 1,024 samples', ['rate_clock'], ['worked_parts'], [

@@ -56,6 +56,13 @@ const APART: Pieces = &[
     (MEMORY + 0x0400, b"\xc5\x00\x07\x2f\xfb"),
 ];
 
+/// The program reads the envelope of voice 0 in a loop of 7 cycles, first in cycle 8, and the echo writes to 0000h, in the page of F3h. Samples are due at cycles
+/// 32, 64 and 96, where the loop's 13th round ends; reads in cycles 36 and 64 find one that waits, for the register as well as for the echo.
+const BOTH_CAUSES: Pieces = &[
+    (DSP + 0x6c, b"\x00\x00"),
+    (MEMORY + 0x0400, b"\x8f\x08\xf2\xe4\xf3\x2f\xfc"),
+];
+
 /// What is heard.
 const HEARD: &[Heard] = &[
     Heard {
@@ -145,6 +152,14 @@ const HEARD: &[Heard] = &[
         samples: 3,
         frames: &[(3, 0)],
         batches: ONE_BATCH,
+    },
+    Heard {
+        shows: "a result that is read in the echo's page",
+        sound: &[],
+        more: BOTH_CAUSES,
+        samples: 3,
+        frames: &[(3, 0)],
+        batches: "batches 3 register 2 memory 0 echo 0 full 0 events 0 end 1\n",
     },
     Heard {
         shows: "the voice ends after sample 63, as the program has it",
