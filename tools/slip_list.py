@@ -21,6 +21,8 @@ WAVE = 'wav_form/specs/Wave.antt'
 WAVE_CODE = 'wav_form/src/written.rt'
 MONO = 'wav_form/specs/Mono.antt'
 MONO_CODE = 'wav_form/src/mono.rt'
+CHUNKS = 'wav_form/specs/Chunks.antt'
+CHUNKS_CODE = 'wav_form/src/chunk.rt'
 LINE = 'trace_form/specs/Line.antt'
 LINE_CODE = 'trace_form/src/text.rt'
 COUNTER = 'rate_clock/specs/Counter.antt'
@@ -150,6 +152,9 @@ SLIPS = [
     Slip('bits of memory from 2000h on', ['spc700_asm'], ['worked_files'], [
         ('spc700_asm/specs/Operands.antt', 'is_above 0x1FFF value', 'is_above 0x3FFF value'),
         ('spc700_asm/src/faults.rt', 'is_above(0x1fff, operand.value)', 'is_above(0x3fff, operand.value)')]),
+    Slip('a name at the end of the memory stands for its last byte', ['spc700_asm'], ['worked_files'], [
+        ('spc700_asm/specs/Labels.antt', '(name, at % 0x10000)', '(name, min at 0xFFFF)'), ('spc700_asm/specs/Labels.antt', '{ℕ, ◌+◌, ◌*◌, ◌%◌,', '{ℕ, min, ◌+◌, ◌*◌,'),
+        ('spc700_asm/src/survey.rt', '(at % 0x1_0000) as u16', 'at.min(0xffff) as u16')]),
 
     # the processor's arithmetic
     Slip('DAA adds 61h to the tens', ['spc700_alu'], ['worked_parts'], [
@@ -261,6 +266,16 @@ SLIPS = [
         (MONO, '(little_number 2 body == 1)', '(little_number 2 body == 3)'), (MONO_CODE, 'read_u16(body) == 1', 'read_u16(body) == 3')]),
     Slip('two channels read as one', ['wav_form'], ['worked_files'], [
         (MONO, '(little_number 2 (drop 2 body) == 1)', '(little_number 2 (drop 2 body) == 2)'), (MONO_CODE, 'read_u16(&body[2..]) == 1', 'read_u16(&body[2..]) == 2')]),
+    Slip('a later format says the form, too', ['wav_form'], ['worked_files'], [
+        (MONO, '    else if has_format then samples_of_chunks true chunks\n', ''), (MONO, 'samples_of_chunks false chunks\n', 'samples_of_chunks has_format chunks\n'),
+        (MONO_CODE, '    if has_format {\n        return Ok(true);\n    }\n', ''), (MONO_CODE, 'return Ok(false);', 'return Ok(has_format);')]),
+    Slip('an odd chunk at the end needs a byte more', ['wav_form'], ['worked_files'], [
+        (CHUNKS, 'body = take size (drop 8 bytes)', 'body = take (min size (length (drop 8 bytes) - size % 2)) (drop 8 bytes)'),
+        (CHUNKS, '{ℕ, zero, suc, ◌+◌,', '{ℕ, zero, suc, min, ◌+◌, ◌-◌,'),
+        (CHUNKS_CODE, '(size as usize).min(tail.len())', '(size as usize).min(tail.len().saturating_sub(size as usize % 2))')]),
+    Slip('sound files of 16,777,215 bytes at most', ['snd_host', 'input_files', 'command_encode'], ['worked_commands'], [
+        ('snd_host/specs/Host.antt', 'greatest_limit = 16777216', 'greatest_limit = 16777215'),
+        ('input_files/src/reading.rt', 'WAVE_LIMIT: usize = 16777216', 'WAVE_LIMIT: usize = 16777215')]),
 
     # traces, and batches that are counted
     Slip('the letters of registers and ports exchanged', ['trace_form'], ['worked_parts'], [
@@ -565,6 +580,8 @@ SLIPS = [
     Slip('the faults far and long exchanged', ['exit_status'], ['worked_commands'], [
         (LINES, 'codes ": far\\n"', 'codes ": faar\\n"'), (LINES, 'codes ": long\\n"', 'codes ": far\\n"'), (LINES, 'codes ": faar\\n"', 'codes ": long\\n"'),
         (LINES_CODE, 'b": far\\n"', 'b": faar\\n"'), (LINES_CODE, 'b": long\\n"', 'b": far\\n"'), (LINES_CODE, 'b": faar\\n"', 'b": long\\n"')]),
+    Slip('7Fh is printable', ['report_text'], ['worked_files'], [
+        ('report_text/specs/Texts.antt', 'nat_le byte 0x7e', 'nat_le byte 0x7f'), ('report_text/src/growing.rt', 'byte <= 0x7e', 'byte <= 0x7f')]),
 
     # the opening, the fade, and what a render reports
     Slip('X and Y exchanged at the opening', ['render_core'], ['worked_tunes', 'worked_renders'], [
