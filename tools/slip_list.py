@@ -62,6 +62,10 @@ BATCHES = 'render_files/specs/RenderReport.antt'
 BATCHES_CODE = 'render_files/src/sound_report.rt'
 STREAMING = 'command_frame/src/streaming.rt'
 SESSION = 'cut_form/specs/Session.antt'
+OPTIONS = 'command_line/specs/Options.antt'
+OPTIONS_CODE = 'command_line/src/options.rt'
+ENCODE_WORDS = 'command_line/specs/EncodeWords.antt'
+ENCODE_WORDS_CODE = 'command_line/src/encode_words.rt'
 REPLIES = 'session_files/src/replies.rt'
 STATE = 'spc_form/specs/Opening.antt'
 STATE_CODE = 'spc_form/src/state.rt'
@@ -612,6 +616,25 @@ SLIPS = [
         (STREAMING, '    put(host, targets, head, &[])?;\n    pump(host, targets, source)?;\n',
          '    let done = source.make_next();\n    put(host, targets, &[], source.trace())?;\n    put(host, targets, head, &[])?;\n'
          '    put(host, targets, source.wave(), &[])?;\n    if !done {\n        pump(host, targets, source)?;\n    }\n')]),
+
+    # the words of the command line, and what a player is opened with
+    Slip('fewer samples than an hour has', ['command_line'], ['spcwave'], [
+        (OPTIONS, 'nat_le (decimal_value word) most_frames', 'not (nat_le most_frames (decimal_value word))'), (OPTIONS_CODE, 'count <= u64::from(MOST_FRAMES)', 'count < u64::from(MOST_FRAMES)')]),
+    Slip('no demo file of the number 4,294,967,295', ['command_line'], ['spcwave'], [
+        (OPTIONS, 'greatest_number = 4294967295', 'greatest_number = 4294967294'), (OPTIONS_CODE, 'GREATEST_NUMBER: u64 = 4294967295', 'GREATEST_NUMBER: u64 = 4294967294')]),
+    Slip('a range of two entries at least', ['command_line'], ['spcwave'], [
+        (OPTIONS, 'nat_le (slice_index ends 0) (slice_index ends 1)', 'not (nat_le (slice_index ends 1) (slice_index ends 0))'),
+        (OPTIONS_CODE, 'ends[0] <= ends[1]', 'ends[0] < ends[1]')]),
+    Slip('--trace twice', ['command_line'], ['spcwave'], [
+        (OPTIONS, '(once options.trace (name_in value))', '(name_in value)'), (OPTIONS_CODE, '(None, Some(trace)) =>', '(_, Some(trace)) =>')]),
+    Slip('--voices twice', ['command_line'], ['spcwave'], [
+        (OPTIONS, '(once options.voices (voices_in value))', '(voices_in value)'), (OPTIONS_CODE, '(None, Some(voices)) =>', '(_, Some(voices)) =>')]),
+    Slip('--search takes 2 ways at least', ['command_line'], ['spcwave'], [
+        (ENCODE_WORDS, 'nat_le 1 (decimal_value word)', 'nat_le 2 (decimal_value word)'), (ENCODE_WORDS_CODE, '(1..=u64::from(MOST_WAYS))', '(2..=u64::from(MOST_WAYS))')]),
+    Slip('--loop-at twice', ['command_line'], ['spcwave'], [
+        (ENCODE_WORDS, '(once options.loop_at (loop_at_in value))', '(loop_at_in value)'), (ENCODE_WORDS_CODE, '(None, Some(sample)) =>', '(_, Some(sample)) =>')]),
+    Slip('fewer seconds between marks than an hour has', ['player'], ['player'], [
+        ('player/src/options.rt', 'MOST_MARK_SECONDS: u32 = 3600', 'MOST_MARK_SECONDS: u32 = 3599')]),
 
     # demo files, encodings, cuts and sessions
     Slip('another factor of the draws', ['demo_gen'], ['worked_files'], [
