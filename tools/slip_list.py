@@ -21,6 +21,8 @@ WAVE = 'wav_form/specs/Wave.antt'
 WAVE_CODE = 'wav_form/src/written.rt'
 MONO = 'wav_form/specs/Mono.antt'
 MONO_CODE = 'wav_form/src/mono.rt'
+CHUNKS = 'wav_form/specs/Chunks.antt'
+CHUNKS_CODE = 'wav_form/src/chunk.rt'
 LINE = 'trace_form/specs/Line.antt'
 LINE_CODE = 'trace_form/src/text.rt'
 COUNTER = 'rate_clock/specs/Counter.antt'
@@ -58,7 +60,12 @@ OPENED = 'render_core/specs/Opening.antt'
 OPENED_CODE = 'render_core/src/render.rt'
 BATCHES = 'render_files/specs/RenderReport.antt'
 BATCHES_CODE = 'render_files/src/sound_report.rt'
+STREAMING = 'command_frame/src/streaming.rt'
 SESSION = 'cut_form/specs/Session.antt'
+OPTIONS = 'command_line/specs/Options.antt'
+OPTIONS_CODE = 'command_line/src/options.rt'
+ENCODE_WORDS = 'command_line/specs/EncodeWords.antt'
+ENCODE_WORDS_CODE = 'command_line/src/encode_words.rt'
 REPLIES = 'session_files/src/replies.rt'
 STATE = 'spc_form/specs/Opening.antt'
 STATE_CODE = 'spc_form/src/state.rt'
@@ -86,6 +93,7 @@ WRAPPED = 'echo_unit/src/wrapped.rt'
 ECHO = 'echo_unit/specs/Echo.antt'
 ECHO_CODE = 'echo_unit/src/echo.rt'
 CELL = 'echo_unit/src/cell.rt'
+VOLUME = 'echo_unit/src/volume.rt'
 PAGE = 'echo_unit/specs/Page.antt'
 PAGE_CODE = 'echo_unit/src/page.rt'
 WINDOW = 'reach_map/specs/Window.antt'
@@ -148,6 +156,9 @@ SLIPS = [
     Slip('bits of memory from 2000h on', ['spc700_asm'], ['worked_files'], [
         ('spc700_asm/specs/Operands.antt', 'is_above 0x1FFF value', 'is_above 0x3FFF value'),
         ('spc700_asm/src/faults.rt', 'is_above(0x1fff, operand.value)', 'is_above(0x3fff, operand.value)')]),
+    Slip('a name at the end of the memory stands for its last byte', ['spc700_asm'], ['worked_files'], [
+        ('spc700_asm/specs/Labels.antt', '(name, at % 0x10000)', '(name, min at 0xFFFF)'), ('spc700_asm/specs/Labels.antt', '{ℕ, ◌+◌, ◌*◌, ◌%◌,', '{ℕ, min, ◌+◌, ◌*◌,'),
+        ('spc700_asm/src/survey.rt', '(at % 0x1_0000) as u16', 'at.min(0xffff) as u16')]),
 
     # the processor's arithmetic
     Slip('DAA adds 61h to the tens', ['spc700_alu'], ['worked_parts'], [
@@ -259,6 +270,16 @@ SLIPS = [
         (MONO, '(little_number 2 body == 1)', '(little_number 2 body == 3)'), (MONO_CODE, 'read_u16(body) == 1', 'read_u16(body) == 3')]),
     Slip('two channels read as one', ['wav_form'], ['worked_files'], [
         (MONO, '(little_number 2 (drop 2 body) == 1)', '(little_number 2 (drop 2 body) == 2)'), (MONO_CODE, 'read_u16(&body[2..]) == 1', 'read_u16(&body[2..]) == 2')]),
+    Slip('a later format says the form, too', ['wav_form'], ['worked_files'], [
+        (MONO, '    else if has_format then samples_of_chunks true chunks\n', ''), (MONO, 'samples_of_chunks false chunks\n', 'samples_of_chunks has_format chunks\n'),
+        (MONO_CODE, '    if has_format {\n        return Ok(true);\n    }\n', ''), (MONO_CODE, 'return Ok(false);', 'return Ok(has_format);')]),
+    Slip('an odd chunk at the end needs a byte more', ['wav_form'], ['worked_files'], [
+        (CHUNKS, 'body = take size (drop 8 bytes)', 'body = take (min size (length (drop 8 bytes) - size % 2)) (drop 8 bytes)'),
+        (CHUNKS, '{ℕ, zero, suc, ◌+◌,', '{ℕ, zero, suc, min, ◌+◌, ◌-◌,'),
+        (CHUNKS_CODE, '(size as usize).min(tail.len())', '(size as usize).min(tail.len().saturating_sub(size as usize % 2))')]),
+    Slip('sound files of 16,777,215 bytes at most', ['snd_host', 'input_files', 'command_encode'], ['worked_commands'], [
+        ('snd_host/specs/Host.antt', 'greatest_limit = 16777216', 'greatest_limit = 16777215'),
+        ('input_files/src/reading.rt', 'WAVE_LIMIT: usize = 16777216', 'WAVE_LIMIT: usize = 16777215')]),
 
     # traces, and batches that are counted
     Slip('the letters of registers and ports exchanged', ['trace_form'], ['worked_parts'], [
@@ -283,6 +304,13 @@ SLIPS = [
     Slip("the echo's batches counted as the memory's", ['lag_bus'], ['worked_tunes'], [
         ('lag_bus/specs/Book.antt', 'echo = count_after counts.echo 1', 'memory = count_after counts.memory 1'),
         ('lag_bus/src/counting.rt', 'counts.echo = counts.echo.saturating_add(1)', 'counts.memory = counts.memory.saturating_add(1)')]),
+    Slip('a read is for the echo before it is for a register', ['lag_bus'], ['worked_tunes'], [
+        ('lag_bus/specs/Book.antt', 'if at == 0xF3 && chip.is_result (dsp_address % 0x80) then Some Register\n    else if may_be_written reach at then Some Echo',
+         'if may_be_written reach at then Some Echo\n    else if at == 0xF3 && chip.is_result (dsp_address % 0x80) then Some Register'),
+        ('lag_bus/src/cause.rt', 'if at == 0xF3 && chip.is_result(dsp_address % 0x80) {\n        Some(Cause::Register)\n'
+         '    } else if chip.writes_page(memory, page_of(at)) {\n        Some(Cause::Echo)\n',
+         'if chip.writes_page(memory, page_of(at)) {\n        Some(Cause::Echo)\n'
+         '    } else if at == 0xF3 && chip.is_result(dsp_address % 0x80) {\n        Some(Cause::Register)\n')]),
 
     # rates, noise, timers and ports
     Slip('rate 1 fires every 1,024 samples', ['rate_clock'], ['worked_parts'], [
@@ -365,6 +393,18 @@ SLIPS = [
         (ENVELOPE, '(if gain_rules adsr1 then gain else adsr2) / 32', 'adsr2 / 32'), (TARGET, 'if adsr1 < ADSR { gain / 32 } else { adsr2 / 32 }', 'adsr2 / 32')]),
     Slip('GAIN rules only where bits 7 and 6 of ADSR1 are clear', ['envelope', 'envelope_laws'], ['worked_parts'], [
         (ENVELOPE, 'nat_lt adsr1 0x80', 'nat_lt adsr1 0x40'), (TARGET, 'ADSR: u8 = 0x80', 'ADSR: u8 = 0x40')]),
+    Slip('mode and hidden value change only where the rate fires', ['envelope', 'envelope_laws'], ['worked_parts'], [
+        (ENVELOPE, 'mode = next_mode s.mode target.value sustain;', 'mode = if fires target.rate counter then next_mode s.mode target.value sustain else s.mode;'),
+        (ENVELOPE, 'hidden = target.value;', 'hidden = if fires target.rate counter then target.value else s.hidden;'),
+        (ENVELOPE_CODE, '                self.mode = next_mode(self.mode, target.value, sustain_level(adsr1, adsr2, gain));\n                self.hidden = target.value;\n'
+         '                if clock.fires(target.rate) {\n',
+         '                if clock.fires(target.rate) {\n                    self.mode = next_mode(self.mode, target.value, sustain_level(adsr1, adsr2, gain));\n'
+         '                    self.hidden = target.value;\n')]),
+    Slip('an attack goes on below 0', ['envelope', 'envelope_laws'], ['worked_parts'], [
+        (ENVELOPE, 'not (int_lt value (pos 0)) && not (int_lt (pos 0x7ff) value)', 'not (int_lt (pos 0x7ff) value)'), (ENVELOPE, 'Bool, ◌&&◌, not', 'Bool, not'),
+        (ENVELOPE_CODE, 'value < 0 || value > 0x7ff', 'value > 0x7ff')]),
+    Slip('an attack ends above 7F0h', ['envelope', 'envelope_laws'], ['worked_parts'], [
+        (ENVELOPE, 'not (int_lt (pos 0x7ff) value)', 'not (int_lt (pos 0x7f0) value)'), (ENVELOPE_CODE, 'value < 0 || value > 0x7ff', 'value < 0 || value > 0x7f0')]),
 
     # BRR and interpolation
     Slip('filter 1 takes a 16th', ['brr_decode'], ['worked_parts'], [
@@ -478,6 +518,9 @@ SLIPS = [
         (LEVEL, 'scaled(previous >> 5, pitch as i16, 10)', 'scaled(previous >> 4, pitch as i16, 11)'), (LEVEL, '(previous >> 5) * 32', '(previous >> 4) * 16')]),
     Slip('a bit of PMON modulates the voice after its own', ['voice_unit'], ['worked_sounds'], [
         (VOICE, 'has_bit pmon voice', 'has_bit pmon (voice - 1)'), ('voice_unit/src/interface.rt', 'has_bit(pmon, voice)', 'has_bit(pmon, voice - 1)')]),
+    Slip('a key on clears the last samples', ['voice_unit'], ['worked_sounds'], [
+        (VOICE, 'samples = v.samples;', 'samples = if v.delay == 5 then replicate 12 (pos 0) else v.samples;'),
+        (VOICE_CODE, 'self.block = start_word(input.dir, regs.srcn, memory);', 'self.block = start_word(input.dir, regs.srcn, memory);\n            self.samples = [0; 12];')]),
 
     # the echo's filter and its buffer, and what a batch can meet
     Slip('taps over 128', ['echo_unit'], ['worked_sounds'], [
@@ -505,6 +548,14 @@ SLIPS = [
         (CELL, 'address, left);\n    put_word(memory, address.wrapping_add(2), right)', 'address, right);\n    put_word(memory, address.wrapping_add(2), left)'),
         (PAGE_CODE, 'left: halved_at(page, at),\n        right: halved_at(page, at + 2)', 'left: halved_at(page, at + 2),\n        right: halved_at(page, at)'),
         (PAGE_CODE, 'put_word(page, at, left);\n    put_word(page, at + 2, right)', 'put_word(page, at, right);\n    put_word(page, at + 2, left)')]),
+    Slip('a word goes back with its bit 0', ['echo_unit'], ['worked_sounds'], [
+        (ECHO, 'clear_bit0 (clamp16 (sent +ℤ at_volume echo efb))', 'clamp16 (sent +ℤ at_volume echo efb)'), (ECHO, 'clamp16, clear_bit0, sign8}', 'clamp16, sign8}'),
+        (VOLUME, 'clear_bit0(add_clamped(sent, at_volume(echo, efb)))', 'add_clamped(sent, at_volume(echo, efb))'),
+        (VOLUME, 'add_clamped, clear_bit0, scaled', 'add_clamped, scaled')]),
+    Slip('a product with a volume limited', ['echo_unit'], ['worked_sounds'], [
+        (ECHO, 'wrap16 (scaled sample (sign8 volume) 7)', 'clamp16 (scaled sample (sign8 volume) 7)'), (ECHO, 'scaled, wrap16, clamp16', 'scaled, clamp16'),
+        (VOLUME, 'wrap16(scaled(sample, signed(volume), 7))', 'clamp16(scaled(sample, signed(volume), 7))'),
+        (VOLUME, 'add_clamped, clear_bit0, scaled, sign8, wrap16}', 'add_clamped, clamp16, clear_bit0, scaled, sign8}')]),
     Slip('EDL counts units of 1,024 bytes', ['reach_map', 'echo_unit'], ['worked_sounds'], [
         (WINDOW, 'edl % 16 * 0x800', 'edl % 16 * 0x400'), (ECHO, 's.length % 0x800 == 0 && nat_le s.length (15 * 0x800)', 's.length % 0x400 == 0 && nat_le s.length (15 * 0x400)'),
         (ECHO_CODE, 'LENGTH_UNIT: u16 = 2048', 'LENGTH_UNIT: u16 = 1024'),
@@ -533,6 +584,8 @@ SLIPS = [
     Slip('the faults far and long exchanged', ['exit_status'], ['worked_commands'], [
         (LINES, 'codes ": far\\n"', 'codes ": faar\\n"'), (LINES, 'codes ": long\\n"', 'codes ": far\\n"'), (LINES, 'codes ": faar\\n"', 'codes ": long\\n"'),
         (LINES_CODE, 'b": far\\n"', 'b": faar\\n"'), (LINES_CODE, 'b": long\\n"', 'b": far\\n"'), (LINES_CODE, 'b": faar\\n"', 'b": long\\n"')]),
+    Slip('7Fh is printable', ['report_text'], ['worked_files'], [
+        ('report_text/specs/Texts.antt', 'nat_le byte 0x7e', 'nat_le byte 0x7f'), ('report_text/src/growing.rt', 'byte <= 0x7e', 'byte <= 0x7f')]),
 
     # the opening, the fade, and what a render reports
     Slip('X and Y exchanged at the opening', ['render_core'], ['worked_tunes', 'worked_renders'], [
@@ -558,6 +611,30 @@ SLIPS = [
         (BATCHES, 'codes " echo " ++ decimal counts.echo', 'codes " echo " ++ decimal counts.events'),
         (BATCHES, 'codes " events " ++ decimal counts.events', 'codes " events " ++ decimal counts.echo'),
         (BATCHES_CODE, 'b" echo ", counts.echo', 'b" echo ", counts.events'), (BATCHES_CODE, 'b" events ", counts.events', 'b" events ", counts.echo')]),
+
+    Slip('the trace before the head of the sound file', ['command_frame'], ['worked_tunes'], [
+        (STREAMING, '    put(host, targets, head, &[])?;\n    pump(host, targets, source)?;\n',
+         '    let done = source.make_next();\n    put(host, targets, &[], source.trace())?;\n    put(host, targets, head, &[])?;\n'
+         '    put(host, targets, source.wave(), &[])?;\n    if !done {\n        pump(host, targets, source)?;\n    }\n')]),
+
+    # the words of the command line, and what a player is opened with
+    Slip('fewer samples than an hour has', ['command_line'], ['spcwave'], [
+        (OPTIONS, 'nat_le (decimal_value word) most_frames', 'not (nat_le most_frames (decimal_value word))'), (OPTIONS_CODE, 'count <= u64::from(MOST_FRAMES)', 'count < u64::from(MOST_FRAMES)')]),
+    Slip('no demo file of the number 4,294,967,295', ['command_line'], ['spcwave'], [
+        (OPTIONS, 'greatest_number = 4294967295', 'greatest_number = 4294967294'), (OPTIONS_CODE, 'GREATEST_NUMBER: u64 = 4294967295', 'GREATEST_NUMBER: u64 = 4294967294')]),
+    Slip('a range of two entries at least', ['command_line'], ['spcwave'], [
+        (OPTIONS, 'nat_le (slice_index ends 0) (slice_index ends 1)', 'not (nat_le (slice_index ends 1) (slice_index ends 0))'),
+        (OPTIONS_CODE, 'ends[0] <= ends[1]', 'ends[0] < ends[1]')]),
+    Slip('--trace twice', ['command_line'], ['spcwave'], [
+        (OPTIONS, '(once options.trace (name_in value))', '(name_in value)'), (OPTIONS_CODE, '(None, Some(trace)) =>', '(_, Some(trace)) =>')]),
+    Slip('--voices twice', ['command_line'], ['spcwave'], [
+        (OPTIONS, '(once options.voices (voices_in value))', '(voices_in value)'), (OPTIONS_CODE, '(None, Some(voices)) =>', '(_, Some(voices)) =>')]),
+    Slip('--search takes 2 ways at least', ['command_line'], ['spcwave'], [
+        (ENCODE_WORDS, 'nat_le 1 (decimal_value word)', 'nat_le 2 (decimal_value word)'), (ENCODE_WORDS_CODE, '(1..=u64::from(MOST_WAYS))', '(2..=u64::from(MOST_WAYS))')]),
+    Slip('--loop-at twice', ['command_line'], ['spcwave'], [
+        (ENCODE_WORDS, '(once options.loop_at (loop_at_in value))', '(loop_at_in value)'), (ENCODE_WORDS_CODE, '(None, Some(sample)) =>', '(_, Some(sample)) =>')]),
+    Slip('fewer seconds between marks than an hour has', ['player'], ['player'], [
+        ('player/src/options.rt', 'MOST_MARK_SECONDS: u32 = 3600', 'MOST_MARK_SECONDS: u32 = 3599')]),
 
     # demo files, encodings, cuts and sessions
     Slip('another factor of the draws', ['demo_gen'], ['worked_files'], [

@@ -85,6 +85,31 @@ fn a_made_file_is_played(rt: HostRuntime) -> Result<(), Fail> {
     Ok(())
 }
 
+/// Pages and seconds, and whether a player takes them.
+const RANGES: [(u32, u32, bool); 6] = [
+    (512, 3600, true),
+    (512, 3601, false),
+    (256, 0, true),
+    (255, 0, false),
+    (65536, 0, true),
+    (65537, 0, false),
+];
+
+#[test]
+fn options_end_where_their_ranges_do(rt: HostRuntime) {
+    for (pages, mark_seconds, wanted) in RANGES {
+        let options = PlayerOptions {
+            pages,
+            mark_seconds,
+            muted: 0,
+        };
+        assert!(rt;
+            options.are_in_range() == wanted,
+            "{pages} and {mark_seconds}"
+        );
+    }
+}
+
 /// Voice 1 plays as voice 0 does, at volume 64.
 const TWO_VOICES: Pieces = &[
     (DSP + 0x10, b"\x40\x40\0\x10\0\0\0\x7f"),

@@ -157,6 +157,13 @@ const REFUSED: &[(&[u8], usize, Status, &str)] = &[
         Status::EncodeSize,
         "spcwave: 116481 samples cannot be encoded\n",
     ),
+    // as long as may be read
+    (
+        MONO,
+        16777216,
+        Status::EncodeSize,
+        "spcwave: 8388586 samples cannot be encoded\n",
+    ),
     (
         MONO,
         16777217,

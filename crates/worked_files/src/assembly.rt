@@ -36,7 +36,7 @@ fn listings(rt: HostRuntime) -> Result<(), Fail> {
 }
 
 /// Sources from an address on, and the bytes that they are assembled to.
-const ASSEMBLED: [(u16, &[u8], &[u8]); 9] = [
+const ASSEMBLED: [(u16, &[u8], &[u8]); 10] = [
     (
         0x0400,
         b"loop: ; x\n mov a , $F3\nBNE loop\n",
@@ -44,6 +44,8 @@ const ASSEMBLED: [(u16, &[u8], &[u8]); 9] = [
     ),
     (0x0400, b"", b""),
     (0xffff, b"NOP\nend:", b"\x00"),
+    // a name at the end of the memory stands for 0
+    (0xfffd, b"JMP !end\nend:", b"\x5f\x00\x00"),
     (
         0x0000,
         b"a:\n.byte 1 , $fF\n.word a,b\nSET1 16.$7\nTCALL $f\nb: ;\nMOV A,$0010\nJMP !a",

@@ -25,6 +25,14 @@ fn digits_and_texts_are_printed(rt: HostRuntime) -> Result<(), Fail> {
 }
 
 #[test]
+fn bytes_that_are_not_printable_are_shown_as_digits(rt: HostRuntime) -> Result<(), Fail> {
+    let mut report = Vec::new(rt.alloc());
+    put_text(&mut report, b"\x1f \x7e\x7f\x80\xff")?;
+    assert!(rt; report.as_slice() == b"\\x1f ~\\x7f\\x80\\xff".as_slice());
+    Ok(())
+}
+
+#[test]
 fn a_room_takes_bytes_until_it_is_full(rt: HostRuntime) -> Result<(), Fail> {
     let mut room = ByteRoom::new(rt.alloc())?;
     room.append(b"sam");

@@ -58,12 +58,18 @@ const MONO: &[u8] = b"fmt \x10\0\0\0\x01\0\x01\0\x44\xAC\0\0\x88\x58\x01\0\x02\0
 
 const STEREO: &[u8] = b"fmt \x10\0\0\0\x01\0\x02\0\x44\xAC\0\0\x10\xB1\x02\0\x04\0\x10\0";
 
+/// Both, of which the first says the form.
+const TWO_FORMATS: &[u8] = b"fmt \x10\0\0\0\x01\0\x01\0\x44\xAC\0\0\x88\x58\x01\0\x02\0\x10\0fmt \x10\0\0\0\x01\0\x02\0\x44\xAC\0\0\x10\xB1\x02\0\x04\0\x10\0";
+
 /// Two samples, the same in a stream whose length wasn't known, and a chunk that is cut off.
 const SAMPLES: &[u8] = b"data\x04\0\0\0\x01\0\xFF\xFF";
 
 const STREAMED: &[u8] = b"data\xFF\xFF\xFF\xFF\x01\0\xFF\xFF\x07";
 
 const CUT: &[u8] = b"LIST\x05\0\0\0abcd";
+
+/// A chunk of an odd size that ends with the file.
+const ODD: &[u8] = b"LIST\x05\0\0\0abcde";
 
 #[test]
 fn samples_of_files_with_one_channel(rt: HostRuntime) -> Result<(), Fail> {
@@ -77,6 +83,8 @@ fn samples_of_files_with_one_channel(rt: HostRuntime) -> Result<(), Fail> {
             Some(WavRefusal::NoData),
         ),
         ([START, MONO, CUT], Some(WavRefusal::Cut(48))),
+        ([START, MONO, ODD], Some(WavRefusal::NoData)),
+        ([START, TWO_FORMATS, SAMPLES], None),
         (
             [b"RIFX".as_slice(), MONO, SAMPLES],
             Some(WavRefusal::NotWave),

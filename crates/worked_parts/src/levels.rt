@@ -81,6 +81,45 @@ fn under_gain_a_decay_ends_by_the_bits_of_gain(rt: HostRuntime) {
     }
 }
 
+/// An envelope from its key on under values of GAIN, and what it is after each step.
+const UNDER_GAIN: &[&[(u8, u16, Mode, i32)]] = &[
+    // the rate 1 of C1h and E1h doesn't fire: the level stays, while the mode and the hidden value move on
+    &[
+        (0x7e, 0x7e0, Mode::Attack, 0x7e0),
+        (0xc1, 0x7e0, Mode::Decay, 0x800),
+        (0xe1, 0x7e0, Mode::Sustain, 0x7e8),
+    ],
+    // a value below 0 ends the attack, too
+    &[
+        (0x01, 0x010, Mode::Attack, 0x010),
+        (0x9f, 0x000, Mode::Decay, -0x10),
+    ],
+    // 7F8h is a level, 800h is none, and the hidden value goes on above it
+    &[
+        (0x7f, 0x7f0, Mode::Attack, 0x7f0),
+        (0xff, 0x7f8, Mode::Attack, 0x7f8),
+        (0xff, 0x7ff, Mode::Decay, 0x800),
+        (0xff, 0x7ff, Mode::Decay, 0x807),
+    ],
+];
+
+#[test]
+fn mode_and_hidden_value_move_in_each_step(rt: HostRuntime) {
+    for steps in UNDER_GAIN {
+        let mut clock = RateClock::new();
+        let mut envelope = Envelope::released();
+        envelope.key();
+        for (gain, level, mode, hidden) in *steps {
+            clock.step();
+            envelope.step(0, 0, *gain, &clock);
+            assert!(rt;
+                (envelope.level(), envelope.mode, envelope.hidden) == (*level, *mode, *hidden),
+                "at gain {gain:02x}"
+            );
+        }
+    }
+}
+
 // The first step after a key on. Where GAIN rules it sets the level; else the attack 15 rises by 400h, and the rate of the attack 0 doesn't fire.
 #[test]
 fn gain_rules_where_bit_7_of_adsr1_is_clear(rt: HostRuntime) {

@@ -179,6 +179,66 @@ fn taps_wrap_and_the_sum_with_the_newest_is_limited(rt: HostRuntime) -> Result<(
     Ok(())
 }
 
+/// The frame of the first step over a cell at 2000h, and the words that it leaves there.
+fn written_back(
+    alloc: Global,
+    cell: &[u8; 4],
+    regs: EchoRegs,
+    main: Frame,
+    sent: Frame,
+) -> Result<(Frame, u16, u16), Fail> {
+    let zeros = vec![in alloc; 0u8; 65536]?;
+    let mut memory = Aram::from_image(alloc, &zeros)?;
+    put_all(&mut memory, 0x2000, cell);
+    let mut echo = Echo::new();
+    let frame = echo.step(&mut memory, &regs, main, sent);
+    Ok((frame, memory.word(0x2000), memory.word(0x2002)))
+}
+
+/// A cell at 2000h that is written, C7 and EFB, and no volumes.
+fn fed_back(c7: u8, efb: u8) -> EchoRegs {
+    EchoRegs {
+        esa: 0x20,
+        edl: 0,
+        flg: 0,
+        efb,
+        mvol_l: 0,
+        mvol_r: 0,
+        evol_l: 0,
+        evol_r: 0,
+        fir: [0, 0, 0, 0, 0, 0, 0, c7],
+    }
+}
+
+// 4032 and -4032 are read as 2016 and -2016, and filtered to 4000 and -4002. At 41h, 65, they give 2031 and -2033, with what is sent 6063 and -6065, and
+// with bit 0 cleared 6062 and -6066.
+#[test]
+fn a_word_goes_back_without_its_lowest_bit(rt: HostRuntime) -> Result<(), Fail> {
+    let sent = Frame {
+        left: 4032,
+        right: -4032,
+    };
+    let cell = [0xC0, 0x0F, 0x40, 0xF0];
+    let made = written_back(rt.alloc(), &cell, fed_back(0x7F, 0x41), both(0), sent)?;
+    assert!(rt; made == (both(0), 6062, 0xE84E));
+    Ok(())
+}
+
+// The word 8000h is filtered to -32768. That times the register 80h, -128, is 32768 over 128, which wraps to -32768: in what goes back, at the left side's
+// volume of the echo, and, of a main sum, at the right side's main volume.
+#[test]
+fn a_product_with_a_volume_wraps(rt: HostRuntime) -> Result<(), Fail> {
+    let regs = EchoRegs {
+        mvol_r: 0x80,
+        evol_l: 0x80,
+        ..fed_back(0x80, 0x80)
+    };
+    let cell = [0x00, 0x80, 0x00, 0x80];
+    let made = written_back(rt.alloc(), &cell, regs, both(-32768), both(0))?;
+    assert!(rt; made == (both(-32768), 0x8000, 0x8000));
+    Ok(())
+}
+
 /// A memory with the same words in eight cells that follow each other.
 fn memory_of_cells(alloc: Global) -> Result<Aram, Fail> {
     let zeros = vec![in alloc; 0u8; 65536]?;

@@ -62,6 +62,30 @@ fn a_key_on_is_silent_for_six_steps(rt: HostRuntime) -> Result<(), Fail> {
     Ok(())
 }
 
+// A voice that plays blocks of 4096s goes to a block of zeros under filter 1, C7h: after 4096 these are 3840, 3600, 3374 and so on. Where it is heard again the
+// middle two of the first four are mixed to 3592 + 6 = 3598, which is 3568 at the level 7F0h; without the last samples of before all would be 0.
+#[test]
+fn a_key_on_decodes_after_the_last_samples(rt: HostRuntime) -> Result<(), Fail> {
+    let mut memory = memory_of_a_source(rt.alloc())?;
+    put_all(&mut memory, 0x0204, &[0x00, 0x07, 0x00, 0x07]);
+    put_all(&mut memory, 0x0700, &[0xc7, 0, 0, 0, 0, 0, 0, 0, 0]);
+    let table = GaussTable::straight(rt.alloc())?;
+    let mut regs = registers();
+    let mut clock = RateClock::new();
+    let mut voice = Voice::new();
+    for k in 0..8u32 {
+        clock.step();
+        voice.step(&regs, &input_of(k), &memory, &table, &clock);
+    }
+    regs.srcn = 1;
+    for (k, want) in (0..7u32).zip([4064, 0, 0, 0, 0, 0, 3568]) {
+        clock.step();
+        let answer = voice.step(&regs, &input_of(k), &memory, &table, &clock);
+        assert!(rt; answer.out == want, "at step {k}");
+    }
+    Ok(())
+}
+
 /// What all voices read in a batch whose first sample takes the key on of voice 3.
 fn rows_with_a_key_on() -> BatchRows
     ensures { (j : ℕ) → slice_index result.noise j < 0x8000 }
@@ -182,7 +206,7 @@ fn an_output_modulates_the_pitch_of_the_next_voice(rt: HostRuntime) -> Result<()
         (0x1000, -0x4000, Some(14)),
         // at 0000h never
         (0x3fff, -0x8000, None),
-        // at 7FDEh in one
+        // at 7FEEh in one
         (0x3fff, 0x7fff, Some(7)),
     ] {
         let step = first_end(rt, pitch, previous)?;
@@ -239,7 +263,7 @@ fn ends_of_a_modulated_voice(
     Ok(made.ends)
 }
 
-// At 7FDEh the position comes past the end of a group in each step, and stays before the end of the next one. So each sample from step 7 on reads a group,
+// At 7FEEh the position comes past the end of a group in each step, and stays before the end of the next one. So each sample from step 7 on reads a group,
 // of which every fourth ends a block.
 #[test]
 fn at_its_greatest_pitch_a_voice_reads_a_group_a_sample(rt: HostRuntime) -> Result<(), Fail> {

@@ -56,6 +56,13 @@ const APART: Pieces = &[
     (MEMORY + 0x0400, b"\xc5\x00\x07\x2f\xfb"),
 ];
 
+/// The program reads the envelope of voice 0 in a loop of 7 cycles, first in cycle 8, and the echo writes to 0000h, in the page of F3h. Samples are due in the
+/// cycles 32, 64 and 96, the last of the loop's 13th round. The reads of the cycles 36 and 64 find one that waits: both the register and the page ask for it.
+const BOTH_CAUSES: Pieces = &[
+    (DSP + 0x6c, b"\x00\x00"),
+    (MEMORY + 0x0400, b"\x8f\x08\xf2\xe4\xf3\x2f\xfc"),
+];
+
 /// What is heard.
 const HEARD: &[Heard] = &[
     Heard {
@@ -145,6 +152,14 @@ const HEARD: &[Heard] = &[
         samples: 3,
         frames: &[(3, 0)],
         batches: ONE_BATCH,
+    },
+    Heard {
+        shows: "a result that is read in the echo's page",
+        sound: &[],
+        more: BOTH_CAUSES,
+        samples: 3,
+        frames: &[(3, 0)],
+        batches: "batches 3 register 2 memory 0 echo 0 full 0 events 0 end 1\n",
     },
     Heard {
         shows: "the voice ends after sample 63, as the program has it",
@@ -339,6 +354,14 @@ struct Eight<'a> {
     trace: &'a [u8],
 }
 
+/// The bytes of a sound file before its first frame.
+const HEAD: usize = 44;
+
+/// Whether the trace has no byte before the head of the sound file is whole.
+fn has_head_first(outcome: &Outcome) -> bool {
+    outcome.second().is_empty() || outcome.first().len() >= HEAD
+}
+
 impl Eight<'_> {
     /// Whether it may end so where this call fails, of so many.
     fn may_end_so(&self, outcome: &Outcome, call: u32, calls: u32) -> bool {
@@ -346,7 +369,7 @@ impl Eight<'_> {
         if call < 22 {
             outcome.is_unread(call)
         } else if call < calls {
-            outcome.is_cut_off(call, self.wave, self.trace, EIGHT)
+            outcome.is_cut_off(call, self.wave, self.trace, EIGHT) && has_head_first(outcome)
         } else {
             outcome.is_done(self.wave, EIGHT) && outcome.second() == self.trace
         }
