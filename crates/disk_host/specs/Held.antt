@@ -47,3 +47,7 @@ pub record WritesOn {R O E F D X : Type 0} (files : Tells F) (report : Tells O) 
 abbrev pub HoldsStay : {R O E F D : Type 0} → Tells F → Tells O → Tells E → (old new : DiskHost R O E F D) → Type 0
 HoldsStay files report complaint old new =
     (number : ℕ) → Keeps (held_by files report complaint old number) (held_by files report complaint new number)
+
+-- What is left of the current input stays: none of its bytes is eaten.
+abbrev pub InputStays : {R O E F D : Type 0} → Tells F → (old new : DiskHost R O E F D) → Type 0
+InputStays left old new = Keeps (told_of left old.input) (told_of left new.input)

@@ -145,7 +145,7 @@ impl<'r, R: Files, O: Write + Drop, E: Write + Drop> Host for DiskHost<'r, R, O,
     ghost use Rattle.std.specs.Prelude.{◌+◌, ◌-◌, ◌++◌, ◌∷◌, Some, IsSome, IsOk, is_err, take, slice_get, slice_index};
     ghost use Rattle.snd_host.specs.OpenedInputs.{Opens, ReadsMore};
     ghost use Rattle.snd_host.specs.Host.{IfTold, HasCause, CountsWrite, EndsByWrite, IsOpen, ChangesInputs, ChangesOutputs, KeepsRooms, Writes, most_outputs, longest_output_name};
-    ghost use Rattle.disk_host.specs.Held.{disk_state, ReadsOn, WritesOn, HoldsStay};
+    ghost use Rattle.disk_host.specs.Held.{disk_state, ReadsOn, WritesOn, HoldsStay, InputStays};
 
     ghost state = { disk_state };
 
@@ -231,6 +231,8 @@ impl<'r, R: Files, O: Write + Drop, E: Write + Drop> Host for DiskHost<'r, R, O,
         ensures rooms { KeepsRooms (disk_state self.old) (disk_state self.new) }
         // No output changes.
         ensures held { HoldsStay R.File.contents O.contents E.contents self.old self.new }
+        // Nothing of the current input is eaten.
+        ensures input { InputStays R.File.remaining self.old self.new }
     {
         let number = self.created.len() as u32 + 2;
         // The room for an output is taken first: where there is none, no file is made.
@@ -258,6 +260,8 @@ impl<'r, R: Files, O: Write + Drop, E: Write + Drop> Host for DiskHost<'r, R, O,
         ensures steady { IfTold (disk_state self.old).steady (λ rooms. length piece.now ≤ slice_index rooms file.0 → IsOk result) }
         // Where the output knows its bytes, those taken come after them, and no other output changes.
         ensures bytes { WritesOn R.File.contents O.contents E.contents file.0 piece.now self.old self.new result }
+        // Nothing of the current input is eaten.
+        ensures input { InputStays R.File.remaining self.old self.new }
     {
         if file.0 == 1 {
             if let Ok(count) = write_some(&mut self.complaint, piece) {
@@ -294,6 +298,8 @@ impl<'r, R: Files, O: Write + Drop, E: Write + Drop> Host for DiskHost<'r, R, O,
         ensures rooms { KeepsRooms (disk_state self.old) (disk_state self.new) }
         // No output changes.
         ensures held { HoldsStay R.File.contents O.contents E.contents self.old self.new }
+        // Nothing of the current input is eaten.
+        ensures input { InputStays R.File.remaining self.old self.new }
     {
         if end_created(&mut self.created, (file.0 - 2) as usize).is_ok() {
             self.failed_last = false;
