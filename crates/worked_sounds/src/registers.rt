@@ -90,7 +90,7 @@ fn a_pitch_has_14_bits(rt: HostRuntime) -> Result<(), Fail> {
 // Voice 1 has the pitch 0FFFh, at which it doesn't come to 4000h before sample 11. The output of voice 0, which plays at 0800h and ends its block later, is
 // 4064 from sample 6 on. That changes the pitch to 11FAh, at which voice 1 comes there in sample 10.
 #[test]
-fn bit_1_of_pmon_bends_voice_1(rt: HostRuntime) -> Result<(), Fail> {
+fn bit_1_of_pmon_modulates_voice_1(rt: HostRuntime) -> Result<(), Fail> {
     for (pmon, sample) in [(0x00, 11), (0x02, 10), (0x01, 11), (0xfd, 11)] {
         let writes = [
             (0x03, 0x08),
