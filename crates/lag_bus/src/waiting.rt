@@ -17,7 +17,7 @@ pub(crate) fn pend_all<C: Chip>(late: &mut LateChip<C>, fallen: u8)
     requires records { late.old.records_used + 8 * fallen ≤ record_room }
     ensures { late.new ≡ late_with_samples C.meaning late.old fallen }
 {
-    'samples: for _ in 0..due {
+    'samples: for _ in 0..fallen {
         late.pend();
     }
 }
