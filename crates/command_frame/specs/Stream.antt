@@ -59,31 +59,31 @@ pub record Fills {T E : Type 0} (outputs : List Output) (old new : HostState) (r
   pub ok : OnOk result (AreDone outputs old new)
   pub err : OnErr result ((report : List ℕ) → Stops outputs report old new)
 
--- the outputs of a stream: the second one only where it has a name
-abbrev pub pair : (first : List ℕ) (second : Option (List ℕ)) → List ℕ → List ℕ → List Output
-pair first None xs ys = record { name = first; bytes = xs } ∷ []
-pair first (Some second) xs ys = record { name = first; bytes = xs } ∷ record { name = second; bytes = ys } ∷ []
+-- the outputs of a stream: the sound file, and the trace only where it has a name
+abbrev pub pair : (wave : List ℕ) (trace : Option (List ℕ)) → List ℕ → List ℕ → List Output
+pair wave None xs ys = record { name = wave; bytes = xs } ∷ []
+pair wave (Some trace) xs ys = record { name = wave; bytes = xs } ∷ record { name = trace; bytes = ys } ∷ []
 
--- the outputs of a stream: the head of the first, and what is made of each
-abbrev pub stream_outputs : (first : List ℕ) (second : Option (List ℕ)) (head : List ℕ) → Both → List Output
-stream_outputs first second head made = pair first second (head ++ made.wave) made.trace
+-- the outputs of a stream: the head of the sound file, and what is made of each
+abbrev pub stream_outputs : (wave : List ℕ) (trace : Option (List ℕ)) (head : List ℕ) → Both → List Output
+stream_outputs wave trace head made = pair wave trace (head ++ made.wave) made.trace
 
 -- a flag for each output of a stream
 abbrev pub flags_of : Option (List ℕ) → Bool → List Bool
 flags_of None flag = flag ∷ []
-flags_of (Some second) flag = flag ∷ flag ∷ []
+flags_of (Some trace) flag = flag ∷ flag ∷ []
 
--- the second output, where there is one, has the number after the first, n
-abbrev pub IsSecond : Option (List ℕ) → Option OutFile → ℕ → Type 0
-IsSecond None None n = Unit {0}
-IsSecond None (Some file) n = ⊥
-IsSecond (Some name) None n = ⊥
-IsSecond (Some name) (Some file) n = file.0 ≡ n + 1
+-- the trace, where there is one, has the number after that of the sound file, n
+abbrev pub IsTrace : Option (List ℕ) → Option OutFile → ℕ → Type 0
+IsTrace None None n = Unit {0}
+IsTrace None (Some file) n = ⊥
+IsTrace (Some name) None n = ⊥
+IsTrace (Some name) (Some file) n = file.0 ≡ n + 1
 
 -- These are the numbers of a stream that began in the state a.
-pub record AreTargets (second : Option (List ℕ)) (a : HostState) (targets : Targets) : Type 0 where
-  pub first : targets.first.0 ≡ length a.ended + 2
-  pub second_number : IsSecond second targets.second (length a.ended + 2)
+pub record AreTargets (trace : Option (List ℕ)) (a : HostState) (targets : Targets) : Type 0 where
+  pub wave : targets.wave.0 ≡ length a.ended + 2
+  pub trace_number : IsTrace trace targets.trace (length a.ended + 2)
 
 abbrev pub IsOpenAfter : List Bool → ℕ → Option OutFile → Type 0
 IsOpenAfter ended n None = Unit {0}
@@ -91,31 +91,31 @@ IsOpenAfter ended n (Some file) = (n < file.0) × (slice_get ended (file.0 - 2) 
 
 -- The outputs of a stream were created and not ended.
 pub record AreOpen (ended : List Bool) (targets : Targets) : Type 0 where
-  pub low : 2 ≤ targets.first.0
-  pub first_open : slice_get ended (targets.first.0 - 2) ≡ Some false
-  pub second_open : IsOpenAfter ended targets.first.0 targets.second
+  pub low : 2 ≤ targets.wave.0
+  pub wave_open : slice_get ended (targets.wave.0 - 2) ≡ Some false
+  pub trace_open : IsOpenAfter ended targets.wave.0 targets.trace
 
 -- The outputs of a stream were begun.
-pub record Begins (first : List ℕ) (second : Option (List ℕ)) (old new : HostState) (result : Result Targets Failed) : Type 0 where
-  pub ok : IfOk result (λ targets. AreTargets second old targets × Stands (pair first second [] []) (flags_of second false) [] old new)
-  pub err : IfErr result (λ e. (xs ys report : List ℕ) → Stops (pair first second xs ys) report old new)
+pub record Begins (wave : List ℕ) (trace : Option (List ℕ)) (old new : HostState) (result : Result Targets Failed) : Type 0 where
+  pub ok : IfOk result (λ targets. AreTargets trace old targets × Stands (pair wave trace [] []) (flags_of trace false) [] old new)
+  pub err : IfErr result (λ e. (xs ys report : List ℕ) → Stops (pair wave trace xs ys) report old new)
 
 -- These bytes were added to the outputs of a stream, or prefixes of them where a write failed.
 pub record Puts (targets : Targets) (xs ys : List ℕ) (old new : HostState) (result : Result (Unit {0}) Failed) : Type 0 where
   pub ended : new.ended ≡ old.ended
-  pub ok : OnOk result ((first : List ℕ) (second : Option (List ℕ)) (us vs : List ℕ) (a : HostState) → AreTargets second a targets →
-      Stands (pair first second us vs) (flags_of second false) [] a old → Stands (pair first second (us ++ xs) (vs ++ ys)) (flags_of second false) [] a new)
-  pub err : IfErr result (λ e. (first : List ℕ) (second : Option (List ℕ)) (us vs : List ℕ) (a : HostState) → AreTargets second a targets →
-      Stands (pair first second us vs) (flags_of second false) [] a old →
-      (ps qs report : List ℕ) → IsPrefix (us ++ xs) ps → IsPrefix (vs ++ ys) qs → Stops (pair first second ps qs) report a new)
+  pub ok : OnOk result ((wave : List ℕ) (trace : Option (List ℕ)) (us vs : List ℕ) (a : HostState) → AreTargets trace a targets →
+      Stands (pair wave trace us vs) (flags_of trace false) [] a old → Stands (pair wave trace (us ++ xs) (vs ++ ys)) (flags_of trace false) [] a new)
+  pub err : IfErr result (λ e. (wave : List ℕ) (trace : Option (List ℕ)) (us vs : List ℕ) (a : HostState) → AreTargets trace a targets →
+      Stands (pair wave trace us vs) (flags_of trace false) [] a old →
+      (ps qs report : List ℕ) → IsPrefix (us ++ xs) ps → IsPrefix (vs ++ ys) qs → Stops (pair wave trace ps qs) report a new)
 
 -- The outputs of a stream were ended.
 pub record Ends (targets : Targets) (old new : HostState) (result : Result (Unit {0}) Failed) : Type 0 where
   pub given : new.given ≡ old.given
-  pub ok : IfOk result (λ _. (first : List ℕ) (second : Option (List ℕ)) (xs ys : List ℕ) (a : HostState) → AreTargets second a targets →
-      Stands (pair first second xs ys) (flags_of second false) [] a old → Stands (pair first second xs ys) (flags_of second true) [] a new)
-  pub err : IfErr result (λ e. (first : List ℕ) (second : Option (List ℕ)) (xs ys report : List ℕ) (a : HostState) → AreTargets second a targets →
-      Stands (pair first second xs ys) (flags_of second false) [] a old → Stops (pair first second xs ys) report a new)
+  pub ok : IfOk result (λ _. (wave : List ℕ) (trace : Option (List ℕ)) (xs ys : List ℕ) (a : HostState) → AreTargets trace a targets →
+      Stands (pair wave trace xs ys) (flags_of trace false) [] a old → Stands (pair wave trace xs ys) (flags_of trace true) [] a new)
+  pub err : IfErr result (λ e. (wave : List ℕ) (trace : Option (List ℕ)) (xs ys report : List ℕ) (a : HostState) → AreTargets trace a targets →
+      Stands (pair wave trace xs ys) (flags_of trace false) [] a old → Stops (pair wave trace xs ys) report a new)
 
 -- These bytes were added so far, and these are left, of all that are to be added.
 pub record Pumps (targets : Targets) (all left : Both) (old new : HostState) : Type 0 where

@@ -11,43 +11,43 @@ use snd_host::{Failed, Host, OutFile, write_all};
 
 pub(crate) const REPORT: OutFile = OutFile(0);
 
-/// The outputs of a stream.
+/// The outputs of a stream: its sound file and, where one is wanted, its trace.
 #[derive(Clone, Copy)]
 pub struct Targets {
-    pub first: OutFile,
-    pub second: Option<OutFile>,
+    pub wave: OutFile,
+    pub trace: Option<OutFile>,
 }
 
 /// Creates the outputs.
-fn begin<H: Host>(host: &mut H, first: &str, second: Option<&str>) -> Result<Targets, Failed>
+fn begin<H: Host>(host: &mut H, wave: &str, trace: Option<&str>) -> Result<Targets, Failed>
     requires { CanDeliver (H.state host.old) }
-    ensures begins { Begins first.now (option_map (λ name. name.now) second.entry) (H.state host.old) (H.state host.new) result }
+    ensures begins { Begins wave.now (option_map (λ name. name.now) trace.entry) (H.state host.old) (H.state host.new) result }
     ensures empty { AreEmpty (H.state host.old) (H.state host.new) }
 {
-    let first = host.create(first)?;
-    match second {
+    let wave = host.create(wave)?;
+    match trace {
         Some(name) => {
-            let second = host.create(name)?;
+            let trace = host.create(name)?;
             Ok(Targets {
-                first,
-                second: Some(second),
+                wave,
+                trace: Some(trace),
             })
         }
         None => Ok(Targets {
-            first,
-            second: None,
+            wave,
+            trace: None,
         }),
     }
 }
 
 /// Writes a piece of each output.
-fn put<H: Host>(host: &mut H, targets: Targets, first: &[u8], second: &[u8]) -> Result<(), Failed>
+fn put<H: Host>(host: &mut H, targets: Targets, wave: &[u8], trace: &[u8]) -> Result<(), Failed>
     requires { AreOpen (H.state host.old).ended targets }
-    ensures { Puts targets first.now second.now (H.state host.old) (H.state host.new) result }
+    ensures { Puts targets wave.now trace.now (H.state host.old) (H.state host.new) result }
 {
-    write_all(host, targets.first, first)?;
-    match targets.second {
-        Some(file) => write_all(host, file, second),
+    write_all(host, targets.wave, wave)?;
+    match targets.trace {
+        Some(file) => write_all(host, file, trace),
         None => Ok(()),
     }
 }
@@ -87,29 +87,29 @@ fn end<H: Host>(host: &mut H, targets: Targets) -> Result<(), Failed>
     requires { AreOpen (H.state host.old).ended targets }
     ensures { Ends targets (H.state host.old) (H.state host.new) result }
 {
-    match targets.second {
-        Some(file) => end_in_turn(host, targets.first, file),
-        None => host.finish(targets.first),
+    match targets.trace {
+        Some(file) => end_in_turn(host, targets.wave, file),
+        None => host.finish(targets.wave),
     }
 }
 
 /// Creates the outputs, writes the head and all pieces to them, and ends them.
 pub(crate) fn fill_outputs<H: Host, P: Pieces>(
     host: &mut H,
-    first: &str,
-    second: Option<&str>,
+    wave: &str,
+    trace: Option<&str>,
     head: &[u8],
     source: &mut P,
 ) -> Result<(), Failed>
     requires { CanDeliver (H.state host.old) }
-    ensures fills { let outputs = stream_outputs first.now (option_map (λ name. name.now) second.entry) head.now (P.to_come source.old) in
+    ensures fills { let outputs = stream_outputs wave.now (option_map (λ name. name.now) trace.entry) head.now (P.to_come source.old) in
         Fills outputs (H.state host.old) (H.state host.new) result }
-    ensures at_once { let outputs = stream_outputs first.now (option_map (λ name. name.now) second.entry) head.now (P.to_come source.old) in
+    ensures at_once { let outputs = stream_outputs wave.now (option_map (λ name. name.now) trace.entry) head.now (P.to_come source.old) in
         MadeAtOnce outputs (H.state host.old) (H.state host.new) }
     ensures report { OnOk result (P.report source.new ≡ P.report source.old) }
     ensures is_done { OnOk result (P.is_done source.new ≡ true) }
 {
-    let targets = begin(host, first, second)?;
+    let targets = begin(host, wave, trace)?;
     put(host, targets, head, &[])?;
     pump(host, targets, source)?;
     end(host, targets)
@@ -118,17 +118,17 @@ pub(crate) fn fill_outputs<H: Host, P: Pieces>(
 /// Writes the head and all pieces to the outputs, and then the report of the source.
 pub fn stream<H: Host, P: Pieces>(
     host: &mut H,
-    first: &str,
-    second: Option<&str>,
+    wave: &str,
+    trace: Option<&str>,
     head: &[u8],
     source: &mut P,
 ) -> Result<(), Failed>
     requires { CanDeliver (H.state host.old) }
-    ensures delivers { let outputs = stream_outputs first.now (option_map (λ name. name.now) second.entry) head.now (P.to_come source.old) in
+    ensures delivers { let outputs = stream_outputs wave.now (option_map (λ name. name.now) trace.entry) head.now (P.to_come source.old) in
         Delivers outputs (P.report source.old) (H.state host.old) (H.state host.new) result }
-    ensures at_once { let outputs = stream_outputs first.now (option_map (λ name. name.now) second.entry) head.now (P.to_come source.old) in
+    ensures at_once { let outputs = stream_outputs wave.now (option_map (λ name. name.now) trace.entry) head.now (P.to_come source.old) in
         MadeAtOnce outputs (H.state host.old) (H.state host.new) }
 {
-    fill_outputs(host, first, second, head, source)?;
+    fill_outputs(host, wave, trace, head, source)?;
     write_all(host, REPORT, source.report())
 }
