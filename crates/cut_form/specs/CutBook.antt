@@ -15,8 +15,8 @@ pub record CutBook : Type 0 where
 abbrev pub opened_book : (pages_at : ℕ → List (List ℕ)) → CutBook
 opened_book pages_at = record { position = 0; live = with_checkpoint [] 0 (pages_at 0); made = 0 }
 
--- Where a seek runs from: from the position, unless that lies after the goal or before the last checkpoint up to the goal;
--- there it runs from this checkpoint.
+-- Where a seek runs from: the position, unless that lies after the goal or before the last checkpoint up to the goal; else
+-- that checkpoint.
 abbrev pub runs_from : CutBook → (at : ℕ) → ℕ
 runs_from book at =
     let checkpoint = nearest book.live at in

@@ -37,8 +37,8 @@ pub record IsWaiting {S : Type 0} (bus : BusMeaning S) (bare : S → S) (sees : 
   pub byte : (s : S) (n at byte : ℕ) → bare s ≡ bare (waited n) → n ≤ most → sees at ≡ Some byte → (bus.read s at).0 ≡ byte
   pub read : (s : S) (n at byte : ℕ) → bare s ≡ bare (waited n) → n ≤ most → sees at ≡ Some byte → bare (bus.read s at).1 ≡ bare (waited n)
 
--- Of some registers, n steps only look, bring the registers back and take d cycles. Then k such rounds leave the registers, and of
--- the bus what k * d cycles of waiting leave, if it may be waited on so long.
+-- Where n steps from some registers only look, bring the registers back and take d cycles, k such rounds leave the registers, and leave
+-- of the bus what k * d cycles of waiting leave, if it may be waited on so long.
 abbrev pub RoundsOnlyWait : {S : Type 0} → BusMeaning S → Type 0
 RoundsOnlyWait {S} bus = (bare : S → S) (sees : ℕ → Option ℕ) (most : ℕ) (waited : ℕ → S) (k n d : ℕ) (cpu : Cpu) (s : S) →
     IsWaiting bus bare sees most waited → bare s ≡ bare (waited 0) → look_of_steps sees n cpu ≡ Some (cpu, d) → k * d ≤ most →

@@ -3,11 +3,12 @@ use Rattle.std.specs.Prelude.{ℕ, List, [], ◌∷◌, ◌++◌, nat_le, if◌t
 use Rattle.trace_form.specs.declared.record.Record.{Record}
 use Rattle.lock_step.specs.SampleNumbers.{sample_number}
 
--- the events from the front on with sample numbers up to k, and the rest of them
+-- the events at the front with sample numbers up to k
 unfoldable pub events_up_to : (k : ℕ) → List Record → List Record
 events_up_to k [] = []
 events_up_to k (event ∷ events) = if nat_le (sample_number event) k then event ∷ events_up_to k events else []
 
+-- and those after them
 unfoldable pub events_after : (k : ℕ) → List Record → List Record
 events_after k [] = []
 events_after k (event ∷ events) = if nat_le (sample_number event) k then events_after k events else event ∷ events

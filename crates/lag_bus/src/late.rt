@@ -445,7 +445,7 @@ impl<C: Chip> LateChip<C> {
         is_in_hand(&self.chip);
     }
 
-    /// A chip that has made no sample, over a memory.
+    /// A chip that stands at sample 0, over a memory.
     pub fn new(
         chip: C,
         memory: Aram,

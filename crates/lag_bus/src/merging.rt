@@ -7,7 +7,7 @@ ghost use Rattle.lock_step.specs.SampleNumbers.{sample_number};
 use lock_step::sample_number;
 use trace_form::{EventRing, Records};
 
-/// Moves the events at the ring's front with sample numbers up to one.
+/// Moves the events at the ring's front whose sample numbers are at most `upto`.
 fn move_events_up_to(ring: &mut EventRing, upto: u32, records: &mut Records)
     requires { length records.old + length ring.old ≤ record_room }
     ensures ring { ring.new ≡ events_after upto ring.old }

@@ -22,10 +22,11 @@ abbrev pub byte_answered : {S : Type 0} → ChipMeaning S → S → Io → (memo
 byte_answered chip state io memory at =
     if at == 0xF3 then chip.register_read state (io.dsp_address % 0x80) else unwrap_or (read_answer io at) (byte_at memory at)
 
--- a read
+-- what a read is answered
 abbrev pub bus_answer : {S : Type 0} → ChipMeaning S → Machine S → (at : ℕ) → ℕ
 bus_answer chip m at = byte_answered chip m.chip m.io m.memory at
 
+-- the machine after a read
 abbrev pub after_bus_read : {S : Type 0} → Machine S → (at : ℕ) → Machine S
 after_bus_read m at = record m { io = io.after_read m.io at; calls = m.calls + 1 }
 

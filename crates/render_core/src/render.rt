@@ -95,8 +95,8 @@ fn piece_of<C: Chip>(render: &Render<C>, done: bool) -> Piece<'_>
 }
 
 impl<C: Chip> Render<C> {
-    /// A render of so many samples of a file, over a chip that has made none. It emits the records of the voices in the
-    /// mask; bit v of the mask is voice v. All room is made here, and no later call takes memory.
+    /// A render of so many samples of a file, over a chip that stands at sample 0 and has made no batch. It emits the records of
+    /// the voices in the mask; bit v of the mask is voice v. All room is made here, and no later call takes memory.
     pub fn open(
         alloc: Global,
         file: &SpcFile,

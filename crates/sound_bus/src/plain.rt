@@ -85,8 +85,8 @@ fn make_sample<C: Chip>(
 }
 
 impl<C: Chip> PlainBus<C> {
-    /// The bus at clock 0 over a chip that has made no sample. It emits the records of the voices in the mask; bit v of
-    /// the mask is voice v. All room is made here. The chip has its registers already, so the opening's aren't used.
+    /// The bus at clock 0 over a chip that stands at sample 0 and has made no batch. It emits the records of the voices in the mask;
+    /// bit v of the mask is voice v. All room is made here. The chip has its registers already, so the opening's aren't used.
     pub fn open(alloc: Global, opening: OpenState, chip: C, mask: u8) -> Result<Self, OutOfMemory>
         requires sample { C.sample chip ≡ 0 }
         requires batches { C.batches chip ≡ 0 }

@@ -2,7 +2,7 @@
 use Rattle.std.specs.Prelude.{◌≡◌, ℕ, ◌+◌, ◌/◌}
 use Rattle.spc700_exec.specs.declared.bus.TheConstants.{CYCLES_PER_SAMPLE, MOST_CALLS, MOST_CALLS_BEFORE_STEP}
 
--- of a bus fewer samples than so many are due before a pass
+-- before a pass, fewer samples than this are due
 abbrev pub most_samples_of_bus : ℕ
 most_samples_of_bus = 4000000000
 
