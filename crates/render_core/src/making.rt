@@ -153,14 +153,14 @@ fn take_rounds_and_steps<B: DrainedBus>(
 
 /// Some steps, and what was emitted with them.
 fn step_and_drain<B: DrainedBus>(cpu: &mut Cpu, bus: &mut B, samples: u32, lists: &mut Lists)
-    requires idle { B.means.calls bus.old ≡ 0 }
+    requires no_calls { B.means.calls bus.old ≡ 0 }
     requires more { B.means.due bus.old < samples }
     requires few { samples ≤ most_frames }
     ensures frames { run_frames B.means B.emits samples (cpu.old, bus.old) ≡ lists.new.frames ++ run_frames B.means B.emits samples (cpu.new, bus.new) }
     ensures records { run_records B.means B.emits samples (cpu.old, bus.old) ≡ lists.new.records ++ run_records B.means B.emits samples (cpu.new, bus.new) }
     ensures at_end { end_of_run B.means B.emits samples (cpu.old, bus.old) ≡ end_of_run B.means B.emits samples (cpu.new, bus.new) }
     ensures counted { IsCountedOn B.means B.emits bus.old bus.new }
-    ensures idle { IsBetweenSteps B.means B.emits samples bus.new }
+    ensures between_steps { IsBetweenSteps B.means B.emits samples bus.new }
     ensures later { B.means.clock bus.old < B.means.clock bus.new }
 {
     take_rounds_and_steps(cpu, bus, samples, &mut lists.pause);
@@ -177,11 +177,11 @@ pub(crate) fn make_piece<B: DrainedBus>(
     samples: u32,
     lists: &mut Lists,
 ) -> bool
-    requires idle { IsBetweenSteps B.means B.emits samples bus.old }
+    requires between_steps { IsBetweenSteps B.means B.emits samples bus.old }
     requires few { samples ≤ most_frames }
     ensures frames { run_frames B.means B.emits samples (cpu.old, bus.old) ≡ lists.new.frames ++ run_frames B.means B.emits samples (cpu.new, bus.new) }
     ensures records { run_records B.means B.emits samples (cpu.old, bus.old) ≡ lists.new.records ++ run_records B.means B.emits samples (cpu.new, bus.new) }
-    ensures idle { IsBetweenSteps B.means B.emits samples bus.new }
+    ensures between_steps { IsBetweenSteps B.means B.emits samples bus.new }
     ensures at_end { end_of_run B.means B.emits samples (cpu.old, bus.old) ≡ end_of_run B.means B.emits samples (cpu.new, bus.new) }
     ensures counted { IsCountedOn B.means B.emits bus.old bus.new }
     ensures over { result ≡ true → after_run B.means samples (cpu.new, bus.new) ≡ (cpu.new, bus.new) }

@@ -6,11 +6,11 @@ use Rattle.render_core.proofs.making.make_piece.Goals as goal
 
 pub returns-clause-frames_done : goal.returns-clause-frames_done
 returns-clause-frames_done g c = λ is.
-    items-after_run-none g.B.Bus.means g.met.B.Bus.lawful c.args.samples g.B.DrainedBus.emits.frames (c.steps.cpu, c.steps.bus) c.due-2.result c.due-2.ensures is c.steps.invariant.idle.frames
+    items-after_run-none g.B.Bus.means g.met.B.Bus.lawful c.args.samples g.B.DrainedBus.emits.frames (c.steps.cpu, c.steps.bus) c.due-2.result c.due-2.ensures is c.steps.invariant.between_steps.frames
 
 pub returns-clause-records_done : goal.returns-clause-records_done
 returns-clause-records_done g c = λ is.
-    ap (records_before c.args.samples) (items-after_run-none g.B.Bus.means g.met.B.Bus.lawful c.args.samples g.B.DrainedBus.emits.records (c.steps.cpu, c.steps.bus) c.due-2.result c.due-2.ensures is c.steps.invariant.idle.records)
+    ap (records_before c.args.samples) (items-after_run-none g.B.Bus.means g.met.B.Bus.lawful c.args.samples g.B.DrainedBus.emits.records (c.steps.cpu, c.steps.bus) c.due-2.result c.due-2.ensures is c.steps.invariant.between_steps.records)
 
 pub returns-clause-more : goal.returns-clause-more
 returns-clause-more g c = λ is.

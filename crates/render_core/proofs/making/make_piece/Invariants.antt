@@ -12,7 +12,7 @@ invariant-steps g l = record {
   records : run_records g.B.Bus.means g.B.DrainedBus.emits l.samples (l.fn.cpu, l.fn.bus) ≡ l.lists.records ++ run_records g.B.Bus.means g.B.DrainedBus.emits l.samples (l.cpu, l.bus);
   at_end : end_of_run g.B.Bus.means g.B.DrainedBus.emits l.samples (l.fn.cpu, l.fn.bus) ≡ end_of_run g.B.Bus.means g.B.DrainedBus.emits l.samples (l.cpu, l.bus);
   counted : IsCountedOn g.B.Bus.means g.B.DrainedBus.emits l.fn.bus l.bus;
-  idle : IsBetweenSteps g.B.Bus.means g.B.DrainedBus.emits l.samples l.bus;
+  between_steps : IsBetweenSteps g.B.Bus.means g.B.DrainedBus.emits l.samples l.bus;
   later : 0 < length l.lists.frames + length l.lists.records → g.B.Bus.means.clock l.fn.bus < g.B.Bus.means.clock l.bus;
   on : g.B.Bus.means.clock l.fn.bus ≤ g.B.Bus.means.clock l.bus;
 }

@@ -6,7 +6,7 @@ pub invariant_of-self : goal.invariant_of-self
 invariant_of-self g c =
     let e = c.make_piece-is_last.ensures in (
       c.self.invariant.0,
-      e.idle,
+      e.between_steps,
       due_at_most g.C.Chip.meaning (lagging-lawful g.C.Chip.meaning) c.self.inside.samples c.self.inside.cpu c.make_piece-is_last.new.cpu c.self.inside.bus c.make_piece-is_last.new.bus
           c.make_piece-is_last.result c.self.invariant.2 e.at_end e.over e.below,
     )
