@@ -9,8 +9,8 @@ use Rattle.aram_core.specs.Memory.{with_page}
 use Rattle.page_pool.specs.declared.slot.Slot.{Slot}
 use Rattle.page_pool.specs.Pool.{slot_at}
 use Rattle.page_pool.proofs.Links.{one_if}
-use Rattle.cut_server.specs.declared.table.Mark.{Mark}
-use Rattle.cut_server.specs.Table.{Saved, saved_mark, saved_marks, memory_in, times_named, AreWhole, IsKept}
+use Rattle.cut_server.specs.declared.table.LiveCheckpoint.{LiveCheckpoint}
+use Rattle.cut_server.specs.Table.{Saved, saved_checkpoint, saved_checkpoints, memory_in, times_named, AreWhole, IsKept}
 
 -- a page put after those that are there
 pub length-with_page : (memory : List ℕ) (p : ℕ) (bytes : List ℕ) → length memory ≡ 0x10000 → p < 256 → length bytes ≡ 256 → length (with_page memory p bytes) ≡ 0x10000
@@ -35,15 +35,15 @@ pub loaded_all : (pool : List Slot) (pages : List ℕ) (memory : List ℕ) → l
 loaded_all pool pages memory whole long same = sym (take_all 65536 memory (omega arith)) ∙ same ∙ ap (memory_in pool) (take_all 256 pages (omega arith))
 
 -- what was saved at a place
-pub saved_read : {S : Type 0} (pool : List Slot) (marks : List (Mark S)) (i : ℕ) (mark : Mark S) → i < length marks → mark ≡ get_or marks i mark → slice_get (saved_marks pool marks) i ≡ Some (saved_mark pool mark)
-saved_read pool [] i mark within read = absurd (omega arith)
-saved_read pool (x ∷ xs) zero mark within read = ap (λ m. Some (saved_mark pool m)) (sym read)
-saved_read pool (x ∷ xs) (suc i) mark within read = saved_read pool xs i mark (omega arith) read
+pub saved_read : {S : Type 0} (pool : List Slot) (checkpoints : List (LiveCheckpoint S)) (i : ℕ) (checkpoint : LiveCheckpoint S) → i < length checkpoints → checkpoint ≡ get_or checkpoints i checkpoint → slice_get (saved_checkpoints pool checkpoints) i ≡ Some (saved_checkpoint pool checkpoint)
+saved_read pool [] i checkpoint within read = absurd (omega arith)
+saved_read pool (x ∷ xs) zero checkpoint within read = ap (λ m. Some (saved_checkpoint pool m)) (sym read)
+saved_read pool (x ∷ xs) (suc i) checkpoint within read = saved_read pool xs i checkpoint (omega arith) read
 
-pub whole_read : {S : Type 0} (marks : List (Mark S)) (i : ℕ) (mark : Mark S) → AreWhole marks → i < length marks → mark ≡ get_or marks i mark → length mark.pages ≡ 256
-whole_read [] i mark whole within read = absurd (omega arith)
-whole_read (x ∷ xs) zero mark whole within read = ap (λ m. length m.pages) read ∙ whole.0
-whole_read (x ∷ xs) (suc i) mark whole within read = whole_read xs i mark whole.1 (omega arith) read
+pub whole_read : {S : Type 0} (checkpoints : List (LiveCheckpoint S)) (i : ℕ) (checkpoint : LiveCheckpoint S) → AreWhole checkpoints → i < length checkpoints → checkpoint ≡ get_or checkpoints i checkpoint → length checkpoint.pages ≡ 256
+whole_read [] i checkpoint whole within read = absurd (omega arith)
+whole_read (x ∷ xs) zero checkpoint whole within read = ap (λ m. length m.pages) read ∙ whole.0
+whole_read (x ∷ xs) (suc i) checkpoint whole within read = whole_read xs i checkpoint whole.1 (omega arith) read
 
 -- a page of a live checkpoint has an owner
 named_once : (pages : List ℕ) (p d : ℕ) → p < length pages → 1 ≤ count_by (nat_eq (get_or pages p d)) pages
@@ -53,24 +53,24 @@ named_once pages p d within =
     let one : one_if (nat_eq page (get_or pages p d)) ≡ 1 = rw same refl in
     omega (arith, one, get_or-le-sum_by (λ x. one_if (nat_eq page x)) pages p d within)
 
-pub owned_page : {S : Type 0} {pool : List Slot} {marks : List (Mark S)} → IsKept pool marks → (i : ℕ) (mark : Mark S) → i < length marks → mark ≡ get_or marks i mark → (p d : ℕ) → p < 256
-    → 0 < (slot_at pool (get_or mark.pages p d)).owners
-owned_page {pool = pool} {marks} kept i mark within read p d inside =
-    let whole : length mark.pages ≡ 256 = whole_read marks i mark kept.whole within read in
-    let page = get_or mark.pages p d in
-    let once : 1 ≤ count_by (nat_eq page) mark.pages = named_once mark.pages p d (omega arith) in
-    let all : count_by (nat_eq page) (get_or marks i mark).pages ≤ times_named marks page = get_or-le-sum_by (λ m. count_by (nat_eq page) m.pages) marks i mark within in
+pub owned_page : {S : Type 0} {pool : List Slot} {checkpoints : List (LiveCheckpoint S)} → IsKept pool checkpoints → (i : ℕ) (checkpoint : LiveCheckpoint S) → i < length checkpoints → checkpoint ≡ get_or checkpoints i checkpoint → (p d : ℕ) → p < 256
+    → 0 < (slot_at pool (get_or checkpoint.pages p d)).owners
+owned_page {pool = pool} {checkpoints} kept i checkpoint within read p d inside =
+    let whole : length checkpoint.pages ≡ 256 = whole_read checkpoints i checkpoint kept.whole within read in
+    let page = get_or checkpoint.pages p d in
+    let once : 1 ≤ count_by (nat_eq page) checkpoint.pages = named_once checkpoint.pages p d (omega arith) in
+    let all : count_by (nat_eq page) (get_or checkpoints i checkpoint).pages ≤ times_named checkpoints page = get_or-le-sum_by (λ m. count_by (nat_eq page) m.pages) checkpoints i checkpoint within in
     omega (arith, once, all, ap (λ m. count_by (nat_eq page) m.pages) read, kept.owners page)
 
-pub within_marks : {S : Type 0} (marks : List (Mark S)) (i : ℕ) → i < length (map (λ mark. mark.sample) marks) → i < length marks
-within_marks marks i within = omega (arith, within, length-map marks (λ mark. mark.sample))
+pub within_checkpoints : {S : Type 0} (checkpoints : List (LiveCheckpoint S)) (i : ℕ) → i < length (map (λ checkpoint. checkpoint.sample) checkpoints) → i < length checkpoints
+within_checkpoints checkpoints i within = omega (arith, within, length-map checkpoints (λ checkpoint. checkpoint.sample))
 
--- a mark whose pages hold a memory
-pub saved_here : {S : Type 0} {pool : List Slot} {marks : List (Mark S)} → IsKept pool marks → (i : ℕ) (mark : Mark S) (memory : List ℕ) → i < length marks → mark ≡ get_or marks i mark → length memory ≡ 0x10000
-    → take 65536 memory ≡ memory_in pool (take 256 mark.pages)
-    → slice_get (saved_marks pool marks) i ≡ Some (record { sample = slice_index (map (λ mark. mark.sample) marks) i; state = mark.state; memory = memory })
-saved_here {S = S} {pool} {marks} kept i mark memory within read long same =
-    let held : memory ≡ memory_in pool mark.pages = loaded_all pool mark.pages memory (whole_read marks i mark kept.whole within read) long same in
-    let sample : mark.sample ≡ slice_index (map (λ mark. mark.sample) marks) i = sym (get_or-map (λ mark. mark.sample) marks i mark 0 within ∙ ap (λ m. m.sample) (sym read)) in
-    let make : ℕ → List ℕ → Saved S = λ s m. record { sample = s; state = mark.state; memory = m } in
-    saved_read pool marks i mark within read ∙ ap (λ s. Some (make s (memory_in pool mark.pages))) sample ∙ ap (λ m. Some (make (slice_index (map (λ mark. mark.sample) marks) i) m)) (sym held)
+-- a live checkpoint whose pages hold a memory
+pub saved_here : {S : Type 0} {pool : List Slot} {checkpoints : List (LiveCheckpoint S)} → IsKept pool checkpoints → (i : ℕ) (checkpoint : LiveCheckpoint S) (memory : List ℕ) → i < length checkpoints → checkpoint ≡ get_or checkpoints i checkpoint → length memory ≡ 0x10000
+    → take 65536 memory ≡ memory_in pool (take 256 checkpoint.pages)
+    → slice_get (saved_checkpoints pool checkpoints) i ≡ Some (record { sample = slice_index (map (λ checkpoint. checkpoint.sample) checkpoints) i; state = checkpoint.state; memory = memory })
+saved_here {S = S} {pool} {checkpoints} kept i checkpoint memory within read long same =
+    let held : memory ≡ memory_in pool checkpoint.pages = loaded_all pool checkpoint.pages memory (whole_read checkpoints i checkpoint kept.whole within read) long same in
+    let sample : checkpoint.sample ≡ slice_index (map (λ checkpoint. checkpoint.sample) checkpoints) i = sym (get_or-map (λ checkpoint. checkpoint.sample) checkpoints i checkpoint 0 within ∙ ap (λ m. m.sample) (sym read)) in
+    let make : ℕ → List ℕ → Saved S = λ s m. record { sample = s; state = checkpoint.state; memory = m } in
+    saved_read pool checkpoints i checkpoint within read ∙ ap (λ s. Some (make s (memory_in pool checkpoint.pages))) sample ∙ ap (λ m. Some (make (slice_index (map (λ checkpoint. checkpoint.sample) checkpoints) i) m)) (sym held)

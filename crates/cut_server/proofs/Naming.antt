@@ -6,20 +6,20 @@ use Rattle.std.proofs.lemmas.List.Sums.{sum_by-cons, sum_by_push, sum_by-remove,
 use Rattle.std.proofs.lemmas.Bool.{cases_Bool}
 use Rattle.std.proofs.lemmas.Bool.Decides.{nat_tests}
 use Rattle.page_pool.proofs.Links.{one_if}
-use Rattle.cut_server.specs.declared.table.Mark.{Mark}
+use Rattle.cut_server.specs.declared.table.LiveCheckpoint.{LiveCheckpoint}
 use Rattle.cut_server.specs.Table.{times_named, AreApart}
 
 pub count-cons : (k x : ℕ) (xs : List ℕ) → count_by (nat_eq k) (x ∷ xs) ≡ one_if (nat_eq k x) + count_by (nat_eq k) xs
 count-cons k x xs = sum_by-cons (λ y. one_if (nat_eq k y)) x xs
 
-pub times-cons : {S : Type 0} (mark : Mark S) (marks : List (Mark S)) (k : ℕ) → times_named (mark ∷ marks) k ≡ count_by (nat_eq k) mark.pages + times_named marks k
-times-cons mark marks k = sum_by-cons (λ m. count_by (nat_eq k) m.pages) mark marks
+pub times-cons : {S : Type 0} (checkpoint : LiveCheckpoint S) (checkpoints : List (LiveCheckpoint S)) (k : ℕ) → times_named (checkpoint ∷ checkpoints) k ≡ count_by (nat_eq k) checkpoint.pages + times_named checkpoints k
+times-cons checkpoint checkpoints k = sum_by-cons (λ m. count_by (nat_eq k) m.pages) checkpoint checkpoints
 
-pub times-push : {S : Type 0} (marks : List (Mark S)) (mark : Mark S) (k : ℕ) → times_named (marks ++ mark ∷ []) k ≡ times_named marks k + count_by (nat_eq k) mark.pages
-times-push marks mark k = sum_by_push (λ m. count_by (nat_eq k) m.pages) marks mark
+pub times-push : {S : Type 0} (checkpoints : List (LiveCheckpoint S)) (checkpoint : LiveCheckpoint S) (k : ℕ) → times_named (checkpoints ++ checkpoint ∷ []) k ≡ times_named checkpoints k + count_by (nat_eq k) checkpoint.pages
+times-push checkpoints checkpoint k = sum_by_push (λ m. count_by (nat_eq k) m.pages) checkpoints checkpoint
 
-pub times-remove : {S : Type 0} (marks : List (Mark S)) (i : ℕ) (mark : Mark S) (k : ℕ) → i < length marks → mark ≡ get_or marks i mark → times_named (remove marks i) k + count_by (nat_eq k) mark.pages ≡ times_named marks k
-times-remove marks i mark k within read = omega (arith, sum_by-remove (λ m. count_by (nat_eq k) m.pages) marks i mark within, ap (λ m. count_by (nat_eq k) m.pages) read)
+pub times-remove : {S : Type 0} (checkpoints : List (LiveCheckpoint S)) (i : ℕ) (checkpoint : LiveCheckpoint S) (k : ℕ) → i < length checkpoints → checkpoint ≡ get_or checkpoints i checkpoint → times_named (remove checkpoints i) k + count_by (nat_eq k) checkpoint.pages ≡ times_named checkpoints k
+times-remove checkpoints i checkpoint k within read = omega (arith, sum_by-remove (λ m. count_by (nat_eq k) m.pages) checkpoints i checkpoint within, ap (λ m. count_by (nat_eq k) m.pages) read)
 
 -- where a slot stands
 pub record IsNamedAt (slots : List ℕ) (slot : ℕ) : Type 0 where

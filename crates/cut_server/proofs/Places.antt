@@ -7,17 +7,17 @@ use Rattle.std.proofs.lemmas.Bool.{cases_Bool}
 use Rattle.std.proofs.lemmas.Bool.Decides.{nat_tests}
 use Rattle.page_pool.specs.declared.slot.Slot.{Slot}
 use Rattle.cut_form.specs.Checkpoints.{Checkpoint, by_places, stands_at, nearest, greatest_up_to, without_entry, without_checkpoint}
-use Rattle.cut_server.specs.declared.table.Mark.{Mark}
+use Rattle.cut_server.specs.declared.table.LiveCheckpoint.{LiveCheckpoint}
 use Rattle.cut_server.specs.IsServed.{BeginAtOpening}
-use Rattle.cut_server.specs.Table.{TableState, saved_marks, samples_of, live_checkpoints, pages_in, checkpoints_after}
+use Rattle.cut_server.specs.Table.{TableState, saved_checkpoints, samples_of, live_checkpoints, pages_in, checkpoints_after}
 
--- there are as many checkpoints as marks
-pub length-checkpoints_after : {S : Type 0} (pool : List Slot) (before : List ℕ) (marks : List (Mark S)) → length (checkpoints_after pool before marks) ≡ length marks
+-- a book has as many checkpoints as the table
+pub length-checkpoints_after : {S : Type 0} (pool : List Slot) (before : List ℕ) (checkpoints : List (LiveCheckpoint S)) → length (checkpoints_after pool before checkpoints) ≡ length checkpoints
 length-checkpoints_after pool before [] = refl
-length-checkpoints_after pool before (mark ∷ marks) = ap (λ n. suc n) (length-checkpoints_after pool mark.pages marks)
+length-checkpoints_after pool before (checkpoint ∷ checkpoints) = ap (λ n. suc n) (length-checkpoints_after pool checkpoint.pages checkpoints)
 
-pub length-live : {S : Type 0} (table : TableState S) → length (live_checkpoints table) ≡ length table.marks
-length-live table = length-checkpoints_after table.pool [] table.marks
+pub length-live : {S : Type 0} (table : TableState S) → length (live_checkpoints table) ≡ length table.checkpoints
+length-live table = length-checkpoints_after table.pool [] table.checkpoints
 
 -- the last one at or before a sample is so
 greatest_up_to-le : (numbers : List ℕ) (at : ℕ) → greatest_up_to numbers at ≤ at
@@ -48,24 +48,24 @@ pub greatest_up_to-more : (numbers : List ℕ) (i at : ℕ) → i < length numbe
     → greatest_up_to (take (i + 1) numbers) at ≡ (if nat_le (slice_index numbers i) at then max (greatest_up_to (take i numbers) at) (slice_index numbers i) else greatest_up_to (take i numbers) at)
 greatest_up_to-more numbers i at within = ap (λ l. greatest_up_to l at) (take_more numbers i 0 within) ∙ greatest_up_to-push (take i numbers) (slice_index numbers i) at
 
--- the samples of the checkpoints are those of the marks
-pub samples_after : {S : Type 0} (pool : List Slot) (before : List ℕ) (marks : List (Mark S)) → map (λ checkpoint. checkpoint.sample) (checkpoints_after pool before marks) ≡ map (λ mark. mark.sample) marks
+-- the samples of a book's checkpoints are those of the table's
+pub samples_after : {S : Type 0} (pool : List Slot) (before : List ℕ) (checkpoints : List (LiveCheckpoint S)) → map (λ checkpoint. checkpoint.sample) (checkpoints_after pool before checkpoints) ≡ map (λ checkpoint. checkpoint.sample) checkpoints
 samples_after pool before [] = refl
-samples_after pool before (mark ∷ marks) = ap (λ rest. mark.sample ∷ rest) (samples_after pool mark.pages marks)
+samples_after pool before (checkpoint ∷ checkpoints) = ap (λ rest. checkpoint.sample ∷ rest) (samples_after pool checkpoint.pages checkpoints)
 
 -- whether one stands at a sample
-pub stands_after : {S : Type 0} (pool : List Slot) (before : List ℕ) (marks : List (Mark S)) (sample : ℕ) → stands_at (checkpoints_after pool before marks) sample ≡ list_any (λ mark. mark.sample == sample) marks
+pub stands_after : {S : Type 0} (pool : List Slot) (before : List ℕ) (checkpoints : List (LiveCheckpoint S)) (sample : ℕ) → stands_at (checkpoints_after pool before checkpoints) sample ≡ list_any (λ checkpoint. checkpoint.sample == sample) checkpoints
 stands_after pool before [] sample = refl
-stands_after pool before (mark ∷ marks) sample = ap (λ b. mark.sample == sample || b) (stands_after pool mark.pages marks sample)
+stands_after pool before (checkpoint ∷ checkpoints) sample = ap (λ b. checkpoint.sample == sample || b) (stands_after pool checkpoint.pages checkpoints sample)
 
-pub length-samples : {S : Type 0} (table : TableState S) → length (samples_of table) ≡ length table.marks
-length-samples table = length-map table.marks (λ mark. mark.sample)
+pub length-samples : {S : Type 0} (table : TableState S) → length (samples_of table) ≡ length table.checkpoints
+length-samples table = length-map table.checkpoints (λ checkpoint. checkpoint.sample)
 
--- what is read of a mark
-pub sample_read : {S : Type 0} (marks : List (Mark S)) (i : ℕ) (mark : Mark S) → i < length (map (λ mark. mark.sample) marks) → mark ≡ get_or marks i mark → mark.sample ≡ slice_index (map (λ mark. mark.sample) marks) i
-sample_read marks i mark within read =
-    let here : i < length marks = omega (arith, length-map marks (λ mark. mark.sample)) in
-    sym (get_or-map (λ mark. mark.sample) marks i mark 0 here ∙ ap (λ mark. mark.sample) (sym read))
+-- what is read of a live checkpoint
+pub sample_read : {S : Type 0} (checkpoints : List (LiveCheckpoint S)) (i : ℕ) (checkpoint : LiveCheckpoint S) → i < length (map (λ checkpoint. checkpoint.sample) checkpoints) → checkpoint ≡ get_or checkpoints i checkpoint → checkpoint.sample ≡ slice_index (map (λ checkpoint. checkpoint.sample) checkpoints) i
+sample_read checkpoints i checkpoint within read =
+    let here : i < length checkpoints = omega (arith, length-map checkpoints (λ checkpoint. checkpoint.sample)) in
+    sym (get_or-map (λ checkpoint. checkpoint.sample) checkpoints i checkpoint 0 here ∙ ap (λ checkpoint. checkpoint.sample) (sym read))
 
 -- a step of the search for the last one at or before a sample
 pub nearest_taken : (samples : List ℕ) (i n at : ℕ) → i < length samples → slice_index samples n ≡ greatest_up_to (take i samples) at → slice_index samples i ≤ at → slice_index samples n < slice_index samples i
@@ -87,25 +87,25 @@ nearest_passed samples i n at within before past =
     let test : nat_le (slice_index samples i) at ≡ false = grind (arith, nat_tests) in
     sym (greatest_up_to-more samples i at within ∙ rw test (sym before))
 
-pub nearest_begun : {S : Type 0} (pool : List Slot) (marks : List (Mark S)) (at : ℕ) → BeginAtOpening (saved_marks pool marks)
-    → (0 < length (map (λ mark. mark.sample) marks)) × (slice_index (map (λ mark. mark.sample) marks) 0 ≡ greatest_up_to (take 1 (map (λ mark. mark.sample) marks)) at)
+pub nearest_begun : {S : Type 0} (pool : List Slot) (checkpoints : List (LiveCheckpoint S)) (at : ℕ) → BeginAtOpening (saved_checkpoints pool checkpoints)
+    → (0 < length (map (λ checkpoint. checkpoint.sample) checkpoints)) × (slice_index (map (λ checkpoint. checkpoint.sample) checkpoints) 0 ≡ greatest_up_to (take 1 (map (λ checkpoint. checkpoint.sample) checkpoints)) at)
 nearest_begun pool [] at begin = absurd begin
-nearest_begun pool (mark ∷ marks) at begin = (
+nearest_begun pool (checkpoint ∷ checkpoints) at begin = (
   omega arith,
-  elim (cases_Bool (nat_le mark.sample at)) [
+  elim (cases_Bool (nat_le checkpoint.sample at)) [
     | inl few ↦ rw few (omega arith)
     | inr past ↦ rw past begin
   ],
 )
 
--- The first mark that was taken at a sample, and the checkpoint there.
-pub record IsFirstAt {S : Type 0} (pool : List Slot) (before : List ℕ) (marks : List (Mark S)) (sample i : ℕ) : Type 0 where
-  pub here : i < length marks → slice_index (map (λ mark. mark.sample) marks) i ≡ sample
-  pub live : i < length marks → without_entry (checkpoints_after pool before marks) i ≡ without_checkpoint (checkpoints_after pool before marks) sample
-  pub stands : i < length marks → stands_at (checkpoints_after pool before marks) sample ≡ true
-  pub none : length marks ≤ i → stands_at (checkpoints_after pool before marks) sample ≡ false
+-- The table's first checkpoint that was taken at a sample, and the book's there.
+pub record IsFirstAt {S : Type 0} (pool : List Slot) (before : List ℕ) (checkpoints : List (LiveCheckpoint S)) (sample i : ℕ) : Type 0 where
+  pub here : i < length checkpoints → slice_index (map (λ checkpoint. checkpoint.sample) checkpoints) i ≡ sample
+  pub live : i < length checkpoints → without_entry (checkpoints_after pool before checkpoints) i ≡ without_checkpoint (checkpoints_after pool before checkpoints) sample
+  pub stands : i < length checkpoints → stands_at (checkpoints_after pool before checkpoints) sample ≡ true
+  pub none : length checkpoints ≤ i → stands_at (checkpoints_after pool before checkpoints) sample ≡ false
 
-is_first_at : {S : Type 0} (pool : List Slot) (before : List ℕ) (marks : List (Mark S)) (sample : ℕ) → IsFirstAt pool before marks sample (position_or_len (λ mark. mark.sample == sample) marks)
+is_first_at : {S : Type 0} (pool : List Slot) (before : List ℕ) (checkpoints : List (LiveCheckpoint S)) (sample : ℕ) → IsFirstAt pool before checkpoints sample (position_or_len (λ checkpoint. checkpoint.sample == sample) checkpoints)
 is_first_at pool before [] sample = record { here = λ within. absurd (omega arith); live = λ within. absurd (omega arith); stands = λ within. absurd (omega arith); none = λ past. refl }
 is_first_at pool before (x ∷ xs) sample = elim (cases_Bool (x.sample == sample)) [
   | inl here ↦ let is : x.sample ≡ sample = grind (arith, nat_tests, here) in rw here record {
@@ -116,7 +116,7 @@ is_first_at pool before (x ∷ xs) sample = elim (cases_Bool (x.sample == sample
   }
   | inr other ↦
       let rest = is_first_at pool x.pages xs sample in
-      let next : position_or_len (λ mark. mark.sample == sample) (x ∷ xs) ≡ suc (position_or_len (λ mark. mark.sample == sample) xs) = rw other (omega arith) in
+      let next : position_or_len (λ checkpoint. checkpoint.sample == sample) (x ∷ xs) ≡ suc (position_or_len (λ checkpoint. checkpoint.sample == sample) xs) = rw other (omega arith) in
       subst (λ i. IsFirstAt pool before (x ∷ xs) sample i) (sym next) record {
         here = λ within. rest.here (omega (arith, within));
         live = λ within. rw other (ap (λ l. record { sample = x.sample; pages = pages_in pool x.pages; shared = by_places nat_eq x.pages before } ∷ l) (rest.live (omega (arith, within))));
@@ -125,31 +125,31 @@ is_first_at pool before (x ∷ xs) sample = elim (cases_Bool (x.sample == sample
       }
 ]
 
-found_at : {S : Type 0} (pool : List Slot) (marks : List (Mark S)) (sample i : ℕ) → position (λ mark. mark.sample == sample) marks ≡ Some i → (i < length marks) × IsFirstAt pool [] marks sample i
-found_at pool marks sample i found = elim (cases_Bool (nat_lt (position_or_len (λ mark. mark.sample == sample) marks) (length marks))) [
+found_at : {S : Type 0} (pool : List Slot) (checkpoints : List (LiveCheckpoint S)) (sample i : ℕ) → position (λ checkpoint. checkpoint.sample == sample) checkpoints ≡ Some i → (i < length checkpoints) × IsFirstAt pool [] checkpoints sample i
+found_at pool checkpoints sample i found = elim (cases_Bool (nat_lt (position_or_len (λ checkpoint. checkpoint.sample == sample) checkpoints) (length checkpoints))) [
   | inl within ↦
-      let is : Some (position_or_len (λ mark. mark.sample == sample) marks) ≡ Some i = rw within at found in
-      let same : position_or_len (λ mark. mark.sample == sample) marks ≡ i = cc in
-      rw (← same) (grind (arith, nat_tests, within), is_first_at pool [] marks sample)
+      let is : Some (position_or_len (λ checkpoint. checkpoint.sample == sample) checkpoints) ≡ Some i = rw within at found in
+      let same : position_or_len (λ checkpoint. checkpoint.sample == sample) checkpoints ≡ i = cc in
+      rw (← same) (grind (arith, nat_tests, within), is_first_at pool [] checkpoints sample)
   | inr past ↦ let none : None ≡ Some i = rw past at found in cc
 ]
 
-found_none : {S : Type 0} (pool : List Slot) (marks : List (Mark S)) (sample : ℕ) → position (λ mark. mark.sample == sample) marks ≡ None → stands_at (checkpoints_after pool [] marks) sample ≡ false
-found_none pool marks sample found = elim (cases_Bool (nat_lt (position_or_len (λ mark. mark.sample == sample) marks) (length marks))) [
-  | inl within ↦ let some : Some (position_or_len (λ mark. mark.sample == sample) marks) ≡ None = rw within at found in cc
-  | inr past ↦ (is_first_at pool [] marks sample).none (grind (arith, nat_tests, past))
+found_none : {S : Type 0} (pool : List Slot) (checkpoints : List (LiveCheckpoint S)) (sample : ℕ) → position (λ checkpoint. checkpoint.sample == sample) checkpoints ≡ None → stands_at (checkpoints_after pool [] checkpoints) sample ≡ false
+found_none pool checkpoints sample found = elim (cases_Bool (nat_lt (position_or_len (λ checkpoint. checkpoint.sample == sample) checkpoints) (length checkpoints))) [
+  | inl within ↦ let some : Some (position_or_len (λ checkpoint. checkpoint.sample == sample) checkpoints) ≡ None = rw within at found in cc
+  | inr past ↦ (is_first_at pool [] checkpoints sample).none (grind (arith, nat_tests, past))
 ]
 
--- What a search for the first mark at a sample finds.
+-- What a search for the first checkpoint at a sample finds.
 pub record Finds {S : Type 0} (table : TableState S) (sample : ℕ) (found : Option ℕ) : Type 0 where
   pub here : IfSome found (λ place. slice_index (samples_of table) place ≡ sample)
   pub live : IfSome found (λ place. without_entry (live_checkpoints table) place ≡ without_checkpoint (live_checkpoints table) sample)
   pub none : IsNone found ↔ (stands_at (live_checkpoints table) sample ≡ false)
 
-pub finds : {S : Type 0} (table : TableState S) (sample : ℕ) (found : Option ℕ) → found ≡ position (λ mark. mark.sample == sample) table.marks → Finds table sample found
-finds table sample None is = record { here = tt; live = tt; none = (λ none. found_none table.pool table.marks sample (sym is), λ not_there. refl) }
+pub finds : {S : Type 0} (table : TableState S) (sample : ℕ) (found : Option ℕ) → found ≡ position (λ checkpoint. checkpoint.sample == sample) table.checkpoints → Finds table sample found
+finds table sample None is = record { here = tt; live = tt; none = (λ none. found_none table.pool table.checkpoints sample (sym is), λ not_there. refl) }
 finds table sample (Some i) is =
-    let at = found_at table.pool table.marks sample i (sym is) in
+    let at = found_at table.pool table.checkpoints sample i (sym is) in
     record {
       here = at.1.here at.0;
       live = at.1.live at.0;

@@ -11,7 +11,7 @@ use Rattle.aram_core.specs.Memory.{page_bytes}
 use Rattle.page_pool.specs.declared.slot.Slot.{Slot}
 use Rattle.page_pool.specs.Pool.{slot_at}
 use Rattle.page_pool.proofs.Links.{one_if}
-use Rattle.cut_server.specs.declared.table.Mark.{Mark}
+use Rattle.cut_server.specs.declared.table.LiveCheckpoint.{LiveCheckpoint}
 use Rattle.cut_form.specs.Checkpoints.{Checkpoint, pages_of, by_places, shared_with_newest}
 use Rattle.cut_server.specs.Table.{pages_in, memory_in, checkpoints_after}
 use Rattle.cut_server.specs.Placing.{shared_slots}
@@ -46,25 +46,25 @@ length-shared [] pages = length-map pages (λ page. false)
 length-shared (x ∷ []) pages = length-by_places bytes_eq pages x.pages
 length-shared (x ∷ (y ∷ rest)) pages = length-shared (y ∷ rest) pages
 
--- the newest is the last mark
-pub shared_newest : {S : Type 0} (pool : List Slot) (before : List ℕ) (marks : List (Mark S)) (i : ℕ) (mark : Mark S) (pages : List (List ℕ)) → length marks ≡ suc i → mark ≡ get_or marks i mark
-    → shared_with_newest (checkpoints_after pool before marks) pages ≡ by_places bytes_eq pages (pages_in pool mark.pages)
-shared_newest pool before [] i mark pages long read = absurd (omega arith)
-shared_newest pool before (x ∷ []) zero mark pages long read = ap (λ m. by_places bytes_eq pages (pages_in pool m.pages)) (sym read)
-shared_newest pool before (x ∷ []) (suc i) mark pages long read = absurd (omega arith)
-shared_newest pool before (x ∷ (y ∷ rest)) zero mark pages long read = absurd (omega arith)
-shared_newest pool before (x ∷ (y ∷ rest)) (suc i) mark pages long read = shared_newest pool x.pages (y ∷ rest) i mark pages (omega arith) read
+-- the newest is the last one
+pub shared_newest : {S : Type 0} (pool : List Slot) (before : List ℕ) (checkpoints : List (LiveCheckpoint S)) (i : ℕ) (checkpoint : LiveCheckpoint S) (pages : List (List ℕ)) → length checkpoints ≡ suc i → checkpoint ≡ get_or checkpoints i checkpoint
+    → shared_with_newest (checkpoints_after pool before checkpoints) pages ≡ by_places bytes_eq pages (pages_in pool checkpoint.pages)
+shared_newest pool before [] i checkpoint pages long read = absurd (omega arith)
+shared_newest pool before (x ∷ []) zero checkpoint pages long read = ap (λ m. by_places bytes_eq pages (pages_in pool m.pages)) (sym read)
+shared_newest pool before (x ∷ []) (suc i) checkpoint pages long read = absurd (omega arith)
+shared_newest pool before (x ∷ (y ∷ rest)) zero checkpoint pages long read = absurd (omega arith)
+shared_newest pool before (x ∷ (y ∷ rest)) (suc i) checkpoint pages long read = shared_newest pool x.pages (y ∷ rest) i checkpoint pages (omega arith) read
 
 -- a page of a memory against that of the newest
-pub shared_at : {S : Type 0} (pool : List Slot) (marks : List (Mark S)) (mark : Mark S) (memory : List ℕ) (p d : ℕ) → 0 < length marks → mark ≡ get_or marks (length marks - 1) mark → length mark.pages ≡ 256 → p < 256
-    → slice_get (shared_with_newest (checkpoints_after pool [] marks) (pages_of memory)) p ≡ Some (bytes_eq (page_bytes memory p) (slot_at pool (get_or mark.pages p d)).bytes)
-shared_at pool marks mark memory p d some read whole within =
-    let inside : p < length (pages_in pool mark.pages) = omega (arith, length-map mark.pages (λ slot. (slot_at pool slot).bytes)) in
-    let bytes : get_or (pages_in pool mark.pages) p [] ≡ (slot_at pool (get_or mark.pages p d)).bytes = get_or-map (λ slot. (slot_at pool slot).bytes) mark.pages p d [] (omega arith) in
-    rw (shared_newest pool [] marks (length marks - 1) mark (pages_of memory) (omega arith) read)
-    (slice_get-by_places bytes_eq (pages_of memory) (pages_in pool mark.pages) p [] [] (omega (arith, length-pages_of memory)) inside ∙ rw (get_or-pages_of memory p within, bytes) refl)
+pub shared_at : {S : Type 0} (pool : List Slot) (checkpoints : List (LiveCheckpoint S)) (checkpoint : LiveCheckpoint S) (memory : List ℕ) (p d : ℕ) → 0 < length checkpoints → checkpoint ≡ get_or checkpoints (length checkpoints - 1) checkpoint → length checkpoint.pages ≡ 256 → p < 256
+    → slice_get (shared_with_newest (checkpoints_after pool [] checkpoints) (pages_of memory)) p ≡ Some (bytes_eq (page_bytes memory p) (slot_at pool (get_or checkpoint.pages p d)).bytes)
+shared_at pool checkpoints checkpoint memory p d some read whole within =
+    let inside : p < length (pages_in pool checkpoint.pages) = omega (arith, length-map checkpoint.pages (λ slot. (slot_at pool slot).bytes)) in
+    let bytes : get_or (pages_in pool checkpoint.pages) p [] ≡ (slot_at pool (get_or checkpoint.pages p d)).bytes = get_or-map (λ slot. (slot_at pool slot).bytes) checkpoint.pages p d [] (omega arith) in
+    rw (shared_newest pool [] checkpoints (length checkpoints - 1) checkpoint (pages_of memory) (omega arith) read)
+    (slice_get-by_places bytes_eq (pages_of memory) (pages_in pool checkpoint.pages) p [] [] (omega (arith, length-pages_of memory)) inside ∙ rw (get_or-pages_of memory p within, bytes) refl)
 
-pub shared_none : {S : Type 0} (pool : List Slot) (marks : List (Mark S)) (memory : List ℕ) (p : ℕ) → length marks ≤ 0 → p < 256 → slice_get (shared_with_newest (checkpoints_after pool [] marks) (pages_of memory)) p ≡ Some false
+pub shared_none : {S : Type 0} (pool : List Slot) (checkpoints : List (LiveCheckpoint S)) (memory : List ℕ) (p : ℕ) → length checkpoints ≤ 0 → p < 256 → slice_get (shared_with_newest (checkpoints_after pool [] checkpoints) (pages_of memory)) p ≡ Some false
 shared_none pool [] memory p none within = slice_get-none (pages_of memory) p (omega (arith, length-pages_of memory))
 shared_none pool (x ∷ xs) memory p none within = absurd (omega arith)
 

@@ -103,7 +103,7 @@ impl<C: Chip> CutServer<C> {
         self.table.len() as u32
     }
 
-    /// How many pages of the pool are free: those that live checkpoints leave. A page has as many owners as live checkpoints name it.
+    /// How many pages of the pool are free: those that live checkpoints leave. A page has as many owners as there are live checkpoints that name it.
     pub fn free(&self) -> u32
         ensures pool { result ≡ free_slots self.now.table.pool }
         ensures free { result ≡ slots_free (slots_of self.now) (book_of self.now).live }

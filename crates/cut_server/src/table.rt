@@ -20,7 +20,7 @@ use std::marker::Model;
 
 /// A live checkpoint: what was saved of the machine, and a page of the pool for each page of its memory.
 #[derive(Drop)]
-pub(crate) struct Mark<S: Copy> {
+pub(crate) struct LiveCheckpoint<S: Copy> {
     pub(crate) sample: u32,
     pub(crate) state: S,
     pub(crate) pages: [Page; PAGE_COUNT],
@@ -30,7 +30,7 @@ pub(crate) struct Mark<S: Copy> {
 #[derive(Drop)]
 pub(crate) struct Table<S: Copy> {
     pool: PagePool,
-    marks: Vec<Mark<S>>,
+    checkpoints: Vec<LiveCheckpoint<S>>,
 }
 
 impl<S: Copy> Model for Table<S> {
@@ -40,43 +40,43 @@ impl<S: Copy> Model for Table<S> {
 
     ghost Value = { TableState S };
 
-    ghost view = { λ t. record { pool = t.pool; marks = t.marks.items } };
+    ghost view = { λ t. record { pool = t.pool; checkpoints = t.checkpoints.items } };
 
-    ghost invariant = { λ t. (most_checkpoints ≤ vec_capacity t.marks) × IsKept t.pool t.marks.items };
+    ghost invariant = { λ t. (most_checkpoints ≤ vec_capacity t.checkpoints) × IsKept t.pool t.checkpoints.items };
 }
 
-/// The pages of the newest mark, if there is one.
-fn newest_pages<S: Copy>(marks: &[Mark<S>]) -> &[Page]
-    ensures { result.now ≡ newest_from [] marks.now }
+/// The pages of the newest checkpoint, if there is one.
+fn newest_pages<S: Copy>(checkpoints: &[LiveCheckpoint<S>]) -> &[Page]
+    ensures { result.now ≡ newest_from [] checkpoints.now }
 {
-    match marks.last() {
+    match checkpoints.last() {
         Some(newest) => &newest.pages,
         None => &[],
     }
 }
 
-/// Adds a mark, for which there is room: the block of the list stays.
-fn push_mark<S: Copy>(marks: &mut Vec<Mark<S>>, mark: Mark<S>)
-    requires { vec_len marks.old < vec_capacity marks.old }
-    ensures items { marks.new.items ≡ marks.old.items ++ mark ∷ [] }
-    ensures block { SameBlock marks.old marks.new }
+/// Adds a checkpoint, for which there is room: the block of the list stays.
+fn push_checkpoint<S: Copy>(checkpoints: &mut Vec<LiveCheckpoint<S>>, checkpoint: LiveCheckpoint<S>)
+    requires { vec_len checkpoints.old < vec_capacity checkpoints.old }
+    ensures items { checkpoints.new.items ≡ checkpoints.old.items ++ checkpoint ∷ [] }
+    ensures block { SameBlock checkpoints.old checkpoints.new }
 {
-    let end = marks.len();
-    let _ = marks.insert(end, mark);
+    let end = checkpoints.len();
+    let _ = checkpoints.insert(end, checkpoint);
 }
 
-/// Whether one of the marks was taken at a sample.
-fn stands<S: Copy>(marks: &[Mark<S>], sample: u32) -> bool
-    ensures { result ≡ list_any (λ mark. mark.sample == sample) marks.now }
+/// Whether one of the checkpoints was taken at a sample.
+fn stands<S: Copy>(checkpoints: &[LiveCheckpoint<S>], sample: u32) -> bool
+    ensures { result ≡ list_any (λ checkpoint. checkpoint.sample == sample) checkpoints.now }
 {
-    marks.iter().any(|mark| mark.sample == sample)
+    checkpoints.iter().any(|checkpoint| checkpoint.sample == sample)
 }
 
-/// The place of the first mark that was taken at a sample.
-fn first_at<S: Copy>(marks: &[Mark<S>], sample: u32) -> Option<usize>
-    ensures { result ≡ position (λ mark. mark.sample == sample) marks.now }
+/// The place of the first checkpoint that was taken at a sample.
+fn first_at<S: Copy>(checkpoints: &[LiveCheckpoint<S>], sample: u32) -> Option<usize>
+    ensures { result ≡ position (λ checkpoint. checkpoint.sample == sample) checkpoints.now }
 {
-    marks.iter().position(|mark| mark.sample == sample)
+    checkpoints.iter().position(|checkpoint| checkpoint.sample == sample)
 }
 
 impl<S: Copy> Table<S> {
@@ -95,8 +95,8 @@ impl<S: Copy> Table<S> {
         ensures size { IfOk result (λ table. length table.pool ≡ pages) }
     {
         let pool = PagePool::new(alloc, pages)?;
-        let marks = Vec::with_capacity(alloc, MOST_CHECKPOINTS as usize)?;
-        let mut table = Table { pool, marks };
+        let checkpoints = Vec::with_capacity(alloc, MOST_CHECKPOINTS as usize)?;
+        let mut table = Table { pool, checkpoints };
         let shared = table.shared_pages(memory);
         table.add(0, state, memory, &shared);
         Ok(table)
@@ -108,7 +108,7 @@ impl<S: Copy> Table<S> {
         ensures samples { result ≡ length (samples_of self.now) }
         ensures few { result ≤ most_checkpoints }
     {
-        self.marks.len()
+        self.checkpoints.len()
     }
 
     /// The sample of one of them.
@@ -116,7 +116,7 @@ impl<S: Copy> Table<S> {
         requires { index < length (samples_of self.now) }
         ensures { result ≡ slice_index (samples_of self.now) index }
     {
-        self.marks[index].sample
+        self.checkpoints[index].sample
     }
 
     /// How many pages are free.
@@ -148,7 +148,7 @@ impl<S: Copy> Table<S> {
     pub(crate) fn has(&self, sample: u32) -> bool
         ensures { result ≡ stands_at (live_checkpoints self.now) sample }
     {
-        stands(&self.marks, sample)
+        stands(&self.checkpoints, sample)
     }
 
     /// The place of the one at a sample; None exactly where none stands there.
@@ -158,7 +158,7 @@ impl<S: Copy> Table<S> {
         ensures live { IfSome result (λ place. without_entry (live_checkpoints self.now) place ≡ without_checkpoint (live_checkpoints self.now) sample) }
         ensures none { IsNone result ↔ (stands_at (live_checkpoints self.now) sample ≡ false) }
     {
-        first_at(&self.marks, sample)
+        first_at(&self.checkpoints, sample)
     }
 
     /// Copies the memory of one of them, and tells what else was saved.
@@ -167,11 +167,11 @@ impl<S: Copy> Table<S> {
         ensures { let sample = slice_index (samples_of self.now) index in
             slice_get (saved_of self.now) index ≡ Some (record { sample = sample; state = result; memory = memory.new }) }
     {
-        let mark = &self.marks[index];
+        let checkpoint = &self.checkpoints[index];
         for page in 0..PAGE_COUNT {
-            memory.set_page(page as u8, self.pool.bytes(mark.pages[page]));
+            memory.set_page(page as u8, self.pool.bytes(checkpoint.pages[page]));
         }
-        mark.state
+        checkpoint.state
     }
 
     /// Whether a page of a memory holds what that of the newest holds.
@@ -179,7 +179,7 @@ impl<S: Copy> Table<S> {
         requires { page < page_count }
         ensures { Some result ≡ slice_get (shared_with_newest (live_checkpoints self.now) (pages_of memory.now)) page }
     {
-        match self.marks.last() {
+        match self.checkpoints.last() {
             Some(newest) => memory.page(page as u8) == self.pool.bytes(newest.pages[page]),
             None => false,
         }
@@ -206,10 +206,10 @@ impl<S: Copy> Table<S> {
         ensures free { free_slots self.new.pool + slots_needed (live_checkpoints self.old) (pages_of memory.now) ≡ free_slots self.old.pool }
         ensures size { length self.new.pool ≡ length self.old.pool }
     {
-        let pages = place_all(&mut self.pool, newest_pages(&self.marks), memory, shared);
-        push_mark(
-            &mut self.marks,
-            Mark {
+        let pages = place_all(&mut self.pool, newest_pages(&self.checkpoints), memory, shared);
+        push_checkpoint(
+            &mut self.checkpoints,
+            LiveCheckpoint {
                 sample,
                 state,
                 pages,
@@ -224,8 +224,8 @@ impl<S: Copy> Table<S> {
         ensures live { live_checkpoints self.new ≡ without_entry (live_checkpoints self.old) place }
         ensures size { length self.new.pool ≡ length self.old.pool }
     {
-        let mark = self.marks.remove(place);
-        give_all(&mut self.pool, &mark.pages);
+        let checkpoint = self.checkpoints.remove(place);
+        give_all(&mut self.pool, &checkpoint.pages);
     }
 
     /// Whether there is room for one of a memory.
@@ -247,7 +247,7 @@ impl<S: Copy> Table<S> {
         ensures size { length self.new.pool ≡ length self.old.pool }
     {
         let before = self.len();
-        'marks: while self.len() > 1 && !self.has_room_for_one(memory) {
+        'checkpoints: while self.len() > 1 && !self.has_room_for_one(memory) {
             self.remove(1);
         }
         (before - self.len()) as u32

@@ -15,29 +15,29 @@ place_all-pages-requires-clause-few g c = owners_few c.self.invariant.1
 
 pub place_all-pages-requires-clause-shared : goal.place_all-pages-requires-clause-shared
 place_all-pages-requires-clause-shared g c =
-    let shared = rw (← c.self.view_is, shared_live c.self.inside.pool c.self.inside.marks.items (pages_of c.args.memory.now)) at c.requires.shared in
+    let shared = rw (← c.self.view_is, shared_live c.self.inside.pool c.self.inside.checkpoints.items (pages_of c.args.memory.now)) at c.requires.shared in
     rw (c.newest_pages.ensures, c.deref.ensures.value) shared
 
 pub invariant_of-self : goal.invariant_of-self
 invariant_of-self g c =
     let few = rw (← c.self.view_is) at c.requires.few in
     let placed = rw (c.newest_pages.ensures, c.deref.ensures.value) at c.place_all-pages.ensures.placed in (
-      omega (arith, c.push_mark.ensures.block.1.0, c.self.invariant.0),
-      rw c.push_mark.ensures.items (kept_added c.self.invariant.1 _ c.args.memory.now _ placed c.place_all-pages.ensures.whole (omega (arith, few, length-map c.self.inside.marks.items (λ mark. mark.sample)))),
+      omega (arith, c.push_checkpoint.ensures.block.1.0, c.self.invariant.0),
+      rw c.push_checkpoint.ensures.items (kept_added c.self.invariant.1 _ c.args.memory.now _ placed c.place_all-pages.ensures.whole (omega (arith, few, length-map c.self.inside.checkpoints.items (λ checkpoint. checkpoint.sample)))),
     )
 
 pub returns-clause-saved : goal.returns-clause-saved
 returns-clause-saved g c =
     let placed = c.place_all-pages.ensures.placed in
     let held = memory_added _ _ _ c.args.memory.now _ placed c.place_all-pages.ensures.whole c.place_all-pages.ensures.memory in
-    rw (← c.self.view_is, c.push_mark.ensures.items) (saved_added c.self.invariant.1 _ _ c.args.memory.now _ placed held)
+    rw (← c.self.view_is, c.push_checkpoint.ensures.items) (saved_added c.self.invariant.1 _ _ c.args.memory.now _ placed held)
 
 pub returns-clause-live : goal.returns-clause-live
 returns-clause-live g c =
     let placed = rw (c.newest_pages.ensures, c.deref.ensures.value) at c.place_all-pages.ensures.placed in
-    rw (← c.self.view_is, c.push_mark.ensures.items) (live_added c.self.invariant.1 _ c.args.memory.now _ placed c.place_all-pages.ensures.whole)
+    rw (← c.self.view_is, c.push_checkpoint.ensures.items) (live_added c.self.invariant.1 _ c.args.memory.now _ placed c.place_all-pages.ensures.whole)
 
 pub returns-clause-free : goal.returns-clause-free
 returns-clause-free g c =
     let placed = rw (c.newest_pages.ensures, c.deref.ensures.value) at c.place_all-pages.ensures.placed in
-    rw (← c.self.view_is) (free_added c.self.inside.pool c.self.inside.marks.items _ c.args.memory.now _ placed c.place_all-pages.ensures.whole)
+    rw (← c.self.view_is) (free_added c.self.inside.pool c.self.inside.checkpoints.items _ c.args.memory.now _ placed c.place_all-pages.ensures.whole)

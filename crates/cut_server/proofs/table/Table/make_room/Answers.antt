@@ -3,10 +3,10 @@ use Rattle.cut_server.specs.Table.{live_checkpoints}
 use Rattle.cut_server.proofs.Rooms.{length-without_entry, makes_more}
 use Rattle.cut_server.proofs.table.Table.make_room.Goals as goal
 
-pub marks-smaller : goal.marks-smaller
-marks-smaller g c =
-    omega (arith, ap length c.remove.ensures.live, length-without_entry (live_checkpoints c.marks.self) 1 (omega (arith, c.marks-test.true, c.len.ensures.live)))
+pub checkpoints-smaller : goal.checkpoints-smaller
+checkpoints-smaller g c =
+    omega (arith, ap length c.remove.ensures.live, length-without_entry (live_checkpoints c.checkpoints.self) 1 (omega (arith, c.checkpoints-test.true, c.len.ensures.live)))
 
-pub marks-preserved : goal.marks-preserved
-marks-preserved g c =
-    makes_more c.marks.invariant c.remove.new.self (omega (arith, c.marks-test.true, c.len.ensures.live)) (sym c.has_room_for_one.ensures ∙ c.if-not-has_room_for_one.true) c.remove.ensures.saved c.remove.ensures.live c.remove.ensures.size
+pub checkpoints-preserved : goal.checkpoints-preserved
+checkpoints-preserved g c =
+    makes_more c.checkpoints.invariant c.remove.new.self (omega (arith, c.checkpoints-test.true, c.len.ensures.live)) (sym c.has_room_for_one.ensures ∙ c.if-not-has_room_for_one.true) c.remove.ensures.saved c.remove.ensures.live c.remove.ensures.size

@@ -4,8 +4,8 @@ use Rattle.cut_server.specs.Table.{live_checkpoints}
 use Rattle.cut_server.proofs.Rooms.{MakesRoom}
 use Rattle.cut_server.proofs.table.Table.make_room.Given as goal
 
-abbrev pub invariant-marks : goal.invariant-marks
-invariant-marks g l = MakesRoom (pages_of l.memory) l.before l.initial.self l.self
+abbrev pub invariant-checkpoints : goal.invariant-checkpoints
+invariant-checkpoints g l = MakesRoom (pages_of l.memory) l.before l.initial.self l.self
 
-abbrev pub decreases-marks : goal.decreases-marks
-decreases-marks g l = length (live_checkpoints l.self)
+abbrev pub decreases-checkpoints : goal.decreases-checkpoints
+decreases-checkpoints g l = length (live_checkpoints l.self)

@@ -7,7 +7,7 @@ use Rattle.cut_server.proofs.table.Table.nearest.Goals as goal
 use Rattle.cut_server.proofs.table.Table.nearest.Goals.{then-sample-at+then-sample, else-sample-at, else-sample-at-via-then-sample-at+else-sample, else-sample-at-via-else-sample-at}
 
 pub loop-index-init : goal.loop-index-init
-loop-index-init g c = nearest_begun c.args.self.now.pool c.args.self.now.marks c.args.at c.requires
+loop-index-init g c = nearest_begun c.args.self.now.pool c.args.self.now.checkpoints c.args.at c.requires
 
 pub loop-index-preserved : goal.loop-index-preserved
 loop-index-preserved g c =
@@ -29,4 +29,4 @@ loop-index-preserved g c =
 pub returns-clause-sample : goal.returns-clause-sample
 returns-clause-sample g c =
     let samples = samples_of c.args.self.now in
-    c.loop-index.invariant.1 ∙ ap (λ l. greatest_up_to l c.args.at) (take_all c.loop-index.index samples (omega arith)) ∙ ap (λ l. greatest_up_to l c.args.at) (sym (samples_after c.args.self.now.pool [] c.args.self.now.marks))
+    c.loop-index.invariant.1 ∙ ap (λ l. greatest_up_to l c.args.at) (take_all c.loop-index.index samples (omega arith)) ∙ ap (λ l. greatest_up_to l c.args.at) (sym (samples_after c.args.self.now.pool [] c.args.self.now.checkpoints))
