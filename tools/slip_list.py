@@ -228,8 +228,7 @@ SLIPS = [
     Slip('bit 6 shows the ROM at the opening', ['spc_form'], ['worked_files'], [
         (STATE, '(memory_of file) 0xF1) 7', '(memory_of file) 0xF1) 6'), (STATE_CODE, 'has_bit(image[0xF1], 7)', 'has_bit(image[0xF1], 6)')]),
     Slip('31 frames a millisecond of a fade', ['spc_form'], ['worked_files'], [
-        (TAGS, 'frames = SAMPLE_RATE * seconds + 32 * milliseconds; fade = 32 * milliseconds', 'frames = SAMPLE_RATE * seconds + 31 * milliseconds; fade = 31 * milliseconds'),
-        (TAGS_CODE, '32 * fade.unwrap_or(0)', '31 * fade.unwrap_or(0)')]),
+        (TAGS_CODE, 'SAMPLES_PER_MILLISECOND: u32 = 32', 'SAMPLES_PER_MILLISECOND: u32 = 31')]),
     Slip('another length without tags', ['spc_form'], ['worked_files'], [
         (TAGS, 'frames = 5760000;', 'frames = 5760001;'), (TAGS_CODE, '5_760_000', '5_760_001')]),
     Slip('a signature in small letters', ['spc_form'], ['worked_files', 'worked_commands'], [

@@ -1,6 +1,6 @@
 // Encodings along several ways. The blocks come from a search that was written anew, in another language, from its definition.
 use crate::errors::sum_of_squares;
-use crate::find_encoding;
+use crate::{MOST_WAYS, find_encoding};
 use brr_encode::EncodeRefusal;
 use std::alloc::Global;
 use std::test::Fail;
@@ -79,7 +79,7 @@ const FOUND: &[Found] = &[
 
 /// Whether a row is found.
 fn is_found(alloc: Global, row: &Found) -> Result<bool, Fail> {
-    let ways = row.ways.min(64);
+    let ways = row.ways.min(MOST_WAYS);
     let found = find_encoding(alloc, ways, row.loop_block, &TONE, row.looped)?;
     let squares = sum_of_squares(&found.reports);
     Ok(found.bytes.as_slice() == row.blocks && squares == row.squares)

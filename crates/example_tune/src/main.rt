@@ -8,7 +8,7 @@ use spc_form::{Length, SpcRefusal, read_spc};
 use std::alloc::Global;
 use std::rt::Stdout;
 use std::{fs, io};
-use test_support::{OUTPUT_ROOM, Outcome, host_with};
+use test_support::{HEADER_SIZE, OUTPUT_ROOM, Outcome, host_with};
 
 /// The tune, the table of weights that it is rendered over, and what a render of it writes.
 const TUNE: &str = "tune.spc";
@@ -19,9 +19,6 @@ const WAVE: &str = "tune.wav";
 
 /// The frames of a second.
 const SECOND: u32 = 32000;
-
-/// The bytes before the frames of a sound file.
-const HEAD: usize = 44;
 
 /// A sample that is heard.
 const HEARD: i16 = 1000;
@@ -57,7 +54,7 @@ fn first_second(alloc: Global, file: &[u8], table: &[u8]) -> io::Result<Outcome>
 
 /// Whether a sound file has a sample that is heard.
 fn is_heard(wave: &[u8]) -> bool {
-    for sample in wave.get(HEAD..).unwrap_or(&[]).chunks_exact(2) {
+    for sample in wave.get(HEADER_SIZE..).unwrap_or(&[]).chunks_exact(2) {
         if let [low, high] = sample {
             if i16::from_le_bytes([*low, *high]) > HEARD {
                 return true;

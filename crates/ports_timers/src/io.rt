@@ -6,6 +6,9 @@ ghost use Rattle.ports_timers.specs.Io.{is_enabled, first_timer, first_io, answe
 use crate::Timer;
 use num_fix::has_bit;
 
+/// The bytes of the ROM.
+pub const ROM_SIZE: usize = 64;
+
 /// The state of the ports, the ROM and the timers: the control byte F1h, the DSP address, the latches that the processor
 /// reads and those that it writes, the timers 0 to 2, and the 64 bytes that show at FFC0h to FFFFh while control has bit 7.
 #[derive(Clone, Copy, Debug, PartialEq, Eq)]
@@ -17,7 +20,7 @@ pub struct Io {
     pub timer0: Timer,
     pub timer1: Timer,
     pub timer2: Timer,
-    pub rom: [u8; 64],
+    pub rom: [u8; ROM_SIZE],
 }
 
 /// A timer as opening leaves it.
@@ -65,7 +68,7 @@ fn latches_after_control(value: u8, input: [u8; 4]) -> [u8; 4]
 
 impl Io {
     /// What the cells F0h to FFh of a memory open, over a ROM. Opening is no write: it clears nothing.
-    pub fn from_cells(cells: [u8; 16], rom: [u8; 64]) -> Io
+    pub fn from_cells(cells: [u8; 16], rom: [u8; ROM_SIZE]) -> Io
         ensures { result ≡ first_io cells rom }
     {
         Io {

@@ -5,6 +5,7 @@ use Rattle.std.specs.Char.{is_ascii_digit}
 use Rattle.text_form.specs.Decimals.{decimal_value}
 use Rattle.num_fix.specs.declared.TheConstants.{SAMPLE_RATE}
 use Rattle.spc_form.specs.Layout.{part_of, tag_mark_of}
+use Rattle.spc_form.specs.declared.tags.TheConstants.{SAMPLES_PER_MILLISECOND}
 use Rattle.spc_form.specs.declared.tags.Tag.{Tag}
 use Rattle.spc_form.specs.declared.tags.Tag.TheVariants.{Title, Game, Dumper, Comments, Date, Seconds, Fade, Artist}
 use Rattle.spc_form.specs.declared.tags.Length.{Length}
@@ -47,7 +48,10 @@ has_tags file = tag_mark_of file == 0x1A
 
 -- the length of some seconds and a fade of some milliseconds, in frames, of which there are 32,000 a second
 abbrev pub length_of_times : (seconds milliseconds : ℕ) → Length
-length_of_times seconds milliseconds = record { frames = SAMPLE_RATE * seconds + 32 * milliseconds; fade = 32 * milliseconds }
+length_of_times seconds milliseconds = record {
+  frames = SAMPLE_RATE * seconds + SAMPLES_PER_MILLISECOND * milliseconds;
+  fade = SAMPLES_PER_MILLISECOND * milliseconds;
+}
 
 -- three minutes, where the tags give no length
 abbrev pub default_length : Length

@@ -10,6 +10,9 @@ use crate::parts::part;
 use num_fix::SAMPLE_RATE;
 use text_form::{decimal_value, place_of};
 
+/// The samples of a millisecond.
+pub const SAMPLES_PER_MILLISECOND: u32 = 32;
+
 /// The tags of a file (SPC file format text v0.30).
 #[derive(Clone, Copy, Debug, PartialEq, Eq)]
 pub enum Tag {
@@ -123,7 +126,7 @@ fn length_of_numbers(seconds: Option<u32>, fade: Option<u32>) -> Length
 {
     match seconds {
         Some(seconds) if seconds != 0 => {
-            let fade = 32 * fade.unwrap_or(0);
+            let fade = SAMPLES_PER_MILLISECOND * fade.unwrap_or(0);
             Length {
                 frames: SAMPLE_RATE * seconds + fade,
                 fade,

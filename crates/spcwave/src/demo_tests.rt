@@ -4,7 +4,7 @@ use exit_status::Status;
 use std::alloc::Global;
 use std::process::Abort;
 use std::test::Fail;
-use test_support::{OUTPUT_ROOM, Outcome};
+use test_support::{HEADER_SIZE, OUTPUT_ROOM, Outcome};
 
 /// Sums over the frames of a sound file.
 #[derive(Clone, Copy)]
@@ -62,7 +62,7 @@ fn lines_of(alloc: Global, sums: Summed) -> Result<String, Fail> {
 
 /// How a report on the sums of a sound file begins.
 fn lines_of_wave(alloc: Global, wave: &[u8]) -> Result<String, Fail> {
-    lines_of(alloc, sums_of_wave(wave.get(44..).unwrap_or(&[])))
+    lines_of(alloc, sums_of_wave(wave.get(HEADER_SIZE..).unwrap_or(&[])))
 }
 
 /// Whether a check tells these sums, and then the batches that a render of as many samples tells.

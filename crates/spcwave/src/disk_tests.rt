@@ -13,7 +13,7 @@ use std::rt::{Env, Files};
 use std::test::Fail;
 use std::{env, fs};
 use test_support::{
-    BLOCK, BLOCK_WAV, DSP, FILE_LENGTH, FIVE, MEMORY, Outcome, Pieces, STEADY_WAV, file_of,
+    BLOCK, BLOCK_WAV, DSP, FILE_LENGTH, FIVE, HEADER_SIZE, MEMORY, Outcome, Pieces, STEADY_WAV, file_of,
     straight_table,
 };
 
@@ -211,7 +211,7 @@ fn is_alike(held: &Held, inside: &Outcome) -> bool {
 /// Looks at how the runs ended, at what real files hold, and at the outputs in memory.
 fn look_at(rt: &impl Abort, made: Status, ended: Status, held: &Held, inside: &Outcome) {
     assert!(rt; made == Status::Ok && ended == Status::Ok && inside.status() == Status::Ok);
-    assert!(rt; held.wave.len() == 44 + 4 * 1000 && held.trace.len() >= TRACE_LEAST);
+    assert!(rt; held.wave.len() == HEADER_SIZE + 4 * 1000 && held.trace.len() >= TRACE_LEAST);
     assert!(rt; held.trace.starts_with(KEYED_LINES) && held.report.starts_with(b"samples 1000\n"));
     assert!(rt; is_alike(held, inside));
 }

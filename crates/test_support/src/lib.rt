@@ -14,4 +14,4 @@ pub use files::{
 pub use machine::{has_exactly, writes_of};
 pub use outcome::{OUTPUT_ROOM, Outcome, host_with};
 pub use sounds::{BLOCK, BLOCK_WAV, MONO, STEADY_WAV};
-pub use waves::{Frames, wave_of};
+pub use waves::{Frames, HEADER_SIZE, wave_of};

@@ -2,6 +2,9 @@
 use command_frame::OutOfMemory;
 use std::alloc::Global;
 
+/// The bytes of a sound file before its first frame.
+pub const HEADER_SIZE: usize = 44;
+
 /// Frames that are the same on both sides: how many there are of each, one after another.
 pub type Frames = &'static [(u32, i16)];
 

@@ -5,7 +5,7 @@ use snd_host::MemHost;
 use std::alloc::Global;
 use std::process::Abort;
 use std::test::Fail;
-use test_support::{DSP, FILE_LENGTH, FIVE, MEMORY, Outcome, Pieces, STEADY_WAV, file_of};
+use test_support::{DSP, FILE_LENGTH, FIVE, HEADER_SIZE, MEMORY, Outcome, Pieces, STEADY_WAV, file_of};
 
 /// A file of the base file and these pieces.
 fn files_of(alloc: Global, pieces: (Pieces, Pieces)) -> Result<Vec<(String, Vec<u8>)>, Fail> {
@@ -66,7 +66,7 @@ fn look_at(rt: &impl Abort, outcome: &Outcome, report: &[u8], length: usize) {
 
 /// Looks at the four last samples of block 113, which holds the two bytes of the program: they are 2, -2, -2 and -2.
 fn look_at_program(rt: &impl Abort, wave: &[u8]) {
-    let at = 44 + 2 * (16 * 113 + 12);
+    let at = HEADER_SIZE + 2 * (16 * 113 + 12);
     assert!(rt; wave.get(at..at + 8) == Some(b"\x02\0\xfe\xff\xfe\xff\xfe\xff".as_slice()));
 }
 

@@ -1,6 +1,6 @@
 use aram_core::Aram;
 use sample_rip::{RipEnd, RipFound, RipReport, RipWalk, reencode, rip, wanted};
-use spc_form::{SpcFile, read_spc};
+use spc_form::{KEPT_LENGTH, SpcFile, read_spc};
 use std::alloc::Global;
 use std::test::Fail;
 
@@ -123,7 +123,7 @@ fn as_many_blocks_as_a_sample_can_have(rt: HostRuntime) -> Result<(), Fail> {
 
 /// An SPC file of zeros but for these registers of the S-DSP.
 fn file(alloc: Global, registers: &[(usize, u8)]) -> Result<SpcFile, Fail> {
-    let mut image = vec![in alloc; 0u8; 66048]?;
+    let mut image = vec![in alloc; 0u8; KEPT_LENGTH]?;
     image[..27].copy_from_slice(b"SNES-SPC700 Sound File Data");
     for (register, value) in registers {
         if let Some(cell) = image.get_mut(0x10100 + (*register).min(127)) {

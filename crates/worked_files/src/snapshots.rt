@@ -1,4 +1,4 @@
-use spc_form::{Length, SpcFile, SpcRefusal, Tag, opening, read_spc, write_spc};
+use spc_form::{KEPT_LENGTH, Length, SpcFile, SpcRefusal, Tag, opening, read_spc, write_spc};
 use std::alloc::Global;
 use std::test::Fail;
 
@@ -22,7 +22,7 @@ fn image(alloc: Global, length: usize, bytes: &[(usize, u8)]) -> Result<Vec<u8>,
 }
 
 fn file(alloc: Global, bytes: &[(usize, u8)]) -> Result<SpcFile, Fail> {
-    let image = image(alloc, 66048, bytes)?;
+    let image = image(alloc, KEPT_LENGTH, bytes)?;
     Ok(read_spc(alloc, &image)?)
 }
 
@@ -68,7 +68,7 @@ fn files_of_some_lengths_are_accepted(rt: HostRuntime) -> Result<(), Fail> {
 #[test]
 fn the_first_byte_of_a_signature_that_differs_is_told(rt: HostRuntime) -> Result<(), Fail> {
     for (first, second) in [(26, 26), (3, 26)] {
-        let changed = image(rt.alloc(), 66048, &[(first, 0), (second, 0)])?;
+        let changed = image(rt.alloc(), KEPT_LENGTH, &[(first, 0), (second, 0)])?;
         let wanted = Reading::Signature(first);
         assert!(rt;
             reread(rt.alloc(), changed.as_slice())? == wanted,

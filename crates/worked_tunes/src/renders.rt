@@ -11,7 +11,7 @@ use render_options::RenderOptions;
 use std::alloc::Global;
 use std::test::Fail;
 use test_support::{
-    DSP, ENDS_THE_BLOCK, FILE_LENGTH, FIVE, Frames, MEMORY, OUTPUT_ROOM, Outcome, Pieces, TAGS,
+    DSP, ENDS_THE_BLOCK, FILE_LENGTH, FIVE, Frames, HEADER_SIZE, MEMORY, OUTPUT_ROOM, Outcome, Pieces, TAGS,
     file_of, host_with, straight_table, wave_of,
 };
 
@@ -354,12 +354,9 @@ struct Eight<'a> {
     trace: &'a [u8],
 }
 
-/// The bytes of a sound file before its first frame.
-const HEAD: usize = 44;
-
 /// Whether the trace has no byte before the head of the sound file is whole.
 fn has_head_first(outcome: &Outcome) -> bool {
-    outcome.second().is_empty() || outcome.first().len() >= HEAD
+    outcome.second().is_empty() || outcome.first().len() >= HEADER_SIZE
 }
 
 impl Eight<'_> {
