@@ -33,10 +33,7 @@ fn begin<H: Host>(host: &mut H, wave: &str, trace: Option<&str>) -> Result<Targe
                 trace: Some(trace),
             })
         }
-        None => Ok(Targets {
-            wave,
-            trace: None,
-        }),
+        None => Ok(Targets { wave, trace: None }),
     }
 }
 

@@ -69,14 +69,18 @@ fn push_checkpoint<S: Copy>(checkpoints: &mut Vec<LiveCheckpoint<S>>, checkpoint
 fn stands<S: Copy>(checkpoints: &[LiveCheckpoint<S>], sample: u32) -> bool
     ensures { result ≡ list_any (λ checkpoint. checkpoint.sample == sample) checkpoints.now }
 {
-    checkpoints.iter().any(|checkpoint| checkpoint.sample == sample)
+    checkpoints
+        .iter()
+        .any(|checkpoint| checkpoint.sample == sample)
 }
 
 /// The place of the first checkpoint that was taken at a sample.
 fn first_at<S: Copy>(checkpoints: &[LiveCheckpoint<S>], sample: u32) -> Option<usize>
     ensures { result ≡ position (λ checkpoint. checkpoint.sample == sample) checkpoints.now }
 {
-    checkpoints.iter().position(|checkpoint| checkpoint.sample == sample)
+    checkpoints
+        .iter()
+        .position(|checkpoint| checkpoint.sample == sample)
 }
 
 impl<S: Copy> Table<S> {
@@ -206,7 +210,12 @@ impl<S: Copy> Table<S> {
         ensures free { free_slots self.new.pool + slots_needed (live_checkpoints self.old) (pages_of memory.now) ≡ free_slots self.old.pool }
         ensures size { length self.new.pool ≡ length self.old.pool }
     {
-        let pages = place_all(&mut self.pool, newest_pages(&self.checkpoints), memory, shared);
+        let pages = place_all(
+            &mut self.pool,
+            newest_pages(&self.checkpoints),
+            memory,
+            shared,
+        );
         push_checkpoint(
             &mut self.checkpoints,
             LiveCheckpoint {

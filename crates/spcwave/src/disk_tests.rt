@@ -13,8 +13,8 @@ use std::rt::{Env, Files};
 use std::test::Fail;
 use std::{env, fs};
 use test_support::{
-    BLOCK, BLOCK_WAV, DSP, FILE_LENGTH, FIVE, HEADER_SIZE, MEMORY, Outcome, Pieces, STEADY_WAV, file_of,
-    straight_table,
+    BLOCK, BLOCK_WAV, DSP, FILE_LENGTH, FIVE, HEADER_SIZE, MEMORY, Outcome, Pieces, STEADY_WAV,
+    file_of, straight_table,
 };
 
 /// The room for a trace of eight voices over a thousand samples: 8,000 lines of at most 28 bytes, and a few of what the program

@@ -5,7 +5,9 @@ use snd_host::MemHost;
 use std::alloc::Global;
 use std::process::Abort;
 use std::test::Fail;
-use test_support::{DSP, FILE_LENGTH, FIVE, HEADER_SIZE, MEMORY, Outcome, Pieces, STEADY_WAV, file_of};
+use test_support::{
+    DSP, FILE_LENGTH, FIVE, HEADER_SIZE, MEMORY, Outcome, Pieces, STEADY_WAV, file_of,
+};
 
 /// A file of the base file and these pieces.
 fn files_of(alloc: Global, pieces: (Pieces, Pieces)) -> Result<Vec<(String, Vec<u8>)>, Fail> {

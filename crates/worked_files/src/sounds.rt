@@ -59,7 +59,8 @@ const MONO: &[u8] = b"fmt \x10\0\0\0\x01\0\x01\0\x44\xAC\0\0\x88\x58\x01\0\x02\0
 const STEREO: &[u8] = b"fmt \x10\0\0\0\x01\0\x02\0\x44\xAC\0\0\x10\xB1\x02\0\x04\0\x10\0";
 
 /// Both, of which the first says the form.
-const TWO_FORMATS: &[u8] = b"fmt \x10\0\0\0\x01\0\x01\0\x44\xAC\0\0\x88\x58\x01\0\x02\0\x10\0fmt \x10\0\0\0\x01\0\x02\0\x44\xAC\0\0\x10\xB1\x02\0\x04\0\x10\0";
+const TWO_FORMATS: &[u8] =
+    b"fmt \x10\0\0\0\x01\0\x01\0\x44\xAC\0\0\x88\x58\x01\0\x02\0\x10\0fmt \x10\0\0\0\x01\0\x02\0\x44\xAC\0\0\x10\xB1\x02\0\x04\0\x10\0";
 
 /// Two samples, the same in a stream whose length wasn't known, and a chunk that is cut off.
 const SAMPLES: &[u8] = b"data\x04\0\0\0\x01\0\xFF\xFF";

@@ -11,8 +11,8 @@ use render_options::RenderOptions;
 use std::alloc::Global;
 use std::test::Fail;
 use test_support::{
-    DSP, ENDS_THE_BLOCK, FILE_LENGTH, FIVE, Frames, HEADER_SIZE, MEMORY, OUTPUT_ROOM, Outcome, Pieces, TAGS,
-    file_of, host_with, straight_table, wave_of,
+    DSP, ENDS_THE_BLOCK, FILE_LENGTH, FIVE, Frames, HEADER_SIZE, MEMORY, OUTPUT_ROOM, Outcome,
+    Pieces, TAGS, file_of, host_with, straight_table, wave_of,
 };
 
 /// The program stops.
