@@ -9,14 +9,11 @@ ghost use Rattle.dsp_state.specs.declared.registers.TheConstants.{FLG};
 ghost use Rattle.batch_rows.specs.Afar.{AreApart, IsVoiceApart, far_pages, window_from};
 
 use crate::cells::CHAIN_BYTES;
-use aram_core::{Aram, PAGE_SIZE};
+use aram_core::{Aram, PAGE_BYTES};
 use dsp_state::ChipState;
 use dsp_state::registers::{DIR, EDL, ESA, FLG, SRCN, voice_register};
 use echo_unit::has_echo_writes;
 use voice_unit::{Voice, entry_address, loop_word, start_word};
-
-/// The bytes of a page.
-const PAGE_BYTES: u16 = PAGE_SIZE as u16;
 
 /// Whether a few bytes have no page of a window of whole pages: from its start to the last of them it is further than both are long.
 #[inline]

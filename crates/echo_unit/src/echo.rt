@@ -9,14 +9,13 @@ ghost use Rattle.echo_unit.specs.EchoOverBatch.{echo_over, pair_of, main_of, sen
 use crate::cell::{cell_address, cell_pair, put_cell};
 use crate::filter::filtered_pair;
 use crate::flg::has_echo_writes;
-use crate::page::PAGE_BYTES;
 use crate::rows::{
     HeardRows, READ_SIZE, SILENCE, SumRows, feedback_row, filtered_row, frame_at, last_pairs,
     output_row, put_history,
 };
 use crate::volume::{feedback_word, output_frame};
 use crate::{EchoRegs, Window};
-use aram_core::Aram;
+use aram_core::{Aram, PAGE_BYTES};
 use num_fix::{BATCH_SIZE, Frame};
 use std::marker::Model;
 
