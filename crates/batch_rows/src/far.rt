@@ -8,11 +8,11 @@ ghost use Rattle.dsp_state.specs.Reach.{chip_reach};
 ghost use Rattle.dsp_state.specs.declared.registers.TheConstants.{FLG};
 ghost use Rattle.batch_rows.specs.Afar.{AreApart, IsVoiceApart, far_pages, window_from};
 
-use crate::cells::CHAIN_BYTES;
 use aram_core::{Aram, PAGE_BYTES};
 use dsp_state::ChipState;
 use dsp_state::registers::{DIR, EDL, ESA, FLG, SRCN, voice_register};
 use echo_unit::has_echo_writes;
+use reach_map::{CHAIN_BYTES, ENTRY_SIZE};
 use voice_unit::{Voice, entry_address, loop_word, start_word};
 
 /// Whether a few bytes have no page of a window of whole pages: from its start to the last of them it is further than both are long.
@@ -54,7 +54,7 @@ fn is_voice_apart(state: &ChipState, memory: &Aram, v: u8, voice: &Voice, esa: u
     let dir = state.registers[DIR];
     let srcn = voice_register(&state.registers, v, SRCN);
     let again = loop_word(dir, srcn, memory);
-    if !are_bytes_apart(entry_address(dir, srcn), 4, esa, len) {
+    if !are_bytes_apart(entry_address(dir, srcn), ENTRY_SIZE, esa, len) {
         return false;
     }
     if !is_chain_apart(voice.block(), again, esa, len) {
