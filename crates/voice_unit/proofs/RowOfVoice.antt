@@ -121,7 +121,7 @@ module _ (memory : List ℕ) (loop_word : ℕ) (first : Place) (samples : List �
       let four : 4 * d + 4 ≡ 4 * suc d = omega arith in
       rw (← four) (drop-with_group (kept_row memory loop_word first samples d) (4 * d) _ _ _ (omega (arith, whole, two)))
 
--- where a voice stands that has read so many groups: its samples are the last of the row, and its position tells its place in it
+-- where a voice stands that has read so many groups: its samples are the last of the row, and its position tells its point in it
 record IsAt (memory : List ℕ) (loop_word : ℕ) (first : Place) (samples : List ℤ) (d total : ℕ) (voice : VoiceState) : Type 0 where
   last : voice.samples ≡ drop (4 * d) (kept_row memory loop_word first samples d)
   place : place_of voice ≡ place_after memory loop_word first d

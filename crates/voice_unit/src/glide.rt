@@ -1,4 +1,4 @@
-//! How a voice glides: while its envelope rests and no key is taken, the samples of a stretch differ in their places alone, so that
+//! How a voice glides: while its envelope rests and no key is taken, the samples of a stretch differ in their points alone, so that
 //! they are read off one row of kept samples at one level.
 
 ghost use Rattle.std.specs.Prelude.{◌≡◌, ◌<◌, ◌≤◌, ◌+◌, ◌-◌, ◌*◌, ◌^◌, ℕ, List, true, false, slice_index};
