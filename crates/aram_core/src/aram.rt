@@ -13,6 +13,9 @@ pub const MEMORY_SIZE: usize = 0x10000;
 /// The bytes of a page.
 pub const PAGE_SIZE: usize = 256;
 
+/// The bytes of a page, for addresses.
+pub const PAGE_BYTES: u16 = PAGE_SIZE as u16;
+
 /// The pages of the memory.
 pub const PAGE_COUNT: usize = 256;
 

@@ -4,6 +4,6 @@
 mod aram;
 mod page_set;
 
-pub use aram::{Aram, MEMORY_SIZE, PAGE_COUNT, PAGE_SIZE};
+pub use aram::{Aram, MEMORY_SIZE, PAGE_BYTES, PAGE_COUNT, PAGE_SIZE};
 pub use page_set::{PageSet, page_of};
 pub use std::alloc::AllocError as OutOfMemory;

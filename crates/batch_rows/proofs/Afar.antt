@@ -52,22 +52,22 @@ further block count p h =
     let same : page_of (block + (9 + k)) ≡ page_of ((block + 9) % 0x10000 + k) = omega arith in
     at_page (pages_of_bytes block (9 * suc count)) _ _ same (bytes_have block (9 * suc count) (9 + k) (omega (arith, below))))
 
-near : (memory : List ℕ) (loop_to count block p : ℕ) → has_page (flat_map block_pages (chain memory loop_to count block)) p ≡ true
-    → (has_page (pages_of_bytes block (9 * count)) p ≡ true) ⊎ (has_page (pages_of_bytes loop_to (9 * count)) p ≡ true)
-near memory loop_to zero block p h = absurd (none_has p h)
-near memory loop_to (suc count) block p h =
-    elim (in_either (block_pages block) (flat_map block_pages (chain memory loop_to count (next_block (byte_at memory block) block loop_to))) p h) [
+near : (memory : List ℕ) (loop_word count block p : ℕ) → has_page (flat_map block_pages (chain memory loop_word count block)) p ≡ true
+    → (has_page (pages_of_bytes block (9 * count)) p ≡ true) ⊎ (has_page (pages_of_bytes loop_word (9 * count)) p ≡ true)
+near memory loop_word zero block p h = absurd (none_has p h)
+near memory loop_word (suc count) block p h =
+    elim (in_either (block_pages block) (flat_map block_pages (chain memory loop_word count (next_block (byte_at memory block) block loop_word))) p h) [
       | inl here ↦ inl (longer block 9 (9 * suc count) p (omega arith) here)
-      | inr rest ↦ by (has_end (byte_at memory block)) (near memory loop_to count (next_block (byte_at memory block) block loop_to) p rest)
+      | inr rest ↦ by (has_end (byte_at memory block)) (near memory loop_word count (next_block (byte_at memory block) block loop_word) p rest)
     ]
   where
     by : (b : Bool)
-        → (has_page (pages_of_bytes (if b then loop_to else (block + 9) % 0x10000) (9 * count)) p ≡ true) ⊎ (has_page (pages_of_bytes loop_to (9 * count)) p ≡ true)
-        → (has_page (pages_of_bytes block (9 * suc count)) p ≡ true) ⊎ (has_page (pages_of_bytes loop_to (9 * suc count)) p ≡ true)
-    by true (inl at) = inr (longer loop_to (9 * count) (9 * suc count) p (omega arith) at)
-    by true (inr at) = inr (longer loop_to (9 * count) (9 * suc count) p (omega arith) at)
+        → (has_page (pages_of_bytes (if b then loop_word else (block + 9) % 0x10000) (9 * count)) p ≡ true) ⊎ (has_page (pages_of_bytes loop_word (9 * count)) p ≡ true)
+        → (has_page (pages_of_bytes block (9 * suc count)) p ≡ true) ⊎ (has_page (pages_of_bytes loop_word (9 * suc count)) p ≡ true)
+    by true (inl at) = inr (longer loop_word (9 * count) (9 * suc count) p (omega arith) at)
+    by true (inr at) = inr (longer loop_word (9 * count) (9 * suc count) p (omega arith) at)
     by false (inl at) = inl (further block count p at)
-    by false (inr at) = inr (longer loop_to (9 * count) (9 * suc count) p (omega arith) at)
+    by false (inr at) = inr (longer loop_word (9 * count) (9 * suc count) p (omega arith) at)
 
 chain_is_near : (memory : List ℕ) (start : ChainStart) (p : ℕ) → has_page (chain_pages memory start) p ≡ true → has_page (far_pages start) p ≡ true
 chain_is_near memory start p h = elim (near memory start.loop_word 18 start.block p h) [

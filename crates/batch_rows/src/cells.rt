@@ -14,17 +14,8 @@ use aram_core::Aram;
 use brr_decode::has_end;
 use dsp_state::ChipState;
 use dsp_state::registers::{DIR, EDL, ESA, SRCN, voice_register};
-use reach_map::ChainStart;
+use reach_map::{BLOCK_SIZE, CHAIN_BYTES, ChainStart, ENTRY_SIZE};
 use voice_unit::{Voice, entry_address, loop_word, start_word};
-
-/// The bytes of a block.
-const BLOCK_SIZE: u16 = 9;
-
-/// How many bytes from its start, and from its loop word, a chain lies within.
-pub(crate) const CHAIN_BYTES: u16 = 162;
-
-/// The bytes of an entry of the directory.
-const ENTRY: u16 = 4;
 
 /// How many of so many cells, which stand in line from an address on, come before the first that has one of a few bytes.
 #[inline]
@@ -92,7 +83,7 @@ fn voice_cells(state: &ChipState, memory: &Aram, v: u8, voice: &Voice, first: u1
     let dir = state.registers[DIR];
     let srcn = voice_register(&state.registers, v, SRCN);
     let loop_word = loop_word(dir, srcn, memory);
-    let entry = cells_before(first, cells, entry_address(dir, srcn), ENTRY);
+    let entry = cells_before(first, cells, entry_address(dir, srcn), ENTRY_SIZE);
     let block = voice.block();
     let own = chain_cells(memory, ChainStart { block, loop_word }, first, entry);
     let starts = state.can_start(v, voice);

@@ -1,29 +1,26 @@
 //! Whether the echo can write what the voices read, seen from afar: no chain is walked.
 
 ghost use Rattle.std.specs.Prelude.{◌≡◌, ◌<◌, ◌≤◌, ◌%◌, true, false, not, slice_index};
-ghost use Rattle.aram_core.specs.declared.aram.TheConstants.{PAGE_SIZE};
+ghost use Rattle.aram_core.specs.declared.aram.TheConstants.{MEMORY_SIZE, PAGE_SIZE};
 ghost use Rattle.reach_map.specs.Reach.{pages_of_bytes};
 ghost use Rattle.echo_unit.specs.Flg.{has_echo_writes};
 ghost use Rattle.dsp_state.specs.Reach.{chip_reach};
 ghost use Rattle.dsp_state.specs.declared.registers.TheConstants.{FLG};
 ghost use Rattle.batch_rows.specs.Afar.{AreApart, IsVoiceApart, far_pages, window_from};
 
-use crate::cells::CHAIN_BYTES;
-use aram_core::{Aram, PAGE_SIZE};
+use aram_core::{Aram, PAGE_BYTES};
 use dsp_state::ChipState;
 use dsp_state::registers::{DIR, EDL, ESA, FLG, SRCN, voice_register};
 use echo_unit::has_echo_writes;
+use reach_map::{CHAIN_BYTES, ENTRY_SIZE};
 use voice_unit::{Voice, entry_address, loop_word, start_word};
-
-/// The bytes of a page.
-const PAGE_BYTES: u16 = PAGE_SIZE as u16;
 
 /// Whether a few bytes have no page of a window of whole pages: from its start to the last of them it is further than both are long.
 #[inline]
 fn are_bytes_apart(start: u16, count: u16, esa: u8, len: u32) -> bool
     requires some { 1 ≤ count }
     requires few { count ≤ PAGE_SIZE }
-    requires most { len ≤ 0x10000 }
+    requires most { len ≤ MEMORY_SIZE }
     requires whole { len % PAGE_SIZE ≡ 0 }
     ensures { result ≡ true → AreApart (pages_of_bytes start count) (window_from esa len) }
 {
@@ -37,7 +34,7 @@ fn are_bytes_apart(start: u16, count: u16, esa: u8, len: u32) -> bool
 /// Whether a chain has no page of a window of whole pages.
 #[inline]
 fn is_chain_apart(block: u16, loop_word: u16, esa: u8, len: u32) -> bool
-    requires most { len ≤ 0x10000 }
+    requires most { len ≤ MEMORY_SIZE }
     requires whole { len % PAGE_SIZE ≡ 0 }
     ensures { result ≡ true → AreApart (far_pages (record { block = block; loop_word = loop_word })) (window_from esa len) }
 {
@@ -50,14 +47,14 @@ fn is_chain_apart(block: u16, loop_word: u16, esa: u8, len: u32) -> bool
 /// Whether what voice `v` can read has no page of a window of whole pages.
 fn is_voice_apart(state: &ChipState, memory: &Aram, v: u8, voice: &Voice, esa: u8, len: u32) -> bool
     requires voice { v < 8 }
-    requires most { len ≤ 0x10000 }
+    requires most { len ≤ MEMORY_SIZE }
     requires whole { len % PAGE_SIZE ≡ 0 }
     ensures { result ≡ true → IsVoiceApart state.now memory.now v voice.now esa len }
 {
     let dir = state.registers[DIR];
     let srcn = voice_register(&state.registers, v, SRCN);
     let again = loop_word(dir, srcn, memory);
-    if !are_bytes_apart(entry_address(dir, srcn), 4, esa, len) {
+    if !are_bytes_apart(entry_address(dir, srcn), ENTRY_SIZE, esa, len) {
         return false;
     }
     if !is_chain_apart(voice.block(), again, esa, len) {
@@ -72,9 +69,9 @@ fn is_voice_apart(state: &ChipState, memory: &Aram, v: u8, voice: &Voice, esa: u
 
 /// So many bytes, up to the end of their last page.
 fn whole_pages(len: u32) -> u32
-    requires { len ≤ 0x10000 }
+    requires { len ≤ MEMORY_SIZE }
     ensures least { len ≤ result }
-    ensures most { result ≤ 0x10000 }
+    ensures most { result ≤ MEMORY_SIZE }
     ensures whole { result % PAGE_SIZE ≡ 0 }
 {
     let page = u32::from(PAGE_BYTES);

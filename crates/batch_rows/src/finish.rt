@@ -6,7 +6,7 @@ ghost use Rattle.dsp_state.specs.Mix.{main_frame, sent_frame};
 ghost use Rattle.dsp_state.specs.Results.{bits_from, registers_after};
 
 use aram_core::Aram;
-use dsp_state::{ChipState, SILENCE, Settings, put_results, sum_voices};
+use dsp_state::{ChipState, SILENT_SUMS, Settings, put_results, sum_voices};
 use num_fix::Frame;
 use voice_unit::VoiceOut;
 
@@ -29,7 +29,7 @@ pub fn finish_sample(
     ensures frame { let main = main_frame settings.now.volumes answers.now in
         result ≡ output_frame settings.now.echo main (echo_heard state.old.hidden.echo settings.now.echo memory.old) }
 {
-    let mut sums = SILENCE;
+    let mut sums = SILENT_SUMS;
     sum_voices(&mut sums, &settings.volumes, answers);
     let frame = state
         .hidden

@@ -25,7 +25,7 @@ fn with_soft_share(sum: i16, out: i16, factor: i16) -> i16
 }
 
 /// The factor of a volume, as a row, so that 16-bit numbers meet 16-bit numbers.
-fn factors_of(volume: i16) -> [i16; 64]
+fn factors_of(volume: i16) -> [i16; BATCH_SIZE]
     requires least { neg_ℤ (pos 64) ≤ℤ volume }
     requires most { volume <ℤ pos 64 }
     ensures { (j : ℕ) → j < most_samples_of_batch → number_at result j ≡ volume *ℤ pos 512 }
@@ -36,7 +36,7 @@ fn factors_of(volume: i16) -> [i16; 64]
 
 /// Adds the shares of a voice at a volume from -64 to 63. Inlined, since only there the rows are known to lie apart.
 #[inline(always)]
-fn add_soft_row(sums: &mut [i16; 64], outs: &[i16; 64], volume: i16)
+fn add_soft_row(sums: &mut [i16; BATCH_SIZE], outs: &[i16; BATCH_SIZE], volume: i16)
     requires least { neg_ℤ (pos 64) ≤ℤ volume }
     requires most { volume <ℤ pos 64 }
     ensures { HasShares outs.now volume sums.old sums.new }
@@ -58,7 +58,7 @@ fn with_strong_share(sum: i16, out: i16, factor: i16) -> i16
 
 /// Adds the shares of a voice at a volume from 64 to 127. Inlined, as the softer ones.
 #[inline(always)]
-fn add_strong_row(sums: &mut [i16; 64], outs: &[i16; 64], volume: i16)
+fn add_strong_row(sums: &mut [i16; BATCH_SIZE], outs: &[i16; BATCH_SIZE], volume: i16)
     requires least { pos 64 ≤ℤ volume }
     requires most { volume <ℤ pos 128 }
     ensures { HasShares outs.now volume sums.old sums.new }
@@ -71,7 +71,7 @@ fn add_strong_row(sums: &mut [i16; 64], outs: &[i16; 64], volume: i16)
 
 /// Adds the shares of a voice at any volume. It stands apart, since few volumes want it.
 #[inline(never)]
-fn add_loud_row(sums: &mut [i16; 64], outs: &[i16; 64], volume: i16)
+fn add_loud_row(sums: &mut [i16; BATCH_SIZE], outs: &[i16; BATCH_SIZE], volume: i16)
     ensures { HasShares outs.now volume sums.old sums.new }
 {
     for j in 0..BATCH_SIZE {
@@ -95,7 +95,7 @@ fn add_silent_row(sums: &[i16; BATCH_SIZE], outs: &[i16; BATCH_SIZE])
 
 /// Adds the shares of a voice at a volume. Inlined with them.
 #[inline(always)]
-fn add_row(sums: &mut [i16; 64], outs: &[i16; 64], volume: i16)
+fn add_row(sums: &mut [i16; BATCH_SIZE], outs: &[i16; BATCH_SIZE], volume: i16)
     ensures { HasShares outs.now volume sums.old sums.new }
 {
     if volume == 0 {
@@ -123,7 +123,7 @@ pub(crate) fn clear_sums(sums: &mut SumRows)
 }
 
 /// Adds the shares of a voice.
-pub(crate) fn add_shares(sums: &mut SumRows, outs: &[i16; 64], volumes: &Volumes)
+pub(crate) fn add_shares(sums: &mut SumRows, outs: &[i16; BATCH_SIZE], volumes: &Volumes)
     ensures main_left { HasShares outs.now volumes.now.left sums.old.main_left sums.new.main_left }
     ensures main_right { HasShares outs.now volumes.now.right sums.old.main_right sums.new.main_right }
     ensures sent_left { HasShares outs.now volumes.now.sent_left sums.old.sent_left sums.new.sent_left }

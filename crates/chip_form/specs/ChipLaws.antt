@@ -14,7 +14,7 @@ are_voice_records k v (Voice sample voice level out block keyed ended ∷ rest) 
 are_voice_records k v (Reg sample addr value ∷ rest) = false
 are_voice_records k v (Port sample port value ∷ rest) = false
 
--- The last four laws are of up to 64 samples from a valid state, and of the reach taken before the first of them.
+-- All laws are of valid states. Those of the last four that are of samples are of at most 64, and a reach is taken before the first of them.
 pub record IsLawfulChip {S : Type 0} (chip : ChipMeaning S) : Type 0 where
   -- a write of a register and a sample keep a state valid
   pub write_keeps_valid : (s : S) (address byte : ℕ) → address < 0x100 → byte < 0x100 → chip.is_valid s ≡ true

@@ -2,7 +2,7 @@
 use Rattle.std.specs.Prelude.{ℕ}
 use Rattle.num_fix.specs.declared.TheConstants.{BATCH_SIZE}
 
--- the most samples that a chip makes in all
+-- the greatest number that a chip's next sample may have
 abbrev pub most_samples_of_chip : ℕ
 most_samples_of_chip = 4000000000
 

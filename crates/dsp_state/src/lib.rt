@@ -11,7 +11,7 @@ mod state;
 mod voice_settings;
 mod volumes;
 
-pub use mix::{SILENCE, Sums, sum_voices, with_share};
+pub use mix::{SILENT_SUMS, Sums, sum_voices, with_share};
 pub use results::{is_result, next_endx, put_all_levels, put_results};
 pub use settings::{Settings, settings_of};
 pub use state::{ChipState, Hidden};

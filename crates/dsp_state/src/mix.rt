@@ -16,7 +16,7 @@ pub struct Sums {
 }
 
 /// The sums over no voices.
-pub const SILENCE: Sums = Sums {
+pub const SILENT_SUMS: Sums = Sums {
     main: Frame { left: 0, right: 0 },
     sent: Frame { left: 0, right: 0 },
 };
@@ -48,7 +48,7 @@ pub fn sum_voices(sums: &mut Sums, volumes: &[Volumes; 8], answers: &[VoiceOut; 
     ensures main { sums.new.main ≡ main_frame volumes.now answers.now }
     ensures sent { sums.new.sent ≡ sent_frame volumes.now answers.now }
 {
-    let mut total = SILENCE;
+    let mut total = SILENT_SUMS;
     for v in 0..8 {
         add_voice(&mut total, answers[v].out, &volumes[v]);
     }

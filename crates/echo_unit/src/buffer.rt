@@ -8,9 +8,9 @@ ghost use Rattle.echo_unit.specs.EchoOverBatch.{pair_of};
 
 use crate::EchoRegs;
 use crate::echo::Echo;
-use crate::page::{PAGE_BYTES, pair_in, put_pair};
+use crate::page::{pair_in, put_pair};
 use crate::rows::READ_SIZE;
-use aram_core::{Aram, PAGE_SIZE, page_of};
+use aram_core::{Aram, PAGE_BYTES, PAGE_SIZE, page_of};
 use num_fix::BATCH_SIZE;
 
 impl Echo {

@@ -9,14 +9,13 @@ ghost use Rattle.echo_unit.specs.EchoOverBatch.{echo_over, pair_of, main_of, sen
 use crate::cell::{cell_address, cell_pair, put_cell};
 use crate::filter::filtered_pair;
 use crate::flg::has_echo_writes;
-use crate::page::PAGE_BYTES;
 use crate::rows::{
-    HeardRows, READ_SIZE, SILENCE, SumRows, feedback_row, filtered_row, frame_at, last_pairs,
+    HeardRows, READ_SIZE, SILENT_FRAME, SumRows, feedback_row, filtered_row, frame_at, last_pairs,
     output_row, put_history,
 };
 use crate::volume::{feedback_word, output_frame};
 use crate::{EchoRegs, Window};
-use aram_core::Aram;
+use aram_core::{Aram, PAGE_BYTES};
 use num_fix::{BATCH_SIZE, Frame};
 use std::marker::Model;
 
@@ -68,7 +67,7 @@ impl Echo {
         Echo {
             offset: 0,
             length: 0,
-            history: [SILENCE; 8],
+            history: [SILENT_FRAME; 8],
         }
     }
 
@@ -262,7 +261,7 @@ impl Echo {
         ensures batch { echo_over regs.now (main_of sums.now) (sent_of sums.now) self.old memory.old n
             ≡ record { echo = self.new; memory = memory.new; frames = take n result } }
     {
-        let mut frames = [SILENCE; BATCH_SIZE];
+        let mut frames = [SILENT_FRAME; BATCH_SIZE];
         for j in 0..n {
             let place = usize::from(j);
             let main = frame_at(&sums.main_left, &sums.main_right, place);

@@ -5,9 +5,6 @@ ghost use Rattle.echo_unit.specs.Page.{halved_at, pair_in, with_word_in, with_pa
 use aram_core::PAGE_SIZE;
 use num_fix::{Frame, half};
 
-/// The bytes of a page, for addresses.
-pub(crate) const PAGE_BYTES: u16 = PAGE_SIZE as u16;
-
 /// The word at a place of a page, read with a sign and halved.
 #[tactic(auto, unfolding(crate::specs::Page::halved_at))]
 fn halved_at(page: &[u8], at: usize) -> i16

@@ -31,7 +31,7 @@ pub struct HeardRows {
 pub const READ_SIZE: usize = 8 + BATCH_SIZE;
 
 /// The silent frame.
-pub const SILENCE: Frame = Frame { left: 0, right: 0 };
+pub const SILENT_FRAME: Frame = Frame { left: 0, right: 0 };
 
 /// What the filter gives in each sample, over a row of eight samples of the history and those that were read.
 pub fn filtered_row(row: &[i16; READ_SIZE], coefficients: &[u8; 8]) -> [i16; BATCH_SIZE]
@@ -76,7 +76,7 @@ pub fn output_row(regs: &EchoRegs, sums: &SumRows, heard: &HeardRows) -> [Frame;
     ensures { (j : ℕ) → j < BATCH_SIZE → get_or result j silent_frame
         ≡ output_frame regs.now (main_of sums.now j) (pair_of heard.now.left heard.now.right j) }
 {
-    let mut frames = [SILENCE; BATCH_SIZE];
+    let mut frames = [SILENT_FRAME; BATCH_SIZE];
     for j in 0..BATCH_SIZE {
         let main = frame_at(&sums.main_left, &sums.main_right, j);
         frames[j] = output_frame(regs, main, frame_at(&heard.left, &heard.right, j));
@@ -90,7 +90,7 @@ pub fn last_pairs(left: &[i16; READ_SIZE], right: &[i16; READ_SIZE], n: u8) -> [
     ensures { (i : ℕ) → i < 8 → get_or result i silent_frame ≡ pair_of left.now right.now (n + i) }
 {
     let first = usize::from(n);
-    let mut history = [SILENCE; 8];
+    let mut history = [SILENT_FRAME; 8];
     for i in 0..8 {
         history[i] = frame_at(left, right, first + i);
     }

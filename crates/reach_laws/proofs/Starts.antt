@@ -20,17 +20,17 @@ use Rattle.reach_laws.proofs.ReachOfChip.{unread_by_voices}
 use Rattle.reach_laws.proofs.Voices.{voice_pages_from, first_agree, rest_agree}
 
 -- memories that agree on the pages of a chain have the same chain
-chain_same : (memory m : List ℕ) (loop_to count block : ℕ) → AgreeOn (flat_map block_pages (chain memory loop_to count block)) m memory
-    → chain m loop_to count block ≡ chain memory loop_to count block
-chain_same memory m loop_to zero block same = refl
-chain_same memory m loop_to (suc count) block same =
-    let next : ℕ = next_block (byte_at memory block) block loop_to in
+chain_same : (memory m : List ℕ) (loop_word count block : ℕ) → AgreeOn (flat_map block_pages (chain memory loop_word count block)) m memory
+    → chain m loop_word count block ≡ chain memory loop_word count block
+chain_same memory m loop_word zero block same = refl
+chain_same memory m loop_word (suc count) block same =
+    let next : ℕ = next_block (byte_at memory block) block loop_word in
     let block0 : page_of (block + 0) ≡ page_of block = ap page_of (omega arith) in
     let here : has_page (block_pages block) (page_of block) ≡ true = at_page (block_pages block) _ _ block0 (bytes_have block 9 0 (omega arith)) in
-    let header : byte_at m block ≡ byte_at memory block = same block (in_left (block_pages block) (flat_map block_pages (chain memory loop_to count next)) _ here) in
-    let rest : chain m loop_to count next ≡ chain memory loop_to count next =
-    chain_same memory m loop_to count next (λ at some. same at (in_right (block_pages block) (flat_map block_pages (chain memory loop_to count next)) (page_of at) some)) in
-    ap (λ (h : ℕ). block ∷ chain m loop_to count (next_block h block loop_to)) header ∙ ap (λ (blocks : List ℕ). block ∷ blocks) rest
+    let header : byte_at m block ≡ byte_at memory block = same block (in_left (block_pages block) (flat_map block_pages (chain memory loop_word count next)) _ here) in
+    let rest : chain m loop_word count next ≡ chain memory loop_word count next =
+    chain_same memory m loop_word count next (λ at some. same at (in_right (block_pages block) (flat_map block_pages (chain memory loop_word count next)) (page_of at) some)) in
+    ap (λ (h : ℕ). block ∷ chain m loop_word count (next_block h block loop_word)) header ∙ ap (λ (blocks : List ℕ). block ∷ blocks) rest
 
 -- and the pages of several chains
 chains_same : (memory m : List ℕ) (starts : List ChainStart) → AgreeOn (flat_map (chain_pages memory) starts) m memory

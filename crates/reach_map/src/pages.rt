@@ -3,15 +3,12 @@
 ghost use Rattle.std.specs.Prelude.{◌≡◌, ◌≤◌};
 ghost use Rattle.std.specs.FinSet as set;
 ghost use Rattle.aram_core.specs.Pages.{has_page};
-ghost use Rattle.aram_core.specs.declared.aram.TheConstants.{MEMORY_SIZE};
+ghost use Rattle.aram_core.specs.declared.aram.TheConstants.{MEMORY_SIZE, PAGE_SIZE};
 ghost use Rattle.reach_map.specs.Added.{with_pages};
 ghost use Rattle.reach_map.specs.Reach.{pages_of_bytes, window_pages};
 
 use crate::Window;
-use aram_core::{PAGE_SIZE, PageSet, page_of};
-
-/// The bytes of a page, for addresses.
-const PAGE_BYTES: u16 = PAGE_SIZE as u16;
+use aram_core::{PAGE_BYTES, PageSet, page_of};
 
 /// Whether some of so many bytes from an address on lie on a page.
 #[inline]

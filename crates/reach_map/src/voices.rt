@@ -13,16 +13,25 @@ use aram_core::{Aram, PageSet};
 use brr_decode::has_end;
 
 /// The bytes of a block.
-const BLOCK_SIZE: u32 = 9;
+pub const BLOCK_SIZE: u16 = 9;
 
 /// The bytes of an entry of the directory.
-const ENTRY: u32 = 4;
+pub const ENTRY_SIZE: u16 = 4;
 
 /// The blocks in which a voice can be in 64 samples.
-const CHAIN_BLOCKS: u32 = 18;
+pub const CHAIN_BLOCKS: u32 = 18;
 
 /// The bytes from its start on, and those from its loop word on, within which the blocks of a chain stand.
-const CHAIN_BYTES: u32 = BLOCK_SIZE * CHAIN_BLOCKS;
+pub const CHAIN_BYTES: u16 = BLOCK_SIZE * CHAIN_BLOCKS as u16;
+
+/// The bytes of a block, for lengths.
+const BLOCK_LENGTH: u32 = BLOCK_SIZE as u32;
+
+/// The bytes of an entry of the directory, for lengths.
+const ENTRY_LENGTH: u32 = ENTRY_SIZE as u32;
+
+/// The bytes of a chain, for lengths.
+const CHAIN_LENGTH: u32 = CHAIN_BYTES as u32;
 
 /// How many blocks stand one after another from a block on, up to the first that has its end bit, and at most so many.
 fn blocks_to_end(memory: &Aram, start: u16, most: u32) -> u32
@@ -36,7 +45,7 @@ fn blocks_to_end(memory: &Aram, start: u16, most: u32) -> u32
         if has_end(memory.get(block)) {
             break;
         }
-        block = block.wrapping_add(BLOCK_SIZE as u16);
+        block = block.wrapping_add(BLOCK_SIZE);
     }
     most - left
 }
@@ -49,10 +58,10 @@ fn add_blocks(pages: &mut PageSet, memory: &Aram, start: ChainStart, count: u32)
     ensures { pages.new ≡ with_pages pages.old (flat_map block_pages (chain memory.now start.loop_word count start.block)) }
 {
     let first = blocks_to_end(memory, start.block, count);
-    add_bytes(pages, start.block, BLOCK_SIZE * first);
+    add_bytes(pages, start.block, BLOCK_LENGTH * first);
     if first < count {
         let again = blocks_to_end(memory, start.loop_word, count - first);
-        add_bytes(pages, start.loop_word, BLOCK_SIZE * again);
+        add_bytes(pages, start.loop_word, BLOCK_LENGTH * again);
     }
 }
 
@@ -62,24 +71,24 @@ fn blocks_have_page(memory: &Aram, start: ChainStart, page: u8) -> bool
     ensures { result ≡ has_page (chain_pages memory.now start) page }
 {
     let first = blocks_to_end(memory, start.block, CHAIN_BLOCKS);
-    if bytes_have_page(start.block, BLOCK_SIZE * first, page) {
+    if bytes_have_page(start.block, BLOCK_LENGTH * first, page) {
         return true;
     }
     if first == CHAIN_BLOCKS {
         return false;
     }
     let again = blocks_to_end(memory, start.loop_word, CHAIN_BLOCKS - first);
-    bytes_have_page(start.loop_word, BLOCK_SIZE * again, page)
+    bytes_have_page(start.loop_word, BLOCK_LENGTH * again, page)
 }
 
 /// Whether a voice on a chain can read bytes of a page. The chain is walked only where the page is near to its start or to its loop word.
 pub fn chain_has_page(memory: &Aram, start: ChainStart, page: u8) -> bool
     ensures { result ≡ has_page (chain_pages memory.now start) page }
 {
-    if bytes_have_page(start.block, CHAIN_BYTES, page) {
+    if bytes_have_page(start.block, CHAIN_LENGTH, page) {
         return blocks_have_page(memory, start, page);
     }
-    if !bytes_have_page(start.loop_word, CHAIN_BYTES, page) {
+    if !bytes_have_page(start.loop_word, CHAIN_LENGTH, page) {
         return false;
     }
     blocks_have_page(memory, start, page)
@@ -90,7 +99,7 @@ pub fn chain_has_page(memory: &Aram, start: ChainStart, page: u8) -> bool
 pub fn entry_has_page(entry: u16, page: u8) -> bool
     ensures { result ≡ has_page (entry_pages entry) page }
 {
-    bytes_have_page(entry, ENTRY, page)
+    bytes_have_page(entry, ENTRY_LENGTH, page)
 }
 
 /// Puts the pages of chains into a set.
@@ -107,7 +116,7 @@ fn add_entries(pages: &mut PageSet, entries: &[u16])
     ensures { pages.new ≡ with_pages pages.old (flat_map entry_pages entries.now) }
 {
     for entry in entries {
-        add_bytes(pages, *entry, ENTRY);
+        add_bytes(pages, *entry, ENTRY_LENGTH);
     }
 }
 

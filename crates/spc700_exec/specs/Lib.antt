@@ -1,7 +1,7 @@
 -- What a reader of the promises needs, from the bus up to a step:
 -- what contracts see of a bus, and its laws
 pub mod Bus
--- the plain bus over memory
+-- the bus over plain memory
 pub mod MemBus
 -- the accesses of an instruction in order, each chosen by the bytes read before it
 pub mod Script

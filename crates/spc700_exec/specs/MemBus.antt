@@ -1,4 +1,4 @@
--- The plain bus over memory: it has no ports and emits nothing.
+-- The bus over plain memory: it has no ports and emits nothing.
 use Rattle.std.specs.Prelude.{ℕ, ◌+◌, ◌/◌, List}
 use Rattle.aram_core.specs.Memory.{byte_at, with_byte}
 use Rattle.spc700_exec.specs.Bus.{BusMeaning}

@@ -1,4 +1,4 @@
-//! A plain bus over memory.
+//! The bus over plain memory.
 
 ghost use Rattle.std.specs.Prelude.{◌≡◌};
 ghost use Rattle.std.proofs.Common.{refl};

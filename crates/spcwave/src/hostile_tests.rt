@@ -339,8 +339,8 @@ fn sounds_of_no_length_and_of_too_great_a_length_are_refused(rt: HostRuntime) ->
     Ok(())
 }
 
-/// Four frames of silence.
-const SILENCE: &[&str] = &["render", "SPC", "TABLE", "OUT", "--samples", "4"];
+/// The words that render four samples.
+const FOUR_SAMPLES: &[&str] = &["render", "SPC", "TABLE", "OUT", "--samples", "4"];
 
 /// Renders silence to an output of this room, over the host in memory.
 fn render_into(alloc: Global, room: usize) -> Result<Outcome, Fail> {
@@ -350,7 +350,7 @@ fn render_into(alloc: Global, room: usize) -> Result<Outcome, Fail> {
 
 /// Renders silence from a file over a table to an output of 50 bytes, one byte at a time.
 fn drip_silence(alloc: Global, file: &[u8], table: &[u8]) -> Result<Dripped, Fail> {
-    let words = list_words(alloc, SILENCE)?;
+    let words = list_words(alloc, FOUR_SAMPLES)?;
     run_dripping(
         alloc,
         words.as_slice(),

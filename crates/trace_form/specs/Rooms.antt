@@ -7,7 +7,7 @@ use Rattle.trace_form.specs.declared.ring.TheConstants.{EVENT_ROOM}
 abbrev pub frame_room : ℕ
 frame_room = FRAME_ROOM
 
--- records, between two drains: 256 events, 64 more, and those of eight voices in 128 samples
+-- records, between two drains: 256 events, one for each of 64 calls, and those of eight voices in 128 samples
 abbrev pub record_room : ℕ
 record_room = RECORD_ROOM
 

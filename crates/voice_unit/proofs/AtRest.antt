@@ -77,9 +77,9 @@ module _ (r : VoiceRegs) (i : VoiceIn) (memory : List ℕ) (k rest : ℕ) (v : V
   answer_is table = let none : v.delay ≡ 0 = at.delay some in rw (none, unkeyed) refl
 
 -- a voice between two groups reads none
-pub reads_none : (v : VoiceState) (memory : List ℕ) (header loop_to : ℕ) → needs_group v ≡ false → after_reading v memory header loop_to ≡ v
+pub reads_none : (v : VoiceState) (memory : List ℕ) (header loop_word : ℕ) → needs_group v ≡ false → after_reading v memory header loop_word ≡ v
 unfolding after_reading
-reads_none v memory header loop_to between = rw between refl
+reads_none v memory header loop_word between = rw between refl
 
 -- and so it comes to no end
 pub ends_none : (v : VoiceState) (header : ℕ) → needs_group v ≡ false → is_ended v header ≡ false
@@ -91,18 +91,18 @@ unfolding after_pitch
 block-after_pitch v pitch = refl
 
 -- envelope and delay after reading and moving on
-pub envelope-after_reading : (v : VoiceState) (memory : List ℕ) (header loop_to pitch : ℕ) → (after_pitch (after_reading v memory header loop_to) pitch).envelope ≡ v.envelope
+pub envelope-after_reading : (v : VoiceState) (memory : List ℕ) (header loop_word pitch : ℕ) → (after_pitch (after_reading v memory header loop_word) pitch).envelope ≡ v.envelope
 unfolding after_pitch after_reading at_next_group after_decoding
-envelope-after_reading v memory header loop_to pitch = by (needs_group v) (is_at_last_group v) _ _
+envelope-after_reading v memory header loop_word pitch = by (needs_group v) (is_at_last_group v) _ _
   where
     by : (a b : Bool) (block : ℕ) (samples : List ℤ) → (if a then (if b then record v { samples = samples; offset = 1; block = block } else record v { samples = samples; offset = v.offset + 2 }) else v).envelope ≡ v.envelope
     by true true block samples = refl
     by true false block samples = refl
     by false b block samples = refl
 
-delay-after_reading : (v : VoiceState) (memory : List ℕ) (header loop_to pitch : ℕ) → (after_pitch (after_reading v memory header loop_to) pitch).delay ≡ v.delay
+delay-after_reading : (v : VoiceState) (memory : List ℕ) (header loop_word pitch : ℕ) → (after_pitch (after_reading v memory header loop_word) pitch).delay ≡ v.delay
 unfolding after_pitch after_reading at_next_group after_decoding
-delay-after_reading v memory header loop_to pitch = by (needs_group v) (is_at_last_group v) _ _
+delay-after_reading v memory header loop_word pitch = by (needs_group v) (is_at_last_group v) _ _
   where
     by : (a b : Bool) (block : ℕ) (samples : List ℤ) → (if a then (if b then record v { samples = samples; offset = 1; block = block } else record v { samples = samples; offset = v.offset + 2 }) else v).delay ≡ v.delay
     by true true block samples = refl
@@ -110,11 +110,11 @@ delay-after_reading v memory header loop_to pitch = by (needs_group v) (is_at_la
     by false b block samples = refl
 
 -- the rest goes on, where the block silences nothing that sounds
-pub rests_on : (reset koff : Bool) (r : VoiceRegs) (memory : List ℕ) (k rest header loop_to pitch : ℕ) (v now : VoiceState) → IsAtRest reset koff r memory k rest v → 0 < rest
-    → now ≡ after_pitch (after_reading v memory header loop_to) pitch
+pub rests_on : (reset koff : Bool) (r : VoiceRegs) (memory : List ℕ) (k rest header loop_word pitch : ℕ) (v now : VoiceState) → IsAtRest reset koff r memory k rest v → 0 < rest
+    → now ≡ after_pitch (after_reading v memory header loop_word) pitch
     → (is_silencing reset (byte_at memory now.block) ≡ true → IsSilent now.envelope) ⊎ (now.block ≡ v.block)
     → IsAtRest reset koff r memory (k + 1) (rest - 1) now
-rests_on reset koff r memory k rest header loop_to pitch v now at some is heard = record {
+rests_on reset koff r memory k rest header loop_word pitch v now at some is heard = record {
   delay = λ more. delay ∙ at.delay some;
   silencing = λ more loud. elim heard [
     | inl quiet ↦ quiet loud
@@ -125,10 +125,10 @@ rests_on reset koff r memory k rest header loop_to pitch v now at some is heard 
 }
   where
     envelope : now.envelope ≡ v.envelope
-    envelope = ap (λ (w : VoiceState). w.envelope) is ∙ envelope-after_reading v memory header loop_to pitch
+    envelope = ap (λ (w : VoiceState). w.envelope) is ∙ envelope-after_reading v memory header loop_word pitch
 
     delay : now.delay ≡ v.delay
-    delay = ap (λ (w : VoiceState). w.delay) is ∙ delay-after_reading v memory header loop_to pitch
+    delay = ap (λ (w : VoiceState). w.delay) is ∙ delay-after_reading v memory header loop_word pitch
 
 -- a voice that rests for no sample
 pub no_rest : (reset koff : Bool) (r : VoiceRegs) (memory : List ℕ) (k : ℕ) (v : VoiceState) → IsAtRest reset koff r memory k 0 v

@@ -42,15 +42,15 @@ no_end memory place points group j v x other =
     let none : ends_in memory place points group j ≡ false = rw test (and_right (is_read_in points group j) false refl) in
     rw none (omega arith)
 
-module _ (memory : List ℕ) (loop_to : ℕ) (first : Place) (points : ℕ → ℕ) (v : ℕ) where
+module _ (memory : List ℕ) (loop_word : ℕ) (first : Place) (points : ℕ → ℕ) (v : ℕ) where
   -- what is marked in sample j once so many groups are read
   abbrev pub marked : (groups j : ℕ) → Bool
-  marked groups j = nat_lt (groups_before points j) groups && ended_in memory loop_to first points j
+  marked groups j = nat_lt (groups_before points j) groups && ended_in memory loop_word first points j
 
   pub marked-none : (j : ℕ) → marked 0 j ≡ false
   marked-none j = by (nat_lt (groups_before points j) 0) refl
     where
-      by : (b : Bool) → nat_lt (groups_before points j) 0 ≡ b → (b && ended_in memory loop_to first points j) ≡ false
+      by : (b : Bool) → nat_lt (groups_before points j) 0 ≡ b → (b && ended_in memory loop_word first points j) ≡ false
       by false e = refl
       by true e = absurd (let below : groups_before points j < 0 = grind (arith, nat_tests, e) in omega arith)
 
@@ -58,26 +58,26 @@ module _ (memory : List ℕ) (loop_to : ℕ) (first : Place) (points : ℕ → �
   pub marked-later : (groups j : ℕ) → groups ≤ groups_before points j → marked groups j ≡ false
   marked-later groups j late = by (nat_lt (groups_before points j) groups) refl
     where
-      by : (b : Bool) → nat_lt (groups_before points j) groups ≡ b → (b && ended_in memory loop_to first points j) ≡ false
+      by : (b : Bool) → nat_lt (groups_before points j) groups ≡ b → (b && ended_in memory loop_word first points j) ≡ false
       by false e = refl
       by true e = absurd (let below : groups_before points j < groups = grind (arith, nat_tests, e) in omega (arith, late))
 
   -- one group more
-  pub marked-more : (d j : ℕ) → bit_if (marked d j) v + bit_if (is_read_in points d j && is_end memory (place_after memory loop_to first d)) v ≡ bit_if (marked (d + 1) j) v
+  pub marked-more : (d j : ℕ) → bit_if (marked d j) v + bit_if (is_read_in points d j && is_end memory (place_after memory loop_word first d)) v ≡ bit_if (marked (d + 1) j) v
   marked-more d j = by (nat_lt g d) refl (nat_lt d g) refl
     where
       g : ℕ
       g = groups_before points j
 
       ends : Bool
-      ends = ended_in memory loop_to first points j
+      ends = ended_in memory loop_word first points j
 
       other : (b : Bool) → nat_lt g d ≡ b → nat_lt g (d + 1) ≡ b → g ≢ d
-          → bit_if (marked d j) v + bit_if (is_read_in points d j && is_end memory (place_after memory loop_to first d)) v ≡ bit_if (marked (d + 1) j) v
+          → bit_if (marked d j) v + bit_if (is_read_in points d j && is_end memory (place_after memory loop_word first d)) v ≡ bit_if (marked (d + 1) j) v
       other b now soon apart = rw (is_read-elsewhere points d j apart, now, soon) (omega arith)
 
       by : (b : Bool) → nat_lt g d ≡ b → (c : Bool) → nat_lt d g ≡ c
-          → bit_if (marked d j) v + bit_if (is_read_in points d j && is_end memory (place_after memory loop_to first d)) v ≡ bit_if (marked (d + 1) j) v
+          → bit_if (marked d j) v + bit_if (is_read_in points d j && is_end memory (place_after memory loop_word first d)) v ≡ bit_if (marked (d + 1) j) v
       by true e c f =
           let below : g < d = grind (arith, nat_tests, e) in
           let soon : nat_lt g (d + 1) ≡ true = grind (arith, nat_tests, below) in
@@ -94,14 +94,14 @@ module _ (memory : List ℕ) (loop_to : ℕ) (first : Place) (points : ℕ → �
           rw (e, soon, ← same) (omega arith)
 
   -- all is marked in the samples before which fewer groups are read than in all
-  pub marked-all : (n j : ℕ) → MoveOn points n → j < n → marked (groups_before points n) j ≡ ended_in memory loop_to first points j
+  pub marked-all : (n j : ℕ) → MoveOn points n → j < n → marked (groups_before points n) j ≡ ended_in memory loop_word first points j
   marked-all n j moves below = by (is_read_in points g j) refl
     where
       g : ℕ
       g = groups_before points j
 
       by : (b : Bool) → is_read_in points g j ≡ b
-          → (nat_lt g (groups_before points n) && (b && is_end memory (place_after memory loop_to first g))) ≡ (b && is_end memory (place_after memory loop_to first g))
+          → (nat_lt g (groups_before points n) && (b && is_end memory (place_after memory loop_word first g))) ≡ (b && is_end memory (place_after memory loop_word first g))
       by false e = and_right (nat_lt g (groups_before points n)) false refl
       by true e =
           let parts = and_parts (g == g) (groups_before points (j + 1) == g + 1) e in

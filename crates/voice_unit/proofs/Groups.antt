@@ -39,20 +39,20 @@ group-after_delay v start h = by (v.delay == 0) (v.delay == 5)
     by true b = h
     by false b = five b
 
-group-at_next_group : (v : VoiceState) (header loop_to : ℕ) → IsGroup v.offset → IsGroup (at_next_group v header loop_to).offset
+group-at_next_group : (v : VoiceState) (header loop_word : ℕ) → IsGroup v.offset → IsGroup (at_next_group v header loop_word).offset
 unfolding at_next_group
-group-at_next_group v header loop_to h = by _ (v.offset == 7) refl
+group-at_next_group v header loop_word h = by _ (v.offset == 7) refl
   where
     by : (block : ℕ) (b : Bool) → (v.offset == 7) ≡ b → IsGroup (if b then record v { offset = 1; block = block } else record v { offset = v.offset + 2 }).offset
     by block true e = record { odd = refl; within = omega arith }
     by block false e = let other : v.offset ≢ 7 = grind (arith, nat_tests, e) in record { odd = omega (arith, h.odd); within = omega (arith, h.odd, h.within, other) }
 
-group-after_reading : (v : VoiceState) (memory : List ℕ) (header loop_to : ℕ) → IsGroup v.offset → IsGroup (after_reading v memory header loop_to).offset
+group-after_reading : (v : VoiceState) (memory : List ℕ) (header loop_word : ℕ) → IsGroup v.offset → IsGroup (after_reading v memory header loop_word).offset
 unfolding after_reading after_decoding
-group-after_reading v memory header loop_to h = by (needs_group v)
+group-after_reading v memory header loop_word h = by (needs_group v)
   where
-    by : (b : Bool) → IsGroup (if b then at_next_group (after_decoding v memory header) header loop_to else v).offset
-    by true = group-at_next_group (after_decoding v memory header) header loop_to h
+    by : (b : Bool) → IsGroup (if b then at_next_group (after_decoding v memory header) header loop_word else v).offset
+    by true = group-at_next_group (after_decoding v memory header) header loop_word h
     by false = h
 
 -- a step takes a voice from group to group

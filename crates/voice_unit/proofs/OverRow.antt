@@ -94,14 +94,14 @@ module _ (own : VoiceView) (lane : Lane) (n m rest : ℕ) (before ends : List �
   abbrev koff : Bool
   koff = has_bit own.koff own.voice
 
-  abbrev loop_to : ℕ
-  loop_to = loop_word own.dir lane.regs.srcn lane.memory
+  abbrev again : ℕ
+  again = loop_word own.dir lane.regs.srcn lane.memory
 
   abbrev g : ℕ → ℕ
   g j = groups_before points j
 
   abbrev there : ℕ → Place
-  there d = place_after lane.memory loop_to (place_of voice) d
+  there d = place_after lane.memory again (place_of voice) d
 
   -- the voice after j more samples
   abbrev s : ℕ → VoiceState
@@ -132,7 +132,7 @@ module _ (own : VoiceView) (lane : Lane) (n m rest : ℕ) (before ends : List �
   Rests j = IsAtRest own.reset koff lane.regs lane.memory (lane.k + (n + j)) (rest - j) (s j)
 
   -- a step reads and moves on
-  moved : (j : ℕ) → j < m → Rests j → s (j + 1) ≡ after_pitch (after_reading (s j) lane.memory (byte_at lane.memory (s j).block) loop_to) (pitch_of lane.regs (lane.inputs (n + j)))
+  moved : (j : ℕ) → j < m → Rests j → s (j + 1) ≡ after_pitch (after_reading (s j) lane.memory (byte_at lane.memory (s j).block) again) (pitch_of lane.regs (lane.inputs (n + j)))
   unfolding steps
   moved j below rests =
       let plain = glides j below in
@@ -142,13 +142,13 @@ module _ (own : VoiceView) (lane : Lane) (n m rest : ℕ) (before ends : List �
 
   same_on : (j : ℕ) → j < m → Rests j → (s j).envelope ≡ voice.envelope → (s (j + 1)).envelope ≡ voice.envelope
   same_on j below rests same =
-      ap (λ (v : VoiceState). v.envelope) (moved j below rests) ∙ envelope-after_reading (s j) lane.memory (byte_at lane.memory (s j).block) loop_to (pitch_of lane.regs (lane.inputs (n + j))) ∙ same
+      ap (λ (v : VoiceState). v.envelope) (moved j below rests) ∙ envelope-after_reading (s j) lane.memory (byte_at lane.memory (s j).block) again (pitch_of lane.regs (lane.inputs (n + j))) ∙ same
 
   rests_more : (j : ℕ) → j < m → Rests j → (is_silencing own.reset (byte_at lane.memory (s (j + 1)).block) ≡ true → IsSilent (s (j + 1)).envelope) → Rests (j + 1)
   rests_more j below rests heard =
       let further : lane.k + (n + (j + 1)) ≡ lane.k + (n + j) + 1 = omega arith in
       let less : rest - (j + 1) ≡ rest - j - 1 = omega arith in
-      rw (further, less) (rests_on own.reset koff lane.regs lane.memory (lane.k + (n + j)) (rest - j) (byte_at lane.memory (s j).block) loop_to (pitch_of lane.regs (lane.inputs (n + j))) (s j) (s (j + 1))
+      rw (further, less) (rests_on own.reset koff lane.regs lane.memory (lane.k + (n + j)) (rest - j) (byte_at lane.memory (s j).block) again (pitch_of lane.regs (lane.inputs (n + j))) (s j) (s (j + 1))
       rests (omega (arith, below, resting)) (moved j below rests) (inl heard))
 
   -- the header that the voice sees in a sample
@@ -211,7 +211,7 @@ module _ (own : VoiceView) (lane : Lane) (n m rest : ℕ) (before ends : List �
   pub last_level : (answer_at lane (n + m - 1)).level ≡ voice.envelope.level
   last_level = let last : n + m - 1 ≡ n + (m - 1) = omega (arith, some) in rw last (level_is (m - 1) (omega (arith, some)))
 
-  ended_is : (j : ℕ) → j < m → (answer_at lane (n + j)).ended ≡ ended_in lane.memory loop_to (place_of voice) points j
+  ended_is : (j : ℕ) → j < m → (answer_at lane (n + j)).ended ≡ ended_in lane.memory again (place_of voice) points j
   unfolding answer_of_step
   ended_is j below =
       let plain = glides j below in
@@ -232,7 +232,7 @@ module _ (own : VoiceView) (lane : Lane) (n m rest : ℕ) (before ends : List �
       → ((j : ℕ) → j < m → number_at given (n + j)
       ≡ out_in_stretch (has_bit own.non own.voice) (heard (n + j)) lane.table row (points j) voice.envelope.level)
       → ((j : ℕ) → j < n → slice_index after j ≡ slice_index ends j)
-      → ((j : ℕ) → j < m → slice_index after (n + j) ≡ slice_index ends (n + j) + (if ended_in lane.memory loop_to (place_of voice) points j then 2 ^ own.voice else 0))
+      → ((j : ℕ) → j < m → slice_index after (n + j) ≡ slice_index ends (n + j) + (if ended_in lane.memory again (place_of voice) points j then 2 ^ own.voice else 0))
       → ((j : ℕ) → n + m ≤ j → slice_index after j ≡ slice_index ends j)
       → IsPlayedSoFar own lane (n + m) left before after given now
   unfolding place_after

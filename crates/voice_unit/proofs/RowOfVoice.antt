@@ -75,87 +75,87 @@ drop-with_group row n header b0 b1 some =
     ∙ ap (drop 4) (drop_at (take n row) (with_group (drop n row) header b0 b1) n front))
 
 -- no group, and one more
-pub kept_row-zero : (memory : List ℕ) (loop_to : ℕ) (first : Place) (samples : List ℤ) → kept_row memory loop_to first samples 0 ≡ samples
+pub kept_row-zero : (memory : List ℕ) (loop_word : ℕ) (first : Place) (samples : List ℤ) → kept_row memory loop_word first samples 0 ≡ samples
 unfolding kept_row
-kept_row-zero memory loop_to first samples = refl
+kept_row-zero memory loop_word first samples = refl
 
-pub kept_row-more : (memory : List ℕ) (loop_to : ℕ) (first : Place) (samples : List ℤ) (d : ℕ) → kept_row memory loop_to first samples (d + 1)
-    ≡ with_group (kept_row memory loop_to first samples d) (byte_at memory (place_after memory loop_to first d).block)
-    (byte_at memory ((place_after memory loop_to first d).block + (place_after memory loop_to first d).offset))
-    (byte_at memory ((place_after memory loop_to first d).block + (place_after memory loop_to first d).offset + 1))
+pub kept_row-more : (memory : List ℕ) (loop_word : ℕ) (first : Place) (samples : List ℤ) (d : ℕ) → kept_row memory loop_word first samples (d + 1)
+    ≡ with_group (kept_row memory loop_word first samples d) (byte_at memory (place_after memory loop_word first d).block)
+    (byte_at memory ((place_after memory loop_word first d).block + (place_after memory loop_word first d).offset))
+    (byte_at memory ((place_after memory loop_word first d).block + (place_after memory loop_word first d).offset + 1))
 unfolding kept_row
-kept_row-more memory loop_to first samples d = rw add-one refl
+kept_row-more memory loop_word first samples d = rw add-one refl
 
-pub place_after-zero : (memory : List ℕ) (loop_to : ℕ) (first : Place) → place_after memory loop_to first 0 ≡ first
+pub place_after-zero : (memory : List ℕ) (loop_word : ℕ) (first : Place) → place_after memory loop_word first 0 ≡ first
 unfolding place_after
-place_after-zero memory loop_to first = refl
+place_after-zero memory loop_word first = refl
 
-pub place_after-more : (memory : List ℕ) (loop_to : ℕ) (first : Place) (d : ℕ) → place_after memory loop_to first (d + 1) ≡ next_place memory loop_to (place_after memory loop_to first d)
+pub place_after-more : (memory : List ℕ) (loop_word : ℕ) (first : Place) (d : ℕ) → place_after memory loop_word first (d + 1) ≡ next_place memory loop_word (place_after memory loop_word first d)
 unfolding place_after
-place_after-more memory loop_to first d = rw add-one refl
+place_after-more memory loop_word first d = rw add-one refl
 
-module _ (memory : List ℕ) (loop_to : ℕ) (first : Place) (samples : List ℤ) where
-  pub length-kept_row : (d : ℕ) → length (kept_row memory loop_to first samples d) ≡ length samples + 4 * d
+module _ (memory : List ℕ) (loop_word : ℕ) (first : Place) (samples : List ℤ) where
+  pub length-kept_row : (d : ℕ) → length (kept_row memory loop_word first samples d) ≡ length samples + 4 * d
   unfolding kept_row
   length-kept_row zero = omega arith
-  length-kept_row (suc d) = length-with_group (kept_row memory loop_to first samples d) _ _ _ ∙ omega (arith, length-kept_row d)
+  length-kept_row (suc d) = length-with_group (kept_row memory loop_word first samples d) _ _ _ ∙ omega (arith, length-kept_row d)
 
   -- a row with more groups begins with the row
-  pub row_longer : (more d i : ℕ) → i < length samples + 4 * d → number_at (kept_row memory loop_to first samples (more + d)) i ≡ number_at (kept_row memory loop_to first samples d) i
+  pub row_longer : (more d i : ℕ) → i < length samples + 4 * d → number_at (kept_row memory loop_word first samples (more + d)) i ≡ number_at (kept_row memory loop_word first samples d) i
   unfolding kept_row
   row_longer zero d i within = let same : 0 + d ≡ d = omega arith in rw same refl
   row_longer (suc more) d i within =
       let next : suc more + d ≡ suc (more + d) = omega arith in
-      let short : i < length (kept_row memory loop_to first samples (more + d)) = omega (arith, length-kept_row (more + d)) in
-      rw next (kept-with_group (kept_row memory loop_to first samples (more + d)) _ _ _ i short ∙ row_longer more d i within)
+      let short : i < length (kept_row memory loop_word first samples (more + d)) = omega (arith, length-kept_row (more + d)) in
+      rw next (kept-with_group (kept_row memory loop_word first samples (more + d)) _ _ _ i short ∙ row_longer more d i within)
 
   -- the last of a row, with one group more
   drop-kept_row : (d : ℕ) → 2 ≤ length samples
-      → drop 4 (with_group (drop (4 * d) (kept_row memory loop_to first samples d)) (byte_at memory (place_after memory loop_to first d).block)
-      (byte_at memory ((place_after memory loop_to first d).block + (place_after memory loop_to first d).offset))
-      (byte_at memory ((place_after memory loop_to first d).block + (place_after memory loop_to first d).offset + 1)))
-      ≡ drop (4 * suc d) (kept_row memory loop_to first samples (suc d))
+      → drop 4 (with_group (drop (4 * d) (kept_row memory loop_word first samples d)) (byte_at memory (place_after memory loop_word first d).block)
+      (byte_at memory ((place_after memory loop_word first d).block + (place_after memory loop_word first d).offset))
+      (byte_at memory ((place_after memory loop_word first d).block + (place_after memory loop_word first d).offset + 1)))
+      ≡ drop (4 * suc d) (kept_row memory loop_word first samples (suc d))
   unfolding kept_row
   drop-kept_row d two =
       let whole = length-kept_row d in
       let four : 4 * d + 4 ≡ 4 * suc d = omega arith in
-      rw (← four) (drop-with_group (kept_row memory loop_to first samples d) (4 * d) _ _ _ (omega (arith, whole, two)))
+      rw (← four) (drop-with_group (kept_row memory loop_word first samples d) (4 * d) _ _ _ (omega (arith, whole, two)))
 
--- where a voice stands that has read so many groups: its samples are the last of the row, and its position tells its place in it
-record IsAt (memory : List ℕ) (loop_to : ℕ) (first : Place) (samples : List ℤ) (d total : ℕ) (voice : VoiceState) : Type 0 where
-  last : voice.samples ≡ drop (4 * d) (kept_row memory loop_to first samples d)
-  place : place_of voice ≡ place_after memory loop_to first d
+-- where a voice stands that has read so many groups: its samples are the last of the row, and its position tells its point in it
+record IsAt (memory : List ℕ) (loop_word : ℕ) (first : Place) (samples : List ℤ) (d total : ℕ) (voice : VoiceState) : Type 0 where
+  last : voice.samples ≡ drop (4 * d) (kept_row memory loop_word first samples d)
+  place : place_of voice ≡ place_after memory loop_word first d
   position : voice.position + 0x4000 * d ≡ total
   within : voice.position < 0x8000
 
 -- a step's reading and moving on
-abbrev read_step : (memory : List ℕ) → (loop_to pitch : ℕ) → VoiceState → VoiceState
-read_step memory loop_to pitch voice = after_pitch (after_reading voice memory (byte_at memory voice.block) loop_to) pitch
+abbrev read_step : (memory : List ℕ) → (loop_word pitch : ℕ) → VoiceState → VoiceState
+read_step memory loop_word pitch voice = after_pitch (after_reading voice memory (byte_at memory voice.block) loop_word) pitch
 
-next-place : (memory : List ℕ) (loop_to : ℕ) (voice : VoiceState) → place_of (at_next_group voice (byte_at memory voice.block) loop_to) ≡ next_place memory loop_to (place_of voice)
+next-place : (memory : List ℕ) (loop_word : ℕ) (voice : VoiceState) → place_of (at_next_group voice (byte_at memory voice.block) loop_word) ≡ next_place memory loop_word (place_of voice)
 unfolding at_next_group
-next-place memory loop_to voice = by (voice.offset == 7)
+next-place memory loop_word voice = by (voice.offset == 7)
   where
     by : (b : Bool)
-        → place_of (if b then record voice { offset = 1; block = next_block (byte_at memory voice.block) voice.block loop_to } else record voice { offset = voice.offset + 2 })
-        ≡ (if b then record { block = next_block (byte_at memory voice.block) voice.block loop_to; offset = 1 } else record { block = voice.block; offset = voice.offset + 2 })
+        → place_of (if b then record voice { offset = 1; block = next_block (byte_at memory voice.block) voice.block loop_word } else record voice { offset = voice.offset + 2 })
+        ≡ (if b then record { block = next_block (byte_at memory voice.block) voice.block loop_word; offset = 1 } else record { block = voice.block; offset = voice.offset + 2 })
     by true = refl
     by false = refl
 
-next-same : {X : Type 0} (part : VoiceState → X) (voice : VoiceState) (header loop_to : ℕ)
-    → ((block offset : ℕ) → part (record voice { offset = offset; block = block }) ≡ part voice) → part (at_next_group voice header loop_to) ≡ part voice
+next-same : {X : Type 0} (part : VoiceState → X) (voice : VoiceState) (header loop_word : ℕ)
+    → ((block offset : ℕ) → part (record voice { offset = offset; block = block }) ≡ part voice) → part (at_next_group voice header loop_word) ≡ part voice
 unfolding at_next_group
-next-same part voice header loop_to same = by (voice.offset == 7)
+next-same part voice header loop_word same = by (voice.offset == 7)
   where
-    by : (b : Bool) → part (if b then record voice { offset = 1; block = next_block header voice.block loop_to } else record voice { offset = voice.offset + 2 }) ≡ part voice
-    by true = same (next_block header voice.block loop_to) 1
+    by : (b : Bool) → part (if b then record voice { offset = 1; block = next_block header voice.block loop_word } else record voice { offset = voice.offset + 2 }) ≡ part voice
+    by true = same (next_block header voice.block loop_word) 1
     by false = same voice.block (voice.offset + 2)
 
 -- one step more
-read_on : (memory : List ℕ) (loop_to : ℕ) (first : Place) (samples : List ℤ) (d point pitch : ℕ) (voice : VoiceState) → 2 ≤ length samples
-    → IsAt memory loop_to first samples d point voice → IsAt memory loop_to first samples (point / 0x4000) (next_point point pitch) (read_step memory loop_to pitch voice)
+read_on : (memory : List ℕ) (loop_word : ℕ) (first : Place) (samples : List ℤ) (d point pitch : ℕ) (voice : VoiceState) → 2 ≤ length samples
+    → IsAt memory loop_word first samples d point voice → IsAt memory loop_word first samples (point / 0x4000) (next_point point pitch) (read_step memory loop_word pitch voice)
 unfolding after_pitch after_reading after_decoding place_after
-read_on memory loop_to first samples d point pitch voice two at = by (needs_group voice) refl
+read_on memory loop_word first samples d point pitch voice two at = by (needs_group voice) refl
   where
     header : ℕ
     header = byte_at memory voice.block
@@ -163,28 +163,28 @@ read_on memory loop_to first samples d point pitch voice two at = by (needs_grou
     decoded : VoiceState
     decoded = after_decoding voice memory header
 
-    moved : (at_next_group decoded header loop_to).position ≡ voice.position
-    moved = next-same (λ (w : VoiceState). w.position) decoded header loop_to (λ block offset. refl)
+    moved : (at_next_group decoded header loop_word).position ≡ voice.position
+    moved = next-same (λ (w : VoiceState). w.position) decoded header loop_word (λ block offset. refl)
 
-    newest : decoded.samples ≡ drop (4 * suc d) (kept_row memory loop_to first samples (suc d))
+    newest : decoded.samples ≡ drop (4 * suc d) (kept_row memory loop_word first samples (suc d))
     newest =
-        let there : Place = place_after memory loop_to first d in
+        let there : Place = place_after memory loop_word first d in
         ap (λ (p : Place). drop 4 (with_group voice.samples (byte_at memory p.block) (byte_at memory (p.block + p.offset)) (byte_at memory (p.block + p.offset + 1)))) at.place
         ∙ ap (λ (s : List ℤ). drop 4 (with_group s (byte_at memory there.block) (byte_at memory (there.block + there.offset)) (byte_at memory (there.block + there.offset + 1)))) at.last
-        ∙ drop-kept_row memory loop_to first samples d two
+        ∙ drop-kept_row memory loop_word first samples d two
 
     -- what is left up to a point, where so many groups are read before it
     part : voice.position % 0x4000 ≡ point % 0x4000
     part = omega (arith, at.position)
 
     by : (b : Bool) → needs_group voice ≡ b
-        → IsAt memory loop_to first samples (point / 0x4000) (next_point point pitch) (after_pitch (if b then at_next_group decoded header loop_to else voice) pitch)
+        → IsAt memory loop_word first samples (point / 0x4000) (next_point point pitch) (after_pitch (if b then at_next_group decoded header loop_word else voice) pitch)
     by true needs =
         let late : 0x4000 ≤ voice.position = grind (arith, nat_tests) in
         let same : suc d ≡ point / 0x4000 = omega (arith, at.position, at.within, late) in
         rw (← same) record {
-          last = next-same (λ (w : VoiceState). w.samples) decoded header loop_to (λ block offset. refl) ∙ newest;
-          place = next-place memory loop_to decoded ∙ ap (next_place memory loop_to) at.place;
+          last = next-same (λ (w : VoiceState). w.samples) decoded header loop_word (λ block offset. refl) ∙ newest;
+          place = next-place memory loop_word decoded ∙ ap (next_place memory loop_word) at.place;
           position = rw (moved, part) (omega arith);
           within = rw moved (omega arith);
         }
@@ -199,10 +199,10 @@ step_reads : (r : VoiceRegs) (i : VoiceIn) (memory : List ℕ) (counter : ℕ) (
 unfolding voice_step step_header step_pitch after_delay after_envelope
 step_reads r i memory counter voice none = rw none refl
 
-still_none : (r : VoiceRegs) (i : VoiceIn) (memory : List ℕ) (loop_to pitch counter : ℕ) (voice : VoiceState) → voice.delay ≡ 0 → is_keyed i ≡ false
-    → (read_step memory loop_to pitch (after_envelope voice r i (byte_at memory voice.block) counter)).delay ≡ 0
+still_none : (r : VoiceRegs) (i : VoiceIn) (memory : List ℕ) (loop_word pitch counter : ℕ) (voice : VoiceState) → voice.delay ≡ 0 → is_keyed i ≡ false
+    → (read_step memory loop_word pitch (after_envelope voice r i (byte_at memory voice.block) counter)).delay ≡ 0
 unfolding after_pitch after_reading after_decoding after_envelope
-still_none r i memory loop_to pitch counter voice none unkeyed = by (needs_group voice)
+still_none r i memory loop_word pitch counter voice none unkeyed = by (needs_group voice)
   where
     header : ℕ
     header = byte_at memory voice.block
@@ -213,13 +213,13 @@ still_none r i memory loop_to pitch counter voice none unkeyed = by (needs_group
     zero_left : w.delay ≡ 0
     zero_left = rw unkeyed none
 
-    by : (b : Bool) → (if b then at_next_group (after_decoding w memory header) header loop_to else w).delay ≡ 0
-    by true = next-same (λ (one : VoiceState). one.delay) (after_decoding w memory header) header loop_to (λ block offset. refl) ∙ zero_left
+    by : (b : Bool) → (if b then at_next_group (after_decoding w memory header) header loop_word else w).delay ≡ 0
+    by true = next-same (λ (one : VoiceState). one.delay) (after_decoding w memory header) header loop_word (λ block offset. refl) ∙ zero_left
     by false = zero_left
 
 -- silencing, keys and the envelope leave it where it stands
-enveloped : {memory : List ℕ} {loop_to : ℕ} {first : Place} {samples : List ℤ} {d point : ℕ} (r : VoiceRegs) (i : VoiceIn) (header counter : ℕ) (voice : VoiceState)
-    → IsAt memory loop_to first samples d point voice → IsAt memory loop_to first samples d point (after_envelope voice r i header counter)
+enveloped : {memory : List ℕ} {loop_word : ℕ} {first : Place} {samples : List ℤ} {d point : ℕ} (r : VoiceRegs) (i : VoiceIn) (header counter : ℕ) (voice : VoiceState)
+    → IsAt memory loop_word first samples d point voice → IsAt memory loop_word first samples d point (after_envelope voice r i header counter)
 unfolding after_envelope
 enveloped r i header counter voice at = record { last = at.last; place = at.place; position = at.position; within = at.within }
 
@@ -247,30 +247,30 @@ module _ (r : VoiceRegs) (inputs : ℕ → VoiceIn) (dir n : ℕ) (memory : List
       )
 
 -- a sample that a voice plays is one of the row
-entry : (memory : List ℕ) (loop_to : ℕ) (first : Place) (samples : List ℤ) (d total more t i k : ℕ) (voice : VoiceState) → length samples ≡ 12
-    → IsAt memory loop_to first samples d total voice → t ≤ 3 → i ≡ voice.position / 0x1000 + t → k ≡ total / 0x1000 + t
-    → number_at voice.samples i ≡ number_at (kept_row memory loop_to first samples (more + d)) k
-entry memory loop_to first samples d total more t i k voice twelve at few is_i is_k =
+entry : (memory : List ℕ) (loop_word : ℕ) (first : Place) (samples : List ℤ) (d total more t i k : ℕ) (voice : VoiceState) → length samples ≡ 12
+    → IsAt memory loop_word first samples d total voice → t ≤ 3 → i ≡ voice.position / 0x1000 + t → k ≡ total / 0x1000 + t
+    → number_at voice.samples i ≡ number_at (kept_row memory loop_word first samples (more + d)) k
+entry memory loop_word first samples d total more t i k voice twelve at few is_i is_k =
     let place : 4 * d + i ≡ k = omega (arith, at.position, is_i, is_k) in
     let short : k < length samples + 4 * d = omega (arith, at.position, at.within, is_i, is_k, few, twelve) in
     ap (λ (s : List ℤ). number_at s i) at.last
-    ∙ get_or-drop (4 * d) (kept_row memory loop_to first samples d) i (pos 0)
-    ∙ ap (λ (at : ℕ). number_at (kept_row memory loop_to first samples d) at) place
-    ∙ sym (row_longer memory loop_to first samples more d k short)
+    ∙ get_or-drop (4 * d) (kept_row memory loop_word first samples d) i (pos 0)
+    ∙ ap (λ (at : ℕ). number_at (kept_row memory loop_word first samples d) at) place
+    ∙ sym (row_longer memory loop_word first samples more d k short)
 
-plays_at : (memory : List ℕ) (loop_to : ℕ) (first : Place) (samples : List ℤ) (d total more : ℕ) (voice : VoiceState) (table : List ℤ) → length samples ≡ 12
-    → IsAt memory loop_to first samples d total voice
-    → interpolation table voice.samples voice.position ≡ interpolation table (kept_row memory loop_to first samples (more + d)) total
+plays_at : (memory : List ℕ) (loop_word : ℕ) (first : Place) (samples : List ℤ) (d total more : ℕ) (voice : VoiceState) (table : List ℤ) → length samples ≡ 12
+    → IsAt memory loop_word first samples d total voice
+    → interpolation table voice.samples voice.position ≡ interpolation table (kept_row memory loop_word first samples (more + d)) total
 unfolding interpolation
-plays_at memory loop_to first samples d total more voice table twelve at =
+plays_at memory loop_word first samples d total more voice table twelve at =
     let m : ℕ = total / 0x1000 in
     let fraction : voice.position / 0x10 % 0x100 ≡ total / 0x10 % 0x100 = omega (arith, at.position) in
     rw (
       fraction,
-      entry memory loop_to first samples d total more 0 (voice.position / 0x1000) m voice twelve at (omega arith) (omega arith) (omega arith),
-      entry memory loop_to first samples d total more 1 (voice.position / 0x1000 + 1) (m + 1) voice twelve at (omega arith) refl refl,
-      entry memory loop_to first samples d total more 2 (voice.position / 0x1000 + 2) (m + 2) voice twelve at (omega arith) refl refl,
-      entry memory loop_to first samples d total more 3 (voice.position / 0x1000 + 3) (m + 3) voice twelve at (omega arith) refl refl,
+      entry memory loop_word first samples d total more 0 (voice.position / 0x1000) m voice twelve at (omega arith) (omega arith) (omega arith),
+      entry memory loop_word first samples d total more 1 (voice.position / 0x1000 + 1) (m + 1) voice twelve at (omega arith) refl refl,
+      entry memory loop_word first samples d total more 2 (voice.position / 0x1000 + 2) (m + 2) voice twelve at (omega arith) refl refl,
+      entry memory loop_word first samples d total more 3 (voice.position / 0x1000 + 3) (m + 3) voice twelve at (omega arith) refl refl,
     ) refl
 
 -- what a voice plays in sample j is read off the row

@@ -18,7 +18,7 @@ pub record IsCourse (course : Course) (n : ℕ) : Type 0 where
 
 -- the group that is next in sample j
 abbrev pub place_at : Course → (memory : List ℕ) → (j : ℕ) → Place
-place_at course memory j = place_after memory course.loop_to course.first (groups_before (point_at course.track) j)
+place_at course memory j = place_after memory course.loop_word course.first (groups_before (point_at course.track) j)
 
 -- sample j reads a group, after so many others, that ends a block which has its end bit
 abbrev pub ends_at : Course → (memory : List ℕ) → Place → (group j : ℕ) → Bool
@@ -26,7 +26,7 @@ ends_at course memory place group j = ends_in memory place (point_at course.trac
 
 -- the voice comes to an end in sample j
 abbrev pub ended_at : Course → (memory : List ℕ) → (j : ℕ) → Bool
-ended_at course memory j = ended_in memory course.loop_to course.first (point_at course.track) j
+ended_at course memory j = ended_in memory course.loop_word course.first (point_at course.track) j
 
 -- a stretch of n samples at most: the groups that it reads, and the one that follows
 pub record IsStretch (course : Course) (memory : List ℕ) (n : ℕ) (stretch : Stretch) : Type 0 where
@@ -34,7 +34,7 @@ pub record IsStretch (course : Course) (memory : List ℕ) (n : ℕ) (stretch : 
   pub few : stretch.samples ≤ n
   pub groups : stretch.groups ≡ groups_before (point_at course.track) stretch.samples
   pub few_groups : stretch.groups ≤ BATCH_SIZE
-  pub next : stretch.next ≡ place_after memory course.loop_to course.first stretch.groups
+  pub next : stretch.next ≡ place_after memory course.loop_word course.first stretch.groups
   pub group : IsGroup stretch.next
 
 -- in each of so many samples from sample `at` on the bit of the voice is added where it comes to an end, and all other bytes stay

@@ -15,22 +15,22 @@ pub record IsGroup (place : Place) : Type 0 where
   pub odd : place.offset % 2 ≡ 1
 
 -- the group that follows
-abbrev pub next_place : (memory : List ℕ) → (loop_to : ℕ) → Place → Place
-next_place memory loop_to at =
-    if at.offset == 7 then record { block = next_block (byte_at memory at.block) at.block loop_to; offset = 1 }
+abbrev pub next_place : (memory : List ℕ) → (loop_word : ℕ) → Place → Place
+next_place memory loop_word at =
+    if at.offset == 7 then record { block = next_block (byte_at memory at.block) at.block loop_word; offset = 1 }
     else record { block = at.block; offset = at.offset + 2 }
 
 -- the group that stands so many after one
-unfoldable pub place_after : (memory : List ℕ) → (loop_to : ℕ) → Place → (groups : ℕ) → Place
-place_after memory loop_to first zero = first
-place_after memory loop_to first (suc d) = next_place memory loop_to (place_after memory loop_to first d)
+unfoldable pub place_after : (memory : List ℕ) → (loop_word : ℕ) → Place → (groups : ℕ) → Place
+place_after memory loop_word first zero = first
+place_after memory loop_word first (suc d) = next_place memory loop_word (place_after memory loop_word first d)
 
 -- samples, and after them the kept samples of so many groups, from one on
-unfoldable pub kept_row : (memory : List ℕ) → (loop_to : ℕ) → Place → (samples : List ℤ) → (groups : ℕ) → List ℤ
-kept_row memory loop_to first samples zero = samples
-kept_row memory loop_to first samples (suc d) =
-    let at = place_after memory loop_to first d in
-    with_group (kept_row memory loop_to first samples d) (byte_at memory at.block)
+unfoldable pub kept_row : (memory : List ℕ) → (loop_word : ℕ) → Place → (samples : List ℤ) → (groups : ℕ) → List ℤ
+kept_row memory loop_word first samples zero = samples
+kept_row memory loop_word first samples (suc d) =
+    let at = place_after memory loop_word first d in
+    with_group (kept_row memory loop_word first samples d) (byte_at memory at.block)
     (byte_at memory (at.block + at.offset)) (byte_at memory (at.block + at.offset + 1))
 
 -- how many groups of a block are left from one of them on
@@ -73,10 +73,10 @@ abbrev pub ends_in : (memory : List ℕ) → Place → (points : ℕ → ℕ) �
 ends_in memory at points group j = is_read_in points group j && is_end memory at
 
 -- in sample j a voice reads the last group of a block that has its end bit
-abbrev pub ended_in : (memory : List ℕ) → (loop_to : ℕ) → Place → (points : ℕ → ℕ) → (j : ℕ) → Bool
-ended_in memory loop_to first points j =
+abbrev pub ended_in : (memory : List ℕ) → (loop_word : ℕ) → Place → (points : ℕ → ℕ) → (j : ℕ) → Bool
+ended_in memory loop_word first points j =
     let group = groups_before points j in
-    ends_in memory (place_after memory loop_to first group) points group j
+    ends_in memory (place_after memory loop_word first group) points group j
 
 -- a voice that plays on for n samples, which stand so far in its row: it has no delay and isn't keyed
 pub record PlaysOn (r : VoiceRegs) (inputs : ℕ → VoiceIn) (dir n : ℕ) (points : ℕ → ℕ) (voice : VoiceState) : Type 0 where

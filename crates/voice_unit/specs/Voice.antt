@@ -130,15 +130,15 @@ after_decoding v memory header =
     record v { samples = drop 4 (with_group v.samples header (byte_at memory (v.block + v.offset)) (byte_at memory (v.block + v.offset + 1))) }
 
 -- the voice at the group that follows, in its block or, after the last one, in the next block
-unfoldable pub at_next_group : VoiceState → (header loop_to : ℕ) → VoiceState
-at_next_group v header loop_to =
-    if is_at_last_group v then record v { offset = 1; block = next_block header v.block loop_to }
+unfoldable pub at_next_group : VoiceState → (header loop_word : ℕ) → VoiceState
+at_next_group v header loop_word =
+    if is_at_last_group v then record v { offset = 1; block = next_block header v.block loop_word }
     else record v { offset = v.offset + 2 }
 
 -- the voice after it read a group, where it needs one
-unfoldable pub after_reading : VoiceState → List ℕ → (header loop_to : ℕ) → VoiceState
-after_reading v memory header loop_to =
-    if needs_group v then at_next_group (after_decoding v memory header) header loop_to else v
+unfoldable pub after_reading : VoiceState → List ℕ → (header loop_word : ℕ) → VoiceState
+after_reading v memory header loop_word =
+    if needs_group v then at_next_group (after_decoding v memory header) header loop_word else v
 
 -- the voice comes to an end: it reads the last group of a block that has its end bit
 abbrev pub is_ended : VoiceState → (header : ℕ) → Bool

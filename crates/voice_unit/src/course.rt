@@ -20,8 +20,8 @@ pub(crate) struct Course<'a> {
     pub voice: u8,
     /// The group that it reads first.
     pub first: Place,
-    /// Where it loops to.
-    pub loop_to: u16,
+    /// The word of its sample that says where it loops to.
+    pub loop_word: u16,
     /// How far its samples stand in the row of kept samples.
     pub track: Track<'a>,
     /// The level of its envelope.
@@ -100,14 +100,14 @@ impl<'a> Course<'a> {
         requires few { at + n ≤ BATCH_SIZE }
         requires read { group < groups_before (point_at self.now.track) n }
         requires lower { (j : ℕ) → j < n → groups_before (point_at self.now.track) j ≡ group → slice_index ends.old (at + j) < 2 ^ self.now.voice }
-        ensures first { result.first ≡ next_place memory.now self.now.loop_to (last_of block) }
+        ensures first { result.first ≡ next_place memory.now self.now.loop_word (last_of block) }
         ensures group { IsGroup result.first }
         ensures quiet { result.woken ≡ false → LeavesSounding self.now memory.now result.first.block }
         ensures ends { AreEndsMarked at n self.now.voice (ends_at self.now memory.now (last_of block) group) ends.old ends.new }
     {
         let place = Place { block, offset: 7 };
         self.mark_end(at, n, group, &place, memory, ends);
-        let first = next_place(place, self.loop_to, memory);
+        let first = next_place(place, self.loop_word, memory);
         NextBlock {
             first,
             woken: self.is_woken_at(&first, memory),
@@ -131,7 +131,7 @@ impl<'a> Course<'a> {
         requires lower { (i : ℕ) → at ≤ i → i < BATCH_SIZE → slice_index ends.old i < 2 ^ self.now.voice }
         ensures stretch { IsStretch self.now memory.now n result }
         ensures row { take (12 + 4 * result.groups) row.new
-            ≡ kept_row memory.now self.now.loop_to self.now.first (take 12 row.old) result.groups }
+            ≡ kept_row memory.now self.now.loop_word self.now.first (take 12 row.old) result.groups }
         ensures ends { AreEndsMarked at result.samples self.now.voice (ended_at self.now memory.now) ends.old ends.new }
         ensures quiet { LeavesSounding self.now memory.now self.now.first.block
             → (j : ℕ) → j < result.samples → LeavesSounding self.now memory.now (place_at self.now memory.now j).block }

@@ -1,4 +1,4 @@
-//! How a voice glides: while its envelope rests and no key is taken, the samples of a stretch differ in their places alone, so that
+//! How a voice glides: while its envelope rests and no key is taken, the samples of a stretch differ in their points alone, so that
 //! they are read off one row of kept samples at one level.
 
 ghost use Rattle.std.specs.Prelude.{◌≡◌, ◌<◌, ◌≤◌, ◌+◌, ◌-◌, ◌*◌, ◌^◌, ℕ, List, true, false, slice_index};
@@ -80,7 +80,7 @@ impl Voice {
         requires points { is_modulated reads.now.seen.pmon reads.now.seen.voice ≡ true → MoveOn (slice_index points.now) n }
         ensures voice { result.voice ≡ reads.now.seen.voice }
         ensures first { result.first ≡ place_of self.now }
-        ensures loop_to { result.loop_to ≡ loop_word reads.now.seen.dir reads.now.regs.srcn reads.now.memory.now }
+        ensures loop_word { result.loop_word ≡ loop_word reads.now.seen.dir reads.now.regs.srcn reads.now.memory.now }
         ensures position { result.track.position ≡ self.now.position }
         ensures pitch { result.track.pitch ≡ reads.now.regs.pitch }
         ensures modulated { result.track.modulated ≡ is_modulated reads.now.seen.pmon reads.now.seen.voice }
@@ -95,7 +95,7 @@ impl Voice {
         Course {
             voice: reads.seen.voice,
             first: self.place(),
-            loop_to: loop_word(reads.seen.dir, reads.regs.srcn, reads.memory),
+            loop_word: loop_word(reads.seen.dir, reads.regs.srcn, reads.memory),
             track: Track {
                 position: self.position(),
                 pitch: reads.regs.pitch,

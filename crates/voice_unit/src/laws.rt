@@ -7,8 +7,8 @@ ghost use Rattle.voice_unit.specs.Voice.{VoiceState, pitch_of, interpolation};
 ghost use Rattle.voice_unit.specs.declared.interface.VoiceIn.{VoiceIn};
 ghost use Rattle.voice_unit.specs.declared.interface.VoiceRegs.{VoiceRegs};
 
-/// A voice that plays on reads, in sample j, the row of all its groups at the place that its pitches lead to, modulated or not, whatever groups
-/// follow there: its interpolation is that of the row. And where it stands then. At its own pitch that place is P + j * pitch.
+/// A voice that plays on reads, in sample j, the row of all its groups at the point that its pitches lead to, modulated or not, whatever groups
+/// follow there: its interpolation is that of the row, and it stands there then. At its own pitch that point is P + j * pitch.
 pub fn kept_rows()
     ensures plays { (r : VoiceRegs) (inputs : ℕ → VoiceIn) (dir n : ℕ) (memory : List ℕ) (counters points : ℕ → ℕ)
         (voice : VoiceState) (table : List ℤ)

@@ -104,8 +104,8 @@ pub(crate) fn read_rest(
     requires group { IsGroup at.now }
     requires some { 2 ≤ len }
     requires room { len + 16 ≤ ROW_SIZE }
-    ensures { (loop_to groups : ℕ) → groups ≤ groups_left at.now
-        → take (len + 4 * groups) row.new ≡ kept_row memory.now loop_to at.now (take len row.old) groups }
+    ensures { (loop_word groups : ℕ) → groups ≤ groups_left at.now
+        → take (len + 4 * groups) row.new ≡ kept_row memory.now loop_word at.now (take len row.old) groups }
 {
     let header = memory.get(at.block);
     let digits = digit_bytes(at.block, memory);
@@ -120,9 +120,9 @@ pub(crate) fn is_end(at: &Place, memory: &Aram) -> bool
 }
 
 /// The group that follows.
-pub(crate) fn next_place(at: Place, loop_to: u16, memory: &Aram) -> Place
+pub(crate) fn next_place(at: Place, loop_word: u16, memory: &Aram) -> Place
     requires { IsGroup at }
-    ensures place { result ≡ next_place memory.now loop_to at }
+    ensures place { result ≡ next_place memory.now loop_word at }
     ensures group { IsGroup result }
 {
     if at.offset != 7 {
@@ -133,7 +133,7 @@ pub(crate) fn next_place(at: Place, loop_to: u16, memory: &Aram) -> Place
     }
     let header = memory.get(at.block);
     let block = if has_end(header) {
-        loop_to
+        loop_word
     } else {
         at.block.wrapping_add(9)
     };

@@ -105,7 +105,7 @@ fn take_short_taps(
     }
 }
 
-/// The taps of n samples that stand so far in a row, each at its own place, two at a time: of an odd number the sample after the last has its own too.
+/// The taps of n samples that stand so far in a row, each at its own point, two at a time: of an odd number the sample after the last has its own too.
 fn take_short_modulated_taps(
     taps: &mut [ShortTaps; BATCH_SIZE],
     n: u8,

@@ -1,7 +1,7 @@
 //! Calls of both buses.
 
 use crate::machines::{
-    CountedBus, Emitted, KEYED_REGISTERS, SILENCE, SOURCE, open_late, open_plain, opening_of,
+    CountedBus, Emitted, KEYED_REGISTERS, SILENT_FRAME, SOURCE, open_late, open_plain, opening_of,
 };
 use crate::waits::counts_of;
 use aram_core::Aram;
@@ -129,7 +129,7 @@ fn are_three_of_voice_0(records: &[Record]) -> bool {
 fn look_at(rt: &impl Abort, told: &Told, answers: &[(u8, u8)], counts: Counts) {
     assert!(rt; told.answers.as_slice() == answers);
     assert!(rt; (told.time, told.counts) == ((3, 32), counts));
-    assert!(rt; told.emitted.frames.as_slice() == [SILENCE; 3].as_slice());
+    assert!(rt; told.emitted.frames.as_slice() == [SILENT_FRAME; 3].as_slice());
     assert!(rt; are_three_of_voice_0(told.emitted.records.as_slice()));
 }
 

@@ -13,7 +13,7 @@ use std::alloc::Global;
 use std::test::Fail;
 use trace_form::{Frames, Record, Records};
 
-pub const SILENCE: Frame = Frame { left: 0, right: 0 };
+pub const SILENT_FRAME: Frame = Frame { left: 0, right: 0 };
 
 /// The directory and the two blocks of a source, at 0200h, 0500h and 0600h, and a branch to itself at 0400h.
 pub const SOURCE: [(u16, &[u8]); 4] = [
@@ -142,7 +142,7 @@ impl Emitted {
 
     /// Whether all frames are silence.
     pub fn is_silent(&self) -> bool {
-        self.frames.iter().all(|frame| *frame == SILENCE)
+        self.frames.iter().all(|frame| *frame == SILENT_FRAME)
     }
 
     /// Drains a bus, and gives the number of frames.

@@ -1,6 +1,6 @@
 //! Loops that wait, over both buses. The bus that makes samples late makes their rounds at once, the other one step by step.
 
-use crate::machines::{KEYED_REGISTERS, Run, SILENCE, SOURCE, opening_of, run_late, run_plain};
+use crate::machines::{KEYED_REGISTERS, Run, SILENT_FRAME, SOURCE, opening_of, run_late, run_plain};
 use num_fix::Frame;
 use sound_bus::Counts;
 use std::alloc::Global;
@@ -77,7 +77,7 @@ fn look_at(
 
 /// Whether the source is heard from sample 6 on, and nothing before.
 fn are_heard_from_6_on(frames: &[Frame]) -> bool {
-    frames.iter().take(6).all(|frame| *frame == SILENCE)
+    frames.iter().take(6).all(|frame| *frame == SILENT_FRAME)
         && frames.iter().skip(6).all(|frame| *frame == LOUD)
 }
 

@@ -4,7 +4,7 @@ ghost use Rattle.std.specs.Prelude.{◌≤◌};
 
 use crate::sources::put_all;
 use crate::stage::{
-    SILENCE, Stage, begin_in_silence, have_same_bytes, have_same_registers, keyed_voice, one_voice,
+    SILENT_FRAME, Stage, begin_in_silence, have_same_bytes, have_same_registers, keyed_voice, one_voice,
     write_all,
 };
 use aram_core::Aram;
@@ -38,7 +38,7 @@ const SOUND: Frame = Frame {
 };
 
 /// The frames of a source that was keyed in the sample before them.
-const SEVEN: [Frame; 7] = [SILENCE, SILENCE, SILENCE, SILENCE, SILENCE, SOUND, SOUND];
+const SEVEN: [Frame; 7] = [SILENT_FRAME, SILENT_FRAME, SILENT_FRAME, SILENT_FRAME, SILENT_FRAME, SOUND, SOUND];
 
 /// What was made in steps, and what the chip then tells.
 #[derive(Drop)]
@@ -101,7 +101,7 @@ fn played(alloc: Global, steps: &[(&[(u8, u8)], u8)]) -> Result<Made, Fail> {
 
 /// Whether frames are silence and then these.
 fn are_silence_then(frames: &[Frame], rest: &[Frame]) -> bool {
-    frames.get(0) == Some(&SILENCE) && frames.iter().skip(1).eq(rest.iter())
+    frames.get(0) == Some(&SILENT_FRAME) && frames.iter().skip(1).eq(rest.iter())
 }
 
 /// Whether records are of the key on of voice 0 in sample 0, and of it in seven samples more.
@@ -145,7 +145,7 @@ fn play_once(rt: &impl Abort, stage: &mut Stage, n: u8, frames: &[Frame], told: 
 #[test]
 fn the_first_sound_is_told_in_the_results(rt: HostRuntime) -> Result<(), Fail> {
     let mut stage = keyed_voice(rt.alloc(), 0x01)?;
-    play_once(&rt, &mut stage, 6, &[SILENCE; 6], (0, 0));
+    play_once(&rt, &mut stage, 6, &[SILENT_FRAME; 6], (0, 0));
     play_once(&rt, &mut stage, 1, &[SOUND], (127, 15));
     Ok(())
 }
@@ -155,7 +155,7 @@ fn a_key_off_at_the_next_poll_releases(rt: HostRuntime) -> Result<(), Fail> {
     let keys: &[(u8, u8)] = &[(0x4c, 0x01), (0x5c, 0x01)];
     let again: &[(u8, u8)] = &[(0x4c, 0x01)];
     let taken_back: &[(u8, u8)] = &[(0x4c, 0x01), (0x5c, 0x00)];
-    for (writes, want) in [(taken_back, SEVEN), (again, [SILENCE; 7])] {
+    for (writes, want) in [(taken_back, SEVEN), (again, [SILENT_FRAME; 7])] {
         let made = played(rt.alloc(), &[(keys, 1), (writes, 7)])?;
         assert!(rt; are_silence_then(made.frames.as_slice(), &want));
     }
@@ -169,7 +169,7 @@ fn the_soft_reset_silences_from_the_next_sample_on(rt: HostRuntime) -> Result<()
         made.frames
             .iter()
             .skip(8)
-            .eq([SOUND, SILENCE, SILENCE].iter())
+            .eq([SOUND, SILENT_FRAME, SILENT_FRAME].iter())
     );
     Ok(())
 }
@@ -181,7 +181,7 @@ fn look_at_numbers(rt: &impl Abort, dsp: &Dsp, sample: u32, batches: u64, total:
 
 #[test]
 fn what_was_saved_plays_again(rt: HostRuntime) -> Result<(), Fail> {
-    let rest = [SILENCE, SILENCE, SILENCE, SOUND, SOUND];
+    let rest = [SILENT_FRAME, SILENT_FRAME, SILENT_FRAME, SOUND, SOUND];
     let mut stage = one_voice(rt.alloc())?;
     take_step(&mut stage, &[(0x4c, 0x01)], 3);
     let third = stage.dsp.save();

@@ -1,7 +1,7 @@
 //! Worked examples of muted voices.
 
 use crate::sources::put_all;
-use crate::stage::{SILENCE, Stage, begin_in_silence, have_same_bytes, have_same_registers};
+use crate::stage::{SILENT_FRAME, Stage, begin_in_silence, have_same_bytes, have_same_registers};
 use aram_core::Aram;
 use num_fix::Frame;
 use std::alloc::Global;
@@ -138,7 +138,7 @@ fn add_all(sums: &mut [Frame; 64], frames: &[Frame]) {
 
 #[test]
 fn single_voices_add_up_to_all_of_them(rt: HostRuntime) -> Result<(), Fail> {
-    let mut sums = [SILENCE; 64];
+    let mut sums = [SILENT_FRAME; 64];
     for v in 0..8u8 {
         let stage = sung(rt.alloc(), 0xff - (1 << v))?;
         add_all(&mut sums, stage.frames.as_slice());

@@ -11,7 +11,7 @@ use std::alloc::Global;
 use std::test::Fail;
 use trace_form::{Frames, Records};
 
-pub const SILENCE: Frame = Frame { left: 0, right: 0 };
+pub const SILENT_FRAME: Frame = Frame { left: 0, right: 0 };
 
 /// A chip with its memory, and what its last batch made.
 #[derive(Drop)]
@@ -91,7 +91,7 @@ pub fn write_all(dsp: &mut Dsp, writes: &[(u8, u8)]) {
 
 /// Whether frames begin with so many silent ones.
 pub fn begin_in_silence(frames: &[Frame], count: usize) -> bool {
-    frames.iter().take(count).all(|frame| *frame == SILENCE)
+    frames.iter().take(count).all(|frame| *frame == SILENT_FRAME)
 }
 
 /// Whether two chips have the same registers.

@@ -16,7 +16,7 @@ blocks-2-init c = record {
   there = sym (place_after-zero _ _ _);
   group = c.requires.course.group;
   marks = λ j below.
-      let none = marked-none c.args.memory.now c.args.self.now.loop_to c.args.self.now.first (point_at c.args.self.now.track) c.args.self.now.voice j in
+      let none = marked-none c.args.memory.now c.args.self.now.loop_word c.args.self.now.first (point_at c.args.self.now.track) c.args.self.now.voice j in
       rw none (omega arith);
   before = λ i below. refl;
   later = λ i above. refl;
@@ -28,7 +28,7 @@ blocks-2-init c = record {
 pub blocks-2-preserved : goal.blocks-2-preserved
 blocks-2-preserved c =
     let memory : List ℕ = c.args.memory.now in
-    let loop_to : ℕ = c.args.self.now.loop_to in
+    let loop_word : ℕ = c.args.self.now.loop_word in
     let first : Place = c.args.self.now.first in
     let d : ℕ = c.blocks-2.d in
     let at : Place = c.blocks-2.place in
@@ -38,15 +38,15 @@ blocks-2-preserved c =
     let group = c.blocks-2.invariant.group in
     record {
       few = omega (arith, c.if-count-d.false);
-      row = row_with_block memory loop_to first d at there group left all (take 12 c.args.row.now) c.blocks-2.row c.read_rest.new.row c.blocks-2.invariant.row
-          (λ e few. rw c.from.ensures at (c.read_rest.ensures loop_to e few)) left (omega arith);
-      there = c.next_block-next.ensures.first ∙ sym (after_block memory loop_to first d at there group left all);
+      row = row_with_block memory loop_word first d at there group left all (take 12 c.args.row.now) c.blocks-2.row c.read_rest.new.row c.blocks-2.invariant.row
+          (λ e few. rw c.from.ensures at (c.read_rest.ensures loop_word e few)) left (omega arith);
+      there = c.next_block-next.ensures.first ∙ sym (after_block memory loop_word first d at there group left all);
       group = c.next_block-next.ensures.group;
-      marks = λ j below. marks_with_block memory loop_to first d at there group left all (point_at c.args.self.now.track) c.args.self.now.voice j _ _ _
+      marks = λ j below. marks_with_block memory loop_word first d at there group left all (point_at c.args.self.now.track) c.args.self.now.voice j _ _ _
           (c.next_block-next.ensures.ends.marks j below) (c.blocks-2.invariant.marks j below);
       before = λ i below. c.next_block-next.ensures.ends.before_it i below ∙ c.blocks-2.invariant.before i below;
       later = λ i above. c.next_block-next.ensures.ends.later i above ∙ c.blocks-2.invariant.later i above;
-      quiet = λ awake e few loud. quiet_after_block memory loop_to first d at there group left all c.args.self.now.reset c.args.self.now.silent c.next_block-next.result.first c.next_block-next.ensures.first
+      quiet = λ awake e few loud. quiet_after_block memory loop_word first d at there group left all c.args.self.now.reset c.args.self.now.silent c.next_block-next.result.first c.next_block-next.ensures.first
           (c.blocks-2.invariant.quiet awake) (c.next_block-next.ensures.quiet c.if-next.false) e few loud;
     }
 
@@ -62,7 +62,7 @@ returns-then-count-d-clause-stretch c =
       few = omega arith;
       groups = c.groups_in-count.ensures.value;
       few_groups = c.groups_in-count.ensures.few;
-      next = c.further.ensures.place ∙ sym (rw done at (within_block c.args.memory.now c.args.self.now.loop_to c.args.self.now.first d at c.blocks-2.invariant.there c.blocks-2.invariant.group
+      next = c.further.ensures.place ∙ sym (rw done at (within_block c.args.memory.now c.args.self.now.loop_word c.args.self.now.first d at c.blocks-2.invariant.there c.blocks-2.invariant.group
           c.groups_left-left.result c.groups_left-left.ensures.value e c.if-count-d.true));
       group = c.further.ensures.group;
     }
@@ -74,9 +74,9 @@ returns-then-count-d-clause-row c =
     let e : ℕ = c.groups_in-count.result - d in
     let few : e < c.groups_left-left.result = c.if-count-d.true in
     let done : d + e ≡ c.groups_in-count.result = omega (arith, c.blocks-2.invariant.few) in
-    rw done at (row_with_block c.args.memory.now c.args.self.now.loop_to c.args.self.now.first d at c.blocks-2.invariant.there c.blocks-2.invariant.group
+    rw done at (row_with_block c.args.memory.now c.args.self.now.loop_word c.args.self.now.first d at c.blocks-2.invariant.there c.blocks-2.invariant.group
     c.groups_left-left.result c.groups_left-left.ensures.value (take 12 c.args.row.now) c.blocks-2.row c.read_rest.new.row c.blocks-2.invariant.row
-    (λ e few. rw c.from.ensures at (c.read_rest.ensures c.args.self.now.loop_to e few)) e (omega (arith, few)))
+    (λ e few. rw c.from.ensures at (c.read_rest.ensures c.args.self.now.loop_word e few)) e (omega (arith, few)))
 
 pub returns-then-count-d-clause-ends : goal.returns-then-count-d-clause-ends
 returns-then-count-d-clause-ends c = record {
@@ -86,23 +86,23 @@ returns-then-count-d-clause-ends c = record {
 }
   where
     marks : (j : ℕ) → j < c.args.n → slice_index c.blocks-2.ends (c.args.at + j) ≡ slice_index c.args.ends.now (c.args.at + j)
-        + bit_if (ended_in c.args.memory.now c.args.self.now.loop_to c.args.self.now.first (point_at c.args.self.now.track) j) c.args.self.now.voice
+        + bit_if (ended_in c.args.memory.now c.args.self.now.loop_word c.args.self.now.first (point_at c.args.self.now.track) j) c.args.self.now.voice
     marks j below =
         let d : ℕ = c.blocks-2.d in
         let v : ℕ = c.args.self.now.voice in
         let e : ℕ = c.groups_in-count.result - d in
         let few : e < groups_left c.blocks-2.place = rw c.groups_left-left.ensures.value at c.if-count-d.true in
         let done : groups_before (point_at c.args.self.now.track) c.args.n ≡ d + e = omega (arith, c.groups_in-count.ensures.value, c.blocks-2.invariant.few) in
-        let through = marked-through c.args.memory.now c.args.self.now.loop_to c.args.self.now.first c.blocks-2.place (point_at c.args.self.now.track) v d j e
+        let through = marked-through c.args.memory.now c.args.self.now.loop_word c.args.self.now.first c.blocks-2.place (point_at c.args.self.now.track) v d j e
         c.blocks-2.invariant.group c.blocks-2.invariant.there few in
-        let all = rw done at (marked-all c.args.memory.now c.args.self.now.loop_to c.args.self.now.first (point_at c.args.self.now.track) v c.args.n j c.requires.course.track.moves below) in
+        let all = rw done at (marked-all c.args.memory.now c.args.self.now.loop_word c.args.self.now.first (point_at c.args.self.now.track) v c.args.n j c.requires.course.track.moves below) in
         c.blocks-2.invariant.marks j below ∙ ap (λ (x : ℕ). slice_index c.args.ends.now (c.args.at + j) + x) (sym through)
         ∙ ap (λ (b : Bool). slice_index c.args.ends.now (c.args.at + j) + bit_if b v) all
 
 pub returns-then-count-d-clause-quiet : goal.returns-then-count-d-clause-quiet
 returns-then-count-d-clause-quiet c awake j below loud =
     let rise = groups_before-rise (point_at c.args.self.now.track) c.args.n c.requires.course.track.moves j c.args.n (omega (arith, below)) (omega arith) in
-    quiet_in_block c.args.memory.now c.args.self.now.loop_to c.args.self.now.first c.blocks-2.d c.blocks-2.place c.blocks-2.invariant.there c.blocks-2.invariant.group
+    quiet_in_block c.args.memory.now c.args.self.now.loop_word c.args.self.now.first c.blocks-2.d c.blocks-2.place c.blocks-2.invariant.there c.blocks-2.invariant.group
     c.groups_left-left.result c.groups_left-left.ensures.value c.args.self.now.reset c.args.self.now.silent (c.blocks-2.invariant.quiet awake) _
     (omega (arith, rise, c.groups_in-count.ensures.value, c.blocks-2.invariant.few, c.if-count-d.true)) loud
 
@@ -113,16 +113,16 @@ returns-then-next-clause-stretch c = record {
   few = omega (arith, c.reading_sample-last.ensures.within);
   groups = omega (arith, c.reading_sample-last.ensures.after, c.groups_left-left.ensures.some);
   few_groups = omega (arith, c.groups_in-count.ensures.few, c.blocks-2.invariant.few, c.if-count-d.false);
-  next = c.next_block-next.ensures.first ∙ sym (after_block c.args.memory.now c.args.self.now.loop_to c.args.self.now.first c.blocks-2.d c.blocks-2.place c.blocks-2.invariant.there
+  next = c.next_block-next.ensures.first ∙ sym (after_block c.args.memory.now c.args.self.now.loop_word c.args.self.now.first c.blocks-2.d c.blocks-2.place c.blocks-2.invariant.there
       c.blocks-2.invariant.group c.groups_left-left.result c.groups_left-left.ensures.value);
   group = c.next_block-next.ensures.group;
 }
 
 pub returns-then-next-clause-row : goal.returns-then-next-clause-row
 returns-then-next-clause-row c =
-    row_with_block c.args.memory.now c.args.self.now.loop_to c.args.self.now.first c.blocks-2.d c.blocks-2.place c.blocks-2.invariant.there c.blocks-2.invariant.group
+    row_with_block c.args.memory.now c.args.self.now.loop_word c.args.self.now.first c.blocks-2.d c.blocks-2.place c.blocks-2.invariant.there c.blocks-2.invariant.group
     c.groups_left-left.result c.groups_left-left.ensures.value (take 12 c.args.row.now) c.blocks-2.row c.read_rest.new.row c.blocks-2.invariant.row
-    (λ e few. rw c.from.ensures at (c.read_rest.ensures c.args.self.now.loop_to e few)) c.groups_left-left.result (omega arith)
+    (λ e few. rw c.from.ensures at (c.read_rest.ensures c.args.self.now.loop_word e few)) c.groups_left-left.result (omega arith)
 
 pub returns-then-next-clause-ends : goal.returns-then-next-clause-ends
 returns-then-next-clause-ends c = record {
@@ -147,15 +147,15 @@ returns-then-next-clause-ends c = record {
     after = omega (arith, c.reading_sample-last.ensures.after, c.groups_left-left.ensures.some)
 
     grown : (j : ℕ) → j < c.args.n → slice_index c.next_block-next.new.ends (c.args.at + j) ≡ slice_index c.args.ends.now (c.args.at + j)
-        + bit_if (marked c.args.memory.now c.args.self.now.loop_to c.args.self.now.first points v d j) v
-    grown j within = marks_with_block c.args.memory.now c.args.self.now.loop_to c.args.self.now.first c.blocks-2.d c.blocks-2.place c.blocks-2.invariant.there c.blocks-2.invariant.group
+        + bit_if (marked c.args.memory.now c.args.self.now.loop_word c.args.self.now.first points v d j) v
+    grown j within = marks_with_block c.args.memory.now c.args.self.now.loop_word c.args.self.now.first c.blocks-2.d c.blocks-2.place c.blocks-2.invariant.there c.blocks-2.invariant.group
         c.groups_left-left.result c.groups_left-left.ensures.value points v j _ _ _ (c.next_block-next.ensures.ends.marks j within) (c.blocks-2.invariant.marks j within)
 
     marks : (j : ℕ) → j < q + 1 → slice_index c.next_block-next.new.ends (c.args.at + j) ≡ slice_index c.args.ends.now (c.args.at + j)
-        + bit_if (ended_in c.args.memory.now c.args.self.now.loop_to c.args.self.now.first points j) v
+        + bit_if (ended_in c.args.memory.now c.args.self.now.loop_word c.args.self.now.first points j) v
     marks j below =
         let within : j < c.args.n = omega (arith, below, c.reading_sample-last.ensures.within) in
-        let all = rw after at (marked-all c.args.memory.now c.args.self.now.loop_to c.args.self.now.first points v (q + 1) j
+        let all = rw after at (marked-all c.args.memory.now c.args.self.now.loop_word c.args.self.now.first points v (q + 1) j
         (fewer points c.args.n (q + 1) (omega (arith, c.reading_sample-last.ensures.within)) c.requires.course.track.moves) below) in
         grown j within ∙ ap (λ (b : Bool). slice_index c.args.ends.now (c.args.at + j) + bit_if b v) all
 
@@ -168,7 +168,7 @@ returns-then-next-clause-ends c = record {
             let part : c.args.at + (i - c.args.at) ≡ i = omega (arith, above) in
             let within : i - c.args.at < c.args.n = omega (arith, below, above) in
             let rise = groups_before-rise points c.args.n c.requires.course.track.moves (q + 1) (i - c.args.at) (omega (arith, above)) (omega (arith, within)) in
-            let none = marked-later c.args.memory.now c.args.self.now.loop_to c.args.self.now.first points v d (i - c.args.at) (omega (arith, rise, after)) in
+            let none = marked-later c.args.memory.now c.args.self.now.loop_word c.args.self.now.first points v d (i - c.args.at) (omega (arith, rise, after)) in
             let old : ℕ = slice_index c.args.ends.now (c.args.at + (i - c.args.at)) in
             let more : old + 0 ≡ old = omega arith in
             let kept = rw none at (grown (i - c.args.at) within) ∙ more in
@@ -181,7 +181,7 @@ pub returns-then-next-clause-quiet : goal.returns-then-next-clause-quiet
 returns-then-next-clause-quiet c awake j below loud =
     let rise = groups_before-rise (point_at c.args.self.now.track) c.args.n c.requires.course.track.moves j c.reading_sample-last.result (omega (arith, below))
     (omega (arith, c.reading_sample-last.ensures.within)) in
-    quiet_in_block c.args.memory.now c.args.self.now.loop_to c.args.self.now.first c.blocks-2.d c.blocks-2.place c.blocks-2.invariant.there c.blocks-2.invariant.group
+    quiet_in_block c.args.memory.now c.args.self.now.loop_word c.args.self.now.first c.blocks-2.d c.blocks-2.place c.blocks-2.invariant.there c.blocks-2.invariant.group
     c.groups_left-left.result c.groups_left-left.ensures.value c.args.self.now.reset c.args.self.now.silent (c.blocks-2.invariant.quiet awake) _
     (omega (arith, rise, c.reading_sample-last.ensures.before, c.groups_left-left.ensures.some)) loud
 
@@ -194,12 +194,12 @@ returns-clause-ends c = record {
 }
   where
     marks : (j : ℕ) → j < c.args.n → slice_index c.blocks-2.ends (c.args.at + j) ≡ slice_index c.args.ends.now (c.args.at + j)
-        + bit_if (ended_in c.args.memory.now c.args.self.now.loop_to c.args.self.now.first (point_at c.args.self.now.track) j) c.args.self.now.voice
+        + bit_if (ended_in c.args.memory.now c.args.self.now.loop_word c.args.self.now.first (point_at c.args.self.now.track) j) c.args.self.now.voice
     marks j below =
         let d : ℕ = c.blocks-2.d in
         let v : ℕ = c.args.self.now.voice in
         let done : groups_before (point_at c.args.self.now.track) c.args.n ≡ d = omega (arith, c.groups_in-count.ensures.value, c.blocks-2-test.false, c.blocks-2.invariant.few) in
-        let all = rw done at (marked-all c.args.memory.now c.args.self.now.loop_to c.args.self.now.first (point_at c.args.self.now.track) v c.args.n j c.requires.course.track.moves below) in
+        let all = rw done at (marked-all c.args.memory.now c.args.self.now.loop_word c.args.self.now.first (point_at c.args.self.now.track) v c.args.n j c.requires.course.track.moves below) in
         c.blocks-2.invariant.marks j below ∙ ap (λ (b : Bool). slice_index c.args.ends.now (c.args.at + j) + bit_if b v) all
 
 pub returns-clause-quiet : goal.returns-clause-quiet

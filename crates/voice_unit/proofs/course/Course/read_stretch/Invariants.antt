@@ -9,15 +9,15 @@ use Rattle.voice_unit.proofs.course.Course.read_stretch.Given as goal
 abbrev pub invariant-blocks-2 : goal.invariant-blocks-2
 invariant-blocks-2 l = record {
   few : l.d ≤ l.count;
-  row : take (12 + 4 * l.d) l.row ≡ kept_row l.memory l.self.loop_to l.self.first (take 12 l.initial.row) l.d;
-  there : l.place ≡ place_after l.memory l.self.loop_to l.self.first l.d;
+  row : take (12 + 4 * l.d) l.row ≡ kept_row l.memory l.self.loop_word l.self.first (take 12 l.initial.row) l.d;
+  there : l.place ≡ place_after l.memory l.self.loop_word l.self.first l.d;
   group : IsGroup l.place;
   marks : (j : ℕ) → j < l.n → slice_index l.ends (l.at + j)
-      ≡ slice_index l.initial.ends (l.at + j) + bit_if (marked l.memory l.self.loop_to l.self.first (point_at l.self.track) l.self.voice l.d j) l.self.voice;
+      ≡ slice_index l.initial.ends (l.at + j) + bit_if (marked l.memory l.self.loop_word l.self.first (point_at l.self.track) l.self.voice l.d j) l.self.voice;
   before : (i : ℕ) → i < l.at → slice_index l.ends i ≡ slice_index l.initial.ends i;
   later : (i : ℕ) → l.at + l.n ≤ i → slice_index l.ends i ≡ slice_index l.initial.ends i;
   quiet : (is_silencing l.self.reset (byte_at l.memory l.self.first.block) ≡ true → l.self.silent ≡ true)
-      → (e : ℕ) → e ≤ l.d → is_silencing l.self.reset (byte_at l.memory (place_after l.memory l.self.loop_to l.self.first e).block) ≡ true → l.self.silent ≡ true;
+      → (e : ℕ) → e ≤ l.d → is_silencing l.self.reset (byte_at l.memory (place_after l.memory l.self.loop_word l.self.first e).block) ≡ true → l.self.silent ≡ true;
 }
 
 abbrev pub decreases-blocks-2 : goal.decreases-blocks-2

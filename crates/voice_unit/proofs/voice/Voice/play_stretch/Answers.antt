@@ -24,13 +24,13 @@ returns-clause-so_far c plays before over glides so_far =
     let few : m ≤ c.args.n = c.read_stretch-stretch.ensures.stretch.few in
     let points : ℕ → ℕ = point_at c.course-course.result.track in
     let groups = c.read_stretch-stretch.ensures.stretch.groups in
-    let next = rw (c.course-course.ensures.loop_to, c.course-course.ensures.first, ← memory, ← regs) at c.read_stretch-stretch.ensures.stretch.next in
-    let kept = rw (c.course-course.ensures.loop_to, c.course-course.ensures.first, c.begin_row.ensures.row, ← memory, ← regs) at c.read_stretch-stretch.ensures.row in
+    let next = rw (c.course-course.ensures.loop_word, c.course-course.ensures.first, ← memory, ← regs) at c.read_stretch-stretch.ensures.stretch.next in
+    let kept = rw (c.course-course.ensures.loop_word, c.course-course.ensures.first, c.begin_row.ensures.row, ← memory, ← regs) at c.read_stretch-stretch.ensures.row in
     let awake : is_silencing c.course-course.result.reset (byte_at c.args.reads.now.memory.now c.course-course.result.first.block) ≡ true → c.course-course.result.silent ≡ true =
     λ loud. c.course-course.ensures.all_silent (so_far.at_rest.silencing (omega (arith, c.requires.some, c.requires.resting))
     (rw (c.course-course.ensures.reset, c.course-course.ensures.first, ← memory) at loud)) in
-    let quiet = rw (c.course-course.ensures.reset, c.course-course.ensures.loop_to, c.course-course.ensures.first, ← memory, ← regs) at (c.read_stretch-stretch.ensures.quiet awake) in
-    let marks = rw (c.course-course.ensures.voice, c.course-course.ensures.loop_to, c.course-course.ensures.first, ← memory, ← regs) at c.read_stretch-stretch.ensures.ends.marks in
+    let quiet = rw (c.course-course.ensures.reset, c.course-course.ensures.loop_word, c.course-course.ensures.first, ← memory, ← regs) at (c.read_stretch-stretch.ensures.quiet awake) in
+    let marks = rw (c.course-course.ensures.voice, c.course-course.ensures.loop_word, c.course-course.ensures.first, ← memory, ← regs) at c.read_stretch-stretch.ensures.ends.marks in
     let outs = rw (c.course-course.ensures.noisy, c.course-course.ensures.level, ← table) at c.sound.ensures.outs in
     let is_position = ap (λ (w : VoiceState). w.position + 0x4000 * c.read_stretch-stretch.result.groups) c.go_to.ensures ∙ c.position_after-position.ensures.value in
     let position = rw groups at is_position in
@@ -71,7 +71,7 @@ returns-clause-level c plays before over glides so_far =
     let awake : is_silencing c.course-course.result.reset (byte_at c.args.reads.now.memory.now c.course-course.result.first.block) ≡ true → c.course-course.result.silent ≡ true =
     λ loud. c.course-course.ensures.all_silent (so_far.at_rest.silencing (omega (arith, c.requires.some, c.requires.resting))
     (rw (c.course-course.ensures.reset, c.course-course.ensures.first, ← memory) at loud)) in
-    let quiet = rw (c.course-course.ensures.reset, c.course-course.ensures.loop_to, c.course-course.ensures.first, ← memory, ← regs) at (c.read_stretch-stretch.ensures.quiet awake) in
+    let quiet = rw (c.course-course.ensures.reset, c.course-course.ensures.loop_word, c.course-course.ensures.first, ← memory, ← regs) at (c.read_stretch-stretch.ensures.quiet awake) in
     let same = last_level c.args.reads.now.seen plays c.args.at c.read_stretch-stretch.result.samples c.args.rest before c.args.made.now.ends c.args.made.now.outs c.args.self.now so_far c.begin_row.ensures.twelve
     (rw c.course-course.ensures.position at c.course-course.ensures.course.track.position)
     (slice_index c.args.reads.now.rows.now.noise) over.noise (λ j below. glides (c.args.at + j) (omega arith) (omega (arith, below, few))) c.read_stretch-stretch.ensures.stretch.some (omega (arith, few, c.requires.resting))
@@ -90,7 +90,7 @@ returns-clause-lower c i from below = by (nat_lt i (c.args.at + c.read_stretch-s
         let part : c.args.at + (i - c.args.at) ≡ i = omega (arith, from) in
         let old : slice_index c.args.made.now.ends (c.args.at + (i - c.args.at)) < 2 ^ c.args.reads.now.seen.voice = rw part (c.requires.lower i from below) in
         let made = rw c.course-course.ensures.voice at (c.read_stretch-stretch.ensures.ends.marks (i - c.args.at) (omega (arith, early, from))) in
-        let more = bit-bound (ended_in c.args.reads.now.memory.now c.course-course.result.loop_to c.course-course.result.first (point_at c.course-course.result.track) (i - c.args.at))
+        let more = bit-bound (ended_in c.args.reads.now.memory.now c.course-course.result.loop_word c.course-course.result.first (point_at c.course-course.result.track) (i - c.args.at))
         c.args.reads.now.seen.voice _ old in
         rw (← part) (rw made more)
     by false e =
