@@ -18,11 +18,12 @@ ghost use Rattle.cut_server.specs.IsServed.{GoesOn, GoesBack};
 
 use crate::OutOfMemory;
 use crate::pages::own_slots;
-use crate::running::{run_out, run_out_into};
+use crate::running::{run_out, run_out_into, run_out_over};
 use crate::table::Table;
 use aram_core::Aram;
 use chip_form::Chip;
 use cut_form::{Marked, NoPages};
+use num_fix::Frame;
 use render_core::{PlayState, Render};
 use spc_form::SpcFile;
 use std::alloc::Global;
@@ -178,6 +179,21 @@ impl<C: Chip> CutServer<C> {
         self.render.aim(self.position + most);
         run_out_into(&mut self.render, frames);
         self.position += most;
+    }
+
+    /// Plays as many frames as there are places: a slice of those that the run from the opening emits, whatever was called before. The chip
+    /// makes what is pending once, at their end, so that the more are played the fewer batches are cut short.
+    pub fn play_into(&mut self, frames: &mut [Frame])
+        requires within { (book_of self.old).position + length frames.old ≤ most_frames }
+        ensures frames { let start = (book_of self.old).position in
+            frames.new ≡ slice_of (frames_to C.meaning C.saving self.old) start (length frames.old) }
+        ensures book { book_of self.new ≡ counted_book (after_play (book_of self.old) (length frames.old)) }
+        ensures tune { KeepsTune C.meaning C.saving self.old self.new }
+    {
+        let count = frames.len() as u32;
+        self.render.aim(self.position + count);
+        run_out_over(&mut self.render, frames);
+        self.position += count;
     }
 
     /// Takes a checkpoint at the position, unless it needs more slots than are free.
