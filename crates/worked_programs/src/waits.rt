@@ -1,6 +1,8 @@
 //! Loops that wait, over both buses. The bus that makes samples late makes their rounds at once, the other one step by step.
 
-use crate::machines::{KEYED_REGISTERS, Run, SILENT_FRAME, SOURCE, opening_of, run_late, run_plain};
+use crate::machines::{
+    KEYED_REGISTERS, Run, SILENT_FRAME, SOURCE, opening_of, run_late, run_plain,
+};
 use num_fix::Frame;
 use sound_bus::Counts;
 use std::alloc::Global;

@@ -4,8 +4,8 @@ ghost use Rattle.std.specs.Prelude.{◌≤◌};
 
 use crate::sources::put_all;
 use crate::stage::{
-    SILENT_FRAME, Stage, begin_in_silence, have_same_bytes, have_same_registers, keyed_voice, one_voice,
-    write_all,
+    SILENT_FRAME, Stage, begin_in_silence, have_same_bytes, have_same_registers, keyed_voice,
+    one_voice, write_all,
 };
 use aram_core::Aram;
 use dsp_core::Dsp;
@@ -38,7 +38,15 @@ const SOUND: Frame = Frame {
 };
 
 /// The frames of a source that was keyed in the sample before them.
-const SEVEN: [Frame; 7] = [SILENT_FRAME, SILENT_FRAME, SILENT_FRAME, SILENT_FRAME, SILENT_FRAME, SOUND, SOUND];
+const SEVEN: [Frame; 7] = [
+    SILENT_FRAME,
+    SILENT_FRAME,
+    SILENT_FRAME,
+    SILENT_FRAME,
+    SILENT_FRAME,
+    SOUND,
+    SOUND,
+];
 
 /// What was made in steps, and what the chip then tells.
 #[derive(Drop)]

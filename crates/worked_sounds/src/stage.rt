@@ -91,7 +91,10 @@ pub fn write_all(dsp: &mut Dsp, writes: &[(u8, u8)]) {
 
 /// Whether frames begin with so many silent ones.
 pub fn begin_in_silence(frames: &[Frame], count: usize) -> bool {
-    frames.iter().take(count).all(|frame| *frame == SILENT_FRAME)
+    frames
+        .iter()
+        .take(count)
+        .all(|frame| *frame == SILENT_FRAME)
 }
 
 /// Whether two chips have the same registers.
