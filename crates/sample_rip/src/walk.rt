@@ -1,6 +1,7 @@
 // A walk over the samples of a rip.
 ghost use Rattle.std.specs.Prelude.{◌≡◌, ◌+◌, ◌<◌, ◌≤◌, ◌↔◌, ◌++◌, [], List, ℕ, IsNone, IfNone, IfSome, MatchOption};
-ghost use Rattle.sample_rip.specs.Walk.{walk_start, IsWalkOver, samples_ahead};
+ghost use Rattle.num_fix.specs.SignedWords.{number_at};
+ghost use Rattle.sample_rip.specs.Walk.{walk_start, IsWalkOver, IsNextBlock, samples_ahead};
 
 use crate::RipFound;
 use crate::blocks::block_bytes;
@@ -66,6 +67,9 @@ impl RipWalk {
         ensures samples { IsWalkOver memory.now self.old →
             MatchOption result (samples_ahead memory.now self.old ≡ [])
             (λ block. samples_ahead memory.now self.old ≡ block ++ samples_ahead memory.now self.new) }
+        // Whatever the memory was at earlier calls, the samples are those of the next block as it is now, after the last two.
+        ensures block { IfSome result (λ block. IsNextBlock memory.now self.old block) }
+        ensures last { IfSome result (λ block. (self.new.last ≡ number_at block 15) × (self.new.before ≡ number_at block 14)) }
         ensures passed { IfSome result (λ _. (self.old.passed < self.old.blocks) × (self.new.passed ≡ self.old.passed + 1)) }
         ensures same { (self.new.blocks ≡ self.old.blocks) × (self.new.start ≡ self.old.start) }
     {
