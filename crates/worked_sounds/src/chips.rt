@@ -316,6 +316,18 @@ fn each_side_has_its_own_volumes(rt: HostRuntime) -> Result<(), Fail> {
     Ok(())
 }
 
+// 4064 at a voice's volume 80h, -128, is -4064, and at the main volume 7Fh -4033.
+#[test]
+fn a_volume_of_either_side_has_a_sign(rt: HostRuntime) -> Result<(), Fail> {
+    for (register, left, right) in [(0x00, -4033, 4000), (0x01, 4000, -4033)] {
+        let mut stage = one_voice(rt.alloc())?;
+        take_step(&mut stage, &[(register, 0x80), (0x4c, 0x01)], 7);
+        let heard = Frame { left, right };
+        assert!(rt; stage.frames.as_slice().get(6) == Some(&heard));
+    }
+    Ok(())
+}
+
 /// How many bytes from an address on are 0.
 fn zeros_from(memory: &Aram, from: u16) -> u32 {
     for k in 0..0x10000u32 {
