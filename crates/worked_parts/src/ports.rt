@@ -176,3 +176,24 @@ fn a_target_below_the_inner_counter_waits_for_a_round(rt: HostRuntime) {
     tick_from(&mut io, 4128, 4144);
     assert!(rt; io.read(0xFF) == Some(1));
 }
+
+// A read clears an output counter, a write doesn't. Neither it nor one of F0h, F3h, F8h or F9h does anything but reach memory.
+#[test]
+fn writes_that_only_reach_memory(rt: HostRuntime) {
+    for address in [
+        0x00EF, 0x00F0, 0x00F3, 0x00F8, 0x00F9, 0x00FD, 0x00FE, 0x00FF, 0x0100,
+    ] {
+        let mut io = with_counters(0x07);
+        io.write(address, 0xFF);
+        assert!(rt; io == with_counters(0x07), "at {address:04x}");
+    }
+}
+
+#[test]
+fn each_port_has_its_own_output_latch(rt: HostRuntime) {
+    let mut io = Io::from_cells([1; 16], [0; 64]);
+    for (address, value) in [(0xF4, 7), (0xF5, 8), (0xF6, 9), (0xF7, 10)] {
+        io.write(address, value);
+    }
+    assert!(rt; (io.input, io.output) == ([1; 4], [7, 8, 9, 10]));
+}

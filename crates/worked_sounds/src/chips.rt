@@ -158,6 +158,17 @@ fn the_first_sound_is_told_in_the_results(rt: HostRuntime) -> Result<(), Fail> {
     Ok(())
 }
 
+// Digits of -1 under the shift 12 give -4096, which is -4064 at the level 7F0h. That is F020h.
+#[test]
+fn outx_has_the_high_byte_of_a_negative_output(rt: HostRuntime) -> Result<(), Fail> {
+    let mut stage = keyed_voice(rt.alloc(), 0x01)?;
+    let block = [0xc3, 0xff, 0xff, 0xff, 0xff, 0xff, 0xff, 0xff, 0xff];
+    put_all(&mut stage.memory, 0x0500, &block);
+    take_step(&mut stage, &[], 7);
+    assert!(rt; results(&stage.dsp) == (0x7f, 0xf0));
+    Ok(())
+}
+
 #[test]
 fn a_key_off_at_the_next_poll_releases(rt: HostRuntime) -> Result<(), Fail> {
     let keys: &[(u8, u8)] = &[(0x4c, 0x01), (0x5c, 0x01)];
