@@ -354,6 +354,11 @@ SLIPS = [
         (TIMER, 'after_output_read timer = record timer { output = 0 }', 'after_output_read timer = timer'),
         (IO_CODE, 'std::mem::replace(&mut self.timer0.output, 0)', 'self.timer0.output'), (IO_CODE, 'std::mem::replace(&mut self.timer1.output, 0)', 'self.timer1.output'),
         (IO_CODE, 'std::mem::replace(&mut self.timer2.output, 0)', 'self.timer2.output')]),
+    Slip('a write of FDh clears the output counter', ['ports_timers'], ['worked_parts'], [
+        (IO, '    else if at == 0xFA then record io', '    else if at == 0xFD then record io { timer0 = after_output_read io.timer0 }\n    else if at == 0xFA then record io'),
+        (IO_CODE, '            0xFA => self.timer0.target = value,', '            0xFD => self.timer0.output = 0,\n            0xFA => self.timer0.target = value,')]),
+    Slip('a write of F7h goes to no output latch', ['ports_timers'], ['worked_parts'], [
+        (IO, 'is_within 0xF4 0xF7 at then record', 'is_within 0xF4 0xF6 at then record'), (IO_CODE, '0xF4..=0xF7 => self.output', '0xF4..=0xF6 => self.output')]),
     Slip('timer 1 starts anew where timer 0 is enabled', ['ports_timers'], ['worked_parts'], [
         (IO, 'io.control value 1 io.timer1', 'io.control value 0 io.timer1'), (IO_CODE, '(old, value, 1, self.timer1)', '(old, value, 0, self.timer1)')]),
     Slip('a timer starts anew unless it stays enabled', ['ports_timers'], ['worked_parts'], [
@@ -474,6 +479,9 @@ SLIPS = [
     Slip("a voice's right volume without a sign", ['dsp_state'], ['worked_sounds'], [
         (VOLUMES, 'sign8 (voice_register registers v VOLR)', 'pos (voice_register registers v VOLR)'),
         (VOLUMES_CODE, 'sign8(voice_register(registers, v, VOLR)) as i16', 'i16::from(voice_register(registers, v, VOLR))')]),
+    Slip('OUTX without the sign of the output', ['num_fix', 'voice_unit'], ['worked_sounds'], [
+        ('num_fix/specs/Arithmetic.antt', 'high_byte z = unsigned_abs (int_rem_euclid (floor_shift z 8) (pos 256))', 'high_byte z = unsigned_abs z / 0x100'),
+        (LEVEL, '(out >> 8).rem_euclid(0x100) as u8', '((if out < 0 { 0 - out as i32 } else { out as i32 }) >> 8) as u8')]),
     Slip('a register is written by an address from 80h on', ['dsp_state', 'dsp_core'], ['worked_sounds'], [
         (OUTSIDE, 'if nat_le 0x80 address then s\n    else record s', 'record s'), (OUTSIDE, '◌==◌, nat_le,', '◌==◌,'),
         (OUTSIDE, 'slice_set s.registers address (if address == ENDX', 'slice_set s.registers (address % 0x80) (if address % 0x80 == ENDX'),
