@@ -246,7 +246,7 @@ fn play_places<C: Chip>(server: &mut CutServer<C>, at: u32, places: &mut [Frame]
     (server.at(), server.work())
 }
 
-// The voice is heard from sample 6 to 63. A seek to 60 and six frames make 66 samples, and 70 frames from 0 on as many more.
+// The voice is heard from sample 6 to 63. A seek to 60 and six frames make 66 samples, and 70 frames from 0 on make 70 more.
 #[test]
 fn as_many_frames_as_there_are_places(rt: HostRuntime) -> Result<(), Fail> {
     let alloc = rt.alloc();
