@@ -354,6 +354,26 @@ SLIPS = [
         (TIMER, 'after_output_read timer = record timer { output = 0 }', 'after_output_read timer = timer'),
         (IO_CODE, 'std::mem::replace(&mut self.timer0.output, 0)', 'self.timer0.output'), (IO_CODE, 'std::mem::replace(&mut self.timer1.output, 0)', 'self.timer1.output'),
         (IO_CODE, 'std::mem::replace(&mut self.timer2.output, 0)', 'self.timer2.output')]),
+    Slip('a write of FDh clears the output counter', ['ports_timers'], ['worked_parts'], [
+        (IO, '    else if at == 0xFA then record io', '    else if at == 0xFD then record io { timer0 = after_output_read io.timer0 }\n    else if at == 0xFA then record io'),
+        (IO_CODE, '            0xFA => self.timer0.target = value,', '            0xFD => self.timer0.output = 0,\n            0xFA => self.timer0.target = value,')]),
+    Slip('a write of F7h goes to no output latch', ['ports_timers'], ['worked_parts'], [
+        (IO, 'is_within 0xF4 0xF7 at then record', 'is_within 0xF4 0xF6 at then record'), (IO_CODE, '0xF4..=0xF7 => self.output', '0xF4..=0xF6 => self.output')]),
+    Slip('timer 1 starts anew where timer 0 is enabled', ['ports_timers'], ['worked_parts'], [
+        (IO, 'io.control value 1 io.timer1', 'io.control value 0 io.timer1'), (IO_CODE, '(old, value, 1, self.timer1)', '(old, value, 0, self.timer1)')]),
+    Slip('a timer starts anew unless it stays enabled', ['ports_timers'], ['worked_parts'], [
+        (IO, 'if not (is_enabled index old) && is_enabled index new then', 'if not (is_enabled index old && is_enabled index new) then'),
+        (IO_CODE, 'if !has_bit(old, index) && has_bit(new, index) {', 'if !(has_bit(old, index) && has_bit(new, index)) {')]),
+    Slip('a timer counts while it is disabled', ['ports_timers'], ['worked_parts'], [
+        (TIMER, 'clock cycles) timer else timer', 'clock cycles) timer else after_ticks (tick_count period clock cycles) timer'),
+        (TIMER_CODE, '        if enabled {', '        if enabled || cycles > 0 {')]),
+    Slip('a target below the inner counter is met at the next tick', ['ports_timers'], ['worked_parts'], [
+        (TIMER, 'if inner == timer.target\n', 'if (inner == timer.target) || (nat_lt 0 timer.target && nat_lt timer.target inner)\n'),
+        (TIMER, '◌==◌, Bool,', '◌==◌, Bool, ◌&&◌, ◌||◌, nat_lt,'),
+        (ZEROS, 'ticks_to_count timer = (timer', 'ticks_to_count timer = if nat_lt 0 timer.target && nat_lt timer.target (timer.inner + 1) then 1 else (timer'),
+        (TIMER_CODE, '    u64::from(timer.target.wrapping_sub(timer.inner).wrapping_sub(1)) + 1\n',
+         '    if timer.target > 0 && timer.inner >= timer.target {\n        return 1;\n    }\n'
+         '    u64::from(timer.target.wrapping_sub(timer.inner).wrapping_sub(1)) + 1\n')]),
     Slip('input latches 0 and 1 exchanged at the opening', ['ports_timers'], ['worked_parts'], [
         (IO, 'cell 0xF4 ∷ cell 0xF5', 'cell 0xF5 ∷ cell 0xF4'), (IO_CODE, 'cells[0x4], cells[0x5]', 'cells[0x5], cells[0x4]')]),
     Slip('a write of a port goes to its input latch', ['ports_timers'], ['worked_parts'], [
@@ -437,6 +457,11 @@ SLIPS = [
     Slip('the older weights exchanged', ['gauss_table'], ['worked_parts'], [
         (MIX, 'number_at table (255 - i)', 'number_at table (510 - i)'), (MIX, 'number_at table (511 - i)', 'number_at table (255 - i)'), (MIX, 'number_at table (510 - i)', 'number_at table (511 - i)'),
         (QUAD, 'weights[255 - place]', 'weights[510 - place]'), (QUAD, 'weights[511 - place]', 'weights[255 - place]'), (QUAD, 'weights[510 - place]', 'weights[511 - place]')]),
+    Slip('the outer weights exchanged', ['gauss_table'], ['worked_parts'], [
+        (MIX, '(number_at table (255 - i)) x0', '(number_at table i) x0'), (MIX, '(number_at table i) x3', '(number_at table (255 - i)) x3'),
+        ('gauss_table/specs/Quads.antt', 'oldest = number_at table (255 - i)', 'oldest = number_at table i'),
+        ('gauss_table/specs/Quads.antt', 'newest = number_at table i', 'newest = number_at table (255 - i)'),
+        (QUAD, 'oldest: weights[255 - place]', 'oldest: weights[place]'), (QUAD, 'newest: weights[place]', 'newest: weights[255 - place]')]),
     Slip('weights over 1,024', ['gauss_table'], ['worked_parts'], [
         (MIX, 'scaled weight sample 11', 'scaled weight sample 10'), (TAPS, 'scaled(weight, sample, 11)', 'scaled(weight, sample, 10)')]),
 
@@ -445,6 +470,38 @@ SLIPS = [
         (FLG, 'has_bit flg 6', 'has_bit flg 7'), (FLG_CODE, 'has_bit(flg, 6)', 'has_bit(flg, 7)')]),
     Slip('echo writes by bit 4 of FLG', ['echo_unit'], ['worked_sounds'], [
         (FLG, 'has_bit flg 5', 'has_bit flg 4'), (FLG_CODE, 'has_bit(flg, 5)', 'has_bit(flg, 4)')]),
+    Slip('no echo writes while the output is mute', ['echo_unit'], ['worked_sounds'], [
+        (FLG, 'not (has_bit flg 5)', 'not (has_bit flg 5) && not (has_bit flg 6)'), (FLG, '{ℕ, Bool, not}', '{ℕ, Bool, ◌&&◌, not}'),
+        (FLG_CODE, '!has_bit(flg, 5)', '!has_bit(flg, 5) && !has_bit(flg, 6)')]),
+    Slip('the soft reset mutes the output', ['echo_unit'], ['worked_sounds'], [
+        (FLG, 'is_muted flg = has_bit flg 6', 'is_muted flg = has_bit flg 6 || has_bit flg 7'), (FLG, '{ℕ, Bool, not}', '{ℕ, Bool, ◌||◌, not}'),
+        (FLG_CODE, '    has_bit(flg, 6)', '    has_bit(flg, 6) || has_bit(flg, 7)')]),
+    Slip("a voice's right volume without a sign", ['dsp_state'], ['worked_sounds'], [
+        (VOLUMES, 'sign8 (voice_register registers v VOLR)', 'pos (voice_register registers v VOLR)'),
+        (VOLUMES_CODE, 'sign8(voice_register(registers, v, VOLR)) as i16', 'i16::from(voice_register(registers, v, VOLR))')]),
+    Slip('OUTX without the sign of the output', ['num_fix', 'voice_unit'], ['worked_sounds'], [
+        ('num_fix/specs/Arithmetic.antt', 'high_byte z = unsigned_abs (int_rem_euclid (floor_shift z 8) (pos 256))', 'high_byte z = unsigned_abs z / 0x100'),
+        (LEVEL, '(out >> 8).rem_euclid(0x100) as u8', '((if out < 0 { 0 - out as i32 } else { out as i32 }) >> 8) as u8')]),
+    Slip('a register is written by an address from 80h on', ['dsp_state', 'dsp_core'], ['worked_sounds'], [
+        (OUTSIDE, 'if nat_le 0x80 address then s\n    else record s', 'record s'), (OUTSIDE, '◌==◌, nat_le,', '◌==◌,'),
+        (OUTSIDE, 'slice_set s.registers address (if address == ENDX', 'slice_set s.registers (address % 0x80) (if address % 0x80 == ENDX'),
+        (OUTSIDE, 'if address == KON', 'if address % 0x80 == KON'),
+        (DSP_CODE, '        if addr >= 0x80 {\n            return;\n        }\n        self.fresh', '        self.fresh'),
+        (DSP_CODE, 'let place = usize::from(addr);', 'let place = usize::from(addr % 0x80);')]),
+    Slip('a block without an end bit tells in ENDX, too', ['voice_unit'], ['worked_sounds'], [
+        (VOICE, 'is_at_last_group v && has_end header', 'is_at_last_group v'),
+        ('voice_unit/specs/Row.antt', 'at.offset == 7 && has_end (byte_at memory at.block)', 'at.offset == 7'),
+        ('voice_unit/src/row.rt', 'at.offset == 7 && has_end(memory.get(at.block))', 'at.offset == 7'),
+        (VOICE_CODE, '{1}self.offset == LAST_GROUP && has_end(header)', 'self.offset == LAST_GROUP'),
+        (VOICE_CODE, 'self.offset == LAST_GROUP && has_end(header)', 'self.offset == LAST_GROUP')]),
+    Slip('a key on looks at the header of the block before it', ['voice_unit'], ['worked_sounds'], [
+        (VOICE, 'if v.delay == 5 then 0 else byte_at memory v.block', 'byte_at memory v.block'),
+        (VOICE_CODE, 'match self.delay {\n            KEY_ON_DELAY => 0,\n            _ => memory.get(self.block),\n        }', 'memory.get(self.block)')]),
+    Slip('a key off is taken in each sample', ['voice_unit'], ['worked_sounds'], [
+        (VOICE, 'if i.poll && i.koff then', 'if i.koff then'), (VOICE_CODE, 'if input.poll && input.koff {', 'if input.koff {')]),
+    Slip('a directory of one page', ['voice_unit'], ['worked_sounds'], [
+        (DIRECTORY, '(dir * 0x100 + srcn * 4) % 0x10000', 'dir * 0x100 + srcn * 4 % 0x100'),
+        (DIRECTORY_CODE, '.wrapping_add(u16::from(srcn) << 2)', '.wrapping_add((u16::from(srcn) << 2) % 0x100)')]),
     Slip("a voice's volumes exchanged", ['dsp_state'], ['worked_sounds', 'worked_renders'], [
         (REGISTERS, 'VOLL: usize = 0;', 'VOLL: usize = 1;'), (REGISTERS, 'VOLR: usize = 1;', 'VOLR: usize = 0;')]),
     Slip("the echo's volumes exchanged", ['dsp_state'], ['worked_sounds', 'worked_renders'], [

@@ -129,3 +129,71 @@ fn latches(rt: HostRuntime) {
         assert!(rt; (io.input, io.output) == (input, [7, 0, 0, 0]));
     }
 }
+
+/// Timers with the targets 1 and the output counters 5, 6 and 7.
+fn with_counters(control: u8) -> Io {
+    let cells = [
+        0, control, 0, 0, 0, 0, 0, 0, 0, 0, 0x01, 0x01, 0x01, 0x05, 0x06, 0x07,
+    ];
+    Io::from_cells(cells, [0; 64])
+}
+
+/// The output counters of timers 0 to 2.
+fn counters(io: &Io) -> [u8; 3] {
+    [io.timer0.output, io.timer1.output, io.timer2.output]
+}
+
+// In 128 cycles timers 0 and 1 have a tick, and timer 2 has eight. A timer counts while its own bit is set, and starts anew where that comes on: where it
+// goes off or stays, its counter stays.
+#[test]
+fn each_timer_has_its_own_bit_of_the_control(rt: HostRuntime) {
+    for (before, after, left, counted) in [
+        (0x00, 0x00, [5, 6, 7], [5, 6, 7]),
+        (0x00, 0x01, [0, 6, 7], [1, 6, 7]),
+        (0x00, 0x02, [5, 0, 7], [5, 1, 7]),
+        (0x00, 0x04, [5, 6, 0], [5, 6, 8]),
+        (0x07, 0x00, [5, 6, 7], [5, 6, 7]),
+        (0x07, 0x07, [5, 6, 7], [6, 7, 15]),
+    ] {
+        let mut io = with_counters(before);
+        io.write(0xF1, after);
+        assert!(rt; counters(&io) == left, "from {before:02x} to {after:02x}");
+        io.ticks(0, 128);
+        assert!(rt; counters(&io) == counted, "after {before:02x} and {after:02x}");
+    }
+}
+
+// Timer 2 has four ticks under the target 5. Its inner counter is past the target 3 then, and comes to it once it has gone round: 255 ticks later.
+#[test]
+fn a_target_below_the_inner_counter_waits_for_a_round(rt: HostRuntime) {
+    let mut io = Io::from_cells([0; 16], [0; 64]);
+    io.write(0xFC, 0x05);
+    io.write(0xF1, 0x04);
+    tick_from(&mut io, 0, 64);
+    io.write(0xFC, 0x03);
+    tick_from(&mut io, 64, 4128);
+    assert!(rt; io.read(0xFF) == Some(0));
+    tick_from(&mut io, 4128, 4144);
+    assert!(rt; io.read(0xFF) == Some(1));
+}
+
+// A read clears an output counter, a write doesn't. Neither it nor one of F0h, F3h, F8h or F9h does anything but reach memory.
+#[test]
+fn writes_that_only_reach_memory(rt: HostRuntime) {
+    for address in [
+        0x00EF, 0x00F0, 0x00F3, 0x00F8, 0x00F9, 0x00FD, 0x00FE, 0x00FF, 0x0100,
+    ] {
+        let mut io = with_counters(0x07);
+        io.write(address, 0xFF);
+        assert!(rt; io == with_counters(0x07), "at {address:04x}");
+    }
+}
+
+#[test]
+fn each_port_has_its_own_output_latch(rt: HostRuntime) {
+    let mut io = Io::from_cells([1; 16], [0; 64]);
+    for (address, value) in [(0xF4, 7), (0xF5, 8), (0xF6, 9), (0xF7, 10)] {
+        io.write(address, value);
+    }
+    assert!(rt; (io.input, io.output) == ([1; 4], [7, 8, 9, 10]));
+}

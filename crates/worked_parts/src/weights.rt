@@ -20,6 +20,31 @@ fn straight_lines_weigh_the_middle_two(rt: HostRuntime) -> Result<(), Fail> {
     Ok(())
 }
 
+// Four of the weights aren't 0: in 2,048ths, entry 3 is 256, 252 is 2048, 259 is 512 and 508 is 1024.
+#[test]
+fn each_of_four_samples_has_its_own_weight(rt: HostRuntime) -> Result<(), Fail> {
+    let mut bytes = [0u8; 1024];
+    bytes[7] = 0x01;
+    bytes[505] = 0x08;
+    bytes[519] = 0x02;
+    bytes[1017] = 0x04;
+    let table = GaussTable::read(rt.alloc(), &bytes)?;
+    for (i, samples, want) in [
+        (3, (4096, 0, 0, 0), 4096),
+        (3, (0, 4096, 0, 0), 2048),
+        (3, (0, 0, 4096, 0), 1024),
+        (3, (0, 0, 0, 4096), 512),
+        (252, (4096, 0, 0, 0), 512),
+        (252, (0, 4096, 0, 0), 1024),
+        (252, (0, 0, 4096, 0), 2048),
+        (252, (0, 0, 0, 4096), 4096),
+    ] {
+        let (x0, x1, x2, x3) = samples;
+        assert!(rt; table.mix(i, x0, x1, x2, x3) == want, "at {i}");
+    }
+    Ok(())
+}
+
 #[test]
 fn a_table_has_1024_bytes(rt: HostRuntime) -> Result<(), Fail> {
     for length in [1023, 1025] {

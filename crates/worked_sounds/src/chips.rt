@@ -158,6 +158,17 @@ fn the_first_sound_is_told_in_the_results(rt: HostRuntime) -> Result<(), Fail> {
     Ok(())
 }
 
+// Digits of -1 under the shift 12 give -4096, which is -4064 at the level 7F0h. That is F020h.
+#[test]
+fn outx_has_the_high_byte_of_a_negative_output(rt: HostRuntime) -> Result<(), Fail> {
+    let mut stage = keyed_voice(rt.alloc(), 0x01)?;
+    let block = [0xc3, 0xff, 0xff, 0xff, 0xff, 0xff, 0xff, 0xff, 0xff];
+    put_all(&mut stage.memory, 0x0500, &block);
+    take_step(&mut stage, &[], 7);
+    assert!(rt; results(&stage.dsp) == (0x7f, 0xf0));
+    Ok(())
+}
+
 #[test]
 fn a_key_off_at_the_next_poll_releases(rt: HostRuntime) -> Result<(), Fail> {
     let keys: &[(u8, u8)] = &[(0x4c, 0x01), (0x5c, 0x01)];
@@ -313,6 +324,18 @@ fn each_side_has_its_own_volumes(rt: HostRuntime) -> Result<(), Fail> {
         right: 0,
     };
     assert!(rt; stage.frames.as_slice() == [heard].as_slice());
+    Ok(())
+}
+
+// 4064 at a voice's volume 80h, -128, is -4064, and at the main volume 7Fh -4033.
+#[test]
+fn a_volume_of_either_side_has_a_sign(rt: HostRuntime) -> Result<(), Fail> {
+    for (register, left, right) in [(0x00, -4033, 4000), (0x01, 4000, -4033)] {
+        let mut stage = one_voice(rt.alloc())?;
+        take_step(&mut stage, &[(register, 0x80), (0x4c, 0x01)], 7);
+        let heard = Frame { left, right };
+        assert!(rt; stage.frames.as_slice().get(6) == Some(&heard));
+    }
     Ok(())
 }
 

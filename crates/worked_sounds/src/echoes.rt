@@ -239,6 +239,30 @@ fn a_product_with_a_volume_wraps(rt: HostRuntime) -> Result<(), Fail> {
     Ok(())
 }
 
+// The word 4032 is filtered to 4000, and heard as 3968. 64 is sent, and stands in the cell where bit 5 is clear: bit 6 mutes what is heard and not
+// what is written, and neither bit 7 nor the rate of the noise does one or the other.
+#[test]
+fn bit_6_of_flg_mutes_and_bit_5_keeps_the_cell(rt: HostRuntime) -> Result<(), Fail> {
+    for (flg, heard, word) in [
+        (0x00, 3968, 64),
+        (0x20, 3968, 4032),
+        (0x40, 0, 64),
+        (0x60, 0, 4032),
+        (0x9F, 3968, 64),
+    ] {
+        let regs = EchoRegs {
+            flg,
+            evol_l: 0x7F,
+            evol_r: 0x7F,
+            ..fed_back(0x7F, 0)
+        };
+        let cell = [0xC0, 0x0F, 0xC0, 0x0F];
+        let made = written_back(rt.alloc(), &cell, regs, both(0), both(64))?;
+        assert!(rt; made == (both(heard), word, word), "FLG {flg:02x}");
+    }
+    Ok(())
+}
+
 /// A memory with the same words in eight cells that follow each other.
 fn memory_of_cells(alloc: Global) -> Result<Aram, Fail> {
     let zeros = vec![in alloc; 0u8; 65536]?;

@@ -3,6 +3,7 @@
 //! A voice that is keyed in sample 0 is heard from sample 6 on. By then it has read three of the four groups of its block. It reads the last one, and so
 //! ends the block, in the first sample to which it has gone 4000h: at the pitch 1000h that is sample 10.
 
+use crate::sources::put_all;
 use crate::stage::{Stage, keyed_voice, one_voice, write_all};
 use std::alloc::Global;
 use std::process::Abort;
@@ -53,6 +54,18 @@ fn endx_loses_a_voice_that_is_keyed_as_its_block_ends(rt: HostRuntime) -> Result
     look_at_endx(&rt, &mut stage, &[], 10, 0x00);
     look_at_endx(&rt, &mut stage, &[(0x4c, 0x01)], 1, 0x00);
     look_at_endx(&rt, &mut stage, &[], 9, 0x00);
+    look_at_endx(&rt, &mut stage, &[], 1, 0x01);
+    Ok(())
+}
+
+// The block at 0500h has no end bit: the voice goes from its last group, in sample 10, to the block that follows, and ends that one 16 samples later.
+#[test]
+fn endx_tells_only_of_blocks_with_an_end_bit(rt: HostRuntime) -> Result<(), Fail> {
+    let mut stage = keyed_voice(rt.alloc(), 0x01)?;
+    let block = [0xc3, 0x11, 0x11, 0x11, 0x11, 0x11, 0x11, 0x11, 0x11];
+    put_all(&mut stage.memory, 0x0500, &[0xc0]);
+    put_all(&mut stage.memory, 0x0509, &block);
+    look_at_endx(&rt, &mut stage, &[], 26, 0x00);
     look_at_endx(&rt, &mut stage, &[], 1, 0x01);
     Ok(())
 }
@@ -117,5 +130,15 @@ fn the_last_write_of_kon_before_a_poll_counts(rt: HostRuntime) -> Result<(), Fai
         let end = first_end(rt.alloc(), &[(0x13, 0x10), (0x4c, first), (0x4c, last)])?;
         assert!(rt; end == want, "KON {first:02x} and {last:02x}");
     }
+    Ok(())
+}
+
+// CCh is no other name of 4Ch, KON.
+#[test]
+fn no_register_is_written_from_80h_on(rt: HostRuntime) -> Result<(), Fail> {
+    let end = first_end(rt.alloc(), &[(0xcc, 0x01)])?;
+    assert!(rt; end == None);
+    let end = first_end(rt.alloc(), &[(0x4c, 0x01), (0xcc, 0x00)])?;
+    assert!(rt; end == Some((10, 0x01)));
     Ok(())
 }

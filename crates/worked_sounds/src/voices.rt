@@ -62,6 +62,70 @@ fn a_key_on_is_silent_for_six_steps(rt: HostRuntime) -> Result<(), Fail> {
     Ok(())
 }
 
+// A voice that was never keyed stands at a block at 0000h. Its header 01h says that it ends without a loop, and is not looked at in the step after the key on.
+#[test]
+fn a_key_on_leaves_the_block_before_it(rt: HostRuntime) -> Result<(), Fail> {
+    let mut memory = memory_of_a_source(rt.alloc())?;
+    put_all(&mut memory, 0x0000, &[0x01]);
+    let table = GaussTable::straight(rt.alloc())?;
+    let regs = registers();
+    let mut clock = RateClock::new();
+    let mut voice = Voice::new();
+    for (k, want) in (0..8u32).zip([0, 0, 0, 0, 0, 0, 4064, 4064]) {
+        clock.step();
+        let answer = voice.step(&regs, &input_of(k), &memory, &table, &clock);
+        assert!(rt; answer.out == want, "at step {k}");
+    }
+    Ok(())
+}
+
+// The key offs of steps 7 and 9, between two polls, are lost. That of step 10 begins the release: the level falls to 7E8h and then to 7E0h, at which 4096 is
+// heard as 4048 and as 4032.
+#[test]
+fn a_key_off_between_two_polls_is_lost(rt: HostRuntime) -> Result<(), Fail> {
+    let memory = memory_of_a_source(rt.alloc())?;
+    let table = GaussTable::straight(rt.alloc())?;
+    let regs = registers();
+    let mut clock = RateClock::new();
+    let mut voice = Voice::new();
+    for (k, want) in (0..13u32).zip([
+        0, 0, 0, 0, 0, 0, 4064, 4064, 4064, 4064, 4064, 4048, 4032,
+    ]) {
+        let mut input = input_of(k);
+        input.koff = k == 7 || k == 9 || k == 10;
+        clock.step();
+        let answer = voice.step(&regs, &input, &memory, &table, &clock);
+        assert!(rt; answer.out == want, "at step {k}");
+    }
+    Ok(())
+}
+
+// Entry 64 of a directory stands a page after its first one: at 0300h after page 2, and at 0000h after page FFh. Its block of ones under the shift 11
+// gives 2048, which is 2032 at the level 7F0h.
+#[test]
+fn a_directory_goes_over_pages_and_over_the_end_of_memory(rt: HostRuntime) -> Result<(), Fail> {
+    let mut memory = memory_of_a_source(rt.alloc())?;
+    put_all(&mut memory, 0x0000, &[0x00, 0x07, 0x00, 0x07]);
+    put_all(&mut memory, 0x0300, &[0x00, 0x07, 0x00, 0x07]);
+    let block = [0xb3, 0x11, 0x11, 0x11, 0x11, 0x11, 0x11, 0x11, 0x11];
+    put_all(&mut memory, 0x0700, &block);
+    let table = GaussTable::straight(rt.alloc())?;
+    let mut regs = registers();
+    regs.srcn = 0x40;
+    for dir in [0x02, 0xff] {
+        let mut clock = RateClock::new();
+        let mut voice = Voice::new();
+        for (k, want) in (0..8u32).zip([0, 0, 0, 0, 0, 0, 2032, 2032]) {
+            let mut input = input_of(k);
+            input.dir = dir;
+            clock.step();
+            let answer = voice.step(&regs, &input, &memory, &table, &clock);
+            assert!(rt; answer.out == want, "at step {k} from page {dir:02x}");
+        }
+    }
+    Ok(())
+}
+
 // A voice that plays blocks of 4096s goes to a block of zeros under filter 1, C7h: after 4096 these are 3840, 3600, 3374 and so on. Where it is heard again the
 // middle two of the first four are mixed to 3592 + 6 = 3598, which is 3568 at the level 7F0h; without the last samples of before all would be 0.
 #[test]
