@@ -63,8 +63,7 @@ const TWO_FORMATS: &[u8] =
     b"fmt \x10\0\0\0\x01\0\x01\0\x44\xAC\0\0\x88\x58\x01\0\x02\0\x10\0fmt \x10\0\0\0\x01\0\x02\0\x44\xAC\0\0\x10\xB1\x02\0\x04\0\x10\0";
 
 /// One channel in a chunk of 18 bytes, the last two of which say that none come after them, and in one of 14, without its bits.
-const LONG: &[u8] =
-    b"fmt \x12\0\0\0\x01\0\x01\0\x44\xAC\0\0\x88\x58\x01\0\x02\0\x10\0\0\0";
+const LONG: &[u8] = b"fmt \x12\0\0\0\x01\0\x01\0\x44\xAC\0\0\x88\x58\x01\0\x02\0\x10\0\0\0";
 
 const SHORT: &[u8] = b"fmt \x0E\0\0\0\x01\0\x01\0\x44\xAC\0\0\x88\x58\x01\0\x02\0";
 
