@@ -9,6 +9,8 @@ Slip = collections.namedtuple('Slip', 'name crates rows edits')
 
 ASM = 'spc700_asm/specs/Characters.antt'
 ASM_CODE = 'spc700_asm/src/characters.rt'
+ASM_OPERANDS = 'spc700_asm/specs/Operands.antt'
+ASM_STATEMENT = 'spc700_asm/src/statement.rt'
 PATTERNS = 'spc700_asm/specs/Patterns.antt'
 PATTERNS_CODE = 'spc700_asm/src/pattern.rt'
 MNEMONICS = 'spc700_table/specs/Mnemonics.antt'
@@ -159,6 +161,24 @@ SLIPS = [
     Slip('a name at the end of the memory stands for its last byte', ['spc700_asm'], ['worked_files'], [
         ('spc700_asm/specs/Labels.antt', '(name, at % 0x10000)', '(name, min at 0xFFFF)'), ('spc700_asm/specs/Labels.antt', '{ℕ, ◌+◌, ◌*◌, ◌%◌,', '{ℕ, min, ◌+◌, ◌*◌,'),
         ('spc700_asm/src/survey.rt', '(at % 0x1_0000) as u16', 'at.min(0xffff) as u16')]),
+    Slip('registers after a number in capitals alone', ['spc700_asm'], ['worked_files'], [
+        (ASM_OPERANDS, 'bytes_eq (capitals operand.after) pattern.after', 'bytes_eq operand.after pattern.after'),
+        (ASM_STATEMENT, 'is_capitals_of(operand.after, pattern.after)', 'is_same(operand.after, pattern.after)')]),
+    Slip('blanks between a name and its colon', ['spc700_asm'], ['worked_files'], [
+        ('spc700_asm/specs/Statements.antt', 'is_name (take colon text) then Some (Name (take colon text))',
+         'is_name (trim (take colon text)) then Some (Name (trim (take colon text)))'),
+        (ASM_STATEMENT, 'let name = text.split_at(colon).0;', 'let name = trim(text.split_at(colon).0);')]),
+    Slip('bits of direct bytes above 255', ['spc700_asm'], ['worked_files'], [
+        (ASM_OPERANDS, 'is_great (OwnBit own) value bit = is_above 0xFF value || nat_lt 7 (unwrap_or bit 0)', 'is_great (OwnBit own) value bit = nat_lt 7 (unwrap_or bit 0)'),
+        ('spc700_asm/src/faults.rt', 'is_above(0xff, operand.value) || operand.bit.unwrap_or(0) > 7', 'operand.bit.unwrap_or(0) > 7')]),
+    Slip('names where a bit is told', ['spc700_asm'], ['worked_files'], [
+        (ASM_OPERANDS, 'fills register MemoryBit value bit = is_some bit && is_plain value', 'fills register MemoryBit value bit = is_some bit'),
+        (ASM_OPERANDS, 'fills register (OwnBit own) value bit = is_some bit && is_plain value', 'fills register (OwnBit own) value bit = is_some bit'),
+        (ASM_STATEMENT, 'bit.is_some() && is_plain(value)', 'bit.is_some()')]),
+    Slip('a bit dropped where there is none', ['spc700_asm'], ['worked_files'], [
+        (ASM_OPERANDS, 'fills register Byte value bit = is_none bit && is_plain value', 'fills register Byte value bit = is_plain value'),
+        (ASM_OPERANDS, 'fills register (OwnEntry own) value bit = is_none bit && is_plain value', 'fills register (OwnEntry own) value bit = is_plain value'),
+        (ASM_STATEMENT, 'bit.is_none() && is_plain(value)', 'is_plain(value)')]),
 
     # the processor's arithmetic
     Slip('DAA adds 61h to the tens', ['spc700_alu'], ['worked_parts'], [
@@ -236,6 +256,11 @@ SLIPS = [
         (READING, '*b"SNES-SPC700 Sound File Data"', '*b"SNES-SPC700 sound File Data"')]),
     Slip('files of 65,919 bytes accepted', ['spc_form'], ['worked_files', 'worked_commands'], [
         (ACCEPTED, 'least_length = 65920', 'least_length = 65919'), (READING, 'LEAST_LENGTH: usize = 65920', 'LEAST_LENGTH: usize = 65919')]),
+    Slip('missing bytes of a file count as FFh', ['spc_form', 'demo_gen'], ['worked_files'], [
+        (ACCEPTED, 'replicate (n - length bytes) 0', 'replicate (n - length bytes) 0xFF'), (READING, 'copy.resize(size, 0)', 'copy.resize(size, 0xff)')]),
+    Slip('what stands after the digits of a number in a tag', ['spc_form'], ['worked_files'], [
+        (TAGS, 'nat_lt 0 count && list_all', 'nat_lt 0 count || list_all'), (TAGS, 'Bool, ◌&&◌, nat_lt', 'Bool, ◌||◌, nat_lt'),
+        (TAGS_CODE, 'count > 0 && is_blank(', 'count > 0 || is_blank(')]),
     Slip('A shown for X and X for A', ['command_info'], ['worked_commands'], [
         (INFO, 'register_text (codes "a") (a_of file) ++ register_text (codes "x") (x_of file)',
          'register_text (codes "a") (x_of file) ++ register_text (codes "x") (a_of file)'),
@@ -269,6 +294,18 @@ SLIPS = [
         (MONO, '(little_number 2 body == 1)', '(little_number 2 body == 3)'), (MONO_CODE, 'read_u16(body) == 1', 'read_u16(body) == 3')]),
     Slip('two channels read as one', ['wav_form'], ['worked_files'], [
         (MONO, '(little_number 2 (drop 2 body) == 1)', '(little_number 2 (drop 2 body) == 2)'), (MONO_CODE, 'read_u16(&body[2..]) == 1', 'read_u16(&body[2..]) == 2')]),
+    Slip('any format number read as PCM', ['wav_form'], ['worked_files'], [
+        (MONO, '(little_number 2 body == 1) && ', ''), (MONO_CODE, '        && LittleEndian::read_u16(body) == 1\n', '')]),
+    Slip('any number of bits read as 16', ['wav_form'], ['worked_files'], [
+        (MONO, ' && (little_number 2 (drop 14 body) == 16)', ''), (MONO_CODE, '\n        && LittleEndian::read_u16(&body[14..]) == 16', '')]),
+    Slip('formats of 16 bytes alone', ['wav_form'], ['worked_files'], [
+        (MONO, 'nat_le 16 (length body)', '(length body == 16)'), (MONO_CODE, 'body.len() >= 16', 'body.len() == 16')]),
+    Slip('RIFF not looked at', ['wav_form'], ['worked_files'], [
+        (MONO, '(bytes_eq (take 4 bytes) (codes "RIFF") && bytes_eq (take 4 (drop 8 bytes)) (codes "WAVE"))', 'bytes_eq (take 4 (drop 8 bytes)) (codes "WAVE")'),
+        (MONO_CODE, 'bytes[..4].starts_with(b"RIFF") && ', '')]),
+    Slip('WAVE not looked at', ['wav_form'], ['worked_files'], [
+        (MONO, '(bytes_eq (take 4 bytes) (codes "RIFF") && bytes_eq (take 4 (drop 8 bytes)) (codes "WAVE"))', 'bytes_eq (take 4 bytes) (codes "RIFF")'),
+        (MONO_CODE, ' && bytes[8..12].starts_with(b"WAVE")', '')]),
     Slip('a later format says the form, too', ['wav_form'], ['worked_files'], [
         (MONO, '    else if has_format then samples_of_chunks true chunks\n', ''), (MONO, 'samples_of_chunks false chunks\n', 'samples_of_chunks has_format chunks\n'),
         (MONO_CODE, '    if has_format {\n        return Ok(true);\n    }\n', ''), (MONO_CODE, 'return Ok(false);', 'return Ok(has_format);')]),
@@ -689,6 +726,16 @@ SLIPS = [
         (ENCODE_WORDS, 'nat_le 1 (decimal_value word)', 'nat_le 2 (decimal_value word)'), (ENCODE_WORDS_CODE, '(1..=u64::from(MOST_WAYS))', '(2..=u64::from(MOST_WAYS))')]),
     Slip('--loop-at twice', ['command_line'], ['spcwave'], [
         (ENCODE_WORDS, '(once options.loop_at (loop_at_in value))', '(loop_at_in value)'), (ENCODE_WORDS_CODE, '(None, Some(sample)) =>', '(_, Some(sample)) =>')]),
+    Slip('a table whose name begins with a dash', ['command_line'], ['spcwave'], [
+        ('command_line/specs/Command.antt', 'if is_name file && (is_name table && is_name wave) then render_with', 'if is_name file && is_name wave then render_with'),
+        ('command_line/src/words.rt', 'is_name(file.as_str()) && is_name(table.as_str()) && is_name(wave.as_str())', 'is_name(file.as_str()) && is_name(wave.as_str())')]),
+    Slip('ways in three digits', ['command_line'], ['spcwave'], [
+        (ENCODE_WORDS, 'is_number 2 word', 'is_number 3 word'), (ENCODE_WORDS_CODE, 'is_number(2, word)', 'is_number(3, word)')]),
+    Slip('samples to loop to in seven digits', ['command_line'], ['spcwave'], [
+        (ENCODE_WORDS, 'is_number 6 word', 'is_number 7 word'), (ENCODE_WORDS_CODE, 'is_number(6, word)', 'is_number(7, word)')]),
+    Slip('no loop at the sample 116,480', ['command_line'], ['spcwave'], [
+        (ENCODE_WORDS, 'nat_le (decimal_value word) most_samples', 'not (nat_le most_samples (decimal_value word))'), (ENCODE_WORDS, 'nat_le, if', 'nat_le, not, if'),
+        (ENCODE_WORDS_CODE, 'sample <= MOST_SAMPLES', 'sample < MOST_SAMPLES')]),
     Slip('fewer seconds between marks than an hour has', ['player'], ['player'], [
         ('player/src/options.rt', 'MOST_MARK_SECONDS: u32 = 3600', 'MOST_MARK_SECONDS: u32 = 3599')]),
 
@@ -705,6 +752,8 @@ SLIPS = [
         (CHOICE, ', nat_lt, if', ', nat_le, if'),
         (SEARCH, 'limit <= sum', 'limit < sum'), (SEARCH, 'limit ≤ sum', 'limit < sum'), (SEARCH, '(λ limit. sum < limit)', '(λ limit. sum ≤ limit)'),
         (SEARCH, '(λ limit. squares < limit)', '(λ limit. squares ≤ limit)'), (SEARCH, 'limit ≤ greedy_squares', 'limit < greedy_squares')]),
+    Slip('a loop goes on from the block of half its sample', ['brr_search'], ['worked_commands'], [
+        ('brr_search/specs/Options.antt', 'options.loop_at 0 / 16', 'options.loop_at 0 / 32'), ('brr_search/src/options.rt', 'sample as usize / 16', 'sample as usize / 32')]),
     Slip('7,281 blocks encoded', ['brr_encode', 'brr_search', 'sample_rip', 'command_line'], ['worked_files', 'worked_commands'], [
         (ENCODING, 'most_samples = 116480', 'most_samples = 116496'), (ENCODING, 'most_blocks = 7280', 'most_blocks = 7281'),
         ('brr_encode/src/encoder.rt', 'MOST_SAMPLES: usize = 116480', 'MOST_SAMPLES: usize = 116496'), ('sample_rip/src/blocks.rt', 'MOST_BLOCKS: u32 = 7280', 'MOST_BLOCKS: u32 = 7281')]),

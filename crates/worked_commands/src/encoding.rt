@@ -29,6 +29,13 @@ const LOOPED_AT_0: EncodeOptions = EncodeOptions {
     loop_at: Some(0),
 };
 
+/// With a loop that goes on from the sample 16.
+const LOOPED_AT_16: EncodeOptions = EncodeOptions {
+    looped: false,
+    ways: None,
+    loop_at: Some(16),
+};
+
 /// `MONO` with two channels.
 const STEREO: [u8; 44] =
     *b"RIFF\xff\xff\xff\xffWAVEfmt \x10\0\0\0\x01\0\x02\0\0\x7d\0\0\0\xfa\0\0\x02\0\x10\0data\xff\xff\xff\xff";
@@ -36,6 +43,11 @@ const STEREO: [u8; 44] =
 /// Eight times the greatest sample, and eight times the least.
 const STEEP: [u8; 32] =
     *b"\xff\x7f\xff\x7f\xff\x7f\xff\x7f\xff\x7f\xff\x7f\xff\x7f\xff\x7f\0\x80\0\x80\0\x80\0\x80\0\x80\0\x80\0\x80\0\x80";
+
+/// Sixteen samples of 4096, and the sixteen that filter 1 makes after them where all digits are 0: each is 15 16ths of the one before.
+const FALLING: [u8; 64] =
+    *b"\0\x10\0\x10\0\x10\0\x10\0\x10\0\x10\0\x10\0\x10\0\x10\0\x10\0\x10\0\x10\0\x10\0\x10\0\x10\0\x10\
+    \0\x0f\x10\x0e\x2e\x0d\x5a\x0c\x94\x0b\xda\x0a\x2c\x0a\x88\x09\xee\x08\x5e\x08\xd8\x07\x5a\x07\xe4\x06\x74\x06\x0c\x06\xaa\x05";
 
 /// A file of this front, these samples, and zeros up to this length.
 fn sound_of(alloc: Global, front: &[u8], samples: &[u8], length: usize) -> Result<Vec<u8>, Fail> {
@@ -125,6 +137,28 @@ const ENCODED: &[Encoded] = &[
         length: 76,
         blocks: STEEP_BLOCK,
         report: STEEP_REPORT,
+    },
+    Encoded {
+        options: PLAIN,
+        samples: &FALLING,
+        length: 108,
+        blocks: b"\xa0\x44\x44\x44\x44\x44\x44\x44\x44\x05\0\0\0\0\0\0\0\0",
+        report: "block 0 header a0 worst 0 squares 0\nblock 1 header 05 worst 0 squares 0\nblocks 2\n",
+    },
+    Encoded {
+        options: LOOPED,
+        samples: &FALLING,
+        length: 108,
+        blocks: b"\xa0\x44\x44\x44\x44\x44\x44\x44\x44\x07\0\0\0\0\0\0\0\0",
+        report: "block 0 header a0 worst 0 squares 0\nblock 1 header 07 worst 0 squares 0\nblocks 2\n",
+    },
+    // the second block may have filter 0 alone: of its multiples of 512, 3584 lies nearest the first sample
+    Encoded {
+        options: LOOPED_AT_16,
+        samples: &FALLING,
+        length: 108,
+        blocks: b"\xa0\x44\x44\x44\x44\x44\x44\x44\x44\x93\x77\x76\x65\x55\x44\x44\x33\x33",
+        report: "block 0 header a0 worst 0 squares 0\nblock 1 header 93 worst 256 squares 361132\nblocks 2\nloop 16\n",
     },
 ];
 

@@ -43,6 +43,13 @@ fn rip_file(
 /// The loop word of the first entry is its start.
 const LOOPED: Pieces = &[(MEMORY + 0x0202, b"\x00\x05")];
 
+/// The same sample in the extra bytes, while the file's memory shows the boot ROM in its place.
+const BENEATH: Pieces = &[
+    (MEMORY + 0xf1, b"\x80"),
+    (MEMORY + 0x0200, b"\xc0\xff\xc0\xff"),
+    (DSP + 0xc0, b"\xc3\x11\x11\x11\x11\x11\x11\x11\x11"),
+];
+
 #[test]
 fn one_entry_that_loops_outside_or_to_itself(rt: HostRuntime) -> Result<(), Fail> {
     for (more, report) in [
@@ -53,6 +60,10 @@ fn one_entry_that_loops_outside_or_to_itself(rt: HostRuntime) -> Result<(), Fail
         (
             LOOPED,
             "entry 00 start 0500 blocks 1 loop 0 worst 0 squares 0\nentries 1\n",
+        ),
+        (
+            BENEATH,
+            "entry 00 start ffc0 blocks 1 loop 0 worst 0 squares 0\nentries 1\n",
         ),
     ] {
         let outcome = rip_file(rt.alloc(), (FIVE, more), None, &[], (1, 76))?;

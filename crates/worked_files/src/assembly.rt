@@ -36,7 +36,7 @@ fn listings(rt: HostRuntime) -> Result<(), Fail> {
 }
 
 /// Sources from an address on, and the bytes that they are assembled to.
-const ASSEMBLED: [(u16, &[u8], &[u8]); 10] = [
+const ASSEMBLED: [(u16, &[u8], &[u8]); 11] = [
     (
         0x0400,
         b"loop: ; x\n mov a , $F3\nBNE loop\n",
@@ -76,6 +76,12 @@ const ASSEMBLED: [(u16, &[u8], &[u8]); 10] = [
         b"t:\nMOV A,!t+X\nMOV !t+Y,A\nJMP [!t+X]",
         b"\xf5\x00\x04\xd6\x00\x04\x1f\x00\x04",
     ),
+    // registers after a number have letters of either case, too
+    (
+        0x0400,
+        b"mov a,$10+x\nmov a,[$10]+y\nmov (x)+,a\njmp [!$1234+x]",
+        b"\xf4\x10\xf7\x10\xaf\x1f\x34\x12",
+    ),
 ];
 
 #[test]
@@ -88,7 +94,7 @@ fn sources_that_are_assembled(rt: HostRuntime) -> Result<(), Fail> {
 }
 
 /// Sources from an address on, and the line and the fault for which they are refused.
-const REFUSED: [(u16, &[u8], u32, LineFault); 29] = [
+const REFUSED: [(u16, &[u8], u32, LineFault); 48] = [
     (
         0x0400,
         b"NOP\nMOV A,#256\nBRA nowhere\n",
@@ -131,6 +137,28 @@ const REFUSED: [(u16, &[u8], u32, LineFault); 29] = [
     (0x0400, b"NOP\x0b\n", 1, LineFault::Form),
     (0xffff, b"MOV A,#256", 1, LineFault::Number),
     (0xffff, b"MOV A,#255", 1, LineFault::Long),
+    // blanks before a colon or inside an operand, two things on a line, and items that are missing
+    (0x0400, b"loop :", 1, LineFault::Form),
+    (0x0400, b"a: b:", 1, LineFault::Form),
+    (0x0400, b"MOV A,$10 +X", 1, LineFault::Form),
+    (0x0400, b".byte", 1, LineFault::Form),
+    (0x0400, b".byte 1,", 1, LineFault::Form),
+    // names where only a number stands, bits where there are none, and one that is missing
+    (0x0400, b"NOT1 foo.0", 1, LineFault::Form),
+    (0x0400, b"SET1 foo.0", 1, LineFault::Form),
+    (0x0400, b"TCALL foo", 1, LineFault::Form),
+    (0x0400, b"MOV A,$10.0", 1, LineFault::Form),
+    (0x0400, b"JMP !16.0", 1, LineFault::Form),
+    (0x0400, b"BRA 1024.0", 1, LineFault::Form),
+    (0x0400, b"INC A.0", 1, LineFault::Form),
+    (0x0400, b"SET1 $10", 1, LineFault::Form),
+    // numbers above the greatest of their place, and names that no line defines
+    (0x0400, b"SET1 256.0", 1, LineFault::Number),
+    (0x0400, b"NOT1 0.8", 1, LineFault::Number),
+    (0x0400, b"BRA 65536", 1, LineFault::Number),
+    (0x0400, b".word nowhere", 1, LineFault::Name),
+    (0x0400, b"JMP !nowhere", 1, LineFault::Name),
+    (0x0400, b"BRA $0500\nBRA nowhere", 1, LineFault::Far),
 ];
 
 #[test]

@@ -65,6 +65,16 @@ fn files_of_some_lengths_are_accepted(rt: HostRuntime) -> Result<(), Fail> {
     Ok(())
 }
 
+/// The shortest file ends with the last register of the S-DSP; the bytes that it lacks count as 0.
+#[test]
+fn bytes_that_are_missing_count_as_0(rt: HostRuntime) -> Result<(), Fail> {
+    let image = image(rt.alloc(), 65920, &[(65919, 9)])?;
+    let file = read_spc(rt.alloc(), &image)?;
+    assert!(rt; file.dsp()[127] == 9);
+    assert!(rt; file.extra().iter().all(|byte| *byte == 0));
+    Ok(())
+}
+
 #[test]
 fn the_first_byte_of_a_signature_that_differs_is_told(rt: HostRuntime) -> Result<(), Fail> {
     for (first, second) in [(26, 26), (3, 26)] {
@@ -135,6 +145,8 @@ fn lengths_by_the_tags(rt: HostRuntime) -> Result<(), Fail> {
         (0x1A, b"30 ", b"\0\0\0\0\0", 960_000, 0),
         (0x1A, b"001", b"00001", 32_032, 32),
         (0x1A, b" 30", b"1 000", 5_760_000, 0),
+        (0x1A, b"30x", b"00001", 5_760_000, 0),
+        (0x1A, b"001", b"1 000", 32_000, 0),
         (0x1A, b"999", b"99999", 35_167_968, 3_199_968),
     ] {
         let mut bytes = [(0x23, mark); 9];

@@ -62,6 +62,26 @@ const STEREO: &[u8] = b"fmt \x10\0\0\0\x01\0\x02\0\x44\xAC\0\0\x10\xB1\x02\0\x04
 const TWO_FORMATS: &[u8] =
     b"fmt \x10\0\0\0\x01\0\x01\0\x44\xAC\0\0\x88\x58\x01\0\x02\0\x10\0fmt \x10\0\0\0\x01\0\x02\0\x44\xAC\0\0\x10\xB1\x02\0\x04\0\x10\0";
 
+/// One channel in a chunk of 18 bytes, the last two of which say that none come after them, and in one of 14, without its bits.
+const LONG: &[u8] = b"fmt \x12\0\0\0\x01\0\x01\0\x44\xAC\0\0\x88\x58\x01\0\x02\0\x10\0\0\0";
+
+const SHORT: &[u8] = b"fmt \x0E\0\0\0\x01\0\x01\0\x44\xAC\0\0\x88\x58\x01\0\x02\0";
+
+/// One channel of the format 3, which isn't PCM, and one of 8 bits.
+const OTHER: &[u8] = b"fmt \x10\0\0\0\x03\0\x01\0\x44\xAC\0\0\x88\x58\x01\0\x02\0\x10\0";
+
+const EIGHT: &[u8] = b"fmt \x10\0\0\0\x01\0\x01\0\x44\xAC\0\0\x44\xAC\0\0\x01\0\x08\0";
+
+/// A format that is cut off after its first field.
+const CUT_FORMAT: &[u8] = b"fmt \x10\0\0\0\x01\0";
+
+/// What other files of chunks begin with: those with high bytes first, and films.
+const BIG_ENDIAN: &[u8] = b"RIFX\xAA\xAA\xAA\xAAWAVE";
+
+const FILM: &[u8] = b"RIFF\xAA\xAA\xAA\xAAAVI ";
+
+const NOTHING: &[u8] = b"";
+
 /// Two samples, the same in a stream whose length wasn't known, and a chunk that is cut off.
 const SAMPLES: &[u8] = b"data\x04\0\0\0\x01\0\xFF\xFF";
 
@@ -86,6 +106,16 @@ fn samples_of_files_with_one_channel(rt: HostRuntime) -> Result<(), Fail> {
         ([START, MONO, CUT], Some(WavRefusal::Cut(48))),
         ([START, MONO, ODD], Some(WavRefusal::NoData)),
         ([START, TWO_FORMATS, SAMPLES], None),
+        ([START, LONG, SAMPLES], None),
+        ([START, SHORT, SAMPLES], Some(WavRefusal::Format)),
+        ([START, OTHER, SAMPLES], Some(WavRefusal::Format)),
+        ([START, EIGHT, SAMPLES], Some(WavRefusal::Format)),
+        ([START, STREAMED, MONO], Some(WavRefusal::NoFormat)),
+        ([START, CUT_FORMAT, NOTHING], Some(WavRefusal::Cut(24))),
+        ([START, MONO, CUT_FORMAT], Some(WavRefusal::Cut(48))),
+        ([START, NOTHING, NOTHING], Some(WavRefusal::NoFormat)),
+        ([BIG_ENDIAN, MONO, SAMPLES], Some(WavRefusal::NotWave)),
+        ([FILM, MONO, SAMPLES], Some(WavRefusal::NotWave)),
         (
             [b"RIFX".as_slice(), MONO, SAMPLES],
             Some(WavRefusal::NotWave),
