@@ -159,7 +159,10 @@ fn each_timer_has_its_own_bit_of_the_control(rt: HostRuntime) {
         io.write(0xF1, after);
         assert!(rt; counters(&io) == left, "from {before:02x} to {after:02x}");
         io.ticks(0, 128);
-        assert!(rt; counters(&io) == counted, "after {before:02x} and {after:02x}");
+        assert!(rt;
+            counters(&io) == counted,
+            "after {before:02x} and {after:02x}"
+        );
     }
 }
 

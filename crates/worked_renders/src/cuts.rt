@@ -234,6 +234,7 @@ fn a_mark_after_64(rt: HostRuntime) -> Result<(), Fail> {
     assert!(rt; told.live.get(1) == Some(&2));
     Ok(())
 }
+<<<<<<< HEAD
 
 /// Goes to a sample and plays as many frames as there are places; tells the position then, and the samples made.
 fn play_places<C: Chip>(server: &mut CutServer<C>, at: u32, places: &mut [Frame]) -> (u32, u64) {
@@ -264,3 +265,5 @@ fn as_many_frames_as_there_are_places(rt: HostRuntime) -> Result<(), Fail> {
     assert!(rt; seventy.iter().skip(64).all(|frame| *frame == SILENT));
     Ok(())
 }
+=======
+>>>>>>> parent of b88fb63d (A row of play_into)

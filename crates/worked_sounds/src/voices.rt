@@ -88,9 +88,7 @@ fn a_key_off_between_two_polls_is_lost(rt: HostRuntime) -> Result<(), Fail> {
     let regs = registers();
     let mut clock = RateClock::new();
     let mut voice = Voice::new();
-    for (k, want) in (0..13u32).zip([
-        0, 0, 0, 0, 0, 0, 4064, 4064, 4064, 4064, 4064, 4048, 4032,
-    ]) {
+    for (k, want) in (0..13u32).zip([0, 0, 0, 0, 0, 0, 4064, 4064, 4064, 4064, 4064, 4048, 4032]) {
         let mut input = input_of(k);
         input.koff = k == 7 || k == 9 || k == 10;
         clock.step();
