@@ -234,36 +234,3 @@ fn a_mark_after_64(rt: HostRuntime) -> Result<(), Fail> {
     assert!(rt; told.live.get(1) == Some(&2));
     Ok(())
 }
-<<<<<<< HEAD
-
-/// Goes to a sample and plays as many frames as there are places; tells the position then, and the samples made.
-fn play_places<C: Chip>(server: &mut CutServer<C>, at: u32, places: &mut [Frame]) -> (u32, u64) {
-    if at <= 1000 {
-        server.seek(at);
-    }
-    if server.at() <= 1000 && places.len() <= 100 {
-        server.play_into(places);
-    }
-    (server.at(), server.work())
-}
-
-// The voice is heard from sample 6 to 63. A seek to 60 and six frames make 66 samples, and 70 frames from 0 on make 70 more.
-#[test]
-fn as_many_frames_as_there_are_places(rt: HostRuntime) -> Result<(), Fail> {
-    let alloc = rt.alloc();
-    let file = file(alloc, ENDS_THE_BLOCK)?;
-    let chip = Dsp::open(alloc, file.dsp(), GaussTable::straight(alloc)?, 0)?;
-    let mut server = CutServer::open(alloc, &file, chip, 256)?;
-    let mut six = [SILENT; 6];
-    assert!(rt; play_places(&mut server, 60, &mut six) == (66, 66));
-    let wanted = [LOUD, LOUD, LOUD, LOUD, SILENT, SILENT];
-    assert!(rt; six.as_slice() == wanted.as_slice());
-    let mut seventy = [LOUD; 70];
-    assert!(rt; play_places(&mut server, 0, &mut seventy) == (70, 136));
-    assert!(rt; seventy.iter().take(6).all(|frame| *frame == SILENT));
-    assert!(rt; seventy.iter().skip(6).take(58).all(|frame| *frame == LOUD));
-    assert!(rt; seventy.iter().skip(64).all(|frame| *frame == SILENT));
-    Ok(())
-}
-=======
->>>>>>> parent of b88fb63d (A row of play_into)
