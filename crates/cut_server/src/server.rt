@@ -181,8 +181,8 @@ impl<C: Chip> CutServer<C> {
         self.position += most;
     }
 
-    /// Plays as many frames as there are places: a slice of those that the run from the opening emits, whatever was called before. The chip
-    /// makes what is pending once, at their end, so that the more are played the fewer batches are cut short.
+    /// Plays as many frames as there are places: a slice of those that the run from the opening emits, whatever was called before. Nothing
+    /// is pending at their end, so that the more are played at once the fewer batches are cut short.
     pub fn play_into(&mut self, frames: &mut [Frame])
         requires within { (book_of self.old).position + length frames.old ≤ most_frames }
         ensures frames { let start = (book_of self.old).position in

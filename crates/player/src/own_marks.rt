@@ -1,9 +1,9 @@
 // Where a player takes marks by itself.
 ghost use Rattle.std.specs.Prelude.{◌≡◌, ℕ, ◌+◌, ◌<◌, ◌≤◌, false};
-ghost use Rattle.cut_form.specs.CutBook.{most_played};
 ghost use Rattle.player.specs.OwnMarks.{is_own_mark};
 
-use cut_form::MOST_PLAYED;
+/// The most frames that are played at once. Nothing is pending at their end, so that playing fewer would cut more batches short.
+pub(crate) const MOST_AT_ONCE: usize = 1024;
 
 /// Whether a mark is taken at a sample.
 pub(crate) fn is_own_mark(spacing: u32, at: u32) -> bool
@@ -12,14 +12,14 @@ pub(crate) fn is_own_mark(spacing: u32, at: u32) -> bool
     spacing != 0 && at % spacing == 0
 }
 
-/// How many frames can be played at once from a sample on: 64, but not past the next mark.
-pub(crate) fn frames_at_once(spacing: u32, at: u32) -> u32
+/// How many frames can be played at once from a sample on: 1,024, but not past the next mark.
+pub(crate) fn frames_at_once(spacing: u32, at: u32) -> usize
     ensures some { 0 < result }
-    ensures few { result ≤ most_played }
+    ensures few { result ≤ MOST_AT_ONCE }
     ensures quiet { (k : ℕ) → 0 < k → k < result → is_own_mark spacing (at + k) ≡ false }
 {
     if spacing == 0 {
-        return MOST_PLAYED;
+        return MOST_AT_ONCE;
     }
-    (spacing - at % spacing).min(MOST_PLAYED)
+    ((spacing - at % spacing) as usize).min(MOST_AT_ONCE)
 }

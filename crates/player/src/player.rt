@@ -3,9 +3,12 @@ ghost use Rattle.std.specs.Prelude.{◌≡◌, ◌+◌, ◌-◌, ◌^◌, ◌≤
 ghost use Rattle.num_fix.specs.Limits.{most_frames};
 ghost use Rattle.chip_form.specs.Samples.{count_after};
 ghost use Rattle.cut_form.specs.Checkpoints.{slots_free};
-ghost use Rattle.cut_form.specs.CutBook.{most_played};
+ghost use Rattle.cut_form.specs.CutBook.{after_play, counted_book};
 ghost use Rattle.cut_form.specs.Slices.{slice_of};
 ghost use Rattle.cut_form.specs.GrowingFrames.{AreOfRun};
+ghost use Rattle.cut_server.specs.Server.{frames_to, KeepsTune};
+ghost use Rattle.cut_server.specs.ServerState.{book_of};
+ghost use Rattle.dsp_core.specs.DspChip.{dsp_chip, dsp_saving};
 ghost use Rattle.spc_form.specs.Tags.{length_of, text_of, has_tags, most_told_frames};
 ghost use Rattle.player.specs.Inputs.{inputs_of, IsOpened, IsAtOpening};
 ghost use Rattle.player.specs.Options.{are_in_range, spacing_of};
@@ -17,7 +20,7 @@ ghost use Rattle.player.specs.Player.{frames_of, memory_of, position_of, chip_he
 ghost use Rattle.player.specs.Player.{frames_sought, SeekIsNear, faded_frames_played, KeepsPlayer};
 
 use crate::output::{StereoFrame, fade_frames, put_frames, put_text};
-use crate::own_marks::{frames_at_once, is_own_mark};
+use crate::own_marks::{MOST_AT_ONCE, frames_at_once, is_own_mark};
 use crate::voices::{ShownVoice, shown_voice};
 use crate::{OutOfMemory, PlayerOptions, PlayerRefusal};
 use cut_form::{MOST_FRAMES, Marked};
@@ -25,11 +28,10 @@ use cut_server::CutServer;
 use dsp_core::Dsp;
 use dsp_state::registers::Registers;
 use gauss_table::GaussTable;
-use num_fix::SAMPLE_RATE;
+use num_fix::{Frame, SAMPLE_RATE};
 use spc_form::{Length, SpcFile, Tag, read_spc};
 use std::alloc::Global;
 use std::marker::Model;
-use trace_form::Frames;
 use tune_opening::open_server;
 
 /// A player of a tune. Its frames are those of one run, whatever was played, sought or marked before. Only what opens it takes memory.
@@ -38,17 +40,39 @@ pub struct Player {
     server: CutServer<Dsp>,
     file: SpcFile,
     spacing: u32,
-    frames: Frames,
+    frames: Vec<Frame>,
 }
 
 impl Model for Player {
+    ghost use Rattle.std.specs.Prelude.{◌≡◌, vec_len};
     ghost use Rattle.player.specs.Player.{PlayerState, IsPlaying};
+    ghost use Rattle.player.specs.declared.own_marks.TheConstants.{MOST_AT_ONCE};
 
     ghost Value = { PlayerState };
 
     ghost view = { λ p. record { server = p.server; file = p.file; spacing = p.spacing } };
 
-    ghost invariant = { λ p. IsPlaying p.server };
+    ghost invariant = { λ p. IsPlaying p.server × (vec_len p.frames ≡ MOST_AT_ONCE) };
+}
+
+/// Plays so many frames through a room, and puts them into others from a place on.
+fn play_through(
+    server: &mut CutServer<Dsp>,
+    room: &mut [Frame],
+    count: usize,
+    out: &mut [StereoFrame],
+    from: usize,
+)
+    requires room { count ≤ length room.old }
+    requires within { from + count ≤ length out.old }
+    requires hour { (book_of server.old).position + count ≤ most_frames }
+    ensures frames { let played = slice_of (frames_to dsp_chip dsp_saving server.old) (book_of server.old).position count in
+        out.new ≡ take from out.old ++ map stereo played ++ drop (from + count) out.old }
+    ensures book { book_of server.new ≡ counted_book (after_play (book_of server.old) count) }
+    ensures tune { KeepsTune dsp_chip dsp_saving server.old server.new }
+{
+    server.play_into(&mut room[..count]);
+    put_frames(&room[..count], out, from);
 }
 
 impl Player {
@@ -62,12 +86,13 @@ impl Player {
         requires { are_in_range options ≡ true }
         ensures opening { IfOk result (λ player. IsAtOpening (record { file = file; weights = table }) options player) }
     {
+        let spacing = SAMPLE_RATE * options.mark_seconds;
         let server = open_server(alloc, &file, table, options.muted, options.pages)?;
-        let frames = Frames::new(alloc)?;
+        let frames = vec![in alloc; Frame::default(); MOST_AT_ONCE]?;
         Ok(Player {
             server,
             file,
-            spacing: SAMPLE_RATE * options.mark_seconds,
+            spacing,
             frames,
         })
     }
@@ -202,8 +227,8 @@ impl Player {
         }
     }
 
-    /// Plays the next frames, at most 64 and not past the next mark of its own, into others from a place on, but not past an end; tells how
-    /// many.
+    /// Plays the next frames, at most 1,024 and not past the next mark of its own, into others from a place on, but not past an end; tells
+    /// how many.
     fn play_some(&mut self, out: &mut [StereoFrame], from: usize, end: usize) -> usize
         requires some { from < end }
         requires within { end ≤ length out.old }
@@ -217,11 +242,10 @@ impl Player {
         ensures made { made_of self.new ≡ count_after (made_of self.old) result }
         ensures tune { KeepsPlayer self.old self.new }
     {
-        let most = ((end - from) as u32).min(frames_at_once(self.spacing, self.server.at()));
-        self.server.play(most, &mut self.frames);
-        put_frames(self.frames.as_slice(), out, from);
+        let most = (end - from).min(frames_at_once(self.spacing, self.server.at()));
+        play_through(&mut self.server, &mut self.frames, most, out, from);
         self.take_own_mark();
-        most as usize
+        most
     }
 
     /// Plays the next frames, as many as there is room for, but not past an hour; tells how many. Wherever the position comes to a multiple

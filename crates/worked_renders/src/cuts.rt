@@ -25,6 +25,7 @@ fn file(alloc: Global, more: Pieces) -> Result<SpcFile, Fail> {
 enum Call {
     Seek(u32),
     Play(u32),
+    PlayInto(u16),
     Checkpoint,
     Mark,
     Drop(u32),
@@ -57,6 +58,11 @@ fn make<C: Chip>(
         Call::Play(most) if (1..=64).contains(&most) && server.at() <= 1000 => {
             let mut frames = Frames::new(alloc)?;
             server.play(most, &mut frames);
+            told.frames.extend_from_slice(frames.as_slice())?;
+        }
+        Call::PlayInto(count) if server.at() <= 1000 => {
+            let mut frames = vec![in alloc; UNPLAYED; usize::from(count)]?;
+            server.play_into(&mut frames);
             told.frames.extend_from_slice(frames.as_slice())?;
         }
         Call::Checkpoint if !server.has(server.at()) && server.count() < 64 => {
@@ -132,6 +138,9 @@ fn served(alloc: Global, more: Pieces, pages: u32, calls: &[Call]) -> Result<Tol
     Ok(told)
 }
 
+/// What stands at a place before a frame is played into it.
+const UNPLAYED: Frame = Frame { left: 1, right: 2 };
+
 const SILENT: Frame = Frame { left: 0, right: 0 };
 
 const LOUD: Frame = Frame {
@@ -158,6 +167,24 @@ fn cuts_of_three_checkpoints(rt: HostRuntime) -> Result<(), Fail> {
     assert!(rt; told.standing == (62, 3, 4096 - 258, 133));
     assert!(rt; told.chip == (62, 133));
     assert!(rt; told.live.as_slice() == [0, 60, 70].as_slice());
+    Ok(())
+}
+
+/// One slice is shorter than a batch, the other longer.
+#[test]
+fn two_slices_are_filled(rt: HostRuntime) -> Result<(), Fail> {
+    let calls = [
+        Call::Seek(60),
+        Call::PlayInto(2),
+        Call::Seek(70),
+        Call::PlayInto(200),
+    ];
+    let told = served(rt.alloc(), ENDS_THE_BLOCK, 256, &calls)?;
+    assert!(rt; told.frames.len() == 202);
+    assert!(rt; told.frames.iter().take(2).all(|frame| *frame == LOUD));
+    assert!(rt; told.frames.iter().skip(2).all(|frame| *frame == SILENT));
+    assert!(rt; told.standing == (270, 1, 0, 270));
+    assert!(rt; told.chip == (270, 270));
     Ok(())
 }
 
