@@ -12,7 +12,7 @@ fn is_usage(outcome: &Outcome) -> bool {
     outcome.is_refused(Status::Usage, "spcwave: words not understood\n") && outcome.calls() == 1
 }
 
-/// Words that are no command.
+/// Words that are no command; those that begin like `asm` or a command after it stand in the list below.
 const WORDS: &[&[&str]] = &[
     &[],
     &["brr", "IN"],
@@ -73,6 +73,10 @@ const WORDS: &[&[&str]] = &[
     &["check", ""],
     &["check", "-1"],
     &["check", "00000000007"],
+];
+
+/// Words that begin like `asm`, `dis`, `cuts`, `serve` or `rip`, and are no command.
+const MORE_WORDS: &[&[&str]] = &[
     &["asm", "IN", "0400"],
     &["asm", "IN", "400", "OUT"],
     &["asm", "IN", "00400", "OUT"],
@@ -128,6 +132,15 @@ const WORDS: &[&[&str]] = &[
 #[test]
 fn other_words_are_not_understood(rt: HostRuntime) -> Result<(), Fail> {
     for words in WORDS {
+        let outcome = run_words(rt.alloc(), words, BLOCK)?;
+        assert!(rt; is_usage(&outcome), "{words:?}");
+    }
+    Ok(())
+}
+
+#[test]
+fn other_words_of_code_cuts_and_rips_are_not_understood(rt: HostRuntime) -> Result<(), Fail> {
+    for words in MORE_WORDS {
         let outcome = run_words(rt.alloc(), words, BLOCK)?;
         assert!(rt; is_usage(&outcome), "{words:?}");
     }
