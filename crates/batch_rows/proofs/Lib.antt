@@ -4,9 +4,7 @@
 -- ByRows: a batch whose voices read nothing that its echo writes is one by rows.
 -- InReach: where the voices of a batch read nothing that its echo writes.
 -- ResultsOfBatch: the results of a batch are those of its last sample, but for ENDX, and its keys are taken at its first poll.
--- KeyRows: one sample more of the rows of keys and noise.
--- IdleKeys: samples that leave the keys and the noise as they are.
--- FirstPolls: the keys of a batch whose noise stays as it is change at its first two polls alone.
+-- KeysApart: the keys and the noise of a batch, apart from each other; the keys change at its first two polls alone.
 -- PlayedLane: a voice over the rows of a batch makes the steps of its lane.
 -- VoiceMore: one voice more of a batch, over any row of its outputs.
 -- Remains: the voices of a batch, one more of them played.
@@ -25,9 +23,7 @@ pub mod InReach
 pub mod ResultsOfBatch
 pub mod Afar
 pub mod CellLine
-pub mod KeyRows
-pub mod IdleKeys
-pub mod FirstPolls
+pub mod KeysApart
 pub mod PlayedLane
 pub mod VoiceMore
 pub mod Remains

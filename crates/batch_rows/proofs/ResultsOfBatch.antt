@@ -99,7 +99,7 @@ none_left byte within =
 
 -- at a poll both waiting and taken key-ons are those that waited and weren't taken; else both stay
 module _ (s : ChipState) (k : ℕ) where
-  at_poll : (k % 2 == 0) ≡ true → ((before_voices s k).hidden.waiting ≡ without_bits s.hidden.waiting s.hidden.taken) × ((before_voices s k).hidden.taken ≡ without_bits s.hidden.waiting s.hidden.taken)
+  pub at_poll : (k % 2 == 0) ≡ true → ((before_voices s k).hidden.waiting ≡ without_bits s.hidden.waiting s.hidden.taken) × ((before_voices s k).hidden.taken ≡ without_bits s.hidden.waiting s.hidden.taken)
   unfolding after_poll after_noise
   at_poll even = (rw even refl, rw even refl)
 

@@ -5,6 +5,7 @@
 -- Afar: what voices can read, from afar.
 -- CellLine: cells of the echo that stand one after another.
 -- KeyRows: the rows of keys and noise that the voices of a batch read.
+-- KeysAndNoise: the keys and the noise of a batch, each by itself.
 -- Reads: what the voices of a batch read.
 -- PlayedLane: what a voice leaves of a batch.
 -- SumRows: rows of sums with the shares of a voice.
@@ -19,6 +20,7 @@ pub mod Once
 pub mod Afar
 pub mod CellLine
 pub mod KeyRows
+pub mod KeysAndNoise
 pub mod Reads
 pub mod PlayedLane
 pub mod SumRows

@@ -7,7 +7,7 @@ use Rattle.dsp_state.specs.declared.registers.TheConstants.{ENDX}
 use Rattle.dsp_state.specs.declared.state.ChipState.{ChipState}
 use Rattle.batch_rows.specs.Rows.{by_rows, answers}
 use Rattle.batch_rows.specs.Once.{endx_after}
-use Rattle.batch_rows.proofs.KeyRows.{voices-keys_after, echo-keys_after}
+use Rattle.batch_rows.proofs.KeysApart.{voices-keys_after, echo-keys_after}
 use Rattle.batch_rows.proofs.OneMore.{table-keys_after}
 use Rattle.batch_rows.proofs.MakeBatch.{echo_is, registers_are, bits_are}
 use Rattle.batch_rows.proofs.batch.play_batch.Goals as goal

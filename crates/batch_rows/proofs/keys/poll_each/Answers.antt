@@ -1,44 +1,50 @@
-use Rattle.std.proofs.Common.{rules, ◌≡◌, ◌≢◌, ◌+◌, ◌<◌, ℕ, suc, length, refl, ap, sym, ◌∙◌, arith}
-use Rattle.std.proofs.lemmas.List.{length-set, get_or-set_other}
+use Rattle.std.proofs.Common.{rules, ◌≡◌, ◌≢◌, ◌+◌, ◌<◌, ℕ, suc, length, ap, sym, ◌∙◌, add-one, inl, inr, arith}
+use Rattle.std.proofs.lemmas.Bool.{cases_lt}
+use Rattle.std.proofs.lemmas.List.{length-set, get_or-set_other, get_or-replicate}
 use Rattle.echo_unit.proofs.Entries.{with_entry}
 use Rattle.dsp_state.specs.Sample.{after_poll}
 use Rattle.dsp_state.specs.declared.state.ChipState.{ChipState}
+use Rattle.batch_rows.specs.KeysAndNoise.{with_keys_of}
 use Rattle.batch_rows.specs.Rows.{keys_after}
-use Rattle.batch_rows.proofs.KeyRows.{keys_after-none, below_bound}
-use Rattle.batch_rows.proofs.FirstPolls.{poll_alone, one_more_poll}
+use Rattle.batch_rows.proofs.KeysApart.{no_poll, one_more_poll, unkeyed_later, all_keys}
 use Rattle.batch_rows.proofs.keys.poll_each.Goals as goal
+
+pub returns-clause-state : goal.returns-clause-state
+returns-clause-state c =
+    let made : c.loop-j.j ≡ c.keyed_samples-keyed.result = omega arith in
+    c.loop-j.invariant.state
+    ∙ (rw made (all_keys c.args.number c.args.state.now c.keyed_samples-keyed.result c.args.n c.keyed_samples-keyed.ensures.few (c.keyed_samples-keyed.ensures.rest c.args.number)))
+
+pub returns-clause-taken : goal.returns-clause-taken
+returns-clause-taken c j below = elim (cases_lt j c.loop-j.j) [
+  | inl early ↦ c.loop-j.invariant.taken j early
+  | inr late ↦ (let none = c.keyed_samples-keyed.ensures.rest c.args.number (omega (arith, late, below)) in
+      c.loop-j.invariant.others j late (omega (arith, below, c.requires.few)) ∙ sym (unkeyed_later c.args.number c.args.state.now c.keyed_samples-keyed.result (suc j) (omega (arith, late)) none).taken)
+]
 
 pub loop-j-init : goal.loop-j-init
 loop-j-init c = record {
-  state = sym (keys_after-none c.args.number c.args.state.now);
-  registers = refl;
+  state = no_poll c.args.number c.args.state.now;
   taken = λ i below. absurd (omega (arith, below));
-  bytes = λ i below. absurd (omega (arith, below));
-  others = λ i above. refl;
+  others = λ i above within. get_or-replicate {A = ℕ} 64 i 0 0 within;
   long = search rules;
 }
 
 pub loop-j-preserved : goal.loop-j-preserved
 loop-j-preserved c =
     let j : ℕ = c.loop-j.j in
-    let place : c.from-place.result ≡ j = c.from-place.ensures in
+    let place : c.from-in-loop-j.result ≡ j = c.from-in-loop-j.ensures in
     let from : c.from.result ≡ j = c.from.ensures in
-    let now : c.poll.new.state ≡ after_poll (keys_after c.args.number c.args.state.now j) (c.args.number + j) =
-    rw from at c.poll.ensures.state ∙ ap (λ (s : ChipState). after_poll s (c.args.number + j)) c.loop-j.invariant.state in
-    let taken : c.taken_keys.result ≡ c.poll.new.state.hidden.taken = c.taken_keys.ensures in
-    let byte : c.taken_keys.result < 0x100 = search rules in
     let within : j < length c.loop-j.kon = rw c.loop-j.invariant.long (omega (arith, c.loop-j-test.true, c.requires.few)) in
-    let next : c.poll.new.state ≡ keys_after c.args.number c.args.state.now (suc j) =
-    now ∙ sym (poll_alone c.args.number c.args.n c.args.state.now c.requires.quiet j c.loop-j-test.true) in
+    let next : c.poll.new.state ≡ with_keys_of c.args.state.now (keys_after c.args.number c.args.state.now (suc j)) =
+    rw from at c.poll.ensures.state ∙ ap (λ (s : ChipState). after_poll s (c.args.number + j)) c.loop-j.invariant.state ∙ one_more_poll c.args.number c.args.state.now j in
     record {
-      state = now ∙ sym (one_more_poll c.args.number c.args.n c.args.state.now c.requires.quiet j c.loop-j-test.true);
-      registers = c.poll.ensures.registers ∙ c.loop-j.invariant.registers;
+      state = rw add-one next;
       taken =
-          rw place (with_entry (λ i. (keys_after c.args.number c.args.state.now (suc i)).hidden.taken) c.loop-j.kon j c.taken_keys.result 0 within c.loop-j.invariant.taken
-          (taken ∙ ap (λ (s : ChipState). s.hidden.taken) next));
-      bytes = rw place (below_bound c.loop-j.kon j c.taken_keys.result 0x100 within c.loop-j.invariant.bytes byte);
-      others = λ i above.
+          rw place (with_entry (λ i. (keys_after c.args.number c.args.state.now (suc i)).hidden.taken) c.loop-j.kon j c.poll.new.state.hidden.taken 0 within c.loop-j.invariant.taken
+          (ap (λ (s : ChipState). s.hidden.taken) next));
+      others = λ i above small.
           let other : i ≢ j = λ e. absurd (omega (arith, e, above)) in
-          rw place (get_or-set_other c.loop-j.kon j i c.taken_keys.result 0 other ∙ c.loop-j.invariant.others i (omega (arith, above)));
+          rw place (get_or-set_other c.loop-j.kon j i c.poll.new.state.hidden.taken 0 other ∙ c.loop-j.invariant.others i (omega (arith, above)) small);
       long = search (rules, length-set, c.loop-j.invariant.long);
     }

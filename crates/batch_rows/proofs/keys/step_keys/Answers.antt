@@ -1,23 +1,62 @@
-use Rattle.std.proofs.Common.{ℕ, sym, arith}
+use Rattle.std.proofs.Common.{◌≤◌, ◌≡◌, ℕ, suc, ap, sym, ◌∙◌, arith}
+use Rattle.std.proofs.lemmas.Bool.Decides.{nat_tests}
 use Rattle.std.proofs.lemmas.List.{get_or-replicate}
-use Rattle.batch_rows.proofs.IdleKeys.{idle_rows}
+use Rattle.dsp_state.specs.declared.state.ChipState.{ChipState}
+use Rattle.batch_rows.specs.KeysAndNoise.{noise_after, IsUnkeyed}
+use Rattle.batch_rows.specs.Rows.{keys_after}
+use Rattle.batch_rows.proofs.KeysApart.{all_idle, noise-keys_after, keys_and_noise_alone}
 use Rattle.batch_rows.proofs.keys.step_keys.Goals as goal
 
-pub returns-then-idle-clause-state : goal.returns-then-idle-clause-state
-returns-then-idle-clause-state c = sym (c.are_keys_idle-idle.ensures.idle c.args.number c.requires.clock c.if-idle.true c.args.n (omega arith))
+-- samples in which nothing fires and no key-on waits
+module _ (c : goal.After-idle_rows) where
+  none : c.keyed_samples-keyed.result ≡ 0
+  none = grind (arith, nat_tests, c.if-keyed-eq0.true)
 
-pub returns-then-idle-clause-rows : goal.returns-then-idle-clause-rows
-returns-then-idle-clause-rows c =
-    idle_rows c.args.number c.args.n c.args.state.now c.idle_rows.result c.requires.few (c.are_keys_idle-idle.ensures.taken c.if-idle.true)
-    (c.are_keys_idle-idle.ensures.idle c.args.number c.requires.clock c.if-idle.true) c.idle_rows.ensures.noise c.idle_rows.ensures.kon c.idle_rows.ensures.polls
+  all : c.next_firing-firing.result ≡ c.args.n
+  all = grind (arith, nat_tests, c.if-firing-n.true)
 
-pub returns-then-idle-clause-noise : goal.returns-then-idle-clause-noise
-returns-then-idle-clause-noise c j below =
+  at_once : IsUnkeyed (keys_after c.args.number c.args.state.now 0)
+  at_once = rw none at (c.keyed_samples-keyed.ensures.rest c.args.number (omega (arith, none, c.requires.some)))
+
+  untaken : c.args.state.now.hidden.taken ≡ 0
+  unfolding keys_after
+  untaken = at_once.taken
+
+  idle : (j : ℕ) → j ≤ c.args.n → keys_after c.args.number c.args.state.now j ≡ c.args.state.now
+  idle =
+      all_idle c.args.number c.args.state.now c.args.n at_once
+      (λ j early late. rw c.requires.rate at (c.next_firing-firing.ensures.quiet c.args.number j c.requires.clock early (omega (arith, all, late))))
+
+pub returns-then-firing-n-clause-state : goal.returns-then-firing-n-clause-state
+returns-then-firing-n-clause-state c = sym (idle c c.args.n (omega arith))
+
+pub returns-then-firing-n-clause-rows : goal.returns-then-firing-n-clause-rows
+returns-then-firing-n-clause-rows c = record {
+  noise = λ j below. rw (c.idle_rows.ensures.noise, idle c (suc j) below) (get_or-replicate 64 j c.args.state.now.hidden.noise 0 (omega (arith, below, c.requires.few)));
+  polls = λ j below. c.idle_rows.ensures.polls j (omega (arith, below, c.requires.few));
+  taken = λ j below. rw (c.idle_rows.ensures.kon, idle c (suc j) below, untaken c) (get_or-replicate {A = ℕ} 64 j 0 0 (omega (arith, below, c.requires.few)));
+}
+
+pub returns-then-firing-n-clause-noise : goal.returns-then-firing-n-clause-noise
+returns-then-firing-n-clause-noise c j below =
     rw (c.idle_rows.ensures.noise, get_or-replicate 64 j c.args.state.now.hidden.noise 0 (omega (arith, below, c.requires.few))) c.idle_rows.ensures.bound
 
-pub returns-then-idle-clause-taken : goal.returns-then-idle-clause-taken
-returns-then-idle-clause-taken c j below =
-    rw (c.idle_rows.ensures.kon, get_or-replicate {A = ℕ} 64 j 0 0 (omega (arith, below, c.requires.few))) (omega arith)
+-- the noise is stepped from that of the state, which the polls left
+noise_is : (c : goal.After-polls_from) (j : ℕ) → noise_after c.args.rate c.args.number c.poll_each-kon.new.state.hidden.noise j ≡ (keys_after c.args.number c.args.state.now j).hidden.noise
+noise_is c j =
+    let kept : c.poll_each-kon.new.state.hidden.noise ≡ c.args.state.now.hidden.noise = ap (λ (s : ChipState). s.hidden.noise) c.poll_each-kon.ensures.state in
+    rw (kept, c.requires.rate) (sym (noise-keys_after c.args.number c.args.state.now j))
 
-pub step_keys_alone-requires-clause-quiet : goal.step_keys_alone-requires-clause-quiet
-step_keys_alone-requires-clause-quiet c = rw c.requires.rate at (c.is_noise_still-still.ensures c.args.number c.requires.clock c.if-still.true)
+pub returns-clause-state : goal.returns-clause-state
+returns-clause-state c =
+    let s : ChipState = c.args.state.now in
+    let end : ChipState = keys_after c.args.number s c.args.n in
+    let noise : c.step_noise_each-noise.new.noise ≡ end.hidden.noise = c.step_noise_each-noise.ensures.noise c.args.number c.requires.clock ∙ noise_is c c.args.n in
+    rw (noise, c.poll_each-kon.ensures.state) (keys_and_noise_alone c.args.number s c.args.n)
+
+pub returns-clause-rows : goal.returns-clause-rows
+returns-clause-rows c = record {
+  noise = λ j below. c.step_noise_each-noise.ensures.row c.args.number j c.requires.clock below ∙ noise_is c (suc j);
+  polls = λ j below. c.polls_from.ensures j (omega (arith, below, c.requires.few));
+  taken = c.poll_each-kon.ensures.taken;
+}

@@ -7,7 +7,7 @@ use Rattle.dsp_state.specs.Volumes.{all_volumes}
 use Rattle.dsp_state.specs.declared.settings.Settings.{Settings}
 use Rattle.dsp_state.specs.declared.state.ChipState.{ChipState}
 use Rattle.batch_rows.specs.Rows.{by_rows, echo_after, answers}
-use Rattle.batch_rows.proofs.KeyRows.{voices-keys_after, echo-keys_after}
+use Rattle.batch_rows.proofs.KeysApart.{voices-keys_after, echo-keys_after}
 use Rattle.batch_rows.proofs.MakeBatch.{keyed_are}
 use Rattle.batch_rows.proofs.OneMore.{registers-keys_after, table-keys_after}
 use Rattle.batch_rows.proofs.recorded.play_recorded_batch.Goals as goal

@@ -1,8 +1,8 @@
 use Rattle.std.proofs.Common.{rules, ◌+◌, ◌%◌, ◌==◌, ℕ, false}
 use Rattle.std.proofs.lemmas.List.{length-set}
 use Rattle.echo_unit.proofs.Entries.{with_entry}
-use Rattle.batch_rows.proofs.IdleKeys.{poll_of}
-use Rattle.batch_rows.proofs.keys.put_polls.Goals as goal
+use Rattle.batch_rows.proofs.KeysApart.{poll_of}
+use Rattle.batch_rows.proofs.keys.polls_from.Goals as goal
 
 pub loop-j-preserved : goal.loop-j-preserved
 loop-j-preserved c =

@@ -1,5 +1,5 @@
 use Rattle.std.proofs.Common.{◌≡◌, ℕ, ◌+◌, ◌%◌, ◌==◌, ◌<◌, false, get_or, length}
-use Rattle.batch_rows.proofs.keys.put_polls.Given as goal
+use Rattle.batch_rows.proofs.keys.polls_from.Given as goal
 
 abbrev pub invariant-loop-j : goal.invariant-loop-j
 invariant-loop-j l = record {
