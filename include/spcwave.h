@@ -60,8 +60,8 @@ enum spcwave_tags {
 typedef struct spcwave_options {
     uint32_t pages;         /* of 256 bytes for marks, 256 to 65,536. The mark of frame 0 takes 256, each other those that changed */
     uint32_t mark_seconds;  /* while it plays a mark is taken each so many seconds, 1 to 3,600; 0 for none. The last 63 stay, fewer where pages are short */
-    uint8_t muted;          /* voices that are left out of the sound and of its echo: bit v is voice v, 0 for none. A tune that reads
-                               or runs in the echo's buffer may go another way without them */
+    uint8_t muted;          /* voices that are left out of the sound and of its echo: bit v is voice v, 0 for none. A tune that reads,
+                               runs or decodes in the echo's buffer may go another way without them */
 } spcwave_options;
 
 /* 4,096 pages, no marks but those that are asked for, and all voices. */

@@ -317,6 +317,22 @@ SLIPS = [
         ('snd_host/specs/Host.antt', 'greatest_limit = 16777216', 'greatest_limit = 16777215'),
         ('input_files/src/reading.rt', 'WAVE_LIMIT: usize = 16777216', 'WAVE_LIMIT: usize = 16777215')]),
 
+    # the memory beneath what the processor reads
+    Slip('a write of a port stays out of memory', ['lock_step', 'sound_bus', 'lag_bus'], ['worked_programs'], [
+        ('lock_step/specs/LockStep.antt', 'memory = with_byte m.memory at value', 'memory = if writes_port at then m.memory else with_byte m.memory at value'),
+        ('sound_bus/src/plain.rt', 'self.memory.put(addr, value);', 'if !writes_port(addr) {\n            self.memory.put(addr, value);\n        }'),
+        ('lag_bus/src/lag.rt', '{1}    late.put(at, value);', '    if !writes_port(at) {\n        late.put(at, value);\n    }'),
+        ('lag_bus/src/lag.rt', '{2}    late.put(at, value);', '    if !writes_port(at) {\n        late.put(at, value);\n    }')]),
+    Slip("a write of a timer's count stays out of memory", ['lock_step', 'sound_bus', 'lag_bus'], ['worked_programs'], [
+        ('lock_step/specs/LockStep.antt', 'memory = with_byte m.memory at value', 'memory = if is_within 0xFA 0xFC at then m.memory else with_byte m.memory at value'),
+        ('sound_bus/src/plain.rt', 'self.memory.put(addr, value);', 'if addr < 0xFA || addr > 0xFC {\n            self.memory.put(addr, value);\n        }'),
+        ('lag_bus/src/lag.rt', '{1}    late.put(at, value);', '    if at < 0xFA || at > 0xFC {\n        late.put(at, value);\n    }'),
+        ('lag_bus/src/lag.rt', '{2}    late.put(at, value);', '    if at < 0xFA || at > 0xFC {\n        late.put(at, value);\n    }')]),
+    Slip('a write above the ROM that shows is lost', ['lock_step', 'sound_bus', 'lag_bus'], ['worked_programs'], [
+        ('lock_step/specs/LockStep.antt', 'memory = with_byte m.memory at value', 'memory = if nat_lt 0xFFBF at && io.answers_read m.io at then m.memory else with_byte m.memory at value'),
+        ('sound_bus/src/plain.rt', 'self.memory.put(addr, value);', 'if addr < 0xFFC0 || self.io.read(addr).is_none() {\n            self.memory.put(addr, value);\n        }'),
+        ('lag_bus/src/lag.rt', '                self.late.put(addr, value);', '                if addr < 0xFFC0 || self.time.read(addr).is_none() {\n                    self.late.put(addr, value);\n                }')]),
+
     # traces, and batches that are counted
     Slip('the letters of registers and ports exchanged', ['trace_form'], ['worked_parts'], [
         (LINE, 'codes "R "', 'codes "Q "'), (LINE, 'codes "P "', 'codes "R "'), (LINE, 'codes "Q "', 'codes "P "'),
@@ -773,4 +789,48 @@ SLIPS = [
         ('cut_form/specs/CutList.antt', 'most_cuts = 1000', 'most_cuts = 1001'), ('cut_text/src/cuts.rt', 'MOST_CUTS: usize = 1000', 'MOST_CUTS: usize = 1001')]),
     Slip('the text of a mark', ['cut_form', 'session_files'], ['worked_tunes'], [
         (SESSION, 'codes " gave "', 'codes " gives "'), (REPLIES, 'b" gave "', 'b" gives "')]),
+
+    # sums, stores and limits
+    Slip('sums over voices that wrap', ['dsp_state', 'batch_rows'], ['worked_sounds'], [
+        ('dsp_state/specs/Mix.antt', 'clamp16 (sum +ℤ share)', 'wrap16 (sum +ℤ share)'), ('dsp_state/specs/Mix.antt', '{scaled, clamp16}', '{scaled, wrap16}'),
+        ('dsp_state/src/mix.rt', '    clamp16(i32::from(sum)', '    wrap16(i32::from(sum)'), ('dsp_state/src/mix.rt', 'use num_fix::{Frame, clamp16, scaled};', 'use num_fix::{Frame, scaled, wrap16};'),
+        ('batch_rows/src/sums.rt', 'add_clamped(sum, high_product(out, factor))', 'sum.wrapping_add(high_product(out, factor))'),
+        ('batch_rows/src/sums.rt', 'add_clamped(sum, add_clamped(out', 'sum.wrapping_add(add_clamped(out')]),
+    Slip('an output that wraps', ['echo_unit'], ['worked_sounds'], [
+        ('echo_unit/specs/Echo.antt', 'clamp16 (at_volume main main_volume', 'wrap16 (at_volume main main_volume'),
+        ('echo_unit/src/volume.rt', 'add_clamped(at_volume(main, main_volume), at_volume(echo, echo_volume))', 'at_volume(main, main_volume).wrapping_add(at_volume(echo, echo_volume))')]),
+    Slip('what goes back to the echo wraps', ['echo_unit'], ['worked_sounds'], [
+        ('echo_unit/specs/Echo.antt', 'clear_bit0 (clamp16 (sent', 'clear_bit0 (wrap16 (sent'),
+        ('echo_unit/src/volume.rt', 'clear_bit0(add_clamped(sent, at_volume(echo, efb)))', 'clear_bit0(sent.wrapping_add(at_volume(echo, efb)))')]),
+    Slip('a write of a result stores nothing', ['dsp_state', 'dsp_core'], ['worked_sounds'], [
+        ('dsp_state/specs/Outside.antt', 'if nat_le 0x80 address then s', 'if nat_le 0x80 address || nat_le 8 (address % 16) && nat_le (address % 16) 9 then s'),
+        ('dsp_state/specs/Outside.antt', '◌==◌, nat_le', '◌==◌, ◌&&◌, ◌||◌, nat_le'),
+        ('dsp_core/src/dsp.rt', '        if addr >= 0x80 {\n            return;', '        if addr >= 0x80 || addr % 16 == 8 || addr % 16 == 9 {\n            return;')]),
+    Slip('a register of no use stores nothing', ['dsp_state', 'dsp_core'], ['worked_sounds'], [
+        ('dsp_state/specs/Outside.antt', 'if nat_le 0x80 address then s', 'if nat_le 0x80 address || address % 16 == 10 then s'), ('dsp_state/specs/Outside.antt', '◌==◌, nat_le', '◌==◌, ◌||◌, nat_le'),
+        ('dsp_core/src/dsp.rt', '        if addr >= 0x80 {\n            return;', '        if addr >= 0x80 || addr % 16 == 10 {\n            return;')]),
+    Slip('the record of a write of ENDX tells what is stored', ['lock_step', 'sound_bus', 'lag_bus'], ['worked_tunes'], [
+        ('lock_step/specs/LockStep.antt', 'Reg sample dsp_address value', 'Reg sample dsp_address (if dsp_address == 0x7C then 0 else value)'),
+        ('sound_bus/src/plain.rt', '                addr: address,\n                value,', '                addr: address,\n                value: if address == 0x7C { 0 } else { value },'),
+        ('lag_bus/src/lag.rt', '            addr: address,\n            value,', '            addr: address,\n            value: if address == 0x7C { 0 } else { value },')]),
+    Slip('chains of 19 blocks', ['reach_map', 'reach_laws'], ['worked_parts'], [
+        ('reach_map/specs/Reach.antt', 'start.loop_word 18 start.block', 'start.loop_word 19 start.block'), ('reach_map/src/voices.rt', 'CHAIN_BLOCKS: u32 = 18', 'CHAIN_BLOCKS: u32 = 19')]),
+    Slip('a directory held at the end of memory', ['voice_unit'], ['worked_sounds'], [
+        ('voice_unit/specs/Directory.antt', '(dir * 0x100 + srcn * 4) % 0x10000', 'min (dir * 0x100 + srcn * 4) 0xFFFC'), ('voice_unit/specs/Directory.antt', '{ℕ, ◌+◌,', '{ℕ, min, ◌+◌,'),
+        ('voice_unit/src/directory.rt', '(u16::from(dir) << 8).wrapping_add(u16::from(srcn) << 2)', '(u16::from(dir) << 8).saturating_add(u16::from(srcn) << 2).min(0xFFFC)')]),
+    Slip('a play that ends with the hour is refused', ['cut_form', 'cut_text', 'session_files'], ['worked_files'], [
+        (SESSION, 'nat_le (session.book.position + count) most_frames &&', 'nat_lt (session.book.position + count) most_frames &&'), (SESSION, '◌==◌, nat_le', '◌==◌, nat_le, nat_lt'),
+        ('cut_text/specs/Playing.antt', 'nat_le (position + count) most_frames &&', 'nat_lt (position + count) most_frames &&'), ('cut_text/specs/Playing.antt', '◌&&◌, nat_le', '◌&&◌, nat_le, nat_lt'),
+        ('session_files/src/player.rt', 'at > MOST_FRAMES ||', 'at >= MOST_FRAMES ||'), ('cut_text/src/script.rt', 'position + count <= MOST_FRAMES &&', 'position + count < MOST_FRAMES &&')]),
+    Slip('lists of 16 MB', ['command_cuts'], ['worked_tunes'], [
+        ('command_cuts/specs/Lists.antt', 'bytes_in input_limit InputTooLong held', 'bytes_in 16777216 InputTooLong held'),
+        ('command_cuts/src/list.rt', 'use input_files::{INPUT_LIMIT, read_input};', 'use input_files::{WAVE_LIMIT as INPUT_LIMIT, read_input};')]),
+    Slip('scripts of 16 MB', ['command_serve'], ['worked_tunes'], [
+        ('command_serve/specs/Scripts.antt', 'bytes_in input_limit InputTooLong held', 'bytes_in 16777216 InputTooLong held'),
+        ('command_serve/src/script.rt', 'use input_files::{INPUT_LIMIT, read_input};', 'use input_files::{WAVE_LIMIT as INPUT_LIMIT, read_input};')]),
+    Slip('the list refused before the table', ['command_cuts'], ['worked_tunes'], [
+        ('command_cuts/specs/Cuts.antt', 'file_answer wave muted held_table held_list file = answer_from (table_in held_table) (table_answer wave muted held_list file)',
+         'file_answer wave muted held_table held_list file = answer_from (cuts_in held_list) (λ cuts. answer_from (table_in held_table) (λ table. list_answer wave muted file table cuts))'),
+        ('command_cuts/src/command.rt', '    let table = read_table(alloc, host, table)?;\n    prepare_list(alloc, host, file, table, list, wave, muted)',
+         '    let cuts = read_list(alloc, host, list)?;\n    let table = read_table(alloc, host, table)?;\n    plan(alloc, file, table, cuts, wave, muted)')]),
 ]

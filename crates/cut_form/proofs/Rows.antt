@@ -67,3 +67,7 @@ wrong_lines = (refl, refl, refl)
 
 scripts : (script_lines (codes "seek 115200001\n") ≡ Err 1) × (script_lines (codes "seek 007\nmark\n\n") ≡ Err 3) × (script_lines (codes "drop 3\r") ≡ Ok (Drop 3 ∷ []))
 scripts = (refl, refl, refl)
+
+session_to_the_hour : replies 4096 still_pages (opened_session still_pages) (Seek 115199999 ∷ Play 1 ∷ Play 1 ∷ []) ≡ At 115199999 ∷ Played 1 115200000 ∷ Refused 1 ∷ []
+unfolding still_pages
+session_to_the_hour = refl

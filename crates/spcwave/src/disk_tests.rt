@@ -13,8 +13,8 @@ use std::rt::{Env, Files};
 use std::test::Fail;
 use std::{env, fs};
 use test_support::{
-    BLOCK, BLOCK_WAV, DSP, FILE_LENGTH, FIVE, HEADER_SIZE, MEMORY, Outcome, Pieces, STEADY_WAV,
-    file_of, straight_table,
+    BLOCK, BLOCK_WAV, DSP, FILE_LENGTH, FIVE, Frames, HEADER_SIZE, MEMORY, Outcome, Pieces,
+    STEADY_WAV, file_of, straight_table, wave_of,
 };
 
 /// The room for a trace of eight voices over a thousand samples: 8,000 lines of at most 28 bytes, and a few of what the program
@@ -329,5 +329,119 @@ fn an_entry_is_ripped_into_a_file_of_its_name(rt: HostRuntime) -> Result<(), Fai
     let held = hold_the_sound(&rt, &names, STEADY_WAV, LAST_REPORT)?;
     remove_sound(&rt, &names)?;
     assert!(rt; ended == Status::Ok && held);
+    Ok(())
+}
+
+/// The names of the real files of cuts, or of a session.
+#[derive(Drop)]
+struct CutNames {
+    tune: String,
+    table: String,
+    lines: String,
+    wave: String,
+    report: String,
+    complaint: String,
+}
+
+fn cut_names_of(alloc: Global, front: &str) -> Result<CutNames, Fail> {
+    Ok(CutNames {
+        tune: name_of(alloc, front, "-cuts.spc")?,
+        table: name_of(alloc, front, "-cuts.table")?,
+        lines: name_of(alloc, front, "-cuts.lines")?,
+        wave: name_of(alloc, front, "-cuts.wav")?,
+        report: name_of(alloc, front, "-cuts.report")?,
+        complaint: name_of(alloc, front, "-cuts.complaint")?,
+    })
+}
+
+fn write_cut_inputs<R: Files>(
+    alloc: Global,
+    files: &R,
+    names: &CutNames,
+    lines: &[u8],
+) -> Result<(), Fail> {
+    let tune = file_of(alloc, FILE_LENGTH, FIVE, &[])?;
+    let table = straight_table(alloc)?;
+    fs::write(files, names.tune.as_str(), tune.as_slice())?;
+    fs::write(files, names.table.as_str(), table.as_slice())?;
+    fs::write(files, names.lines.as_str(), lines)?;
+    Ok(())
+}
+
+/// Has a command play these lines over those inputs.
+fn play_on_disk<R: Files>(
+    alloc: Global,
+    files: &R,
+    names: &CutNames,
+    command: &str,
+    lines: &[u8],
+) -> Result<Status, Fail> {
+    write_cut_inputs(alloc, files, names, lines)?;
+    let words = [
+        command,
+        names.tune.as_str(),
+        names.table.as_str(),
+        names.lines.as_str(),
+        names.wave.as_str(),
+    ];
+    let words = list_words(alloc, &words)?;
+    run_on_disk(
+        alloc,
+        files,
+        words.as_slice(),
+        names.report.as_str(),
+        names.complaint.as_str(),
+    )
+}
+
+/// Whether the sound file of that name has these frames, the inputs are as they were, and no complaint was written.
+fn hold_the_cuts<R: Files + AllocGlobal>(
+    alloc: Global,
+    files: &R,
+    names: &CutNames,
+    lines: &[u8],
+    frames: Frames,
+) -> Result<bool, Fail> {
+    let wave = wave_of(alloc, frames)?;
+    let table = straight_table(alloc)?;
+    Ok(
+        fs::read(files, names.wave.as_str())?.as_slice() == wave.as_slice()
+            && fs::read(files, names.table.as_str())?.as_slice() == table.as_slice()
+            && fs::read(files, names.lines.as_str())?.as_slice() == lines
+            && fs::read(files, names.complaint.as_str())?.is_empty(),
+    )
+}
+
+fn remove_cuts<R: Files>(files: &R, names: &CutNames) -> Result<(), Fail> {
+    for name in [
+        &names.tune,
+        &names.table,
+        &names.lines,
+        &names.wave,
+        &names.report,
+        &names.complaint,
+    ] {
+        fs::remove_file(files, name.as_str())?;
+    }
+    Ok(())
+}
+
+/// The frames from sample 6 on, and then the first eight.
+#[test]
+fn cuts_and_sessions_are_written_to_the_last_name(rt: HostRuntime) -> Result<(), Fail> {
+    let alloc = rt.alloc();
+    let front = front_of(alloc, &rt, std::process::id(rt.process()))?;
+    let names = cut_names_of(alloc, front.as_str())?;
+    for (command, lines) in [
+        ("cuts", "6 2\n0 8\n"),
+        ("serve", "seek 6\nplay 2\nseek 0\nplay 8\n"),
+    ] {
+        let lines = lines.as_bytes();
+        let ended = play_on_disk(alloc, &rt, &names, command, lines)?;
+        let frames: Frames = &[(2, 4000), (6, 0), (2, 4000)];
+        let held = hold_the_cuts(alloc, &rt, &names, lines, frames)?;
+        remove_cuts(&rt, &names)?;
+        assert!(rt; ended == Status::Ok && held, "{command}");
+    }
     Ok(())
 }

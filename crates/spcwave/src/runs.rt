@@ -129,6 +129,25 @@ pub fn serve_free(alloc: Global, words: &[&str]) -> Result<Outcome, Fail> {
     run_over(alloc, given.as_slice(), &inputs, OUTPUT_ROOM)
 }
 
+/// Renders no samples of the base file, to outputs that have the names of the inputs.
+pub fn render_onto_inputs(alloc: Global) -> Result<Outcome, Fail> {
+    let file = file_of(alloc, FILE_LENGTH, &[], &[])?;
+    let table = straight_table(alloc)?;
+    let words = [
+        "render",
+        "SPC",
+        "TABLE",
+        "TABLE",
+        "--samples",
+        "0",
+        "--trace",
+        "SPC",
+    ];
+    let given = list_words(alloc, &words)?;
+    let inputs = [("SPC", file.as_slice()), ("TABLE", table.as_slice())];
+    run_over(alloc, given.as_slice(), &inputs, OUTPUT_ROOM)
+}
+
 /// The number that the process exits with for what the command line gives, and the complaint.
 pub fn give(alloc: Global, given: &Given) -> Result<(u8, Vec<u8>), Fail> {
     let mut host = host_with(alloc, &[], &[], OUTPUT_ROOM)?;

@@ -1,11 +1,11 @@
 // Words, and one run of each command that they say.
 use crate::given::Given;
-use crate::runs::{give, list_words, run_failing, run_words, serve_free};
+use crate::runs::{give, list_words, render_onto_inputs, run_failing, run_words, serve_free};
 use exit_status::Status;
 use std::alloc::Global;
 use std::process::Abort;
 use std::test::Fail;
-use test_support::{BLOCK, Outcome};
+use test_support::{BLOCK, HEADER_SIZE, Outcome};
 
 /// Whether the words were found to be no command, and nothing was read.
 fn is_usage(outcome: &Outcome) -> bool {
@@ -117,6 +117,7 @@ const MORE_WORDS: &[&[&str]] = &[
     ],
     &["serve", "A", "B", "C", "D", "--mute", "001"],
     &["serve", "A", "B", "C", "D", "--mute", "01", "--mute", "01"],
+    &["render", "A", "B", "C", "--trace", ""],
     &["rip", "A"],
     &["rip", "A", ""],
     &["rip", "A", "-B"],
@@ -152,6 +153,7 @@ const COMMANDS: &[(&[&str], Status, &str)] = &[
     (&["version"], Status::Ok, "spcwave 1.1.0\n"),
     (&["--version"], Status::Ok, "spcwave 1.1.0\n"),
     (&["brr", "IN", "OUT"], Status::Ok, "blocks 1 samples 16\n"),
+    (&["brr", "IN", "IN"], Status::Ok, "blocks 1 samples 16\n"),
     (&["info", "IN"], Status::SpcLength, ""),
     (&["encode", "IN", "OUT", "--loop"], Status::WavForm, ""),
     (
@@ -240,6 +242,16 @@ fn each_word_says_its_command(rt: HostRuntime) -> Result<(), Fail> {
         let outcome = run_words(rt.alloc(), words, BLOCK)?;
         look_at(&rt, &outcome, words, *wanted, report);
     }
+    Ok(())
+}
+
+/// Only the names of outputs differ from each other: all inputs are read before the first output is created.
+#[test]
+fn an_output_may_have_the_name_of_an_input(rt: HostRuntime) -> Result<(), Fail> {
+    let outcome = render_onto_inputs(rt.alloc())?;
+    let report = "samples 0\nbatches 0 register 0 memory 0 echo 0 full 0 events 0 end 0\n";
+    assert!(rt; outcome.status() == Status::Ok && outcome.report() == report.as_bytes());
+    assert!(rt; outcome.first().len() == HEADER_SIZE && outcome.second().is_empty());
     Ok(())
 }
 

@@ -198,3 +198,17 @@ fn all_entries_of_the_directory(rt: HostRuntime) -> Result<(), Fail> {
     look_at_all(&rt, &outcome);
     Ok(())
 }
+
+/// A file is read up to 1,048,576 bytes and one more, and its length then tells that.
+#[test]
+fn files_that_are_too_long(rt: HostRuntime) -> Result<(), Fail> {
+    let name = String::from_str(rt.alloc(), "SPC")?;
+    let long = vec![in rt.alloc(); 0u8; 1048577]?;
+    let files = vec![in rt.alloc(); (name, long)]?;
+    let rooms = rooms_of(rt.alloc(), (1, 76))?;
+    let mut host = MemHost::new(rt.alloc(), files, Vec::new(rt.alloc()), rooms)?;
+    let refusal = rip(rt.alloc(), &mut host, "SPC", "S", None);
+    let line = "spcwave: length 1048577 is not that of an SPC file\n";
+    assert!(rt; Outcome::of(refusal, host).is_refused(Status::SpcLength, line));
+    Ok(())
+}

@@ -16,6 +16,8 @@ fn scripts_and_first_wrong_lines(rt: HostRuntime) {
         ("play 70\nmark\nseek 60\r\nplay 2\n", Ok((4, 72))),
         // refused, since it ends after an hour, and since all frames are more than an hour
         ("seek 115200000\nplay 1", Ok((2, 0))),
+        ("seek 115199999\nplay 1", Ok((2, 1))),
+        ("play 1\nseek 0\nplay 115200000", Ok((3, 1))),
         (
             "play 1\nplay 115200000\nseek 0\nplay 115199999",
             Ok((4, 115200000)),

@@ -87,3 +87,27 @@ fn an_echo_that_writes_what_a_voice_reads_is_entangled(rt: HostRuntime) -> Resul
     }
     Ok(())
 }
+
+/// Without an end a chain has 18 blocks, 162 bytes.
+#[test]
+fn a_chain_without_an_end_has_18_blocks(rt: HostRuntime) -> Result<(), Fail> {
+    let memory = memory(rt.alloc())?;
+    for (block, pages) in [
+        (0x405eu16, [0x40u8].as_slice()),
+        (0x405f, [0x40, 0x41].as_slice()),
+    ] {
+        let start = ChainStart {
+            block,
+            loop_word: 0x6000,
+        };
+        assert!(rt; reads_exactly(&memory, start, pages));
+    }
+    Ok(())
+}
+
+#[test]
+fn a_window_ends_with_its_last_page(rt: HostRuntime) {
+    for page in 0..=255u8 {
+        assert!(rt; bytes_have_page(0x2000, 0x0800, page) == (page >= 0x20 && page <= 0x27));
+    }
+}

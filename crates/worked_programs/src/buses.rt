@@ -7,7 +7,9 @@ use crate::waits::counts_of;
 use aram_core::Aram;
 use dsp_core::Dsp;
 use gauss_table::GaussTable;
+use num_fix::Frame;
 use sound_bus::{Chip, Counts, DrainedBus};
+use spc_form::OpenState;
 use spc700_exec::Bus;
 use std::alloc::Global;
 use std::process::Abort;
@@ -219,6 +221,87 @@ fn what_waits_is_handed_over_in_order(rt: HostRuntime) -> Result<(), Fail> {
     ];
     assert!(rt; told.answers.as_slice() == answers.as_slice());
     assert!(rt; are_in_order(told.emitted.records.as_slice()));
+    Ok(())
+}
+
+/// A block of ones that loops, and its first byte is C3h, is written at an address; then twelve samples pass. The last frame.
+fn last_frame<B: CountedBus>(alloc: Global, bus: &mut B, at: u16) -> Result<Option<Frame>, Fail> {
+    let mut emitted = Emitted::none(alloc)?;
+    make(bus, Call::Write(at, 0xC3), &mut emitted)?;
+    for place in 1u16..9 {
+        make(bus, Call::Write(at.wrapping_add(place), 0x11), &mut emitted)?;
+    }
+    for _ in 0..12 {
+        make(bus, Call::Drain, &mut emitted)?;
+        make(bus, Call::Pass, &mut emitted)?;
+    }
+    make(bus, Call::Settle, &mut emitted)?;
+    make(bus, Call::Drain, &mut emitted)?;
+    Ok(emitted.frames.last().copied())
+}
+
+/// An opening whose voice 0 plays the source at an address of page 0.
+fn opening_at(alloc: Global, at: u8) -> Result<OpenState, Fail> {
+    let directory = [at, 0x00, at, 0x00];
+    let entry: [(u16, &[u8]); 1] = [(0x0200, &directory)];
+    opening_of(alloc, &entry, &KEYED_REGISTERS)
+}
+
+/// The last frame of the bus that makes each sample at once, once the source is written at that address.
+fn last_at_once(alloc: Global, at: u8) -> Result<Option<Frame>, Fail> {
+    let mut bus = open_plain(alloc, opening_at(alloc, at)?, 1)?;
+    last_frame(alloc, &mut bus, u16::from(at))
+}
+
+/// The last frame of the bus that makes samples late.
+fn last_of_late(alloc: Global, at: u8) -> Result<Option<Frame>, Fail> {
+    let mut bus = open_late(alloc, opening_at(alloc, at)?, 1)?;
+    last_frame(alloc, &mut bus, u16::from(at))
+}
+
+/// What is heard of a source of ones: each is 4096, which the envelope of 7F0h takes to 4064, the volume of the voice to 4032, and the main volume to 4000.
+const HEARD: Option<Frame> = Some(Frame {
+    left: 4000,
+    right: 4000,
+});
+
+/// Each write of F0h to FFh reaches the memory beneath, whatever else it does: a source that is written there is heard.
+#[test]
+fn ports_and_timers_have_memory_beneath(rt: HostRuntime) -> Result<(), Fail> {
+    for at in [0xF0u8, 0xF7] {
+        assert!(rt; last_at_once(rt.alloc(), at)? == HEARD, "at {at}");
+        assert!(rt; last_of_late(rt.alloc(), at)? == HEARD, "late at {at}");
+    }
+    Ok(())
+}
+
+/// While the ROM shows, which is zeros here, a write above it reaches the memory that it hides.
+#[test]
+fn the_rom_hides_what_is_written(rt: HostRuntime) -> Result<(), Fail> {
+    let calls = [
+        Call::Write(0x00F1, 0x80),
+        Call::Write(0xFFC0, 0x55),
+        Call::Write(0xFFFF, 0x66),
+        Call::Read(0xFFC0),
+        Call::Read(0xFFFF),
+        Call::Write(0x00F1, 0x00),
+        Call::Read(0xFFC0),
+        Call::Read(0xFFFF),
+    ];
+    let answers = [
+        (0, 0),
+        (0, 0),
+        (0, 0),
+        (0, 0),
+        (0, 0),
+        (0, 0),
+        (0x55, 0),
+        (0x66, 0),
+    ];
+    let plain = call_plain(rt.alloc(), &[], &calls)?;
+    assert!(rt; plain.answers.as_slice() == answers.as_slice());
+    let late = call_late(rt.alloc(), &[], &calls)?;
+    assert!(rt; late.answers.as_slice() == answers.as_slice());
     Ok(())
 }
 

@@ -239,6 +239,23 @@ fn a_product_with_a_volume_wraps(rt: HostRuntime) -> Result<(), Fail> {
     Ok(())
 }
 
+// The word 7FFEh is read as 16383 and filtered to 32510, which is 32256 at 7Fh. With 4000 of the main sum it is limited to 32767; and so it is with
+// 4032 that are sent, which leaves 7FFEh with bit 0 cleared.
+#[test]
+fn sums_with_the_echo_are_limited(rt: HostRuntime) -> Result<(), Fail> {
+    let regs = EchoRegs {
+        mvol_l: 0x7F,
+        mvol_r: 0x7F,
+        evol_l: 0x7F,
+        evol_r: 0x7F,
+        ..fed_back(0x7F, 0x7F)
+    };
+    let cell = [0xFE, 0x7F, 0xFE, 0x7F];
+    let made = written_back(rt.alloc(), &cell, regs, both(4032), both(4032))?;
+    assert!(rt; made == (both(32767), 0x7FFE, 0x7FFE));
+    Ok(())
+}
+
 // The word 4032 is filtered to 4000, and heard as 3968. 64 is sent, and stands in the cell where bit 5 is clear: bit 6 mutes what is heard and not
 // what is written, and neither bit 7 nor the rate of the noise does one or the other.
 #[test]

@@ -17,4 +17,6 @@ mod sources;
 #[cfg(test)]
 mod stage;
 #[cfg(test)]
+mod sums;
+#[cfg(test)]
 mod voices;

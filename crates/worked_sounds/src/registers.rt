@@ -142,3 +142,26 @@ fn no_register_is_written_from_80h_on(rt: HostRuntime) -> Result<(), Fail> {
     assert!(rt; end == Some((10, 0x01)));
     Ok(())
 }
+
+/// Whether registers read as these bytes.
+fn are_read(stage: &Stage, wanted: &[(u8, u8)]) -> bool {
+    wanted
+        .iter()
+        .all(|(address, value)| stage.dsp.reg_read(*address) == *value)
+}
+
+// Each register keeps the byte that is written, also one of no use. The results of voice 0 stand where they are written until its next sample, and KON stays
+// after it is taken.
+#[test]
+fn registers_keep_what_is_written(rt: HostRuntime) -> Result<(), Fail> {
+    let kept = [(0x0a, 0x12), (0x1d, 0x34), (0x0e, 0x56), (0x4c, 0x01)];
+    let mut stage = one_voice(rt.alloc())?;
+    write_all(&mut stage.dsp, &kept);
+    write_all(&mut stage.dsp, &[(0x08, 0x55), (0x09, 0xaa)]);
+    assert!(rt; are_read(&stage, &[(0x08, 0x55), (0x09, 0xaa)]));
+    assert!(rt; are_read(&stage, &kept));
+    stage.play(4, 0);
+    assert!(rt; are_read(&stage, &[(0x08, 0x00), (0x09, 0x00)]));
+    assert!(rt; are_read(&stage, &kept));
+    Ok(())
+}

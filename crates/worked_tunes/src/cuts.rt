@@ -65,6 +65,9 @@ fn list_of(alloc: Global, count: u32, distance: u32, last: &str) -> Result<Vec<u
     Ok(list)
 }
 
+/// The program writes a port, and so the page of memory beneath it.
+const WRITES_A_PORT: Pieces = &[(MEMORY + 0x0400, b"\x8f\x5a\xf4\x2f\xfe")];
+
 /// Pieces of the tune, a list, the frames of its cuts, and the report.
 const CUTS: &[(Pieces, &str, Frames, &str)] = &[
     (
@@ -78,6 +81,12 @@ const CUTS: &[(Pieces, &str, Frames, &str)] = &[
         "0 1\n70 1\n60 2\n",
         &[(2, 0), (2, 4000)],
         "cuts 3 samples 4 checkpoints 3 pages 258 made 133\n",
+    ),
+    (
+        WRITES_A_PORT,
+        "6 1",
+        &[(1, 4000)],
+        "cuts 1 samples 1 checkpoints 2 pages 257 made 7\n",
     ),
     (
         TAGS,
@@ -227,5 +236,36 @@ fn lists_with_a_wrong_line(rt: HostRuntime) -> Result<(), Fail> {
     }
     let outcome = cut_many(rt.alloc(), &[], 1000, 0, "0 0")?;
     look_at_refusal(&rt, &outcome, "spcwave: cut list is wrong at line 1001\n");
+    Ok(())
+}
+
+/// The table is asked for, and has to be right, before the list is.
+#[test]
+fn the_table_comes_before_the_list(rt: HostRuntime) -> Result<(), Fail> {
+    let file = file_of(rt.alloc(), FILE_LENGTH, FIVE, &[])?;
+    let tune = ("SPC", file.as_slice());
+    let list = ("LIST", b"5".as_slice());
+    let missing = cut_over(rt.alloc(), &[tune, list], 0)?;
+    assert!(rt; missing.is_refused(Status::ReadFault, "spcwave: input could not be read\n"));
+    let table = ("TABLE", b"abc".as_slice());
+    let short = cut_over(rt.alloc(), &[tune, table, list], 0)?;
+    assert!(rt;
+        short.is_refused(
+            Status::TableLength,
+            "spcwave: table has 3 bytes, not 1024\n"
+        )
+    );
+    Ok(())
+}
+
+/// A list may have 1,048,576 bytes; one with more isn't read.
+#[test]
+fn lists_that_are_too_long(rt: HostRuntime) -> Result<(), Fail> {
+    let long = vec![in rt.alloc(); b'\n'; 1048577]?;
+    let outcome = cut_from(rt.alloc(), &[], long.as_slice())?;
+    assert!(rt; outcome.is_refused(Status::InputTooLong, "spcwave: input is too long\n"));
+    let longest = vec![in rt.alloc(); b'\n'; 1048576]?;
+    let outcome = cut_from(rt.alloc(), &[], longest.as_slice())?;
+    look_at_refusal(&rt, &outcome, "spcwave: cut list is wrong at line 1\n");
     Ok(())
 }

@@ -170,3 +170,47 @@ fn scripts_with_a_wrong_line(rt: HostRuntime) -> Result<(), Fail> {
     }
     Ok(())
 }
+
+/// Runs a script with a wrong line over file five and a table of these bytes.
+fn served_by(alloc: Global, table: &[u8]) -> Result<Outcome, Fail> {
+    let file = file_of(alloc, FILE_LENGTH, FIVE, &[])?;
+    let table = Vec::from_slice(alloc, table)?;
+    let inputs = [
+        ("SPC", file.as_slice()),
+        ("TABLE", table.as_slice()),
+        ("SCRIPT", b"seek 115200001".as_slice()),
+    ];
+    let options = SessionOptions {
+        pages: 256,
+        muted: 0,
+    };
+    serve_over(alloc, &inputs, options)
+}
+
+/// The table is read, and has to be right, before the script is.
+#[test]
+fn the_table_comes_before_the_script(rt: HostRuntime) -> Result<(), Fail> {
+    let table = vec![in rt.alloc(); 0u8; 1048577]?;
+    let long = served_by(rt.alloc(), table.as_slice())?;
+    assert!(rt; long.is_refused(Status::InputTooLong, "spcwave: input is too long\n"));
+    let short = served_by(rt.alloc(), b"abc")?;
+    assert!(rt;
+        short.is_refused(
+            Status::TableLength,
+            "spcwave: table has 3 bytes, not 1024\n"
+        )
+    );
+    Ok(())
+}
+
+/// A script may have 1,048,576 bytes; one with more isn't read.
+#[test]
+fn scripts_that_are_too_long(rt: HostRuntime) -> Result<(), Fail> {
+    let long = vec![in rt.alloc(); b'\n'; 1048577]?;
+    let outcome = served(rt.alloc(), &[], long.as_slice(), 256)?;
+    assert!(rt; outcome.is_refused(Status::InputTooLong, "spcwave: input is too long\n"));
+    let longest = vec![in rt.alloc(); b'\n'; 1048576]?;
+    let outcome = served(rt.alloc(), &[], longest.as_slice(), 256)?;
+    assert!(rt; outcome.is_refused(Status::Script, "spcwave: script is wrong at line 1\n"));
+    Ok(())
+}

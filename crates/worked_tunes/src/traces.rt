@@ -6,6 +6,9 @@ use test_support::{DSP, FIVE, MEMORY, Outcome, Pieces};
 
 const WRITE: Pieces = &[(MEMORY + 0x0400, b"\x8f\x6c\xf2\x8f\x20\xf3\x2f\xfe")];
 
+/// ENDX keeps nothing of what is written.
+const WRITES_ENDX: Pieces = &[(MEMORY + 0x0400, b"\x8f\x7c\xf2\x8f\xff\xf3\x2f\xfe")];
+
 const IGNORED: Pieces = &[(MEMORY + 0x0400, b"\x8f\xcc\xf2\x8f\x20\xf3\x2f\xfe")];
 
 const OVERWRITTEN: Pieces = &[
@@ -93,6 +96,16 @@ const TRACED: &[Traced] = &[
         voices: Some(0x00),
         frames: &[(1, 0)],
         trace: "R 0 6c 20\n",
+        batches: ONE_BATCH,
+    },
+    Traced {
+        shows: "the byte that is written to ENDX",
+        sound: &[],
+        more: WRITES_ENDX,
+        samples: 1,
+        voices: Some(0x00),
+        frames: &[(1, 0)],
+        trace: "R 0 7c ff\n",
         batches: ONE_BATCH,
     },
     Traced {
