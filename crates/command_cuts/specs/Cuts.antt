@@ -1,14 +1,16 @@
 -- What `cuts` answers: the frames of the cuts of a list, each a slice of the tune's run, and the book of the list.
-use Rattle.std.specs.Prelude.{ℕ, ℤ, List, [], None, Option}
+use Rattle.std.specs.Prelude.{ℕ, ℤ, List, [], ◌∷◌, None, Option}
 use Rattle.wav_form.specs.Wave.{stereo_wave}
+use Rattle.snd_host.specs.Host.{Files}
 use Rattle.cut_form.specs.declared.cut.Cut.{Cut}
 use Rattle.cut_form.specs.CutBook.{cut_book}
 use Rattle.cut_form.specs.Slices.{cut_frames}
 use Rattle.command_frame.specs.Answer.{Answer, done}
+use Rattle.command_frame.specs.NamedInputs.{NamedInput}
 use Rattle.command_frame.specs.Stream.{pair}
 use Rattle.exit_status.specs.declared.cause.Cause.{Cause}
-use Rattle.input_files.specs.Reading.{answer_from}
-use Rattle.input_files.specs.Inputs.{file_in, table_in}
+use Rattle.input_files.specs.Reading.{answer_from, input_limit, input_up_to}
+use Rattle.input_files.specs.Inputs.{spc_input, table_input, file_in, table_in}
 use Rattle.tune_opening.specs.Tune.{tune_frames, tune_pages}
 use Rattle.cut_files.specs.CutFiles.{cuts_report}
 use Rattle.command_cuts.specs.Lists.{cuts_in}
@@ -28,3 +30,11 @@ file_answer wave muted held_table held_list file = answer_from (table_in held_ta
 
 abbrev pub cuts_answer : (wave : List ℕ) → (muted : ℕ) → (held_file held_table held_list : Option (List ℕ)) → Answer Cause
 cuts_answer wave muted held_file held_table held_list = answer_from (file_in held_file) (file_answer wave muted held_table held_list)
+
+-- what is answered by what the names of the inputs hold
+abbrev pub answer_over : (wave : List ℕ) → (muted : ℕ) → (file table list : List ℕ) → Files → Answer Cause
+answer_over wave muted file table list = λ files. cuts_answer wave muted (files file) (files table) (files list)
+
+-- the inputs of these names, in the order in which they are read
+abbrev pub inputs_of : (file table list : List ℕ) → List NamedInput
+inputs_of file table list = spc_input file ∷ table_input table ∷ input_up_to input_limit list ∷ []

@@ -4,7 +4,7 @@ ghost use Rattle.wav_form.specs.Wave.{header_of, stereo_wave};
 ghost use Rattle.dsp_core.specs.DspChip.{dsp_chip, dsp_saving};
 ghost use Rattle.snd_host.specs.Host.{HostState, Files};
 ghost use Rattle.input_files.specs.Reading.{input_limit, input_up_to};
-ghost use Rattle.input_files.specs.Inputs.{spc_input, table_input};
+ghost use Rattle.input_files.specs.Inputs.{table_input};
 ghost use Rattle.command_frame.specs.Conduct.{Plans, Prepares, Attempts};
 ghost use Rattle.command_frame.specs.Delivery.{CanDeliver};
 ghost use Rattle.command_frame.specs.Plan.{stream_makes};
@@ -12,7 +12,7 @@ ghost use Rattle.cut_form.specs.CutBook.{cut_book};
 ghost use Rattle.cut_form.specs.Slices.{cut_frames, cut_samples};
 ghost use Rattle.cut_files.specs.CutFiles.{cuts_report, to_come_of, report_of};
 ghost use Rattle.tune_opening.specs.Tune.{tune_frames, tune_pages};
-ghost use Rattle.command_cuts.specs.Cuts.{list_answer, table_answer, file_answer, cuts_answer};
+ghost use Rattle.command_cuts.specs.Cuts.{list_answer, table_answer, file_answer, answer_over, inputs_of};
 
 use crate::list::read_list;
 use command_frame::{OutOfMemory, Refusal, StreamedPlan, carry_stream};
@@ -118,9 +118,9 @@ fn prepare<'a, H: Host>(
     wave: &'a str,
     muted: u8,
 ) -> Result<StreamedPlan<'a, CutFiles<Dsp>>, Refusal<Cause>>
-    ensures { let answer = λ (files : Files). cuts_answer wave.now muted (files file.now) (files table.now) (files list.now) in
+    ensures { let answer = answer_over wave.now muted file.now table.now list.now in
         Prepares (stream_makes (to_come_of dsp_chip dsp_saving) (report_of dsp_chip dsp_saving)) answer
-        (spc_input file.now ∷ table_input table.now ∷ input_up_to input_limit list.now ∷ []) (H.state host.old) (H.state host.new) result }
+        (inputs_of file.now table.now list.now) (H.state host.old) (H.state host.new) result }
 {
     let file = read_file(alloc, host, file)?;
     prepare_table(alloc, host, &file, table, list, wave, muted)
@@ -138,9 +138,8 @@ pub fn cuts<H: Host>(
     muted: u8,
 ) -> Option<Refusal<Cause>>
     requires outputs { CanDeliver (H.state host.old) }
-    ensures attempts { let answer = λ (files : Files). cuts_answer wave.now muted (files file.now) (files table.now) (files list.now) in
-        Attempts answer (spc_input file.now ∷ table_input table.now ∷ input_up_to input_limit list.now ∷ [])
-        result (H.state host.old) (H.state host.new) }
+    ensures attempts { let answer = answer_over wave.now muted file.now table.now list.now in
+        Attempts answer (inputs_of file.now table.now list.now) result (H.state host.old) (H.state host.new) }
     ensures not_usage { result ≡ Some Refusal.Usage → ⊥ }
 {
     let prepared = prepare(alloc, host, file, table, list, wave, muted);

@@ -1,15 +1,17 @@
 -- What `render` answers.
-use Rattle.std.specs.Prelude.{ℕ, ℤ, List, Option, Some, None, is_some, unwrap_or}
+use Rattle.std.specs.Prelude.{ℕ, ℤ, List, [], ◌∷◌, Option, Some, None, is_some, unwrap_or}
 use Rattle.std.specs.Option.{option_map}
 use Rattle.wav_form.specs.Wave.{stereo_wave}
+use Rattle.snd_host.specs.Host.{Files}
 use Rattle.lock_step.specs.declared.counts.Counts.{Counts}
 use Rattle.render_core.specs.Fade.{faded_frames}
 use Rattle.spc_form.specs.Tags.{length_of}
 use Rattle.spc_form.specs.declared.tags.Length.{Length}
 use Rattle.command_frame.specs.Answer.{Answer, done}
+use Rattle.command_frame.specs.NamedInputs.{NamedInput}
 use Rattle.command_frame.specs.Stream.{pair}
 use Rattle.input_files.specs.Reading.{answer_from}
-use Rattle.input_files.specs.Inputs.{file_in, table_in}
+use Rattle.input_files.specs.Inputs.{spc_input, table_input, file_in, table_in}
 use Rattle.render_options.specs.Options.{Options}
 use Rattle.render_files.specs.RenderFiles.{trace_of}
 use Rattle.render_files.specs.RenderReport.{sound_report}
@@ -51,3 +53,11 @@ file_answer wave options held_table file = answer_from (table_in held_table) (re
 abbrev pub render_answer : (wave : List ℕ) → Options → (held_file held_table : Option (List ℕ)) → Answer Cause
 render_answer wave options held_file held_table =
     answer_from (file_in held_file) (file_answer wave options held_table)
+
+-- what is answered by what the names of the inputs hold
+abbrev pub answer_over : (wave : List ℕ) → Options → (file table : List ℕ) → Files → Answer Cause
+answer_over wave options file table = λ files. render_answer wave options (files file) (files table)
+
+-- the inputs of these names, in the order in which they are read
+abbrev pub inputs_of : (file table : List ℕ) → List NamedInput
+inputs_of file table = spc_input file ∷ table_input table ∷ []

@@ -1,15 +1,17 @@
 -- What `serve` answers: the frames that a session plays, each cut a slice of the tune's run, and a reply to each line of its script.
-use Rattle.std.specs.Prelude.{ℕ, ℤ, List, [], None, Option}
+use Rattle.std.specs.Prelude.{ℕ, ℤ, List, [], ◌∷◌, None, Option}
 use Rattle.wav_form.specs.Wave.{stereo_wave}
+use Rattle.snd_host.specs.Host.{Files}
 use Rattle.cut_form.specs.declared.script.ScriptLine.{ScriptLine}
 use Rattle.cut_form.specs.declared.script.Reply.{Reply}
 use Rattle.cut_form.specs.Session.{opened_session, replies, played_cuts}
 use Rattle.cut_form.specs.Slices.{cut_frames}
 use Rattle.command_frame.specs.Answer.{Answer, done}
+use Rattle.command_frame.specs.NamedInputs.{NamedInput}
 use Rattle.command_frame.specs.Stream.{pair}
 use Rattle.exit_status.specs.declared.cause.Cause.{Cause}
-use Rattle.input_files.specs.Reading.{answer_from}
-use Rattle.input_files.specs.Inputs.{file_in, table_in}
+use Rattle.input_files.specs.Reading.{answer_from, input_limit, input_up_to}
+use Rattle.input_files.specs.Inputs.{spc_input, table_input, file_in, table_in}
 use Rattle.render_options.specs.declared.SessionOptions.{SessionOptions}
 use Rattle.tune_opening.specs.Tune.{tune_frames, tune_pages}
 use Rattle.session_files.specs.Report.{report_on}
@@ -40,3 +42,11 @@ file_answer wave options held_table held_script file = answer_from (table_in hel
 
 abbrev pub serve_answer : (wave : List ℕ) → SessionOptions → (held_file held_table held_script : Option (List ℕ)) → Answer Cause
 serve_answer wave options held_file held_table held_script = answer_from (file_in held_file) (file_answer wave options held_table held_script)
+
+-- what is answered by what the names of the inputs hold
+abbrev pub answer_over : (wave : List ℕ) → SessionOptions → (file table script : List ℕ) → Files → Answer Cause
+answer_over wave options file table script = λ files. serve_answer wave options (files file) (files table) (files script)
+
+-- the inputs of these names, in the order in which they are read
+abbrev pub inputs_of : (file table script : List ℕ) → List NamedInput
+inputs_of file table script = spc_input file ∷ table_input table ∷ input_up_to input_limit script ∷ []

@@ -6,7 +6,7 @@ ghost use Rattle.page_pool.specs.Pool.{most_pages};
 ghost use Rattle.cut_form.specs.Checkpoints.{fewest_pages};
 ghost use Rattle.snd_host.specs.Host.{HostState, Files};
 ghost use Rattle.input_files.specs.Reading.{input_limit, input_up_to};
-ghost use Rattle.input_files.specs.Inputs.{spc_input, table_input};
+ghost use Rattle.input_files.specs.Inputs.{table_input};
 ghost use Rattle.command_frame.specs.Conduct.{Plans, Prepares, Attempts};
 ghost use Rattle.command_frame.specs.Delivery.{CanDeliver};
 ghost use Rattle.command_frame.specs.Plan.{stream_makes};
@@ -16,7 +16,7 @@ ghost use Rattle.cut_text.specs.Playing.{played_frames};
 ghost use Rattle.session_files.specs.Report.{report_on};
 ghost use Rattle.session_files.specs.SessionFiles.{to_come_of, report_of};
 ghost use Rattle.tune_opening.specs.Tune.{tune_frames};
-ghost use Rattle.command_serve.specs.Serve.{tune_replies, script_answer, table_answer, file_answer, serve_answer};
+ghost use Rattle.command_serve.specs.Serve.{tune_replies, script_answer, table_answer, file_answer, answer_over, inputs_of};
 
 use crate::script::read_lines;
 use command_frame::{OutOfMemory, Refusal, StreamedPlan, carry_stream};
@@ -132,9 +132,9 @@ fn prepare<'a, H: Host>(
 ) -> Result<StreamedPlan<'a, SessionFiles<Dsp>>, Refusal<Cause>>
     requires enough { fewest_pages ≤ options.pages }
     requires few { options.pages ≤ most_pages }
-    ensures { let answer = λ (files : Files). serve_answer wave.now options (files file.now) (files table.now) (files script.now) in
+    ensures { let answer = answer_over wave.now options file.now table.now script.now in
         Prepares (stream_makes (to_come_of dsp_chip dsp_saving) (report_of dsp_chip dsp_saving)) answer
-        (spc_input file.now ∷ table_input table.now ∷ input_up_to input_limit script.now ∷ []) (H.state host.old) (H.state host.new) result }
+        (inputs_of file.now table.now script.now) (H.state host.old) (H.state host.new) result }
 {
     let file = read_file(alloc, host, file)?;
     prepare_table(alloc, host, &file, table, script, wave, options)
@@ -154,9 +154,8 @@ pub fn serve<H: Host>(
     requires outputs { CanDeliver (H.state host.old) }
     requires enough { fewest_pages ≤ options.pages }
     requires few { options.pages ≤ most_pages }
-    ensures attempts { let answer = λ (files : Files). serve_answer wave.now options (files file.now) (files table.now) (files script.now) in
-        Attempts answer (spc_input file.now ∷ table_input table.now ∷ input_up_to input_limit script.now ∷ [])
-        result (H.state host.old) (H.state host.new) }
+    ensures attempts { let answer = answer_over wave.now options file.now table.now script.now in
+        Attempts answer (inputs_of file.now table.now script.now) result (H.state host.old) (H.state host.new) }
     ensures not_usage { result ≡ Some Refusal.Usage → ⊥ }
 {
     let prepared = prepare(alloc, host, file, table, script, wave, options);

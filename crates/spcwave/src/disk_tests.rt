@@ -1,4 +1,4 @@
-// A decoding and a rip over real files, whose bytes are known, and a render over them, beside the same over a host in memory.
+// A decoding, a rip, cuts and a session over real files, whose bytes are known, and a render over them, beside the same over a host in memory.
 ghost use Rattle.std.specs.Prelude.{◌≡◌, [], IfOk};
 ghost use Rattle.snd_host.specs.Memory.{memory_state};
 
