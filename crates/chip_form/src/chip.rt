@@ -39,11 +39,11 @@ pub trait Chip: Drop {
     /// And those by which they save and load.
     ghost saving: { ChipSaving Self.State Self.Saved };
 
-    /// The register at an address.
+    /// The register at an address. A bus asks for those from 00h to 7Fh alone.
     fn reg_read(&self, addr: u8) -> u8
         ensures { result ≡ meaning.register_read (state self.now) addr };
 
-    /// Writes the register at an address.
+    /// Writes the register at an address. A bus writes those from 00h to 7Fh alone.
     fn reg_write(&mut self, addr: u8, value: u8)
         ensures state { state self.new ≡ meaning.register_write (state self.old) addr value }
         ensures sample { sample self.new ≡ sample self.old }
@@ -54,8 +54,8 @@ pub trait Chip: Drop {
     fn is_result(&self, addr: u8) -> bool
         ensures { result ≡ meaning.is_result addr };
 
-    /// Makes the next n samples as one batch, and adds their frames and the records of the voices in the mask; bit v of
-    /// the mask is voice v.
+    /// Makes the next n samples, at most 64, as one batch, and adds their frames and the records of the voices in the mask; bit v of
+    /// the mask is voice v. No samples are no batch.
     fn advance(
         &mut self,
         n: u8,

@@ -38,7 +38,7 @@ const FEWEST_ROWS: u8 = 3;
 /// How many samples are made one by one before it is looked again whether rows may be.
 const ONE_BY_ONE: u8 = 4;
 
-/// The S-DSP. It runs once for each sample, 32,000 times a second of sound. Beside the chip's state it keeps what it works with, of which views and saved
+/// The S-DSP: 32,000 samples a second of sound, made in batches. Beside the chip's state it keeps what it works with, of which views and saved
 /// states see nothing: what it read of its registers, the places of its voices, and the blocks that were decoded.
 #[derive(Drop)]
 pub struct Dsp {

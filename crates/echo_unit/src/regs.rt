@@ -1,6 +1,6 @@
 // The registers of the echo.
 
-/// The registers that a step of the echo reads (Anomie's S-DSP Doc, "DSP Register Map"). The volumes, EFB and the weights of the
+/// The registers that a step of the echo reads (Anomie's S-DSP Doc, "DSP Register Map"). The volumes, EFB and the coefficients of the
 /// filter are bytes with a sign: -128 to 127.
 #[derive(Clone, Copy, Debug, PartialEq, Eq)]
 pub struct EchoRegs {
@@ -20,6 +20,6 @@ pub struct EchoRegs {
     pub evol_l: u8,
     /// EVOLR: the volume of the echo on the right side, in 128ths, signed.
     pub evol_r: u8,
-    /// C0 to C7: the weights of the filter, in 64ths, signed. `fir[0]` is that of the oldest of the last eight pairs, `fir[7]` that of the newest.
+    /// C0 to C7: the coefficients of the filter, in 64ths, signed. `fir[0]` is that of the oldest of the last eight pairs, `fir[7]` that of the newest.
     pub fir: [u8; 8],
 }

@@ -70,7 +70,7 @@ after_sample chip m =
       records = m.records ++ filter (in_mask m.mask) made.records;
     }
 
--- A pass of 1 to 32 cycles: the timers tick, and a sample is made where the clock comes to a multiple of 32.
+-- A pass of 1 to 32 cycles: the timers tick, and a sample is made where the clock comes to a multiple of 32 or passes one.
 abbrev pub after_bus_pass : {S : Type 0} → ChipMeaning S → Machine S → (cycles : ℕ) → Machine S
 after_bus_pass chip m cycles =
     let made = if crosses_sample m.clock cycles then after_sample chip m else m in

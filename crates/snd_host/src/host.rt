@@ -45,7 +45,7 @@ pub trait Host {
         ensures steady { IsSome (state self.old).steady →
             IfTold (state self.old).holds (λ files. IsSome (files name.now) → IsOk result) };
 
-    /// Puts the next bytes of the current input into the front of the buffer. None come only at its end.
+    /// Puts the next bytes of the current input into the front of the buffer. None come only at its end, or into an empty buffer.
     fn read(&mut self, file: InFile, buf: &mut [u8]) -> Result<usize, Failed>
         requires { (state self.old).current ≡ Some file.0 }
         ensures within { IfOk result (λ count. count ≤ length buf.old) }
