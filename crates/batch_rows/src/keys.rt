@@ -119,7 +119,7 @@ fn polls_from(number: u32) -> [bool; BATCH_SIZE]
 {
     let odd = (number % 2) as u8;
     let mut polls = [false; BATCH_SIZE];
-    for j in 0..64u8 {
+    for j in 0..BATCH_SIZE as u8 {
         polls[usize::from(j)] = j % 2 == odd;
     }
     polls

@@ -60,9 +60,7 @@ fn plan<'a>(
         }
         Err(AsmRefusal::OutOfMemory) => return Err(Refusal::OutOfMemory),
     };
-    let Ok(report) = report(alloc, code.as_slice()) else {
-        return Err(Refusal::OutOfMemory);
-    };
+    let report = report(alloc, code.as_slice())?;
     Ok(Plan {
         output: Some(PlannedOutput {
             name: output,

@@ -55,12 +55,8 @@ fn plan<'a>(alloc: Global, bytes: &[u8], output: &'a str) -> Result<Plan<'a>, Re
         Err(BrrRefusal::Length(length)) => return Err(Refusal::Input(Cause::BrrLength(length))),
         Err(BrrRefusal::OutOfMemory) => return Err(Refusal::OutOfMemory),
     };
-    let Ok(wave) = wave(alloc, &samples) else {
-        return Err(Refusal::OutOfMemory);
-    };
-    let Ok(report) = report(alloc, bytes.len() / 9, samples.len()) else {
-        return Err(Refusal::OutOfMemory);
-    };
+    let wave = wave(alloc, &samples)?;
+    let report = report(alloc, bytes.len() / 9, samples.len())?;
     Ok(Plan {
         output: Some(PlannedOutput {
             name: output,

@@ -101,10 +101,7 @@ fn plan_report<'a>(alloc: Global, number: u32) -> Result<Plan<'a>, OutOfMemory>
 fn plan<'a>(alloc: Global, number: u32) -> Result<Plan<'a>, Refusal<Cause>>
     ensures { Plans plan_makes (check_answer number) result }
 {
-    match plan_report(alloc, number) {
-        Ok(plan) => Ok(plan),
-        Err(_) => Err(Refusal::OutOfMemory),
-    }
+    Ok(plan_report(alloc, number)?)
 }
 
 /// Reports sums over the frames of the demo file of a number, rendered for ten seconds, and its batches.

@@ -58,12 +58,8 @@ fn plan<'a>(
     ensures { let answer = list_answer wave.now muted file.now table cuts in
         Plans (stream_makes (to_come_of dsp_chip dsp_saving) (report_of dsp_chip dsp_saving)) answer result }
 {
-    let Ok(head) = Vec::from_slice(alloc, &header(2, cuts.samples())) else {
-        return Err(Refusal::OutOfMemory);
-    };
-    let Ok(source) = open_cuts(alloc, file, table, muted, cuts) else {
-        return Err(Refusal::OutOfMemory);
-    };
+    let head = Vec::from_slice(alloc, &header(2, cuts.samples()))?;
+    let source = open_cuts(alloc, file, table, muted, cuts)?;
     Ok(StreamedPlan {
         wave,
         trace: None,

@@ -33,10 +33,7 @@ fn plan_file(alloc: Global, number: u32, output: &str) -> Result<Plan<'_>, OutOf
 fn plan<'a>(alloc: Global, number: u32, output: &'a str) -> Result<Plan<'a>, Refusal<Cause>>
     ensures { Plans plan_makes (demo_answer number output.now) result }
 {
-    match plan_file(alloc, number, output) {
-        Ok(plan) => Ok(plan),
-        Err(_) => Err(Refusal::OutOfMemory),
-    }
+    Ok(plan_file(alloc, number, output)?)
 }
 
 /// Makes the demo file of a number, the output.

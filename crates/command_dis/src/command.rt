@@ -48,12 +48,8 @@ fn plan<'a>(
             origin,
         }));
     }
-    let Ok(text) = disassemble(alloc, bytes, origin) else {
-        return Err(Refusal::OutOfMemory);
-    };
-    let Ok(report) = report(alloc, text.as_slice()) else {
-        return Err(Refusal::OutOfMemory);
-    };
+    let text = disassemble(alloc, bytes, origin)?;
+    let report = report(alloc, text.as_slice())?;
     Ok(Plan {
         output: Some(PlannedOutput {
             name: output,

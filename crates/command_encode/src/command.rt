@@ -83,9 +83,7 @@ fn plan_samples<'a>(
         }
         Err(EncodeRefusal::OutOfMemory) => return Err(Refusal::OutOfMemory),
     };
-    let Ok(report) = report(alloc, &encoded.reports, options.loop_at) else {
-        return Err(Refusal::OutOfMemory);
-    };
+    let report = report(alloc, &encoded.reports, options.loop_at)?;
     Ok(Plan {
         output: Some(PlannedOutput {
             name: output,

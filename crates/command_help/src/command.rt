@@ -40,13 +40,11 @@ const VERSION: &[u8] = b"spcwave 1.1.0\n";
 fn plan<'a>(alloc: Global, text: &[u8]) -> Result<Plan<'a>, Refusal<Cause>>
     ensures { Plans plan_makes (done [] text.now) result }
 {
-    match Vec::from_slice(alloc, text) {
-        Ok(report) => Ok(Plan {
-            output: None,
-            report,
-        }),
-        Err(_) => Err(Refusal::OutOfMemory),
-    }
+    let report = Vec::from_slice(alloc, text)?;
+    Ok(Plan {
+        output: None,
+        report,
+    })
 }
 
 /// Reports the commands with their words, and where the formats are described.

@@ -131,9 +131,7 @@ fn plan(alloc: Global, bytes: &[u8]) -> Result<Plan<'static>, Refusal<Cause>>
     ensures { Plans plan_makes (fields_answer bytes.now) result }
 {
     let file = accept_file(alloc, bytes)?;
-    let Ok(report) = report(alloc, bytes.len(), &file) else {
-        return Err(Refusal::OutOfMemory);
-    };
+    let report = report(alloc, bytes.len(), &file)?;
     Ok(Plan {
         output: None,
         report,

@@ -99,12 +99,8 @@ fn plan<'a>(
     let length = length_with(options.samples, file);
     let muted = muted_voices(options);
     let voices = traced_voices(options);
-    let Ok(head) = Vec::from_slice(alloc, &header(2, length.frames)) else {
-        return Err(Refusal::OutOfMemory);
-    };
-    let Ok(source) = open_files(alloc, file, table, muted, length, voices) else {
-        return Err(Refusal::OutOfMemory);
-    };
+    let head = Vec::from_slice(alloc, &header(2, length.frames))?;
+    let source = open_files(alloc, file, table, muted, length, voices)?;
     Ok(StreamedPlan {
         wave,
         trace: options.trace,

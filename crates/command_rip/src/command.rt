@@ -26,6 +26,9 @@ use std::alloc::Global;
 use text_form::two_digits;
 use wav_form::header;
 
+/// The register DIR: the page of the directory.
+const DIR: usize = 0x5D;
+
 /// The entries that are wanted, in ascending order.
 fn wanted_in(alloc: Global, file: &SpcFile, range: Option<(u8, u8)>) -> Result<Vec<u8>, OutOfMemory>
     ensures entries { IfOk result (λ entries. entries.items ≡ wanted_in (dsp_of file.now) range) }
@@ -118,13 +121,9 @@ fn plan_file<'a>(
     ensures plans { Plans (list_makes to_come_of) (file_answer prefix.now range file.now) result }
     ensures few { IfOk result (λ plan. length plan.outputs.items ≤ most_entries) }
 {
-    let Ok(entries) = wanted_in(alloc, file, range) else {
-        return Err(Refusal::OutOfMemory);
-    };
-    match plan_entries(alloc, prefix, &state.memory, state.dsp[0x5d], &entries) {
-        Ok(plan) => Ok(plan),
-        Err(_) => Err(Refusal::OutOfMemory),
-    }
+    let entries = wanted_in(alloc, file, range)?;
+    let plan = plan_entries(alloc, prefix, &state.memory, state.dsp[DIR], &entries)?;
+    Ok(plan)
 }
 
 /// Writes each wanted sample of the SPC file that the input holds to a sound file of one channel, whose name is the

@@ -66,12 +66,8 @@ fn plan<'a>(
     ensures { let answer = script_answer wave.now options file.now table script in
         Plans (stream_makes (to_come_of dsp_chip dsp_saving) (report_of dsp_chip dsp_saving)) answer result }
 {
-    let Ok(head) = Vec::from_slice(alloc, &header(2, script.samples())) else {
-        return Err(Refusal::OutOfMemory);
-    };
-    let Ok(source) = open_session(alloc, file, table, script, options) else {
-        return Err(Refusal::OutOfMemory);
-    };
+    let head = Vec::from_slice(alloc, &header(2, script.samples()))?;
+    let source = open_session(alloc, file, table, script, options)?;
     Ok(StreamedPlan {
         wave,
         trace: None,

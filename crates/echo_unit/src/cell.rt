@@ -2,14 +2,14 @@
 ghost use Rattle.std.specs.Prelude.{◌≡◌, ◌+◌, ◌*◌, ◌%◌};
 ghost use Rattle.echo_unit.specs.Echo.{cell_address, halved_word, cell_pair, with_word, with_cell};
 
-use aram_core::Aram;
+use aram_core::{Aram, PAGE_BYTES};
 use num_fix::{Frame, half};
 
 /// The address of the cell at an offset of the buffer.
 pub fn cell_address(esa: u8, offset: u16) -> u16
     ensures { result ≡ cell_address esa offset }
 {
-    (u16::from(esa) * 256).wrapping_add(offset)
+    (u16::from(esa) * PAGE_BYTES).wrapping_add(offset)
 }
 
 /// The word at an address, read with a sign and halved.

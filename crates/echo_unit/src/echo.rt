@@ -22,6 +22,9 @@ use std::marker::Model;
 /// The bytes of the buffer that one step of EDL adds.
 const LENGTH_UNIT: u16 = 2048;
 
+/// The fewest samples for which rows pay.
+const FEWEST_OF_ROWS: u8 = 16;
+
 /// The echo between two steps.
 #[derive(Clone, Copy, Debug)]
 pub struct Echo {
@@ -284,7 +287,7 @@ impl Echo {
         ensures batch { echo_over regs.now (main_of sums.now) (sent_of sums.now) self.old memory.old n
             ≡ record { echo = self.new; memory = memory.new; frames = take n result } }
     {
-        if 16 <= n && are_cells_apart(regs) {
+        if FEWEST_OF_ROWS <= n && are_cells_apart(regs) {
             self.play_rows(n, regs, sums, memory)
         } else {
             self.play_each(n, regs, sums, memory)
@@ -299,7 +302,7 @@ impl Echo {
     {
         let asked = u32::from(edl % 16) * LENGTH_UNIT as u32;
         Window {
-            start: u16::from(esa) * 256,
+            start: u16::from(esa) * PAGE_BYTES,
             len: u32::from(self.length).max(asked).max(4),
         }
     }

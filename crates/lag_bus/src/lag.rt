@@ -542,8 +542,8 @@ impl<C: Chip> DrainedBus for LagBus<C> {
         self.time.calls() <= MOST_CALLS_BEFORE_STEP
     }
 
-    fn take_steps(&mut self, cpu: &mut Cpu, samples: u32, rooms: u8) -> u8 {
-        take_steps(self, cpu, samples, rooms)
+    fn take_steps(&mut self, cpu: &mut Cpu, samples: u32, fillings: u8) -> u8 {
+        take_steps(self, cpu, samples, fillings)
     }
 
     fn wait(&mut self, cpu: &Cpu, samples: u32) {

@@ -184,7 +184,7 @@ fn step_once<'a, B: BehindBus>(cpu: &mut Cpu, running: &mut RunningBus<'a, B>)
 /// step. The answer is how many of these times are left.
 // In line with what takes the bus in hand, so that its clock and its calls may stay in registers from step to step.
 #[inline(always)]
-fn step_on<'a, B: BehindBus>(cpu: &mut Cpu, running: &mut RunningBus<'a, B>, rooms: u8) -> u8
+fn step_on<'a, B: BehindBus>(cpu: &mut Cpu, running: &mut RunningBus<'a, B>, fillings: u8) -> u8
     requires calls { running.old.bus.machine.calls ≤ most_calls_before_step }
     requires more { samples_due running.old.bus.machine < running.old.samples }
     requires few { running.old.samples ≤ most_frames }
@@ -194,9 +194,9 @@ fn step_on<'a, B: BehindBus>(cpu: &mut Cpu, running: &mut RunningBus<'a, B>, roo
 {
     if cpu.halted {
         running.step_on_bus(cpu);
-        return rooms;
+        return fillings;
     }
-    let mut left = rooms;
+    let mut left = fillings;
     'steps: loop {
         if running.is_at_end() {
             break;
@@ -222,7 +222,7 @@ fn step_on<'a, B: BehindBus>(cpu: &mut Cpu, running: &mut RunningBus<'a, B>, roo
 /// Takes steps of the processor on a bus, one at least, until so many samples are due, the processor halts, or the room
 /// for calls is filled and something is to be drained or it was filled so many times before. Of a processor that has halted it is
 /// one step. The answer is how many of these times are left.
-pub(crate) fn take_steps<B: BehindBus>(bus: &mut B, cpu: &mut Cpu, samples: u32, rooms: u8) -> u8
+pub(crate) fn take_steps<B: BehindBus>(bus: &mut B, cpu: &mut Cpu, samples: u32, fillings: u8) -> u8
     requires calls { (B.shows bus.old).machine.calls ≤ most_calls_before_step }
     requires more { samples_due (B.shows bus.old).machine < samples }
     requires few { samples ≤ most_frames }
@@ -232,7 +232,7 @@ pub(crate) fn take_steps<B: BehindBus>(bus: &mut B, cpu: &mut Cpu, samples: u32,
     // The registers, too, are at hand: a copy, which no call of the bus can change.
     let mut at_hand = *cpu;
     let mut running = RunningBus::new(bus, samples);
-    let rooms_left = step_on(&mut at_hand, &mut running, rooms);
+    let fillings_left = step_on(&mut at_hand, &mut running, fillings);
     *cpu = at_hand;
     let RunningBus {
         bus: behind,
@@ -242,7 +242,7 @@ pub(crate) fn take_steps<B: BehindBus>(bus: &mut B, cpu: &mut Cpu, samples: u32,
         calls,
     } = running;
     behind.catch_up(until - left, calls);
-    rooms_left
+    fillings_left
 }
 
 impl<'a, B: BehindBus> Bus for RunningBus<'a, B> {

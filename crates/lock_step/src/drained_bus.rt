@@ -27,7 +27,7 @@ pub trait DrainedBus: Bus {
     /// Takes steps of the processor, one at least, of which none begins at the end of a run to so many samples. The bus may begin its
     /// calls anew, where nothing is to be drained, so many times; the answer is a hint, which no clause ties down: how many of these times
     /// are left.
-    fn take_steps(&mut self, cpu: &mut Cpu, samples: u32, rooms: u8) -> u8
+    fn take_steps(&mut self, cpu: &mut Cpu, samples: u32, fillings: u8) -> u8
         requires calls { Self.means.calls self.old ≤ most_calls_before_step }
         requires more { Self.means.due self.old < samples }
         requires few { samples ≤ most_frames }

@@ -199,9 +199,9 @@ impl<C: Chip> DrainedBus for PlainBus<C> {
     }
 
     /// Takes one step.
-    fn take_steps(&mut self, cpu: &mut Cpu, _samples: u32, rooms: u8) -> u8 {
+    fn take_steps(&mut self, cpu: &mut Cpu, _samples: u32, fillings: u8) -> u8 {
         step(cpu, self);
-        rooms
+        fillings
     }
 
     /// Makes no round at once.

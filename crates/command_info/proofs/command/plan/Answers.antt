@@ -11,7 +11,7 @@ returns c =
     let told : List ℕ → Answer Cause = λ file. done [] (info_report (length c.args.bytes.now) file) in
     let made : List ℕ → Answer Cause = λ report. done [] report in
     record {
-      ok = ap (λ given. answer_from given told) c.in_ok-file.ensures.ok ∙ ap made (sym c.in-Ok.ensures);
+      ok = ap (λ given. answer_from given told) c.in_ok-file.ensures.ok ∙ ap made (sym c.in_ok-report.ensures);
       err = tt;
       no_usage = λ wrong. absurd (cc);
       no_read = λ wrong. absurd (cc);
