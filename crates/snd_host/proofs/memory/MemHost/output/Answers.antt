@@ -1,5 +1,5 @@
-use Rattle.std.proofs.lemmas.Grind.{elements, not_there, common_steps}
-use Rattle.std.proofs.Common.{arith, rules}
+use Rattle.std.proofs.Common.{arith}
+use Rattle.std.proofs.lemmas.Grind.{elements}
 use Rattle.snd_host.proofs.memory.MemHost.output.Goals as goal
 
 pub returns-in-None : goal.returns-in-None

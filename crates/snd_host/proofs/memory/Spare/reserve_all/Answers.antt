@@ -1,5 +1,5 @@
+use Rattle.std.proofs.Common.{arith}
 use Rattle.std.proofs.lemmas.Grind.{common_steps}
-use Rattle.std.proofs.Common.{arith, rules}
 use Rattle.snd_host.proofs.memory.Spare.reserve_all.Goals as goal
 
 pub loop-room-preserved : goal.loop-room-preserved
