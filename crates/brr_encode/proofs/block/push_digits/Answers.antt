@@ -1,4 +1,5 @@
 use Rattle.std.proofs.Common.{rules, ◌≡◌, ◌≤◌, ◌∷◌, length, pos, get_or, arith, sym, ◌∙◌, to_z, of_z, w16}
+use Rattle.std.proofs.lemmas.Grind.{common_steps}
 use Rattle.brr_encode.proofs.Pairs.{two_and_rest, bytes_next, coder_next}
 use Rattle.brr_encode.proofs.block.push_digits.Goals as goal
 
@@ -17,3 +18,9 @@ pairs-preserved c =
       pairs = omega (arith, cases.2, c.pairs.invariant.pairs);
       bound = omega (arith, cases.2, c.pairs.invariant.bound, c.code-high.ensures.bound, c.code-low.ensures.bound);
     }
+
+pub returns-clause-bytes : goal.returns-clause-bytes
+returns-clause-bytes c = grind (arith, common_steps)
+
+pub returns-clause-coder : goal.returns-clause-coder
+returns-clause-coder c = grind (arith, common_steps)

@@ -3,7 +3,7 @@ use Rattle.std.proofs.lemmas.List.{append-nil}
 use Rattle.std.proofs.lemmas.Bool.Decides.{nat_tests}
 use Rattle.std.proofs.lemmas.List.Elements.{All-nil}
 use Rattle.brr_encode.specs.Report.{IsWithin}
-use Rattle.brr_encode.specs.Encoding.{padded_samples, encoding_from, blocks_of}
+use Rattle.brr_encode.specs.Encoding.{encoded_from, padded_samples, encoding_from, blocks_of}
 use Rattle.brr_encode.specs.EncoderParts.{block_reports, all_reports}
 use Rattle.brr_encode.proofs.Streams.{blocks_next, reports_next, reports_are_true}
 use Rattle.brr_encode.proofs.encoder.encode_from.Goals as goal

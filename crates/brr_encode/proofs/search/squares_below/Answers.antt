@@ -1,4 +1,5 @@
 use Rattle.std.proofs.Common.{rules, ◌≡◌, pos, to_z, of_z, w16, get_or, arith}
+use Rattle.std.proofs.lemmas.Grind.{common_steps}
 use Rattle.brr_encode.specs.Greedy.{distance, nearest_sample}
 use Rattle.brr_encode.proofs.Costs.{squares_carried}
 use Rattle.brr_encode.proofs.search.squares_below.Goals as goal
@@ -14,3 +15,9 @@ samples-preserved c =
       bound = omega (arith, c.samples.invariant.bound, c.squared-sum.ensures.bound);
       below = search rules;
     }
+
+pub returns-clause-squares : goal.returns-clause-squares
+returns-clause-squares c = grind (arith, common_steps)
+
+pub returns-then-has_reached-2-clause-too_much : goal.returns-then-has_reached-2-clause-too_much
+returns-then-has_reached-2-clause-too_much c = grind (arith, common_steps)

@@ -2,7 +2,7 @@ use Rattle.std.proofs.Common.{◌-◌, ℕ, ℤ, List, Ok, inl, inr, true, false
 use Rattle.std.proofs.lemmas.Result.{err_from_is_err_and}
 use Rattle.brr_encode.specs.Encoding.{padded_samples}
 use Rattle.brr_encode.specs.Report.{reports_of}
-use Rattle.brr_search.specs.Found.{sum_of_squares}
+use Rattle.brr_search.specs.Found.{found_encoding, found_samples, sum_of_squares}
 use Rattle.brr_search.proofs.Choice.{accepted, refused, if_refused, found_plain, found_at, reported}
 use Rattle.brr_search.proofs.found.find_encoding.Goals as goal
 

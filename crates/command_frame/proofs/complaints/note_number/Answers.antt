@@ -1,4 +1,5 @@
-use Rattle.std.proofs.Common.{rules, ◌≡◌, ◌++◌, List, ℕ, Ok, Err, subst}
+use Rattle.std.proofs.Common.{arith, rules, ◌≡◌, ◌++◌, List, ℕ, Ok, Err, subst}
+use Rattle.std.proofs.lemmas.Grind.{common_steps}
 use Rattle.std.specs.Prelude.{decimal}
 use Rattle.std.proofs.lemmas.Result.{err_from_is_err_and}
 use Rattle.snd_host.specs.Host.{WritesAll}
@@ -17,3 +18,6 @@ returns g c =
     let text : c.as_bytes.result.now ≡ decimal c.args.number = search rules in
     let number = subst (λ (l : List ℕ). WritesAll 1 l (g.H.Host.state c.write_all.new.host) (g.H.Host.state c.write_all-2.new.host) (Ok c.in_ok-write_all-2.field-0)) text c.in_ok-write_all-2.ensures in
     then_second _ (c.args.head.now ++ decimal c.args.number) c.args.tail.now _ _ _ _ _ (then_second _ c.args.head.now (decimal c.args.number) _ _ _ _ _ c.in_ok-write_all.ensures number) c.write_all-3.ensures
+
+pub returns-in_err-write_all : goal.returns-in_err-write_all
+returns-in_err-write_all g c = grind (arith, common_steps)

@@ -1,4 +1,5 @@
 use Rattle.std.proofs.Common.{◌≡◌, ◌∙◌, sym, ap, subst, List, [], ◌∷◌, ◌++◌, length, map, arith, append_assoc}
+use Rattle.std.proofs.lemmas.Grind.{common_steps}
 use Rattle.std.specs.Vec.Iter.{into_iter_items}
 use Rattle.std.proofs.lemmas.List.{map-append}
 use Rattle.std.proofs.lemmas.Result.{err_from_is_err_and}
@@ -46,3 +47,9 @@ returns-in_err-fill_one-clause-in_turn g c = in_turn_then _ (g.H.Host.state c.ar
 
 pub returns-clause-in_turn : goal.returns-clause-in_turn
 returns-clause-in_turn g c = in_turn_done _ (g.H.Host.state c.args.host.now) (g.H.Host.state c.loop-output.host) c.loop-output.invariant.are_done
+
+pub fill_one-requires : goal.fill_one-requires
+fill_one-requires g c = grind (arith, common_steps)
+
+pub returns-clause-fills : goal.returns-clause-fills
+returns-clause-fills g c = grind (arith, common_steps)

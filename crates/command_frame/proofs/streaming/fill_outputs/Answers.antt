@@ -1,4 +1,5 @@
-use Rattle.std.proofs.Common.{rules, inl, inr, ◌∙◌, sym, Bool, List, subst}
+use Rattle.std.proofs.Common.{arith, rules, inl, inr, ◌∙◌, sym, Bool, List, subst}
+use Rattle.std.proofs.lemmas.Grind.{elements}
 use Rattle.std.specs.Prelude.{option_map}
 use Rattle.std.proofs.lemmas.Result.{err_from_is_err_and}
 use Rattle.command_frame.specs.Stream.{AreOpen}
@@ -34,3 +35,9 @@ returns-in_err-pump-clause-at_once g c =
 pub returns-clause-at_once : goal.returns-clause-at_once
 returns-clause-at_once g c =
     inr (inr (whole_then c.args.wave.now _ c.args.head.now _ _ _ _ _ c.in_ok-targets.ensures.begins.ok _ _ _ _ _ c.in_ok-put.ensures c.in_ok-pump.ensures.puts c.end.result c.end.ensures))
+
+pub pump-requires : goal.pump-requires
+pump-requires g c = grind (arith, elements)
+
+pub put-requires : goal.put-requires
+put-requires g c = grind (arith, elements)

@@ -1,5 +1,6 @@
 use Rattle.std.proofs.Common.{◌≡◌, Err, inl, ℕ, length, List, refl, sym, ap, ◌∙◌, arith}
 use Rattle.std.proofs.Common.{◌-◌}
+use Rattle.std.proofs.lemmas.Grind.{common_steps}
 use Rattle.std.proofs.lemmas.List.{length-drop}
 use Rattle.std.proofs.lemmas.Result.{err_from_is_err_and}
 use Rattle.wav_form.specs.Chunks.{chunk_length}
@@ -76,3 +77,6 @@ pub returns-clause-refused : goal.returns-clause-refused
 returns-clause-refused c =
     let end = walk_end c.chunks.has_format c.chunks.place c.chunks.rest.now (c.in_default.ensures.end refl) in
     rw (sym c.chunks.invariant.left ∙ end) (ap Err c.refusal_at_end.ensures)
+
+pub chunks-smaller : goal.chunks-smaller
+chunks-smaller c = grind (arith, common_steps)

@@ -1,0 +1,15 @@
+use Rattle.std.proofs.Common.{arith}
+use Rattle.std.proofs.lemmas.Grind.{common_steps}
+use Rattle.brr_search.proofs.keeping.place_among.Goals as goal
+
+pub others-preserved : goal.others-preserved
+others-preserved c = grind (arith, common_steps)
+
+pub returns-clause-place : goal.returns-clause-place
+returns-clause-place c = grind (arith, common_steps)
+
+pub returns-then-end_alike-clause-place : goal.returns-then-end_alike-clause-place
+returns-then-end_alike-clause-place c = grind (arith, common_steps)
+
+pub returns-then-way-other-clause-place : goal.returns-then-way-other-clause-place
+returns-then-way-other-clause-place c = grind (arith, common_steps)
