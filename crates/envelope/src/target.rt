@@ -6,7 +6,7 @@ ghost use Rattle.envelope.specs.Envelope.{exponential_fall, attack_target, decay
 use crate::Mode;
 
 /// The new value of a step, and its rate, 0 to 31.
-#[derive(Clone, Copy, Debug)]
+#[derive(Clone, Copy)]
 pub struct Target {
     pub value: i32,
     pub rate: u8,

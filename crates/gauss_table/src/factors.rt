@@ -8,7 +8,7 @@ use num_fix::{scaled, wrap16};
 
 /// The four weights of a place as factors of 16 bits: each weight is from 0 to 2,047, and its factor is the weight in 65,536ths, so that the high word of
 /// its product with a sample is what the sample gives. From 1,024 on a factor has wrapped, and stands for one whole more than it says.
-#[derive(Clone, Copy, Debug)]
+#[derive(Clone, Copy)]
 pub struct Factors {
     /// The factor of the oldest sample.
     pub oldest: i16,

@@ -4,7 +4,7 @@ ghost use Rattle.std.specs.Prelude.{◌≡◌, ◌<◌, ◌≤◌, ℕ, Some, sl
 ghost use Rattle.gauss_table.specs.Quads.{quad_at};
 
 /// The weights of four samples, oldest first, at one place between the middle two. Each is signed, in 2,048ths.
-#[derive(Clone, Copy, Debug)]
+#[derive(Clone, Copy)]
 pub struct Quad {
     /// The weight of the oldest sample.
     pub oldest: i16,

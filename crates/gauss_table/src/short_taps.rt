@@ -10,7 +10,7 @@ use crate::factors::{Factors, product_by_factor};
 use num_fix::{add_clamped, clear_bit0};
 
 /// What four samples give under weights from 0 to 2,047, oldest first: the product of each with its weight, over 2,048 and rounded down.
-#[derive(Clone, Copy, Debug)]
+#[derive(Clone, Copy)]
 pub struct Products {
     /// What the oldest sample gives.
     pub oldest: i16,
@@ -24,7 +24,7 @@ pub struct Products {
 
 /// Four products as two bytes each, oldest first, the low byte first. As bytes they are read two by two, as numbers of 32 bits, by which a row of taps is
 /// summed.
-#[derive(Clone, Copy, Debug)]
+#[derive(Clone, Copy)]
 pub struct ShortTaps {
     bytes: [u8; 8],
 }

@@ -11,7 +11,7 @@ use num_fix::{clamp16, clear_bit0, scaled, wrap16};
 
 /// What four samples give, oldest first: the product of each with its weight, over 2,048 and rounded down. None is above 80000h or
 /// below its negative.
-#[derive(Clone, Copy, Debug)]
+#[derive(Clone, Copy)]
 pub struct Taps {
     /// What the oldest sample gives.
     pub oldest: i32,

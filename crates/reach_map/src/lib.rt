@@ -18,14 +18,14 @@ pub use voices::{
 };
 
 /// A part of memory: `len` bytes from `start` on, which go on at 0000h after FFFFh.
-#[derive(Clone, Copy, Debug, PartialEq, Eq)]
+#[derive(Clone, Copy)]
 pub struct Window {
     pub start: u16,
     pub len: u32,
 }
 
 /// Where a voice can be in its sample: a block, and the block to which it goes after one that ends.
-#[derive(Clone, Copy, Debug, Default, PartialEq, Eq)]
+#[derive(Clone, Copy, Default)]
 pub struct ChainStart {
     pub block: u16,
     pub loop_word: u16,

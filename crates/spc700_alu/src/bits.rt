@@ -10,7 +10,7 @@ use crate::Out8;
 use crate::flags::{CARRY, is_set, put};
 
 /// The operations on a bit: the first six change the carry alone, the last four the byte alone.
-#[derive(Clone, Copy, Debug, PartialEq, Eq)]
+#[derive(Clone, Copy)]
 pub enum BitKind {
     /// C or the bit.
     Or,

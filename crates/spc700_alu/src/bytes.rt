@@ -10,7 +10,7 @@ use crate::Out8;
 use crate::flags::{CARRY, HALF, OVERFLOW, carry, put, put_nz};
 
 /// The logic operations.
-#[derive(Clone, Copy, Debug, PartialEq, Eq)]
+#[derive(Clone, Copy)]
 pub enum LogicKind {
     /// OR.
     Or,
@@ -21,7 +21,7 @@ pub enum LogicKind {
 }
 
 /// The shifts.
-#[derive(Clone, Copy, Debug, PartialEq, Eq)]
+#[derive(Clone, Copy)]
 pub enum ShiftKind {
     /// ASL: left, and 0 comes in.
     Asl,

@@ -18,7 +18,7 @@ pub use laws::{
 pub use word_arithmetic::{addw, cmpw, div, mul, subw};
 
 /// A byte and the status after it was made.
-#[derive(Clone, Copy, Debug, PartialEq, Eq)]
+#[derive(Clone, Copy, PartialEq, Eq)]
 pub struct Out8 {
     /// The byte.
     pub value: u8,
@@ -27,7 +27,7 @@ pub struct Out8 {
 }
 
 /// A word and the status after it was made.
-#[derive(Clone, Copy, Debug, PartialEq, Eq)]
+#[derive(Clone, Copy, PartialEq, Eq)]
 pub struct Out16 {
     /// The word; of YA, Y is its high byte.
     pub value: u16,

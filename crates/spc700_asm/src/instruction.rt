@@ -12,7 +12,7 @@ pub(crate) const MEMORY_END: u32 = MEMORY_SIZE as u32;
 
 /// An instruction: its opcode, and the number that stands in the line for each operand: the target of a branch, of a bit of
 /// memory the word of address and bit, and 0 where there is no number.
-#[derive(Clone, Copy, Debug, PartialEq, Eq)]
+#[derive(Clone, Copy, PartialEq, Eq)]
 pub struct Instruction {
     pub opcode: u8,
     pub first: u16,

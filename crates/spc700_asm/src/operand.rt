@@ -10,14 +10,14 @@ use crate::pattern::{Pattern, Slot, pattern_for};
 use spc700_table::Form;
 
 /// What is written for a number: the number, or a name.
-#[derive(Clone, Copy, Debug)]
+#[derive(Clone, Copy)]
 pub enum Written<'a> {
     Plain(u32),
     Named(&'a [u8]),
 }
 
 /// An operand: a number or a name, or a number and a bit, with something before it and something after.
-#[derive(Clone, Copy, Debug)]
+#[derive(Clone, Copy)]
 pub struct Operand<'a> {
     pub before: &'a [u8],
     pub value: Written<'a>,

@@ -6,7 +6,7 @@ use spc700_table::Form;
 use std::marker::Model;
 
 /// What an operand has in the place of a number.
-#[derive(Clone, Copy, Debug, PartialEq, Eq)]
+#[derive(Clone, Copy, PartialEq, Eq)]
 pub enum Slot {
     /// There is no operand.
     Absent,
@@ -27,7 +27,7 @@ pub enum Slot {
 }
 
 /// An operand's text: a register or the number that fills a slot, with something before it and something after.
-#[derive(Debug, Drop)]
+#[derive(Drop)]
 pub struct Pattern {
     pub before: &'static [u8],
     pub register: &'static [u8],

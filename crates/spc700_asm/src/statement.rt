@@ -17,7 +17,7 @@ use spc700_table::{Form, OpRow, mnemonic, row};
 use text_form::place_of;
 
 /// What a line says.
-#[derive(Clone, Copy, Debug)]
+#[derive(Clone, Copy)]
 pub enum Statement<'a> {
     /// Nothing.
     Nothing,

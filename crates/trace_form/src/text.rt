@@ -12,7 +12,7 @@ use text_form::{four_digits, two_digits};
 pub const LINE_SIZE: usize = 48;
 
 /// A line of a trace, with its line feed.
-#[derive(Debug, Drop)]
+#[derive(Drop)]
 pub struct TraceLine {
     text: [u8; LINE_SIZE],
     len: usize,

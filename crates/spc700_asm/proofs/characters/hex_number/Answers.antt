@@ -1,4 +1,5 @@
 use Rattle.std.proofs.Common.{arith}
+use Rattle.std.proofs.lemmas.Grind.{common_steps}
 use Rattle.spc700_asm.proofs.Powers.{few_hex_digits}
 use Rattle.spc700_asm.proofs.characters.hex_number.Goals as goal
 
@@ -10,3 +11,12 @@ overflow_add-number c = omega (arith, c.loop-digit.invariant.bound, few_hex_digi
 
 pub returns-clause-bound : goal.returns-clause-bound
 returns-clause-bound c = omega (arith, c.loop-digit.invariant.bound, few_hex_digits c.loop-digit.digit-index (omega arith))
+
+pub loop-digit-preserved : goal.loop-digit-preserved
+loop-digit-preserved c = grind (arith, common_steps)
+
+pub returns-clause-value : goal.returns-clause-value
+returns-clause-value c = grind (arith, common_steps)
+
+pub returns-in_err-number-clause-value : goal.returns-in_err-number-clause-value
+returns-in_err-number-clause-value c = grind (arith, common_steps)
