@@ -1,5 +1,5 @@
 -- An envelope after the steps of some samples.
-use Rattle.std.proofs.Common.{◌≡◌, ℕ, zero, suc, ◌+◌, ◌-◌, ◌≤◌, refl, ap, ◌∙◌, add-one, arith}
+use Rattle.std.proofs.Common.{◌≡◌, ℕ, zero, suc, ◌*◌, ◌+◌, ◌-◌, ◌≤◌, refl, ap, ◌∙◌, add-one, arith}
 use Rattle.std.proofs.Math.Nat.{add-suc}
 use Rattle.rate_clock.specs.Counter.{counter_at}
 use Rattle.envelope.specs.Envelope.{EnvelopeState, step_target, after_target, envelope_step}
@@ -33,25 +33,24 @@ unfolding envelope_after
 after_rest e r k rest zero rests few = refl
 after_rest e r k rest (suc j) rests few = rw (after_rest e r k rest j rests (omega (arith, few))) (rests j (omega (arith, few)))
 
--- a released envelope stays so, and one that is silent too
+-- each step of a released envelope takes 8 from its level
 released_step : (e : EnvelopeState) (adsr1 adsr2 gain counter : ℕ) → e.mode ≡ Release → envelope_step e adsr1 adsr2 gain counter ≡ record e { level = e.level - 8 }
 unfolding envelope_step step_target after_target
 released_step e adsr1 adsr2 gain counter is = rw is refl
 
-pub stays_released : (e : EnvelopeState) (r : VoiceRegs) (k j : ℕ) → e.mode ≡ Release → (envelope_after e r k j).mode ≡ Release
+pub released_after : (e : EnvelopeState) (r : VoiceRegs) (k j : ℕ) → e.mode ≡ Release → envelope_after e r k j ≡ record e { level = e.level - 8 * j }
 unfolding envelope_after
-stays_released e r k zero is = is
-stays_released e r k (suc j) is =
-    let now = stays_released e r k j is in
-    ap (λ (x : EnvelopeState). x.mode) (released_step (envelope_after e r k j) r.adsr1 r.adsr2 r.gain (counter_at (k + j)) now) ∙ now
+released_after e r k zero is = let same : e.level - 8 * 0 ≡ e.level = omega arith in rw same refl
+released_after e r k (suc j) is =
+    let less : e.level - 8 * j - 8 ≡ e.level - 8 * suc j = omega arith in
+    rw (released_after e r k j is) (released_step (record e { level = e.level - 8 * j }) r.adsr1 r.adsr2 r.gain (counter_at (k + j)) is ∙ ap (λ (l : ℕ). record e { level = l }) less)
 
-level_zero : (e : EnvelopeState) (r : VoiceRegs) (k j : ℕ) → IsSilent e → (envelope_after e r k j).level ≡ 0
-unfolding envelope_after
-level_zero e r k zero is = is.level
-level_zero e r k (suc j) is =
-    let before : (envelope_after e r k j).level ≡ 0 = level_zero e r k j is in
-    ap (λ (x : EnvelopeState). x.level) (released_step (envelope_after e r k j) r.adsr1 r.adsr2 r.gain (counter_at (k + j)) (stays_released e r k j is.mode))
-    ∙ omega (arith, before)
+-- so it stays released, and one that is silent stays silent
+pub stays_released : (e : EnvelopeState) (r : VoiceRegs) (k j : ℕ) → e.mode ≡ Release → (envelope_after e r k j).mode ≡ Release
+stays_released e r k j is = ap (λ (x : EnvelopeState). x.mode) (released_after e r k j is) ∙ is
 
 pub stays_silent : (e : EnvelopeState) (r : VoiceRegs) (k j : ℕ) → IsSilent e → IsSilent (envelope_after e r k j)
-stays_silent e r k j is = record { mode = stays_released e r k j is.mode; level = level_zero e r k j is }
+stays_silent e r k j is = record {
+  mode = stays_released e r k j is.mode;
+  level = ap (λ (x : EnvelopeState). x.level) (released_after e r k j is.mode) ∙ omega (arith, is.level);
+}

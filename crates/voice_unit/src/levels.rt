@@ -1,12 +1,13 @@
 //! The levels of the samples of a stretch, as a row.
 
-ghost use Rattle.std.specs.Prelude.{◌≡◌, ◌<◌, ◌≤◌, ◌+◌, ℕ, slice_index};
+ghost use Rattle.std.specs.Prelude.{◌≡◌, ◌<◌, ◌≤◌, ◌+◌, ◌-◌, ◌*◌, ℕ, slice_index};
 ghost use Rattle.rate_clock.specs.Counter.{counter_at};
+ghost use Rattle.envelope.specs.declared.Mode.TheVariants.{Release};
 ghost use Rattle.voice_unit.specs.Levels.{envelope_after, level_in};
 
 use crate::batch::VoiceReads;
 use crate::level::LEVELS;
-use envelope::Envelope;
+use envelope::{Envelope, Mode};
 use num_fix::BATCH_SIZE;
 
 /// Puts a level for n samples, from sample `at` on.
@@ -19,6 +20,32 @@ fn put_level(levels: &mut [u16; BATCH_SIZE], at: u8, n: u8, level: u16)
     for j in 0..usize::from(n) {
         levels[from + j] = level;
     }
+}
+
+/// Puts levels for n samples, from sample `at` on: each is 8 below the one before, down to 0.
+fn put_falling(levels: &mut [u16; BATCH_SIZE], at: u8, n: u8, level: u16)
+    requires { at + n ≤ BATCH_SIZE }
+    ensures { (j : ℕ) → j < n → slice_index levels.new (at + j) ≡ level - 8 * j }
+{
+    let from = usize::from(at);
+    let mut fall = 0;
+    for j in 0..usize::from(n) {
+        levels[from + j] = level.saturating_sub(fall);
+        fall += 8;
+    }
+}
+
+/// Puts the levels of a released envelope for n samples, from sample `at` on, and steps it over them.
+fn put_released(levels: &mut [u16; BATCH_SIZE], at: u8, n: u8, envelope: &mut Envelope)
+    requires few { at + n ≤ BATCH_SIZE }
+    requires released { envelope.old.mode ≡ Release }
+    ensures levels { (j : ℕ) → j < n → slice_index levels.new (at + j) ≡ envelope.old.level - 8 * j }
+    ensures within { (j : ℕ) → j < n → slice_index levels.new (at + j) < LEVELS }
+    ensures envelope { envelope.new ≡ record envelope.old { level = envelope.old.level - 8 * n } }
+{
+    let level = envelope.level();
+    put_falling(levels, at, n, level);
+    envelope.level = level.saturating_sub(8 * u16::from(n));
 }
 
 /// Puts the level of an envelope for the samples from sample `at` on in which it stays, n at most, and steps it over them: the step in the last of them may
@@ -69,6 +96,10 @@ pub(crate) fn put_levels(
     ensures within { (j : ℕ) → j < n → slice_index levels.new (at + j) < LEVELS }
     ensures envelope { (k : ℕ) → reads.now.clock ≡ counter_at k → envelope.new ≡ envelope_after envelope.old reads.now.regs (k + at) n }
 {
+    if envelope.mode == Mode::Release {
+        put_released(levels, at, n, envelope);
+        return;
+    }
     let mut j = 0;
     'levels: while j < n {
         j += put_steady(levels, at + j, n - j, envelope, reads);

@@ -1,10 +1,11 @@
-use Rattle.std.proofs.Common.{◌≡◌, ◌<◌, ◌+◌, ◌-◌, inl, inr, ℕ, refl, sym, ap, ◌∙◌, arith}
+use Rattle.std.proofs.Common.{rules, ◌≡◌, ◌<◌, ◌+◌, ◌-◌, inl, inr, ℕ, refl, sym, ap, ◌∙◌, arith}
 use Rattle.std.proofs.lemmas.Bool.{cases_lt}
 use Rattle.rate_clock.specs.Counter.{counter_at}
 use Rattle.envelope.specs.Envelope.{EnvelopeState}
+use Rattle.envelope.specs.declared.Mode.TheVariants.{Release}
 use Rattle.voice_unit.specs.Levels.{envelope_after}
 use Rattle.voice_unit.specs.declared.interface.VoiceRegs.{VoiceRegs}
-use Rattle.voice_unit.proofs.Stepped.{envelope_after-zero, envelope_after-add}
+use Rattle.voice_unit.proofs.Stepped.{envelope_after-zero, envelope_after-add, released_after}
 use Rattle.voice_unit.proofs.levels.put_levels.Goals as goal
 
 pub levels-init : goal.levels-init
@@ -46,3 +47,13 @@ levels-preserved c =
       ];
       envelope = λ k is. c.put_steady-j.ensures.envelope k is ∙ sym (now k is held);
     }
+
+pub returns-then-eq-clause-levels : goal.returns-then-eq-clause-levels
+returns-then-eq-clause-levels c k is j below =
+    let released : c.args.envelope.now.mode ≡ Release = search rules in
+    c.put_released.ensures.levels j below ∙ sym (ap (λ (x : EnvelopeState). x.level) (released_after c.args.envelope.now c.args.reads.now.regs (k + c.args.at) j released))
+
+pub returns-then-eq-clause-envelope : goal.returns-then-eq-clause-envelope
+returns-then-eq-clause-envelope c k is =
+    let released : c.args.envelope.now.mode ≡ Release = search rules in
+    c.put_released.ensures.envelope ∙ sym (released_after c.args.envelope.now c.args.reads.now.regs (k + c.args.at) c.args.n released)
