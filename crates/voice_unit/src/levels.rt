@@ -10,6 +10,9 @@ use crate::level::LEVELS;
 use envelope::{Envelope, Mode};
 use num_fix::BATCH_SIZE;
 
+/// What each step of a released envelope takes from its level.
+const FALL: u16 = 8;
+
 /// Puts a level for n samples, from sample `at` on.
 fn put_level(levels: &mut [u16; BATCH_SIZE], at: u8, n: u8, level: u16)
     requires { at + n ≤ BATCH_SIZE }
@@ -22,16 +25,16 @@ fn put_level(levels: &mut [u16; BATCH_SIZE], at: u8, n: u8, level: u16)
     }
 }
 
-/// Puts levels for n samples, from sample `at` on: each is 8 below the one before, down to 0.
+/// Puts falling levels for n samples, from sample `at` on, down to 0.
 fn put_falling(levels: &mut [u16; BATCH_SIZE], at: u8, n: u8, level: u16)
     requires { at + n ≤ BATCH_SIZE }
-    ensures { (j : ℕ) → j < n → slice_index levels.new (at + j) ≡ level - 8 * j }
+    ensures { (j : ℕ) → j < n → slice_index levels.new (at + j) ≡ level - FALL * j }
 {
     let from = usize::from(at);
     let mut fall = 0;
     for j in 0..usize::from(n) {
         levels[from + j] = level.saturating_sub(fall);
-        fall += 8;
+        fall += FALL;
     }
 }
 
@@ -39,13 +42,13 @@ fn put_falling(levels: &mut [u16; BATCH_SIZE], at: u8, n: u8, level: u16)
 fn put_released(levels: &mut [u16; BATCH_SIZE], at: u8, n: u8, envelope: &mut Envelope)
     requires few { at + n ≤ BATCH_SIZE }
     requires released { envelope.old.mode ≡ Release }
-    ensures levels { (j : ℕ) → j < n → slice_index levels.new (at + j) ≡ envelope.old.level - 8 * j }
+    ensures levels { (j : ℕ) → j < n → slice_index levels.new (at + j) ≡ envelope.old.level - FALL * j }
     ensures within { (j : ℕ) → j < n → slice_index levels.new (at + j) < LEVELS }
-    ensures envelope { envelope.new ≡ record envelope.old { level = envelope.old.level - 8 * n } }
+    ensures envelope { envelope.new ≡ record envelope.old { level = envelope.old.level - FALL * n } }
 {
     let level = envelope.level();
     put_falling(levels, at, n, level);
-    envelope.level = level.saturating_sub(8 * u16::from(n));
+    envelope.level = level.saturating_sub(FALL * u16::from(n));
 }
 
 /// Puts the level of an envelope for the samples from sample `at` on in which it stays, n at most, and steps it over them: the step in the last of them may
