@@ -1,15 +1,17 @@
 -- Twelve: lists of twelve samples, entry by entry.
 -- Groups: a voice stands at a group of its block, and a step takes it from group to group.
--- AtRest: a step of a voice at rest.
+-- CalmStep: a step of a calm voice. Stepped: an envelope after the steps of some samples.
 -- Played: one sample more of a voice over a batch.
 -- Bending: the bend of a pitch by the double of the pitch.
 pub mod Twelve
 pub mod Groups
-pub mod AtRest
+pub mod CalmStep
+pub mod Stepped
 pub mod Played
 pub mod Bending
--- Silence: at level 0 a voice puts out 0. Glided: lanes that let their voice glide.
+-- Silence: at level 0 a voice puts out 0. ByLevel: a sample at a level. Glided: lanes that let their voice glide.
 pub mod Silence
+pub mod ByLevel
 pub mod Glided
 -- OneMoreStep: one step more of a voice over a batch, with what it gives.
 pub mod OneMoreStep

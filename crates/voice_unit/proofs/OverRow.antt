@@ -1,5 +1,5 @@
 -- A stretch of samples of a voice that glides, over the row of its kept samples.
-use Rattle.std.proofs.Common.{◌≡◌, ◌≢◌, ℕ, zero, suc, ◌+◌, ◌-◌, ◌*◌, ◌/◌, ◌^◌, ◌<◌, ◌≤◌, ◌==◌, nat_lt, nat_le, ◌&&◌, ◌⊎◌, inl, inr, List, ℤ, pos, Bool, true, false, length, take, drop, slice_index, if◌then◌else◌, refl, sym, ap, ◌∙◌, arith, add-one}
+use Rattle.std.proofs.Common.{◌≡◌, ◌≢◌, ℕ, zero, suc, ◌+◌, ◌-◌, ◌*◌, ◌/◌, ◌^◌, ◌<◌, ◌≤◌, ◌==◌, nat_lt, nat_le, ◌&&◌, List, ℤ, pos, Bool, true, false, length, take, drop, slice_index, if◌then◌else◌, refl, sym, ap, ◌∙◌, arith, add-one}
 use Rattle.std.proofs.Math.Nat.{add-suc}
 use Rattle.std.proofs.lemmas.List.{get_or-take}
 use Rattle.std.proofs.lemmas.Bool.{eq-eqb}
@@ -9,23 +9,24 @@ use Rattle.num_fix.specs.SignedWords.{number_at}
 use Rattle.aram_core.specs.Memory.{byte_at}
 use Rattle.brr_decode.specs.Header.{has_end}
 use Rattle.rate_clock.specs.Counter.{counter_at}
-use Rattle.envelope.specs.Envelope.{EnvelopeState}
+use Rattle.envelope.specs.Envelope.{EnvelopeState, envelope_step}
 use Rattle.voice_unit.specs.Directory.{loop_word}
 use Rattle.voice_unit.specs.Batch.{steps, answer_of_step}
 use Rattle.voice_unit.specs.Plain.{PlaysPlainly}
-use Rattle.voice_unit.specs.Play.{Lane, IsPlayedSoFar, voice_at, answer_at}
-use Rattle.voice_unit.specs.Rest.{IsSilent, IsAtRest}
+use Rattle.voice_unit.specs.Play.{Lane, IsPlayed, voice_at, answer_at}
+use Rattle.voice_unit.specs.Calm.{IsSilent, IsCalm}
+use Rattle.voice_unit.specs.Levels.{envelope_after, level_in}
 use Rattle.voice_unit.specs.Row.{ArePoints, place_after, groups_before, is_end, is_read_in, ended_in, PlaysOn, row_of, place_of, StandsAt}
 use Rattle.voice_unit.specs.Track.{MoveOn}
 use Rattle.voice_unit.specs.OutsOverRow.{sounding_at, out_in_stretch}
 use Rattle.voice_unit.specs.Voice.{is_silencing, VoiceState, pitch_of, interpolation, output, source_sample, needs_group, is_at_last_group, after_reading, after_pitch, voice_step}
 use Rattle.voice_unit.specs.declared.batch.VoiceView.{VoiceView}
 use Rattle.voice_unit.specs.declared.interface.VoiceIn.{VoiceIn}
-use Rattle.voice_unit.specs.declared.interface.VoiceOut.{VoiceOut}
 use Rattle.voice_unit.specs.declared.row.Place.{Place}
-use Rattle.voice_unit.proofs.AtRest.{step_at_rest, out_at_rest, answer_is, ended_at_rest, rests_on, envelope-after_reading, no_rest}
+use Rattle.voice_unit.proofs.CalmStep.{enveloped, calm_step, calm_out, calm_level, calm_ended, envelope-after_reading}
 use Rattle.voice_unit.proofs.Counting.{moves_on, groups_before-more, groups_before-rise}
 use Rattle.voice_unit.proofs.RowOfVoice.{plays_row, reads_row}
+use Rattle.voice_unit.proofs.Stepped.{envelope_after-zero, envelope_after-more, stays_released, stays_silent}
 
 -- an interpolation looks at four samples of a row
 interpolation-same : (table xs ys : List ℤ) (point : ℕ) → ((k : ℕ) → k < point / 0x1000 + 4 → number_at xs k ≡ number_at ys k) → interpolation table xs point ≡ interpolation table ys point
@@ -83,17 +84,15 @@ regrouped : (a b c : Bool) → (a && b && c) ≡ (a && (b && c))
 regrouped true b c = refl
 regrouped false b c = refl
 
-module _ (own : VoiceView) (lane : Lane) (n m rest : ℕ) (before ends : List ℕ) (outs : List ℤ) (voice : VoiceState)
-    (so_far : IsPlayedSoFar own lane n rest before ends outs voice) (twelve : length voice.samples ≡ 12) (low : voice.position < 0x8000)
+module _ (own : VoiceView) (lane : Lane) (n m : ℕ) (before ends : List ℕ) (outs : List ℤ) (voice : VoiceState)
+    (played : IsPlayed lane own.voice n before ends outs voice) (calm : IsCalm own.reset (has_bit own.koff own.voice) lane.memory voice)
+    (twelve : length voice.samples ≡ 12) (low : voice.position < 0x8000)
     (heard : ℕ → ℕ) (noise : (j : ℕ) → (lane.inputs j).noise ≡ heard j)
-    (glides : (j : ℕ) → j < m → PlaysPlainly own (lane.inputs (n + j))) (some : 0 < m) (resting : m ≤ rest)
+    (glides : (j : ℕ) → j < m → PlaysPlainly own (lane.inputs (n + j))) (some : 0 < m)
     (points : ℕ → ℕ) (by_pitch : ArePoints (λ j. pitch_of lane.regs (lane.inputs (n + j))) m voice.position points)
     (quiet : (j : ℕ) → j < m → 0 < groups_before points j
     → is_silencing own.reset (byte_at lane.memory (place_after lane.memory (loop_word own.dir lane.regs.srcn lane.memory) (place_of voice) (groups_before points j)).block) ≡ true
     → IsSilent voice.envelope) where
-  abbrev koff : Bool
-  koff = has_bit own.koff own.voice
-
   abbrev again : ℕ
   again = loop_word own.dir lane.regs.srcn lane.memory
 
@@ -107,14 +106,18 @@ module _ (own : VoiceView) (lane : Lane) (n m rest : ℕ) (before ends : List �
   abbrev s : ℕ → VoiceState
   s j = steps lane.regs (λ i. lane.inputs (n + i)) lane.memory (λ i. counter_at (lane.k + (n + i))) voice j
 
+  -- its envelope
+  abbrev e : ℕ → EnvelopeState
+  e j = envelope_after voice.envelope lane.regs (lane.k + n) j
+
   on : (j : ℕ) → voice_at lane (n + j) ≡ s j
   unfolding steps
-  on zero = let none : n + 0 ≡ n = omega arith in rw none (sym so_far.played.voice_is)
+  on zero = let none : n + 0 ≡ n = omega arith in rw none (sym played.voice_is)
   on (suc j) = rw add-suc (ap (λ (v : VoiceState). voice_step v lane.regs (lane.inputs (n + j)) lane.memory (counter_at (lane.k + (n + j)))) (on j))
 
   plays_on : PlaysOn lane.regs (λ i. lane.inputs (n + i)) own.dir m points voice
   plays_on = record {
-    delay = so_far.at_rest.delay (omega (arith, some, resting));
+    delay = calm.delay;
     twelve = twelve;
     position = low;
     stands = by_pitch;
@@ -128,29 +131,6 @@ module _ (own : VoiceView) (lane : Lane) (n m rest : ℕ) (before ends : List �
   stands : (j : ℕ) → j ≤ m → StandsAt lane.regs own.dir lane.memory voice (g j) (points j) (s j)
   stands j few = reads_row lane.regs (λ i. lane.inputs (n + i)) own.dir m lane.memory (λ i. counter_at (lane.k + (n + i))) points voice j plays_on few
 
-  abbrev Rests : ℕ → Type 0
-  Rests j = IsAtRest own.reset koff lane.regs lane.memory (lane.k + (n + j)) (rest - j) (s j)
-
-  -- a step reads and moves on
-  moved : (j : ℕ) → j < m → Rests j → s (j + 1) ≡ after_pitch (after_reading (s j) lane.memory (byte_at lane.memory (s j).block) again) (pitch_of lane.regs (lane.inputs (n + j)))
-  unfolding steps
-  moved j below rests =
-      let plain = glides j below in
-      let at : IsAtRest (lane.inputs (n + j)).reset (lane.inputs (n + j)).koff lane.regs lane.memory (lane.k + (n + j)) (rest - j) (s j) = rw (plain.reset, plain.koff) rests in
-      rw add-one (step_at_rest lane.regs (lane.inputs (n + j)) lane.memory (lane.k + (n + j)) (rest - j) (s j) at (omega (arith, below, resting)) plain.unkeyed
-      ∙ ap (λ (dir : ℕ). after_pitch (after_reading (s j) lane.memory (byte_at lane.memory (s j).block) (loop_word dir lane.regs.srcn lane.memory)) (pitch_of lane.regs (lane.inputs (n + j)))) plain.dir)
-
-  same_on : (j : ℕ) → j < m → Rests j → (s j).envelope ≡ voice.envelope → (s (j + 1)).envelope ≡ voice.envelope
-  same_on j below rests same =
-      ap (λ (v : VoiceState). v.envelope) (moved j below rests) ∙ envelope-after_reading (s j) lane.memory (byte_at lane.memory (s j).block) again (pitch_of lane.regs (lane.inputs (n + j))) ∙ same
-
-  rests_more : (j : ℕ) → j < m → Rests j → (is_silencing own.reset (byte_at lane.memory (s (j + 1)).block) ≡ true → IsSilent (s (j + 1)).envelope) → Rests (j + 1)
-  rests_more j below rests heard =
-      let further : lane.k + (n + (j + 1)) ≡ lane.k + (n + j) + 1 = omega arith in
-      let less : rest - (j + 1) ≡ rest - j - 1 = omega arith in
-      rw (further, less) (rests_on own.reset koff lane.regs lane.memory (lane.k + (n + j)) (rest - j) (byte_at lane.memory (s j).block) again (pitch_of lane.regs (lane.inputs (n + j))) (s j) (s (j + 1))
-      rests (omega (arith, below, resting)) (moved j below rests) (inl heard))
-
   -- the header that the voice sees in a sample
   block_is : (j : ℕ) → j ≤ m → (s j).block ≡ (there (g j)).block
   block_is j few = ap (λ (p : Place). p.block) (stands j few).place
@@ -160,131 +140,117 @@ module _ (own : VoiceView) (lane : Lane) (n m rest : ℕ) (before ends : List �
   silent_at j below loud = by (g j) refl
     where
       by : (d : ℕ) → g j ≡ d → IsSilent voice.envelope
-      by zero e = so_far.at_rest.silencing (omega (arith, some, resting)) (rw e at loud)
-      by (suc d) e = quiet j below (omega (arith, e)) loud
+      by zero same = calm.silencing (rw same at loud)
+      by (suc d) same = quiet j below (omega (arith, same)) loud
 
-  rests : (j : ℕ) → j < m → Rests j × ((s j).envelope ≡ voice.envelope)
+  -- the voice stays calm, as nothing but its steps changes its envelope
+  calm_at : (j : ℕ) → j < m → (s j).envelope ≡ e j → IsCalm (lane.inputs (n + j)).reset (lane.inputs (n + j)).koff lane.memory (s j)
+  calm_at j below same =
+      let plain = glides j below in
+      rw (plain.reset, plain.koff) record {
+        delay = (stands j (omega (arith, below))).delay;
+        silencing = λ loud. rw same (stays_silent voice.envelope lane.regs (lane.k + n) j (silent_at j below (rw (block_is j (omega (arith, below))) at loud)));
+        key_off = λ off. rw same (stays_released voice.envelope lane.regs (lane.k + n) j (calm.key_off off));
+      }
+
+  step_is : (j : ℕ) → j < m → (s j).envelope ≡ e j
+      → s (j + 1) ≡ after_pitch (after_reading (enveloped lane.regs (counter_at (lane.k + (n + j))) (s j)) lane.memory (byte_at lane.memory (s j).block)
+      (loop_word (lane.inputs (n + j)).dir lane.regs.srcn lane.memory)) (pitch_of lane.regs (lane.inputs (n + j)))
   unfolding steps
-  rests zero below =
-      let none : n + 0 ≡ n = omega arith in
-      let all : rest - 0 ≡ rest = omega arith in
-      (rw (none, all) so_far.at_rest, refl)
-  rests (suc j) below =
-      let now = rests j (omega (arith, below)) in
-      let same : (s (suc j)).envelope ≡ voice.envelope = rw add-one at (same_on j (omega (arith, below)) now.0 now.1) in
-      let heard : is_silencing own.reset (byte_at lane.memory (s (suc j)).block) ≡ true → IsSilent (s (suc j)).envelope =
-      λ loud. rw same (silent_at (suc j) below (rw (block_is (suc j) (omega (arith, below))) at loud)) in
-      (rw add-one at (rests_more j (omega (arith, below)) now.0 (rw (add-one) heard)), same)
+  step_is j below same = rw add-one (calm_step lane.regs (lane.inputs (n + j)) lane.memory (counter_at (lane.k + (n + j))) (s j) (calm_at j below same) (glides j below).unkeyed)
+
+  follows : (j : ℕ) → j ≤ m → (s j).envelope ≡ e j
+  unfolding steps
+  follows zero few = sym (envelope_after-zero voice.envelope lane.regs (lane.k + n))
+  follows (suc j) few =
+      let now : (s j).envelope ≡ e j = follows j (omega (arith, few)) in
+      let far : lane.k + (n + j) ≡ lane.k + n + j = omega arith in
+      let stepped : (s (j + 1)).envelope ≡ envelope_step (s j).envelope lane.regs.adsr1 lane.regs.adsr2 lane.regs.gain (counter_at (lane.k + (n + j))) =
+      ap (λ (v : VoiceState). v.envelope) (step_is j (omega (arith, few)) now)
+      ∙ envelope-after_reading (enveloped lane.regs (counter_at (lane.k + (n + j))) (s j)) lane.memory (byte_at lane.memory (s j).block)
+      (loop_word (lane.inputs (n + j)).dir lane.regs.srcn lane.memory) (pitch_of lane.regs (lane.inputs (n + j))) in
+      let all : (s (j + 1)).envelope ≡ e (j + 1) = stepped ∙ rw (now, far) (sym (envelope_after-more voice.envelope lane.regs (lane.k + n) j)) in
+      rw add-one at all
 
   -- what sample j gives
   out_is : (j : ℕ) → j < m → (row : List ℤ) → take (12 + 4 * g m) row ≡ row_of lane.regs own.dir lane.memory voice (g m)
       → (answer_at lane (n + j)).out
-      ≡ out_in_stretch (has_bit own.non own.voice) (heard (n + j)) lane.table row (points j) voice.envelope.level
+      ≡ out_in_stretch (has_bit own.non own.voice) (heard (n + j)) lane.table row (points j) (level_in voice.envelope lane.regs (lane.k + n) j)
   unfolding answer_of_step
   out_is j below row is =
       let plain = glides j below in
-      let now = rests j below in
-      let at : IsAtRest (lane.inputs (n + j)).reset (lane.inputs (n + j)).koff lane.regs lane.memory (lane.k + (n + j)) (rest - j) (s j) = rw (plain.reset, plain.koff) now.0 in
-      let gave = out_at_rest lane.regs (lane.inputs (n + j)) lane.memory (lane.k + (n + j)) (rest - j) (s j) at (omega (arith, below, resting)) plain.unkeyed lane.table in
+      let same = follows j (omega (arith, below)) in
+      let gave = calm_out lane.regs (lane.inputs (n + j)) lane.memory (counter_at (lane.k + (n + j))) (s j) (calm_at j below same) plain.unkeyed lane.table in
       let rise = groups_before-rise points m on_and_on j m (omega (arith, below)) (omega arith) in
       let more : (g m - g j) + g j ≡ g m = omega (arith, rise) in
       let at_row = rw more at (plays_row lane.regs (λ i. lane.inputs (n + i)) own.dir m lane.memory (λ i. counter_at (lane.k + (n + i))) points voice lane.table j (g m - g j) plays_on (omega (arith, below))) in
       let total : ℕ = points j in
       let here : (s j).position + 0x4000 * g j ≡ total = (stands j (omega (arith, below))).position in
       let inside : (s j).position < 0x8000 = (stands j (omega (arith, below))).within in
-      let same : interpolation lane.table (row_of lane.regs own.dir lane.memory voice (g m)) total ≡ interpolation lane.table row total =
+      let alike : interpolation lane.table (row_of lane.regs own.dir lane.memory voice (g m)) total ≡ interpolation lane.table row total =
       interpolation-same lane.table _ row total (λ k few. ap (λ (xs : List ℤ). number_at xs k) (sym is) ∙ get_or-take (12 + 4 * g m) row k (pos 0) (omega (arith, few, here, inside, rise))) in
-      rw (on j) (gave ∙ sourced_output (s j) (lane.inputs (n + j)) lane.table (has_bit own.non own.voice) (heard (n + j)) (interpolation lane.table row total) voice.envelope.level
-      plain.noisy (noise (n + j)) (at_row ∙ same) (ap (λ (e : EnvelopeState). e.level) now.1))
+      rw (on j) (gave ∙ sourced_output (s j) (lane.inputs (n + j)) lane.table (has_bit own.non own.voice) (heard (n + j)) (interpolation lane.table row total)
+      (level_in voice.envelope lane.regs (lane.k + n) j) plain.noisy (noise (n + j)) (at_row ∙ alike) (ap (λ (x : EnvelopeState). x.level) same))
 
   -- the level that makes it
-  level_is : (j : ℕ) → j < m → (answer_at lane (n + j)).level ≡ voice.envelope.level
+  level_is : (j : ℕ) → j < m → (answer_at lane (n + j)).level ≡ level_in voice.envelope lane.regs (lane.k + n) j
   unfolding answer_of_step
   level_is j below =
-      let plain = glides j below in
-      let now = rests j below in
-      let at : IsAtRest (lane.inputs (n + j)).reset (lane.inputs (n + j)).koff lane.regs lane.memory (lane.k + (n + j)) (rest - j) (s j) = rw (plain.reset, plain.koff) now.0 in
-      let made = answer_is lane.regs (lane.inputs (n + j)) lane.memory (lane.k + (n + j)) (rest - j) (s j) at (omega (arith, below, resting)) plain.unkeyed lane.table in
-      rw (on j) (ap (λ (answer : VoiceOut). answer.level) made ∙ ap (λ (e : EnvelopeState). e.level) now.1)
+      let same = follows j (omega (arith, below)) in
+      let made = calm_level lane.regs (lane.inputs (n + j)) lane.memory (counter_at (lane.k + (n + j))) (s j) (calm_at j below same) (glides j below).unkeyed lane.table in
+      rw (on j) (made ∙ ap (λ (x : EnvelopeState). x.level) same)
 
   -- that of the last sample
-  pub last_level : (answer_at lane (n + m - 1)).level ≡ voice.envelope.level
+  pub last_level : (answer_at lane (n + m - 1)).level ≡ level_in voice.envelope lane.regs (lane.k + n) (m - 1)
   last_level = let last : n + m - 1 ≡ n + (m - 1) = omega (arith, some) in rw last (level_is (m - 1) (omega (arith, some)))
 
   ended_is : (j : ℕ) → j < m → (answer_at lane (n + j)).ended ≡ ended_in lane.memory again (place_of voice) points j
   unfolding answer_of_step
   ended_is j below =
-      let plain = glides j below in
-      let now = rests j below in
-      let at : IsAtRest (lane.inputs (n + j)).reset (lane.inputs (n + j)).koff lane.regs lane.memory (lane.k + (n + j)) (rest - j) (s j) = rw (plain.reset, plain.koff) now.0 in
-      let marked = ended_at_rest lane.regs (lane.inputs (n + j)) lane.memory (lane.k + (n + j)) (rest - j) (s j) at (omega (arith, below, resting)) plain.unkeyed lane.table in
+      let same = follows j (omega (arith, below)) in
+      let marked = calm_ended lane.regs (lane.inputs (n + j)) lane.memory (counter_at (lane.k + (n + j))) (s j) (calm_at j below same) (glides j below).unkeyed lane.table in
       let here = stands j (omega (arith, below)) in
       let needs = reads_a_group points j (s j).position here.position here.within in
       rw (on j) (marked ∙ regrouped (needs_group (s j)) (is_at_last_group (s j)) (has_end (byte_at lane.memory (s j).block))
       ∙ ap (λ (b : Bool). b && is_end lane.memory (place_of (s j))) needs ∙ ap (λ (p : Place). is_read_in points (g j) j && is_end lane.memory p) here.place)
 
   -- what the stretch leaves
-  pub glided_over : (now : VoiceState) (left : ℕ) (after : List ℕ) (given row : List ℤ) → take (12 + 4 * g m) row ≡ row_of lane.regs own.dir lane.memory voice (g m)
+  pub glided_over : (now : VoiceState) (after : List ℕ) (given row : List ℤ) → take (12 + 4 * g m) row ≡ row_of lane.regs own.dir lane.memory voice (g m)
       → now.samples ≡ drop (4 * g m) (row_of lane.regs own.dir lane.memory voice (g m)) → now.position + 0x4000 * g m ≡ points m
-      → place_of now ≡ there (g m) → now.delay ≡ voice.delay → now.envelope ≡ voice.envelope
-      → ((left ≡ 0) ⊎ ((left ≡ rest - m) × (0 < g m → is_silencing own.reset (byte_at lane.memory (there (g m)).block) ≡ true → IsSilent voice.envelope)))
+      → place_of now ≡ there (g m) → now.delay ≡ voice.delay → now.envelope ≡ e m
       → ((j : ℕ) → j < n → number_at given j ≡ number_at outs j)
       → ((j : ℕ) → j < m → number_at given (n + j)
-      ≡ out_in_stretch (has_bit own.non own.voice) (heard (n + j)) lane.table row (points j) voice.envelope.level)
+      ≡ out_in_stretch (has_bit own.non own.voice) (heard (n + j)) lane.table row (points j) (level_in voice.envelope lane.regs (lane.k + n) j))
       → ((j : ℕ) → j < n → slice_index after j ≡ slice_index ends j)
       → ((j : ℕ) → j < m → slice_index after (n + j) ≡ slice_index ends (n + j) + (if ended_in lane.memory again (place_of voice) points j then 2 ^ own.voice else 0))
       → ((j : ℕ) → n + m ≤ j → slice_index after j ≡ slice_index ends j)
-      → IsPlayedSoFar own lane (n + m) left before after given now
-  unfolding place_after
-  glided_over now left after given row is samples position place delay envelope stops outs_before outs_then ends_before ends_then ends_later = record {
-    played = record {
-      voice_is = voice_is ∙ sym (on m);
-      outs_are = λ j below. outs_by j (nat_lt j n) refl below;
-      ends_are = λ j below. ends_by j (nat_lt j n) refl below;
-      others = λ j above. ends_later j above ∙ so_far.played.others j (omega (arith, above));
-    };
-    at_rest = rw voice_is (elim stops [
-      | inl none ↦ rw none (no_rest own.reset koff lane.regs lane.memory (lane.k + (n + m)) (s m))
-      | inr more ↦ rw more.0 (rw all at (rests_more (m - 1) last (rests (m - 1) last).0 (rw all (silent_after more.1))))
-    ]);
+      → IsPlayed lane own.voice (n + m) before after given now
+  glided_over now after given row is samples position place delay envelope outs_before outs_then ends_before ends_then ends_later = record {
+    voice_is = voice_is ∙ sym (on m);
+    outs_are = λ j below. outs_by j (nat_lt j n) refl below;
+    ends_are = λ j below. ends_by j (nat_lt j n) refl below;
+    others = λ j above. ends_later j above ∙ played.others j (omega (arith, above));
   }
     where
-      last : m - 1 < m
-      last = omega (arith, some)
-
-      all : m - 1 + 1 ≡ m
-      all = omega (arith, some)
-
-      same : (s m).envelope ≡ voice.envelope
-      same = rw all at (same_on (m - 1) last (rests (m - 1) last).0 (rests (m - 1) last).1)
-
       here : StandsAt lane.regs own.dir lane.memory voice (g m) (points m) (s m)
       here = stands m (omega arith)
 
       voice_is : now ≡ s m
       voice_is = same_voice now (s m) (samples ∙ sym here.last) (omega (arith, position, here.position)) (place ∙ sym here.place)
-          (delay ∙ so_far.at_rest.delay (omega (arith, some, resting)) ∙ sym here.delay) (envelope ∙ sym same)
-
-      silent_after : (0 < g m → is_silencing own.reset (byte_at lane.memory (there (g m)).block) ≡ true → IsSilent voice.envelope)
-          → is_silencing own.reset (byte_at lane.memory (s m).block) ≡ true → IsSilent (s m).envelope
-      silent_after heard loud = rw same (by (g m) refl)
-        where
-          by : (d : ℕ) → g m ≡ d → IsSilent voice.envelope
-          by zero e = so_far.at_rest.silencing (omega (arith, some, resting)) (rw e at (rw (block_is m (omega arith)) at loud))
-          by (suc d) e = heard (omega (arith, e)) (rw (block_is m (omega arith)) at loud)
+          (delay ∙ calm.delay ∙ sym here.delay) (envelope ∙ sym (follows m (omega arith)))
 
       outs_by : (j : ℕ) (b : Bool) → nat_lt j n ≡ b → j < n + m → number_at given j ≡ (answer_at lane j).out
-      outs_by j true e below = let old : j < n = grind (arith, nat_tests, e) in outs_before j old ∙ so_far.played.outs_are j old
-      outs_by j false e below =
-          let new : n ≤ j = grind (arith, nat_tests, e) in
+      outs_by j true test below = let old : j < n = grind (arith, nat_tests, test) in outs_before j old ∙ played.outs_are j old
+      outs_by j false test below =
+          let new : n ≤ j = grind (arith, nat_tests, test) in
           let part : n + (j - n) ≡ j = omega arith in
           rw part at (outs_then (j - n) (omega (arith, below)) ∙ sym (out_is (j - n) (omega (arith, below)) row is))
 
       ends_by : (j : ℕ) (b : Bool) → nat_lt j n ≡ b → j < n + m → slice_index after j ≡ slice_index before j + (if (answer_at lane j).ended then 2 ^ own.voice else 0)
-      ends_by j true e below = let old : j < n = grind (arith, nat_tests, e) in ends_before j old ∙ so_far.played.ends_are j old
-      ends_by j false e below =
-          let new : n ≤ j = grind (arith, nat_tests, e) in
+      ends_by j true test below = let old : j < n = grind (arith, nat_tests, test) in ends_before j old ∙ played.ends_are j old
+      ends_by j false test below =
+          let new : n ≤ j = grind (arith, nat_tests, test) in
           let part : n + (j - n) ≡ j = omega arith in
           let marked = ap (λ (b : Bool). slice_index ends (n + (j - n)) + (if b then 2 ^ own.voice else 0)) (sym (ended_is (j - n) (omega (arith, below)))) in
-          let earlier = ap (λ (b : ℕ). b + (if (answer_at lane (n + (j - n))).ended then 2 ^ own.voice else 0)) (so_far.played.others (n + (j - n)) (omega arith)) in
+          let earlier = ap (λ (b : ℕ). b + (if (answer_at lane (n + (j - n))).ended then 2 ^ own.voice else 0)) (played.others (n + (j - n)) (omega arith)) in
           rw part at (ends_then (j - n) (omega (arith, below)) ∙ marked ∙ earlier)

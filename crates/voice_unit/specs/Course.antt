@@ -1,4 +1,4 @@
--- The course of a voice at rest over a stretch of samples.
+-- The course of a calm voice over a stretch of samples.
 use Rattle.std.specs.Prelude.{◌≡◌, ℕ, ◌+◌, ◌^◌, ◌<◌, ◌≤◌, List, Bool, true, slice_index, if◌then◌else◌}
 use Rattle.num_fix.specs.declared.TheConstants.{BATCH_SIZE}
 use Rattle.aram_core.specs.Memory.{byte_at}
@@ -13,7 +13,6 @@ use Rattle.voice_unit.specs.declared.row.Place.{Place}
 pub record IsCourse (course : Course) (n : ℕ) : Type 0 where
   pub voice : course.voice < 8
   pub track : IsTrack course.track n
-  pub level : course.level ≤ 0x7ff
   pub group : IsGroup course.first
 
 -- the group that is next in sample j

@@ -2,7 +2,7 @@
 -- Voice: what a voice is, and its step as a sequence of changes.
 -- Inside: the fields of a voice, and what holds of them.
 -- Batch: a voice over a batch of samples.
--- Rest: voices whose envelopes rest.
+-- Calm: voices whose envelopes nothing but their own steps changes.
 -- OneSample: one sample of a voice.
 -- Plain: a sample in which nothing but its blocks, its registers and the voice before tells what a voice plays.
 -- Play: a voice over a batch, as rows of numbers alone.
@@ -11,14 +11,15 @@ pub mod Directory
 pub mod Voice
 pub mod Inside
 pub mod Batch
-pub mod Rest
+pub mod Calm
 pub mod OneSample
 pub mod Plain
 pub mod Play
 pub mod RunOfVoice
 -- Row: the row of kept samples that a voice reads in a stretch of samples. Track: how far the samples of a stretch stand in it.
--- Course: the course of a voice over it. OutsOverRow: its outputs over that row.
+-- Course: the course of a voice over it. Levels: the levels of the samples of a stretch. OutsOverRow: the outputs of a voice over that row.
 pub mod Row
 pub mod Track
 pub mod Course
+pub mod Levels
 pub mod OutsOverRow

@@ -1,11 +1,9 @@
 -- A voice over a batch, as rows of numbers alone.
 use Rattle.std.specs.Prelude.{◌≡◌, ℕ, ◌+◌, ◌^◌, ◌<◌, ◌≤◌, List, ℤ, true, slice_index, if◌then◌else◌}
-use Rattle.num_fix.specs.Arithmetic.{has_bit}
 use Rattle.num_fix.specs.SignedWords.{number_at}
 use Rattle.num_fix.specs.declared.TheConstants.{BATCH_SIZE}
 use Rattle.rate_clock.specs.Counter.{counter_at}
 use Rattle.voice_unit.specs.Voice.{VoiceState, is_modulated, modulated_pitch}
-use Rattle.voice_unit.specs.Rest.{IsAtRest}
 use Rattle.voice_unit.specs.Plain.{PlaysPlainly}
 use Rattle.voice_unit.specs.Batch.{lane_inputs, steps, answer_of_step}
 use Rattle.voice_unit.specs.declared.batch.VoiceView.{VoiceView}
@@ -34,13 +32,14 @@ lane_of reads previous voice k = record {
   voice = voice;
 }
 
--- a lane has the registers, the memory, the table and the noise that are read, and where its voice is modulated the pitches
+-- a lane has the registers, the memory, the table, the clock and the noise that are read, and where its voice is modulated the pitches
 pub record IsLaneOver (reads : VoiceReads) (pitches : List ℕ) (lane : Lane) : Type 0 where
   pub regs : lane.regs ≡ reads.regs
   pub modulated : is_modulated reads.seen.pmon reads.seen.voice ≡ true
       → (j : ℕ) → j < BATCH_SIZE → slice_index pitches j ≡ modulated_pitch reads.regs.pitch (lane.inputs j).previous
   pub memory : lane.memory ≡ reads.memory.now
   pub table : lane.table ≡ reads.table.now
+  pub clock : reads.clock ≡ counter_at lane.k
   pub noise : (j : ℕ) → (lane.inputs j).noise ≡ slice_index reads.rows.now.noise j
 
 -- the voice after j samples, and what it gives in sample j
@@ -60,8 +59,3 @@ pub record IsPlayed (lane : Lane) (v n : ℕ) (before after : List ℕ) (outs : 
 -- in each sample from one up to another a voice plays plainly
 abbrev pub Glides : (own : VoiceView) → (lane : Lane) → (from end : ℕ) → Type 0
 Glides own lane from end = (j : ℕ) → from ≤ j → j < end → PlaysPlainly own (lane.inputs j)
-
--- what n samples of the voice of a row leave, which then rests for so many
-pub record IsPlayedSoFar (own : VoiceView) (lane : Lane) (n rest : ℕ) (before ends : List ℕ) (outs : List ℤ) (voice : VoiceState) : Type 0 where
-  pub played : IsPlayed lane own.voice n before ends outs voice
-  pub at_rest : IsAtRest own.reset (has_bit own.koff own.voice) lane.regs lane.memory (lane.k + n) rest voice

@@ -1,19 +1,20 @@
-//! The course of a voice at rest over the groups of a stretch of samples.
+//! The course of a calm voice over the groups of a stretch of samples.
 
 ghost use Rattle.std.specs.Prelude.{◌≡◌, ◌<◌, ◌≤◌, ◌+◌, ◌*◌, ◌^◌, ◌-◌, ℕ, true, false, slice_index, take};
 ghost use Rattle.voice_unit.specs.Row.{IsGroup, next_place, last_of, kept_row, groups_before};
 ghost use Rattle.voice_unit.specs.Track.{point_at};
 ghost use Rattle.voice_unit.specs.Course.{IsCourse, IsStretch, AreEndsMarked, LeavesSounding, place_at, ends_at, ended_at};
 
+use crate::calm::is_silencing;
 use crate::play::mark_ended;
-use crate::rest::is_silencing;
 use crate::row::{Place, ROW_SIZE, groups_left, is_end, next_place, read_rest};
 use crate::track::Track;
 use aram_core::Aram;
 use brr_decode::BlockMemory;
+use envelope::Envelope;
 use num_fix::BATCH_SIZE;
 
-/// What a voice goes by in a stretch of samples in which it rests and plays on.
+/// What a voice goes by in a stretch of samples in which it is calm and plays on.
 #[derive(Clone, Copy)]
 pub(crate) struct Course<'a> {
     /// The number of the voice, 0 to 7.
@@ -24,8 +25,8 @@ pub(crate) struct Course<'a> {
     pub loop_word: u16,
     /// How far its samples stand in the row of kept samples.
     pub track: Track<'a>,
-    /// The level of its envelope.
-    pub level: u16,
+    /// Its envelope, as it is before the first of them.
+    pub envelope: Envelope,
     /// The soft reset of FLG.
     pub reset: bool,
     /// It is released at level 0, so that nothing silences it.
@@ -43,8 +44,6 @@ pub(crate) struct Stretch {
     pub groups: u8,
     /// The group that follows.
     pub next: Place,
-    /// It ends as the header of the next group silences the voice.
-    pub woken: bool,
 }
 
 /// The block that a voice comes to after another one.
@@ -53,7 +52,7 @@ pub(crate) struct NextBlock {
     /// Its first group.
     pub first: Place,
     /// Its header silences the voice while it sounds.
-    pub woken: bool,
+    pub silencing: bool,
 }
 
 impl<'a> Course<'a> {
@@ -80,7 +79,7 @@ impl<'a> Course<'a> {
     }
 
     /// Whether the header of a group silences the voice while it sounds.
-    fn is_woken_at(&self, place: &Place, memory: &Aram) -> bool
+    fn is_silenced_at(&self, place: &Place, memory: &Aram) -> bool
         ensures { result ≡ false → LeavesSounding self.now memory.now place.now.block }
     {
         !self.silent && is_silencing(self.reset, memory.get(place.block))
@@ -102,7 +101,7 @@ impl<'a> Course<'a> {
         requires lower { (j : ℕ) → j < n → groups_before (point_at self.now.track) j ≡ group → slice_index ends.old (at + j) < 2 ^ self.now.voice }
         ensures first { result.first ≡ next_place memory.now self.now.loop_word (last_of block) }
         ensures group { IsGroup result.first }
-        ensures quiet { result.woken ≡ false → LeavesSounding self.now memory.now result.first.block }
+        ensures quiet { result.silencing ≡ false → LeavesSounding self.now memory.now result.first.block }
         ensures ends { AreEndsMarked at n self.now.voice (ends_at self.now memory.now (last_of block) group) ends.old ends.new }
     {
         let place = Place { block, offset: 7 };
@@ -110,7 +109,7 @@ impl<'a> Course<'a> {
         let first = next_place(place, self.loop_word, memory);
         NextBlock {
             first,
-            woken: self.is_woken_at(&first, memory),
+            silencing: self.is_silenced_at(&first, memory),
         }
     }
 
@@ -135,8 +134,6 @@ impl<'a> Course<'a> {
         ensures ends { AreEndsMarked at result.samples self.now.voice (ended_at self.now memory.now) ends.old ends.new }
         ensures quiet { LeavesSounding self.now memory.now self.now.first.block
             → (j : ℕ) → j < result.samples → LeavesSounding self.now memory.now (place_at self.now memory.now j).block }
-        ensures goes_on { LeavesSounding self.now memory.now self.now.first.block → result.woken ≡ false
-            → LeavesSounding self.now memory.now result.next.block }
     {
         let count = self.track.groups_in(n);
         let mut place = self.first;
@@ -150,19 +147,17 @@ impl<'a> Course<'a> {
                     samples: n,
                     groups: count,
                     next: place.further(count - d),
-                    woken: false,
                 };
             }
             d += left;
             let next = self.next_block(at, n, d - 1, place.block, memory, ends);
             place = next.first;
-            if next.woken {
+            if next.silencing {
                 let last = self.track.reading_sample(d - 1, n);
                 return Stretch {
                     samples: last + 1,
                     groups: d,
                     next: place,
-                    woken: true,
                 };
             }
         }
@@ -170,7 +165,6 @@ impl<'a> Course<'a> {
             samples: n,
             groups: count,
             next: place,
-            woken: false,
         }
     }
 }

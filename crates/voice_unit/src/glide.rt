@@ -1,54 +1,32 @@
-//! How a voice glides: while its envelope rests and no key is taken, the samples of a stretch differ in their points alone, so that
-//! they are read off one row of kept samples at one level.
+//! How a voice glides: while it is calm and no key on is taken, the samples of a stretch differ in their points and their levels alone, so that
+//! they are read off one row of kept samples.
 
-ghost use Rattle.std.specs.Prelude.{◌≡◌, ◌<◌, ◌≤◌, ◌+◌, ◌-◌, ◌*◌, ◌^◌, ℕ, List, true, false, slice_index};
+ghost use Rattle.std.specs.Prelude.{◌≡◌, ◌<◌, ◌≤◌, ◌+◌, ◌-◌, ◌^◌, ℕ, List, true, slice_index};
 ghost use Rattle.num_fix.specs.Arithmetic.{has_bit};
 ghost use Rattle.voice_unit.specs.Directory.{loop_word};
-ghost use Rattle.voice_unit.specs.Rest.{IsSilent};
+ghost use Rattle.voice_unit.specs.Calm.{IsSilent, IsCalm};
 ghost use Rattle.voice_unit.specs.Course.{IsCourse};
 ghost use Rattle.voice_unit.specs.Row.{ArePoints, place_of};
 ghost use Rattle.voice_unit.specs.Track.{MoveOn, pitches_from};
 ghost use Rattle.voice_unit.specs.Voice.{is_modulated};
-ghost use Rattle.voice_unit.specs.Play.{Lane, IsLaneOver, Glides, IsPlayedSoFar, answer_at};
+ghost use Rattle.voice_unit.specs.Play.{Lane, IsLaneOver, IsPlayed, Glides, answer_at};
 
 use crate::batch::{PlayedRows, VoiceReads, VoiceView};
-use crate::course::{Course, Stretch};
+use crate::calm::is_silent;
+use crate::course::Course;
 use crate::directory::loop_word;
-use crate::rest::is_silent;
 use crate::track::{POINTS, Track, put_points};
 use crate::voice::Voice;
 use crate::workspace::Workspace;
 use num_fix::{BATCH_SIZE, has_bit};
-
-/// How many samples a voice glides at most, from sample `j` up to another one and while its envelope rests.
-fn glide_length(j: u8, end: u8, rest: u16) -> u8
-    requires { j ≤ end }
-    ensures to { j + result ≤ end }
-    ensures rest { result ≤ rest }
-{
-    rest.min(u16::from(end - j)) as u8
-}
-
-/// For how many more samples a voice rests after a stretch.
-fn rest_after(rest: u16, stretch: &Stretch) -> u16
-    requires { stretch.now.samples ≤ rest }
-    ensures woken { stretch.now.woken ≡ true → result ≡ 0 }
-    ensures goes_on { stretch.now.woken ≡ false → result ≡ rest - stretch.now.samples }
-{
-    if stretch.woken {
-        0
-    } else {
-        rest - u16::from(stretch.samples)
-    }
-}
 
 /// Where a voice that glided has come to.
 #[derive(Clone, Copy, Debug)]
 pub(crate) struct Glided {
     /// The sample that is next.
     pub at: u8,
-    /// How many more samples its envelope rests.
-    pub rest: u16,
+    /// The level at which the last one sounds, where it glided over any.
+    pub level: u16,
 }
 
 impl Voice {
@@ -85,7 +63,7 @@ impl Voice {
         ensures pitch { result.track.pitch ≡ reads.now.regs.pitch }
         ensures modulated { result.track.modulated ≡ is_modulated reads.now.seen.pmon reads.now.seen.voice }
         ensures points { result.track.points.now ≡ points.now }
-        ensures level { result.level ≡ self.now.envelope.level }
+        ensures envelope { result.envelope ≡ self.now.envelope }
         ensures reset { result.reset ≡ reads.now.seen.reset }
         ensures silent { result.silent ≡ true → IsSilent self.now.envelope }
         ensures noisy { result.noisy ≡ has_bit reads.now.seen.non reads.now.seen.voice }
@@ -102,38 +80,38 @@ impl Voice {
                 modulated: reads.seen.is_modulated(),
                 points,
             },
-            level: self.level(),
+            envelope: self.envelope(),
             reset: reads.seen.reset,
             silent: is_silent(&self.envelope()),
             noisy: has_bit(reads.seen.non, reads.seen.voice),
         }
     }
 
-    /// Plays n samples from sample `at` on over the row of its kept samples, or fewer, where the header of a block silences the voice.
+    /// Plays n samples of a calm voice from sample `at` on over the row of its kept samples, or fewer, where the header of a block silences the voice.
     fn play_stretch(
         &mut self,
         at: u8,
         n: u8,
-        rest: u16,
         reads: &VoiceReads,
         work: &mut Workspace,
         made: &mut PlayedRows,
     ) -> Glided
         requires some { 0 < n }
         requires few { at + n ≤ BATCH_SIZE }
-        requires resting { n ≤ rest }
+        requires calm { IsCalm reads.now.seen.reset (has_bit reads.now.seen.koff reads.now.seen.voice) reads.now.memory.now self.old }
         requires voice { reads.now.seen.voice < 8 }
         requires pitch { reads.now.regs.pitch < 0x4000 }
         requires lower { (i : ℕ) → at ≤ i → i < BATCH_SIZE → slice_index made.old.ends i < 2 ^ reads.now.seen.voice }
-        ensures from { at ≤ result.at }
+        ensures from { at < result.at }
         ensures to { result.at ≤ at + n }
-        ensures so_far { (lane : Lane) (before : List ℕ) → IsLaneOver reads.now work.old.pitches lane
-            → Glides reads.now.seen lane at (at + n) → IsPlayedSoFar reads.now.seen lane at rest before made.old.ends made.old.outs self.old
-            → IsPlayedSoFar reads.now.seen lane result.at result.rest before made.new.ends made.new.outs self.new }
+        ensures played { (lane : Lane) (before : List ℕ) → IsLaneOver reads.now work.old.pitches lane
+            → Glides reads.now.seen lane at (at + n) → IsPlayed lane reads.now.seen.voice at before made.old.ends made.old.outs self.old
+            → IsPlayed lane reads.now.seen.voice result.at before made.new.ends made.new.outs self.new }
         ensures pitches { work.new.pitches ≡ work.old.pitches }
+        ensures within { result.level ≤ 0x7ff }
         ensures level { (lane : Lane) (before : List ℕ) → IsLaneOver reads.now work.old.pitches lane
-            → Glides reads.now.seen lane at (at + n) → IsPlayedSoFar reads.now.seen lane at rest before made.old.ends made.old.outs self.old
-            → self.new.envelope.level ≡ (answer_at lane (result.at - 1)).level }
+            → Glides reads.now.seen lane at (at + n) → IsPlayed lane reads.now.seen.voice at before made.old.ends made.old.outs self.old
+            → result.level ≡ (answer_at lane (result.at - 1)).level }
         ensures later { (i : ℕ) → result.at ≤ i → slice_index made.new.ends i ≡ slice_index made.old.ends i }
         ensures before { (i : ℕ) → i < at → slice_index made.new.ends i ≡ slice_index made.old.ends i }
         ensures lower { (i : ℕ) → at ≤ i → i < BATCH_SIZE → slice_index made.new.ends i < 2 ^ (reads.now.seen.voice + 1) }
@@ -149,54 +127,57 @@ impl Voice {
             &mut work.blocks,
             &mut made.ends,
         );
-        course.sound(
+        let samples = stretch.samples;
+        let sounded = course.sound(
             &mut made.outs,
-            &mut work.taps,
+            &mut work.places,
             at,
-            stretch.samples,
+            samples,
             &work.row,
             reads,
         );
         let position = course.track.position_after(&stretch);
         self.go_to(&work.row, stretch.groups, position, stretch.next);
+        self.take_envelope(sounded.envelope);
         Glided {
-            at: at + stretch.samples,
-            rest: rest_after(rest, &stretch),
+            at: at + samples,
+            level: sounded.level,
         }
     }
 
-    /// Makes samples from sample `j` up to another one, between which the voice glides, while its envelope rests.
+    /// Makes samples from sample `j` up to another one, between which no key on is taken, if the voice is calm.
     pub(crate) fn glide(
         &mut self,
         j: u8,
         end: u8,
-        rest: u16,
+        calm: bool,
         reads: &VoiceReads,
         work: &mut Workspace,
         made: &mut PlayedRows,
     ) -> Glided
         requires few { end ≤ BATCH_SIZE }
         requires from { j ≤ end }
+        requires calm { calm ≡ true → IsCalm reads.now.seen.reset (has_bit reads.now.seen.koff reads.now.seen.voice) reads.now.memory.now self.old }
         requires voice { reads.now.seen.voice < 8 }
         requires pitch { reads.now.regs.pitch < 0x4000 }
         requires lower { (i : ℕ) → j ≤ i → i < BATCH_SIZE → slice_index made.old.ends i < 2 ^ reads.now.seen.voice }
         requires before { (i : ℕ) → i < BATCH_SIZE → slice_index made.old.ends i < 2 ^ (reads.now.seen.voice + 1) }
         ensures from { j ≤ result.at }
         ensures to { result.at ≤ end }
-        ensures so_far { (lane : Lane) (before : List ℕ) → IsLaneOver reads.now work.old.pitches lane
-            → Glides reads.now.seen lane j end → IsPlayedSoFar reads.now.seen lane j rest before made.old.ends made.old.outs self.old
-            → IsPlayedSoFar reads.now.seen lane result.at result.rest before made.new.ends made.new.outs self.new }
+        ensures played { (lane : Lane) (before : List ℕ) → IsLaneOver reads.now work.old.pitches lane
+            → Glides reads.now.seen lane j end → IsPlayed lane reads.now.seen.voice j before made.old.ends made.old.outs self.old
+            → IsPlayed lane reads.now.seen.voice result.at before made.new.ends made.new.outs self.new }
         ensures pitches { work.new.pitches ≡ work.old.pitches }
+        ensures within { result.level ≤ 0x7ff }
         ensures level { (lane : Lane) (before : List ℕ) → IsLaneOver reads.now work.old.pitches lane
-            → Glides reads.now.seen lane j end → IsPlayedSoFar reads.now.seen lane j rest before made.old.ends made.old.outs self.old
-            → j < result.at → self.new.envelope.level ≡ (answer_at lane (result.at - 1)).level }
+            → Glides reads.now.seen lane j end → IsPlayed lane reads.now.seen.voice j before made.old.ends made.old.outs self.old
+            → j < result.at → result.level ≡ (answer_at lane (result.at - 1)).level }
         ensures later { (i : ℕ) → result.at ≤ i → slice_index made.new.ends i ≡ slice_index made.old.ends i }
         ensures lower { (i : ℕ) → i < BATCH_SIZE → slice_index made.new.ends i < 2 ^ (reads.now.seen.voice + 1) }
     {
-        let samples = glide_length(j, end, rest);
-        if samples == 0 {
-            return Glided { at: j, rest };
+        if calm && j < end {
+            return self.play_stretch(j, end - j, reads, work, made);
         }
-        self.play_stretch(j, samples, rest, reads, work, made)
+        Glided { at: j, level: 0 }
     }
 }

@@ -7,6 +7,9 @@ ghost use Rattle.voice_unit.specs.Voice.{modulated_pitch, pitch_of};
 use crate::interface::{VoiceIn, VoiceRegs};
 use num_fix::scaled;
 
+/// How many levels there are: each is below this, at which it would be a whole.
+pub(crate) const LEVELS: u16 = 0x800;
+
 /// A sample at a level.
 pub fn at_level(sample: i16, level: u16) -> i16
     requires { level ≤ 0x7ff }

@@ -2,16 +2,17 @@
 #![tactic(auto)]
 
 mod batch;
+mod calm;
 mod course;
 mod directory;
 mod glide;
 mod interface;
 mod laws;
 mod level;
+mod levels;
 mod out_row;
 mod plain;
 mod play;
-mod rest;
 mod row;
 mod short_sounding;
 mod sounding;

@@ -2,19 +2,16 @@
 
 ghost use Rattle.std.specs.Prelude.{◌≡◌, ◌<◌, ◌≤◌, ◌+◌, ◌-◌, ◌^◌, ℕ, List, true, false, length, slice_index, slice_set, if◌then◌else◌};
 ghost use Rattle.rate_clock.specs.Counter.{counter_at};
-ghost use Rattle.voice_unit.specs.Rest.{IsAtRest};
 ghost use Rattle.voice_unit.specs.Voice.{VoiceState};
-ghost use Rattle.voice_unit.specs.OneSample.{IsStep, IsPlayedSample};
-ghost use Rattle.voice_unit.specs.Play.{IsPlayed, IsPlayedSoFar, answer_at, lane_of};
+ghost use Rattle.voice_unit.specs.OneSample.{IsStep};
+ghost use Rattle.voice_unit.specs.Play.{IsPlayed, answer_at, lane_of};
 
 use crate::batch::{PlayedRows, VoiceReads};
 use crate::glide::Glided;
 use crate::interface::{VoiceIn, VoiceOut, is_keyed};
 use crate::level::high_byte;
-use crate::rest::Played;
 use crate::voice::Voice;
 use crate::workspace::Workspace;
-use brr_decode::BlockMemory;
 use num_fix::{BATCH_SIZE, has_bit};
 
 /// Adds the bit of a voice that ended in sample `j`.
@@ -40,52 +37,16 @@ fn is_marked(ends: &[u8; BATCH_SIZE], j: u8, voice: u8) -> bool
 }
 
 impl Voice {
-    /// Sample `j` of a batch, of a voice whose envelope rests for so many. Inlined, so that the input of a sample at rest stays in registers; only a whole
-    /// step wants the clock.
-    #[inline(always)]
-    fn play_sample(
-        &mut self,
-        j: u8,
-        rest: u16,
-        reads: &VoiceReads,
-        input: &VoiceIn,
-        blocks: &mut BlockMemory,
-    ) -> Played
+    /// A whole step in sample `j` of a batch. It stands apart, so that the loop over stretches is short.
+    #[inline(never)]
+    fn play_sample(&mut self, j: u8, reads: &VoiceReads, input: &VoiceIn) -> VoiceOut
         requires pitch { reads.now.regs.pitch < 0x4000 }
         requires noise { input.now.noise < 0x8000 }
         ensures { (k : ℕ) → reads.now.clock ≡ counter_at k
-            → IsAtRest input.now.reset input.now.koff reads.now.regs reads.now.memory.now (k + j) rest self.old
-            → IsPlayedSample reads.now.regs input.now reads.now.memory.now reads.now.table.now (k + j) self.old result self.new }
-    {
-        if rest == 0 || is_keyed(input) {
-            // a copy, so that the input of a sample at rest need not stand in memory
-            let own_input = *input;
-            let clock = reads.clock.after_samples(j);
-            return self.play_whole(&reads.regs, &own_input, reads.memory, reads.table, &clock);
-        }
-        self.play_at_rest(rest, &reads.regs, input, reads.memory, reads.table, blocks)
-    }
-
-    /// Sample `j` of a batch, its last, of a voice whose envelope rests for so many, and what it gives.
-    fn play_last(
-        &mut self,
-        j: u8,
-        rest: u16,
-        reads: &VoiceReads,
-        input: &VoiceIn,
-        blocks: &mut BlockMemory,
-    ) -> VoiceOut
-        requires pitch { reads.now.regs.pitch < 0x4000 }
-        requires noise { input.now.noise < 0x8000 }
-        ensures { (k : ℕ) → reads.now.clock ≡ counter_at k
-            → IsAtRest input.now.reset input.now.koff reads.now.regs reads.now.memory.now (k + j) rest self.old
             → IsStep reads.now.regs input.now reads.now.memory.now reads.now.table.now (counter_at (k + j)) self.old result self.new }
     {
-        if rest == 0 || is_keyed(input) {
-            let clock = reads.clock.after_samples(j);
-            return self.step(&reads.regs, input, reads.memory, reads.table, &clock);
-        }
-        self.answer_at_rest(rest, &reads.regs, input, reads.memory, reads.table, blocks)
+        let clock = reads.clock.after_samples(j);
+        self.step(&reads.regs, input, reads.memory, reads.table, &clock)
     }
 
     /// Makes n samples, or all of them but the last, where the voice doesn't glide over that.
@@ -105,61 +66,63 @@ impl Voice {
         requires lower { (j : ℕ) → j < BATCH_SIZE → slice_index made.old.ends j < 2 ^ reads.now.seen.voice }
         ensures from { n - 1 ≤ result.at }
         ensures to { result.at ≤ n }
-        ensures so_far { (k : ℕ) → reads.now.clock ≡ counter_at k → let lane = lane_of reads.now previous.now self.old k in
-            IsPlayedSoFar reads.now.seen lane result.at result.rest made.old.ends made.new.ends made.new.outs self.new }
+        ensures played { (k : ℕ) → reads.now.clock ≡ counter_at k → let lane = lane_of reads.now previous.now self.old k in
+            IsPlayed lane reads.now.seen.voice result.at made.old.ends made.new.ends made.new.outs self.new }
+        ensures within { result.level ≤ 0x7ff }
         ensures level { (k : ℕ) → reads.now.clock ≡ counter_at k → result.at ≡ n
-            → self.new.envelope.level ≡ (answer_at (lane_of reads.now previous.now self.old k) (n - 1)).level }
+            → result.level ≡ (answer_at (lane_of reads.now previous.now self.old k) (n - 1)).level }
         ensures others { (j : ℕ) → result.at ≤ j → slice_index made.new.ends j ≡ slice_index made.old.ends j }
         ensures lower { (j : ℕ) → j < BATCH_SIZE → slice_index made.new.ends j < 2 ^ (reads.now.seen.voice + 1) }
     {
         let last = n - 1;
         if last == 0 {
-            return Glided { at: 0, rest: 0 };
+            return Glided { at: 0, level: 0 };
         }
         // a copy, so that what is the same in all samples is worked out once
         let seen = reads.seen;
         let koff = has_bit(seen.koff, seen.voice);
-        let mut rest = self.rest_from(&reads.regs, seen.reset, koff, reads.memory, &reads.clock);
+        let mut calm = self.is_calm(seen.reset, koff, reads.memory);
         seen.put_pitches(&mut work.pitches, reads.regs.pitch, previous);
         let plain = seen.plain_samples(reads.rows);
         let mut j = 0;
         'samples: while j < last {
             let end = plain.end_from(j, n);
-            let glided = self.glide(j, end, rest, reads, work, made);
+            let glided = self.glide(j, end, calm, reads, work, made);
             let to = glided.at;
             if last <= to {
                 return glided;
             }
             let place = usize::from(to);
             let input = seen.input(reads.rows, previous[place], to);
-            let played = self.play_sample(to, glided.rest, reads, &input, &mut work.blocks);
-            made.outs[place] = played.out;
-            mark_ended(&mut made.ends, to, played.ended, seen.voice);
-            rest = played.rest;
+            let answer = self.play_sample(to, reads, &input);
+            made.outs[place] = answer.out;
+            mark_ended(&mut made.ends, to, answer.ended, seen.voice);
+            calm = self.is_calm(seen.reset, koff, reads.memory);
             j = to + 1;
         }
-        Glided { at: j, rest }
+        Glided { at: j, level: 0 }
     }
 
-    /// What sample `j` gave, the last over which the voice glided.
+    /// What sample `j` gave, the last over which the voice glided, at a level.
     fn glided_answer(
         &self,
         j: u8,
+        level: u16,
         reads: &VoiceReads,
         previous: &[i16; BATCH_SIZE],
         made: &PlayedRows,
     ) -> VoiceOut
         requires few { j < BATCH_SIZE }
+        requires level { level ≤ 0x7ff }
         requires voice { reads.now.seen.voice < 8 }
         ensures { (k : ℕ) (before : List ℕ) (begun : VoiceState) → let lane = lane_of reads.now previous.now begun k in
             IsPlayed lane reads.now.seen.voice (j + 1) before made.now.ends made.now.outs self.now
             → slice_index before j < 2 ^ reads.now.seen.voice
-            → self.now.envelope.level ≡ (answer_at lane j).level → result ≡ answer_at lane j }
+            → level ≡ (answer_at lane j).level → result ≡ answer_at lane j }
     {
         let place = usize::from(j);
         let input = reads.seen.input(reads.rows, previous[place], j);
         let out = made.outs[place];
-        let level = self.level();
         VoiceOut {
             out,
             level,
@@ -196,11 +159,11 @@ impl Voice {
         let glided = self.play_row(n, reads, previous, work, made);
         let last = n - 1;
         if glided.at == n {
-            return self.glided_answer(last, reads, previous, made);
+            return self.glided_answer(last, glided.level, reads, previous, made);
         }
         let place = usize::from(last);
         let input = reads.seen.input(reads.rows, previous[place], last);
-        let answer = self.play_last(last, glided.rest, reads, &input, &mut work.blocks);
+        let answer = self.play_sample(last, reads, &input);
         made.outs[place] = answer.out;
         mark_ended(&mut made.ends, last, answer.ended, reads.seen.voice);
         answer

@@ -82,7 +82,7 @@ fn parted_digits(at: u16, memory: &Aram) -> u64
 }
 
 /// The eight bytes of digits of a block, the first in the low bits.
-pub(crate) fn digit_bytes(block: u16, memory: &Aram) -> u64
+fn digit_bytes(block: u16, memory: &Aram) -> u64
     ensures { (k : ℕ) → k < 8 → byte_of result k ≡ byte_at memory.now (block + k + 1) }
 {
     let at = block.wrapping_add(1);

@@ -1,6 +1,6 @@
 //! The outputs of a stretch of samples by products of 16 bits, eight at a time, where each weight of the table is from 0 to 2,047.
 
-ghost use Rattle.std.specs.Prelude.{◌≡◌, ◌≢◌, ◌<◌, ◌≤◌, ◌+◌, ◌*◌, ℕ, List, ℤ, pos, nat_le, slice_index};
+ghost use Rattle.std.specs.Prelude.{◌≡◌, ◌≢◌, ◌<◌, ◌≤◌, ◌+◌, ◌*◌, ◌%◌, ℕ, List, ℤ, pos, nat_le, slice_index};
 ghost use Rattle.num_fix.specs.Arithmetic.{scaled};
 ghost use Rattle.num_fix.specs.SignedWords.{number_at};
 ghost use Rattle.gauss_table.specs.Factors.{AreFactors, factor_of};
@@ -9,11 +9,13 @@ ghost use Rattle.voice_unit.specs.Track.{IsTrack, point_at};
 ghost use Rattle.voice_unit.specs.Voice.{interpolation};
 ghost use Rattle.voice_unit.specs.OutsOverRow.{AreFactorsOfLevel, short_mixed_at, sounding_at};
 
+use crate::level::LEVELS;
 use crate::row::ROW_SIZE;
 use crate::sounding::POINT_END;
 use crate::track::{POINTS, Track};
 use gauss_table::{
-    Factors, Products, ShortTaps, factor_of, product_by_high_factor, product_by_low_factor,
+    Factors, Products, ShortTaps, factor_of, product_by_factor, product_by_high_factor,
+    product_by_low_factor,
 };
 use num_fix::{BATCH_SIZE, clear_bit0};
 
@@ -23,7 +25,7 @@ pub(crate) const AT_ONCE: usize = 8;
 /// The last sample of a batch with which so many can begin.
 pub(crate) const LAST_OF_EIGHT: u8 = (BATCH_SIZE - AT_ONCE) as u8;
 
-/// Half of 2,048, at which a level would be a whole.
+/// Half of the level that would be a whole.
 pub(crate) const HALF_LEVEL: u16 = 0x400;
 
 /// What four samples give at a point of a row of kept samples, in 65,536ths of a sample.
@@ -225,6 +227,52 @@ pub(crate) fn put_short(
     for c in 0..(usize::from(n) + AT_ONCE - 1) / AT_ONCE {
         let from = (AT_ONCE * c).min(last);
         let eight = eight_at_level(taps, from, factors, loud);
+        put_eight(outs, begin + from, &eight);
+    }
+}
+
+/// The outputs of eight samples from one on, each at its own level. After the levels of a stretch any numbers may stand in the row, which are brought down
+/// to levels.
+fn eight_by_levels(
+    taps: &[ShortTaps; BATCH_SIZE],
+    from: usize,
+    levels: &[u16; BATCH_SIZE],
+    at: usize,
+) -> [i16; AT_ONCE]
+    requires from { from + AT_ONCE ≤ BATCH_SIZE }
+    requires at { at + AT_ONCE ≤ BATCH_SIZE }
+    ensures { (k : ℕ) → k < AT_ONCE
+        → number_at result k ≡ sounding_at (slice_index levels.now (at + k) % LEVELS) (short_mixed_at taps.now (from + k)) }
+{
+    let mut eight = [0; AT_ONCE];
+    for k in 0..AT_ONCE {
+        let level = (levels[at + k] % LEVELS) as i16;
+        let product = product_by_factor(factor_of(level), taps[from + k].mixed());
+        eight[k] = clear_bit0(product);
+    }
+    eight
+}
+
+/// The outputs of n samples, each at its own level, eight at a time: what is written besides is as where they have one level.
+#[inline(never)]
+pub(crate) fn put_short_by_levels(
+    outs: &mut [i16; BATCH_SIZE],
+    at: u8,
+    n: u8,
+    taps: &[ShortTaps; BATCH_SIZE],
+    levels: &[u16; BATCH_SIZE],
+)
+    requires few { at + n ≤ BATCH_SIZE }
+    requires early { at ≤ LAST_OF_EIGHT }
+    ensures outs { (j : ℕ) → j < n
+        → number_at outs.new (at + j) ≡ sounding_at (slice_index levels.now (at + j) % LEVELS) (short_mixed_at taps.now j) }
+    ensures before { (i : ℕ) → i < at → number_at outs.new i ≡ number_at outs.old i }
+{
+    let begin = usize::from(at);
+    let last = usize::from(LAST_OF_EIGHT - at);
+    for c in 0..(usize::from(n) + AT_ONCE - 1) / AT_ONCE {
+        let from = (AT_ONCE * c).min(last);
+        let eight = eight_by_levels(taps, from, levels, begin + from);
         put_eight(outs, begin + from, &eight);
     }
 }

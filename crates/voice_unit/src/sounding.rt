@@ -1,24 +1,29 @@
 //! The outputs of a stretch of samples, over a row of kept samples or over noise.
 
-ghost use Rattle.std.specs.Prelude.{◌≡◌, ◌<◌, ◌≤◌, ◌+◌, ◌*◌, ℕ, List, ℤ, pos, slice_index};
+ghost use Rattle.std.specs.Prelude.{◌≡◌, ◌<◌, ◌≤◌, ◌+◌, ◌-◌, ◌*◌, ◌%◌, ℕ, List, ℤ, pos, slice_index};
 ghost use Rattle.num_fix.specs.Arithmetic.{wrap16};
 ghost use Rattle.num_fix.specs.SignedWords.{number_at};
 ghost use Rattle.gauss_table.specs.Interpolation.{mix_of};
 ghost use Rattle.gauss_table.specs.Quads.{AreQuads};
+ghost use Rattle.rate_clock.specs.Counter.{counter_at};
 ghost use Rattle.voice_unit.specs.Course.{IsCourse};
+ghost use Rattle.voice_unit.specs.Levels.{envelope_after, level_in};
 ghost use Rattle.voice_unit.specs.Voice.{interpolation};
 ghost use Rattle.voice_unit.specs.Track.{IsTrack, point_at};
 ghost use Rattle.voice_unit.specs.OutsOverRow.{mixed_at, sounding_at, out_in_stretch};
 
 use crate::batch::VoiceReads;
 use crate::course::Course;
-use crate::level::at_level;
+use crate::level::{LEVELS, at_level};
+use crate::levels::put_levels;
 use crate::row::ROW_SIZE;
 use crate::short_sounding::{
-    HALF_LEVEL, LAST_OF_EIGHT, factors_of_level, put_short, take_short_track_taps,
+    HALF_LEVEL, LAST_OF_EIGHT, factors_of_level, put_short, put_short_by_levels,
+    take_short_track_taps,
 };
 use crate::track::{POINTS, Track};
-use crate::workspace::TapRows;
+use crate::workspace::Places;
+use envelope::Envelope;
 use gauss_table::{GaussTable, Quad, Taps};
 use num_fix::{BATCH_SIZE, clear_bit0, wrap16};
 
@@ -128,6 +133,49 @@ fn put_noise(outs: &mut [i16; BATCH_SIZE], at: u8, n: u8, noise: &[u16; BATCH_SI
     }
 }
 
+/// The outputs of n samples, each at its own level. It stands apart, since few stretches are so.
+#[inline(never)]
+fn put_by_levels(
+    outs: &mut [i16; BATCH_SIZE],
+    at: u8,
+    n: u8,
+    taps: &[Taps; BATCH_SIZE],
+    levels: &[u16; BATCH_SIZE],
+)
+    requires few { at + n ≤ BATCH_SIZE }
+    ensures outs { (j : ℕ) → j < n
+        → number_at outs.new (at + j) ≡ sounding_at (slice_index levels.now (at + j) % LEVELS) (mixed_at taps.now j) }
+    ensures before { (i : ℕ) → i < at → number_at outs.new i ≡ number_at outs.old i }
+{
+    let from = usize::from(at);
+    for j in 0..usize::from(n) {
+        let level = levels[from + j] % LEVELS;
+        outs[from + j] = clear_bit0(at_level(taps[j].mixed(), level));
+    }
+}
+
+/// The outputs of n samples of noise, each at its own level. It stands apart, since few voices play noise.
+#[inline(never)]
+fn put_noise_by_levels(
+    outs: &mut [i16; BATCH_SIZE],
+    at: u8,
+    n: u8,
+    noise: &[u16; BATCH_SIZE],
+    levels: &[u16; BATCH_SIZE],
+)
+    requires few { at + n ≤ BATCH_SIZE }
+    ensures outs { (j : ℕ) → j < n
+        → number_at outs.new (at + j) ≡ sounding_at (slice_index levels.now (at + j) % LEVELS) (wrap16 (pos (2 * slice_index noise.now (at + j)))) }
+    ensures before { (i : ℕ) → i < at → number_at outs.new i ≡ number_at outs.old i }
+{
+    let from = usize::from(at);
+    for j in 0..usize::from(n) {
+        let level = levels[from + j] % LEVELS;
+        let source = wrap16(2 * i32::from(noise[from + j]));
+        outs[from + j] = clear_bit0(at_level(source, level));
+    }
+}
+
 /// The outputs of n samples at level 0.
 fn put_silence(outs: &mut [i16; BATCH_SIZE], at: u8, n: u8)
     requires { at + n ≤ BATCH_SIZE }
@@ -140,12 +188,22 @@ fn put_silence(outs: &mut [i16; BATCH_SIZE], at: u8, n: u8)
     }
 }
 
+/// What a stretch of samples leaves of an envelope.
+#[derive(Clone, Copy, Debug)]
+pub(crate) struct Sounded {
+    /// The envelope after the last sample.
+    pub envelope: Envelope,
+    /// The level at which the last sample sounds.
+    pub level: u16,
+}
+
 impl<'a> Course<'a> {
-    /// The outputs of n samples from sample `at` on, over a row of kept samples or over noise. At level 0 they are 0, whatever the samples are.
-    pub(crate) fn sound(
+    /// The outputs of n samples from sample `at` on at the level of the envelope, over a row of kept samples or over noise. At level 0 they are 0, whatever
+    /// the samples are.
+    fn sound_at_level(
         &self,
         outs: &mut [i16; BATCH_SIZE],
-        taps: &mut TapRows,
+        places: &mut Places,
         at: u8,
         n: u8,
         row: &[i16; ROW_SIZE],
@@ -155,28 +213,103 @@ impl<'a> Course<'a> {
         requires few { at + n ≤ BATCH_SIZE }
         ensures outs { (j : ℕ) → j < n
             → number_at outs.new (at + j) ≡ out_in_stretch self.now.noisy (slice_index reads.now.rows.now.noise (at + j))
-            reads.now.table.now row.now (point_at self.now.track j) self.now.level }
+            reads.now.table.now row.now (point_at self.now.track j) self.now.envelope.level }
         ensures before { (i : ℕ) → i < at → number_at outs.new i ≡ number_at outs.old i }
     {
-        if self.level == 0 {
+        let level = self.envelope.level();
+        if level == 0 {
             put_silence(outs, at, n);
             return;
         }
         if self.noisy {
-            put_noise(outs, at, n, &reads.rows.noise, self.level);
+            put_noise(outs, at, n, &reads.rows.noise, level);
             return;
         }
         match reads.table.factors() {
             Some(factors) if at <= LAST_OF_EIGHT => {
-                take_short_track_taps(&mut taps.short_taps, n, row, factors, &self.track);
-                let factors = factors_of_level(self.level);
-                let loud = HALF_LEVEL <= self.level;
-                put_short(outs, at, n, &taps.short_taps, &factors, loud);
+                take_short_track_taps(&mut places.short_taps, n, row, factors, &self.track);
+                let factors = factors_of_level(level);
+                let loud = HALF_LEVEL <= level;
+                put_short(outs, at, n, &places.short_taps, &factors, loud);
             }
             _ => {
-                take_track_taps(&mut taps.taps, n, row, reads.table, &self.track);
-                put_at_level(outs, at, n, &taps.taps, self.level);
+                take_track_taps(&mut places.taps, n, row, reads.table, &self.track);
+                put_at_level(outs, at, n, &places.taps, level);
             }
         }
+    }
+
+    /// The outputs of n samples from sample `at` on, each at its own level, over a row of kept samples or over noise.
+    fn sound_by_levels(
+        &self,
+        outs: &mut [i16; BATCH_SIZE],
+        places: &mut Places,
+        at: u8,
+        n: u8,
+        row: &[i16; ROW_SIZE],
+        reads: &VoiceReads,
+    )
+        requires course { IsCourse self.now n }
+        requires few { at + n ≤ BATCH_SIZE }
+        ensures outs { (j : ℕ) → j < n
+            → number_at outs.new (at + j) ≡ out_in_stretch self.now.noisy (slice_index reads.now.rows.now.noise (at + j))
+            reads.now.table.now row.now (point_at self.now.track j) (slice_index places.old.levels (at + j) % LEVELS) }
+        ensures before { (i : ℕ) → i < at → number_at outs.new i ≡ number_at outs.old i }
+    {
+        if self.noisy {
+            put_noise_by_levels(outs, at, n, &reads.rows.noise, &places.levels);
+            return;
+        }
+        match reads.table.factors() {
+            Some(factors) if at <= LAST_OF_EIGHT => {
+                take_short_track_taps(&mut places.short_taps, n, row, factors, &self.track);
+                put_short_by_levels(outs, at, n, &places.short_taps, &places.levels);
+            }
+            _ => {
+                take_track_taps(&mut places.taps, n, row, reads.table, &self.track);
+                put_by_levels(outs, at, n, &places.taps, &places.levels);
+            }
+        }
+    }
+
+    /// The outputs of n samples from sample `at` on, over a row of kept samples or over noise, each at the level that the steps of the envelope in the
+    /// samples before it leave.
+    pub(crate) fn sound(
+        &self,
+        outs: &mut [i16; BATCH_SIZE],
+        places: &mut Places,
+        at: u8,
+        n: u8,
+        row: &[i16; ROW_SIZE],
+        reads: &VoiceReads,
+    ) -> Sounded
+        requires course { IsCourse self.now n }
+        requires some { 0 < n }
+        requires few { at + n ≤ BATCH_SIZE }
+        ensures outs { (k : ℕ) → reads.now.clock ≡ counter_at k → (j : ℕ) → j < n
+            → number_at outs.new (at + j) ≡ out_in_stretch self.now.noisy (slice_index reads.now.rows.now.noise (at + j))
+            reads.now.table.now row.now (point_at self.now.track j) (level_in self.now.envelope reads.now.regs (k + at) j) }
+        ensures before { (i : ℕ) → i < at → number_at outs.new i ≡ number_at outs.old i }
+        ensures envelope { (k : ℕ) → reads.now.clock ≡ counter_at k
+            → result.envelope ≡ envelope_after self.now.envelope reads.now.regs (k + at) n }
+        ensures within { result.level ≤ 0x7ff }
+        ensures level { (k : ℕ) → reads.now.clock ≡ counter_at k
+            → result.level ≡ level_in self.now.envelope reads.now.regs (k + at) (n - 1) }
+    {
+        let regs = &reads.regs;
+        let mut envelope = self.envelope;
+        let clock = reads.clock.after_samples(at);
+        let rest = envelope.rest(regs.adsr1, regs.adsr2, regs.gain, &clock);
+        if u16::from(n) <= rest {
+            self.sound_at_level(outs, places, at, n, row, reads);
+            return Sounded {
+                envelope,
+                level: envelope.level(),
+            };
+        }
+        put_levels(&mut places.levels, at, n, &mut envelope, reads);
+        let level = places.levels[usize::from(at + n) - 1];
+        self.sound_by_levels(outs, places, at, n, row, reads);
+        Sounded { envelope, level }
     }
 }

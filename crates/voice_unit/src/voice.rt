@@ -8,13 +8,13 @@ ghost use Rattle.voice_unit.specs.Directory.{start_word, loop_word};
 ghost use Rattle.voice_unit.specs.Row.{IsGroup, place_of};
 ghost use Rattle.voice_unit.specs.Voice.{silent_voice, step_pitch, step_header, after_delay, interpolation, source_sample, output, needs_group, after_envelope, is_ended, after_decoding, at_next_group, after_reading, after_pitch, voice_step, voice_answer};
 
+use crate::calm::is_silencing;
 use crate::directory::{loop_word, start_word};
 use crate::interface::{VoiceIn, VoiceOut, VoiceRegs, is_keyed};
 use crate::level::{at_level, high_byte, pitch_of};
-use crate::rest::is_silencing;
-use crate::row::{Place, ROW_SIZE, digit_bytes};
+use crate::row::{Place, ROW_SIZE};
 use aram_core::Aram;
-use brr_decode::{BlockMemory, decode_group, has_end};
+use brr_decode::{decode_group, has_end};
 use envelope::Envelope;
 use gauss_table::GaussTable;
 use num_fix::{BATCH_SIZE, clear_bit0, wrap16};
@@ -144,8 +144,15 @@ impl Voice {
         self.envelope
     }
 
+    /// Takes an envelope in place of its own.
+    pub(crate) fn take_envelope(&mut self, envelope: Envelope)
+        ensures { self.new ≡ record self.old { envelope = envelope } }
+    {
+        self.envelope = envelope;
+    }
+
     /// Whether the position has come to the end of the samples that it may play, so that a group is to be read.
-    pub(crate) fn needs_group(&self) -> bool
+    fn needs_group(&self) -> bool
         ensures { result ≡ needs_group self.now }
     {
         self.position >= 0x4000
@@ -233,7 +240,7 @@ impl Voice {
 
     /// The output at the level. At level 0 it is 0, whatever the samples are.
     #[tactic(auto, unfolding(crate::specs::Voice::output))]
-    pub(crate) fn output(&self, input: &VoiceIn, table: &GaussTable) -> i16
+    fn output(&self, input: &VoiceIn, table: &GaussTable) -> i16
         requires { input.now.noise < 0x8000 }
         ensures { result ≡ output self.now input.now table.now }
     {
@@ -276,24 +283,6 @@ impl Voice {
         self.samples = samples_with_group(&self.samples, group);
     }
 
-    /// Decodes the next group, unless its block is remembered.
-    #[tactic(auto, unfolding(crate::specs::Voice::after_decoding))]
-    fn recall(&mut self, memory: &Aram, header: u8, blocks: &mut BlockMemory)
-        ensures { self.new ≡ after_decoding self.old memory.now header }
-    {
-        let digits = digit_bytes(self.block, memory);
-        let place = self.offset / 2;
-        let group = blocks.decode(
-            self.block,
-            header,
-            digits,
-            place,
-            self.samples[11],
-            self.samples[10],
-        );
-        self.samples = samples_with_group(&self.samples, group);
-    }
-
     /// Goes on to the next group, in this block or the next.
     #[tactic(auto, unfolding(crate::specs::Voice::at_next_group))]
     fn go_to_next_group(&mut self, header: u8, dir: u8, srcn: u8, memory: &Aram)
@@ -328,31 +317,9 @@ impl Voice {
         ended
     }
 
-    /// Reads a group that the position has come to, by what is remembered of blocks, and tells whether that ends a block that has its end bit.
-    /// Inlined, as what remembers them.
-    #[inline(always)]
-    #[tactic(auto, unfolding(crate::specs::Voice::after_reading))]
-    pub(crate) fn read_group(
-        &mut self,
-        header: u8,
-        dir: u8,
-        srcn: u8,
-        memory: &Aram,
-        blocks: &mut BlockMemory,
-    ) -> bool
-        requires { needs_group self.old ≡ true }
-        ensures voice { self.new ≡ after_reading self.old memory.now header (loop_word dir srcn memory.now) }
-        ensures ended { result ≡ is_ended self.old header }
-    {
-        let ended = self.offset == LAST_GROUP && has_end(header);
-        self.recall(memory, header, blocks);
-        self.go_to_next_group(header, dir, srcn, memory);
-        ended
-    }
-
     /// Moves on by a pitch.
     #[tactic(auto, unfolding(crate::specs::Voice::after_pitch))]
-    pub(crate) fn move_on(&mut self, pitch: u16)
+    fn move_on(&mut self, pitch: u16)
         requires { pitch < 0x8000 }
         ensures { self.new ≡ after_pitch self.old pitch }
     {

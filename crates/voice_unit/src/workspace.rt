@@ -7,20 +7,21 @@ use gauss_table::{GaussTable, ShortTaps, Taps};
 use num_fix::BATCH_SIZE;
 use std::alloc::Global;
 
-/// Places for the taps of a stretch's samples: those of any table, and those of tables whose weights are from 0 to 2,047.
+/// Places for the samples of a stretch: for their taps, those of any table and those of tables whose weights are from 0 to 2,047, and for their levels.
 #[derive(Clone, Copy)]
-pub(crate) struct TapRows {
+pub(crate) struct Places {
     pub taps: [Taps; BATCH_SIZE],
     pub short_taps: [ShortTaps; BATCH_SIZE],
+    pub levels: [u16; BATCH_SIZE],
 }
 
-/// What a voice works with over a batch: places for its kept samples and for the taps of its samples, and the blocks that were decoded before. Each
+/// What a voice works with over a batch: places for its kept samples and for the taps and levels of its samples, and the blocks that were decoded before. Each
 /// voice writes what it reads in the places, so that one workspace serves all voices of all batches.
 #[derive(Drop)]
 pub struct Workspace {
     /// Twelve samples, those of 64 groups, and the rest of the last one's block.
     pub(crate) row: [i16; ROW_SIZE],
-    pub(crate) taps: TapRows,
+    pub(crate) places: Places,
     /// The pitches of a voice in a batch, where they are modulated.
     pub(crate) pitches: [u16; BATCH_SIZE],
     /// How far the samples of such a voice stand in the row, and the one after them.
@@ -34,9 +35,10 @@ impl Workspace {
     pub fn new(alloc: Global, table: &GaussTable) -> Result<Workspace, OutOfMemory> {
         Ok(Workspace {
             row: [0; ROW_SIZE],
-            taps: TapRows {
+            places: Places {
                 taps: [Taps::at(table.quads(), 0, 0, 0, 0, 0); BATCH_SIZE],
                 short_taps: [ShortTaps::silent(); BATCH_SIZE],
+                levels: [0; BATCH_SIZE],
             },
             pitches: [0; BATCH_SIZE],
             points: [0; POINTS],

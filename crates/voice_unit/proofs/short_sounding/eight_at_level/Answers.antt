@@ -2,17 +2,13 @@ use Rattle.std.proofs.Common.{rules, ◌≡◌, ◌≢◌, ◌+◌, ◌<◌, ◌
 use Rattle.std.specs.Int.{w16}
 use Rattle.std.proofs.lemmas.List.{length-set}
 use Rattle.std.proofs.lemmas.Option.{slice_get-get_or}
-use Rattle.std.proofs.Math.IntN.{*ℤ_comm}
-use Rattle.num_fix.specs.Arithmetic.{clear_bit0, floor_shift, scaled}
+use Rattle.num_fix.specs.Arithmetic.{clear_bit0, scaled}
 use Rattle.num_fix.specs.SignedWords.{number_at}
 use Rattle.gauss_table.specs.Factors.{factor_of}
 use Rattle.gauss_table.specs.declared.short_taps.ShortTaps.{ShortTaps}
 use Rattle.voice_unit.specs.OutsOverRow.{AreFactorsOfLevel, short_mixed, short_mixed_at, sounding_at}
+use Rattle.voice_unit.proofs.ByLevel.{scaled_comm}
 use Rattle.voice_unit.proofs.short_sounding.eight_at_level.Goals as goal
-
-scaled_comm : (x y : ℤ) → scaled x y 11 ≡ scaled y x 11
-unfolding scaled
-scaled_comm x y = ap (λ (z : ℤ). floor_shift z 11) (*ℤ_comm x y)
 
 pub loop-k-preserved : goal.loop-k-preserved
 loop-k-preserved c =

@@ -1,14 +1,9 @@
-use Rattle.std.proofs.Common.{rules, ◌≡◌, ◌<◌, ◌≤◌, ℕ, ℤ, pos, to_z, of_z, ◌∙◌, arith}
+use Rattle.std.proofs.Common.{rules, ◌≡◌, ◌<◌, ◌≤◌, pos, to_z, of_z, ◌∙◌, arith}
 use Rattle.std.specs.Int.{w16}
 use Rattle.std.proofs.lemmas.Bool.Decides.{nat_tests}
-use Rattle.std.proofs.lemmas.Int.{ints}
-use Rattle.gauss_table.specs.Factors.{IsFraction}
 use Rattle.gauss_table.proofs.ByFactors.{factor-low-sign, factor-high-sign}
+use Rattle.voice_unit.proofs.ByLevel.{level_is_fraction}
 use Rattle.voice_unit.proofs.short_sounding.product_at_level.Goals as goal
-
--- a level is a weight below 1
-level_is_fraction : (level : ℕ) → level ≤ 0x7ff → IsFraction (pos level)
-level_is_fraction level most = record { least = omega (arith, ints); below = omega (arith, ints) }
 
 pub returns-then-loud : goal.returns-then-loud
 returns-then-loud c level most is heard =

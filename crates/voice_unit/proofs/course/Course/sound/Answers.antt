@@ -1,15 +1,38 @@
-use Rattle.std.proofs.Common.{◌≡◌, ◌+◌, Bool, true, false, pos, slice_index, ◌∙◌, arith}
-use Rattle.voice_unit.specs.OutsOverRow.{out_in_stretch}
-use Rattle.voice_unit.specs.Track.{point_at}
-use Rattle.voice_unit.proofs.Silence.{silence}
+use Rattle.std.proofs.Common.{◌≡◌, ◌+◌, ◌-◌, ◌%◌, slice_index, sym, ap, ◌∙◌, arith}
+use Rattle.envelope.specs.Envelope.{EnvelopeState}
+use Rattle.voice_unit.specs.Levels.{level_in}
+use Rattle.voice_unit.proofs.Stepped.{after_rest}
 use Rattle.voice_unit.proofs.course.Course.sound.Goals as goal
 
-pub returns-then-self-eq0-clause-outs : goal.returns-then-self-eq0-clause-outs
-returns-then-self-eq0-clause-outs c j below =
-    let quiet : c.args.self.now.level ≡ 0 = omega arith in
-    rw quiet (c.put_silence.ensures.outs j below ∙ by c.args.self.now.noisy)
-  where
-    by : (b : Bool) → pos 0
-        ≡ out_in_stretch b (slice_index c.args.reads.now.rows.now.noise (c.args.at + j)) c.args.reads.now.table.now c.args.row.now (point_at c.args.self.now.track j) 0
-    by true = silence _
-    by false = silence _
+pub returns-then-from-rest-clause-outs : goal.returns-then-from-rest-clause-outs
+returns-then-from-rest-clause-outs c k is j below =
+    let still = after_rest c.args.self.now.envelope c.args.reads.now.regs (k + c.args.at) c.rest-rest.result j
+    (c.rest-rest.ensures.rests (k + c.args.at) (c.after_samples-clock.ensures.at k is)) (omega (arith, below)) in
+    rw (level_in, still) (c.sound_at_level.ensures.outs j below)
+
+pub returns-then-from-rest-clause-envelope : goal.returns-then-from-rest-clause-envelope
+returns-then-from-rest-clause-envelope c k is =
+    sym (after_rest c.args.self.now.envelope c.args.reads.now.regs (k + c.args.at) c.rest-rest.result c.args.n
+    (c.rest-rest.ensures.rests (k + c.args.at) (c.after_samples-clock.ensures.at k is)) (omega arith))
+
+pub returns-then-from-rest-clause-level : goal.returns-then-from-rest-clause-level
+returns-then-from-rest-clause-level c k is =
+    let still = after_rest c.args.self.now.envelope c.args.reads.now.regs (k + c.args.at) c.rest-rest.result (c.args.n - 1)
+    (c.rest-rest.ensures.rests (k + c.args.at) (c.after_samples-clock.ensures.at k is)) (omega arith) in
+    c.level.ensures.value ∙ sym (ap (λ (x : EnvelopeState). x.level) still)
+
+pub returns-clause-outs : goal.returns-clause-outs
+returns-clause-outs c k is j below =
+    let level : slice_index c.put_levels.new.levels (c.args.at + j) % 0x800 ≡ level_in c.args.self.now.envelope c.args.reads.now.regs (k + c.args.at) j =
+    omega (arith, c.put_levels.ensures.within j below, c.put_levels.ensures.levels k is j below) in
+    rw level at (c.sound_by_levels.ensures.outs j below)
+
+pub returns-clause-level : goal.returns-clause-level
+returns-clause-level c k is =
+    let last : c.from-2.result - 1 ≡ c.args.at + (c.args.n - 1) = omega (arith, c.from-2.ensures, c.requires.some) in
+    rw last (c.put_levels.ensures.levels k is (c.args.n - 1) (omega (arith, c.requires.some)))
+
+pub returns-clause-within : goal.returns-clause-within
+returns-clause-within c =
+    let last : c.from-2.result - 1 ≡ c.args.at + (c.args.n - 1) = omega (arith, c.from-2.ensures, c.requires.some) in
+    rw last (omega (arith, c.put_levels.ensures.within (c.args.n - 1) (omega (arith, c.requires.some))))

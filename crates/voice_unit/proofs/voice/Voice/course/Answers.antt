@@ -9,6 +9,5 @@ returns-clause-course c = record {
     pitch = c.requires.pitch;
     moves = track_moves _ c.args.n c.position.ensures.within c.requires.pitch (λ modulated. c.requires.points (rw c.is_modulated.ensures at modulated));
   };
-  level = c.level.ensures.bound;
   group = c.place.ensures.group;
 }

@@ -1,26 +1,20 @@
-use Rattle.std.proofs.Common.{rules, ◌≡◌, ◌≢◌, ◌<◌, ◌≤◌, ◌+◌, ◌^◌, ℕ, to_z, of_z, length, slice_index, refl, ◌∙◌, arith}
+use Rattle.std.proofs.Common.{rules, ◌≡◌, ◌≢◌, ◌<◌, ◌≤◌, ◌+◌, ◌^◌, ℕ, to_z, of_z, length, slice_index, refl, ap, ◌∙◌, arith}
 use Rattle.std.specs.Int.{w16}
 use Rattle.std.proofs.lemmas.List.{length-set}
-use Rattle.num_fix.specs.Arithmetic.{has_bit}
 use Rattle.num_fix.specs.SignedWords.{number_at}
 use Rattle.rate_clock.specs.Counter.{counter_at}
 use Rattle.voice_unit.specs.Batch.{lane_input, lane_inputs}
-use Rattle.voice_unit.specs.Rest.{IsAtRest}
-use Rattle.voice_unit.specs.OneSample.{IsPlayedSample}
-use Rattle.voice_unit.specs.Play.{IsPlayedSoFar, lane_of}
-use Rattle.voice_unit.proofs.AtRest.{no_rest}
+use Rattle.voice_unit.specs.OneSample.{IsStep}
+use Rattle.voice_unit.specs.Play.{IsPlayed, lane_of}
+use Rattle.voice_unit.specs.declared.interface.VoiceOut.{VoiceOut}
 use Rattle.voice_unit.proofs.Glided.{lane_glides}
 use Rattle.voice_unit.proofs.Played.{none_played, one_more_played, with_ended-other, with_ended-bound, doubled}
 use Rattle.voice_unit.proofs.voice.Voice.play_row.Goals as goal
 
 pub samples-init : goal.samples-init
 samples-init c = record {
-  so_far = λ k at. record {
-    played = none_played (lane_of c.args.reads.now c.args.previous.now c.args.self.now k) c.args.reads.now.seen.voice c.args.made.now.ends c.args.made.now.outs;
-    at_rest =
-        let none : k + 0 ≡ k = omega arith in
-        rw none (rw c.has_bit-koff.ensures at (c.rest_from-rest.ensures k at));
-  };
+  played = λ k at. none_played (lane_of c.args.reads.now c.args.previous.now c.args.self.now k) c.args.reads.now.seen.voice c.args.made.now.ends c.args.made.now.outs;
+  calm = λ is. rw c.has_bit-koff.ensures at (c.is_calm-calm.ensures is);
   within = omega arith;
   later = λ j above. refl;
   lower = λ j below. rw (doubled c.args.reads.now.seen.voice) (omega (arith, c.requires.lower j below));
@@ -37,76 +31,70 @@ samples-preserved c =
     let from : j ≤ to = c.glide-glided.ensures.from in
     let below : to < c.args.n = omega (arith, c.if-last-to.false) in
     let place : c.from-place.result ≡ to = c.from-place.ensures in
-    let so_far : (k : ℕ) → c.args.reads.now.clock ≡ counter_at k
-    → IsPlayedSoFar c.args.reads.now.seen (lane_of c.args.reads.now c.args.previous.now c.args.self.now k)
-    to c.glide-glided.result.rest c.args.made.now.ends c.glide-glided.new.made.ends c.glide-glided.new.made.outs c.glide-glided.new.self =
-    λ k at. c.glide-glided.ensures.so_far _ c.args.made.now.ends (record { regs = refl; modulated = c.samples.invariant.modulated; memory = refl; table = refl; noise = λ i. refl })
+    let played : (k : ℕ) → c.args.reads.now.clock ≡ counter_at k
+    → IsPlayed (lane_of c.args.reads.now c.args.previous.now c.args.self.now k) c.args.reads.now.seen.voice
+    to c.args.made.now.ends c.glide-glided.new.made.ends c.glide-glided.new.made.outs c.glide-glided.new.self =
+    λ k at. c.glide-glided.ensures.played _ c.args.made.now.ends
+    (record { regs = refl; modulated = c.samples.invariant.modulated; memory = refl; table = refl; clock = at; noise = λ i. refl })
     (lane_glides c.args.reads.now c.args.previous.now c.args.self.now k c.samples.j c.end_from-end.result
     (λ i since below. c.plain_samples-plain.ensures i (omega (arith, below, c.end_from-end.ensures.to, c.requires.few)) (c.end_from-end.ensures.plain i since below)))
-    (c.samples.invariant.so_far k at) in
+    (c.samples.invariant.played k at) in
     let whole : to_z w16 (of_z w16 (number_at c.args.previous.now to)) ≡ number_at c.args.previous.now to = search rules in
     let input : c.input-input.result ≡ lane_inputs c.args.reads.now.seen c.args.reads.now.rows.now c.args.previous.now to = rw whole at (rw place at c.input-input.ensures.value) in
-    let at_rest : (k : ℕ) → c.args.reads.now.clock ≡ counter_at k
-    → IsAtRest c.input-input.result.reset c.input-input.result.koff c.args.reads.now.regs c.args.reads.now.memory.now (k + to) c.glide-glided.result.rest c.glide-glided.new.self =
-    λ k at. rw input (so_far k at).at_rest in
-    let sample : (k : ℕ) → c.args.reads.now.clock ≡ counter_at k
-    → IsPlayedSample c.args.reads.now.regs (lane_inputs c.args.reads.now.seen c.args.reads.now.rows.now c.args.previous.now to) c.args.reads.now.memory.now c.args.reads.now.table.now (k + to)
-    c.glide-glided.new.self c.play_sample-played.result c.play_sample-played.new.self =
-    λ k at. rw input at (c.play_sample-played.ensures k at (at_rest k at)) in
-    let out : to_z w16 (of_z w16 c.play_sample-played.result.out) ≡ c.play_sample-played.result.out = search rules in
+    let step : (k : ℕ) → c.args.reads.now.clock ≡ counter_at k
+    → IsStep c.args.reads.now.regs (lane_inputs c.args.reads.now.seen c.args.reads.now.rows.now c.args.previous.now to) c.args.reads.now.memory.now c.args.reads.now.table.now (counter_at (k + to))
+    c.glide-glided.new.self c.play_sample-answer.result c.play_sample-answer.new.self =
+    λ k at. rw input at (c.play_sample-answer.ensures k at) in
+    let out : to_z w16 (of_z w16 c.play_sample-answer.result.out) ≡ c.play_sample-answer.result.out = search rules in
     let outs_long : length c.glide-glided.new.made.outs ≡ 64 = search rules in
     let within_outs : to < length c.glide-glided.new.made.outs = rw outs_long (omega (arith, below, c.requires.few)) in
     let ends_long : length c.glide-glided.new.made.ends ≡ 64 = search rules in
     let within_ends : to < length c.glide-glided.new.made.ends = rw ends_long (omega (arith, below, c.requires.few)) in
     record {
-      so_far = λ k at.
-          let further : k + (to + 1) ≡ k + to + 1 = omega arith in
-          record {
-            played = rw (place, out, c.mark_ended.ensures) (one_more_played
-                (lane_of c.args.reads.now c.args.previous.now c.args.self.now k) c.args.reads.now.seen.voice to
-                c.args.made.now.ends c.glide-glided.new.made.ends c.glide-glided.new.made.outs c.glide-glided.new.self c.play_sample-played.new.self c.play_sample-played.result.out c.play_sample-played.result.ended
-                (so_far k at).played within_outs within_ends
-                (sample k at).voice (sample k at).out (sample k at).ended);
-            at_rest = rw further (sample k at).rest;
-          };
+      played = λ k at. rw (place, out, c.mark_ended.ensures) (one_more_played
+          (lane_of c.args.reads.now c.args.previous.now c.args.self.now k) c.args.reads.now.seen.voice to
+          c.args.made.now.ends c.glide-glided.new.made.ends c.glide-glided.new.made.outs c.glide-glided.new.self c.play_sample-answer.new.self c.play_sample-answer.result.out c.play_sample-answer.result.ended
+          (played k at) within_outs within_ends
+          (step k at).voice (ap (λ (answer : VoiceOut). answer.out) (step k at).answer_is) (ap (λ (answer : VoiceOut). answer.ended) (step k at).answer_is));
+      calm = λ is. rw c.has_bit-koff.ensures at (c.is_calm-calm-in-samples.ensures is);
       within = omega (arith, c.if-last-to.false);
       later = λ i above.
           let other : i ≢ to = λ e. absurd (omega (arith, e, above)) in
-          rw c.mark_ended.ensures (with_ended-other c.glide-glided.new.made.ends to c.args.reads.now.seen.voice i c.play_sample-played.result.ended other
+          rw c.mark_ended.ensures (with_ended-other c.glide-glided.new.made.ends to c.args.reads.now.seen.voice i c.play_sample-answer.result.ended other
           ∙ c.glide-glided.ensures.later i (omega (arith, above)) ∙ c.samples.invariant.later i (omega (arith, above, from)));
       lower = λ i under.
           let own : slice_index c.glide-glided.new.made.ends to < 2 ^ c.args.reads.now.seen.voice = rw (c.glide-glided.ensures.later to (omega arith), c.samples.invariant.later to from) (c.requires.lower to (omega (arith, below, c.requires.few))) in
-          rw c.mark_ended.ensures (with_ended-bound c.glide-glided.new.made.ends to c.args.reads.now.seen.voice i c.play_sample-played.result.ended within_ends own (c.glide-glided.ensures.lower i under));
+          rw c.mark_ended.ensures (with_ended-bound c.glide-glided.new.made.ends to c.args.reads.now.seen.voice i c.play_sample-answer.result.ended within_ends own (c.glide-glided.ensures.lower i under));
       modulated = λ modulated i below. rw c.glide-glided.ensures.pitches (c.samples.invariant.modulated modulated i below);
-      outs_long = length-set c.glide-glided.new.made.outs c.from-place.result (to_z w16 (of_z w16 c.play_sample-played.result.out)) ∙ outs_long;
+      outs_long = length-set c.glide-glided.new.made.outs c.from-place.result (to_z w16 (of_z w16 c.play_sample-answer.result.out)) ∙ outs_long;
       ends_long = c.mark_ended.array_long.1;
     }
 
 pub samples-smaller : goal.samples-smaller
 samples-smaller c = omega (arith, c.samples-test.true, c.glide-glided.ensures.from, c.glide-glided.ensures.to, c.end_from-end.ensures.to)
 
-pub returns-clause-so_far : goal.returns-clause-so_far
-returns-clause-so_far c k at = c.samples.invariant.so_far k at
+pub returns-clause-played : goal.returns-clause-played
+returns-clause-played c k at = c.samples.invariant.played k at
 
-pub returns-then-last-eq0-clause-so_far : goal.returns-then-last-eq0-clause-so_far
-returns-then-last-eq0-clause-so_far c k at = record {
-  played = none_played (lane_of c.args.reads.now c.args.previous.now c.args.self.now k) c.args.reads.now.seen.voice c.args.made.now.ends c.args.made.now.outs;
-  at_rest = no_rest c.args.reads.now.seen.reset (has_bit c.args.reads.now.seen.koff c.args.reads.now.seen.voice) c.args.reads.now.regs c.args.reads.now.memory.now (k + 0) c.args.self.now;
-}
+pub returns-then-last-eq0-clause-played : goal.returns-then-last-eq0-clause-played
+returns-then-last-eq0-clause-played c k at =
+    none_played (lane_of c.args.reads.now c.args.previous.now c.args.self.now k) c.args.reads.now.seen.voice c.args.made.now.ends c.args.made.now.outs
 
-pub returns-then-last-to-clause-so_far : goal.returns-then-last-to-clause-so_far
+pub returns-then-last-to-clause-played : goal.returns-then-last-to-clause-played
 unfolding lane_input
-returns-then-last-to-clause-so_far c k at =
-    c.glide-glided.ensures.so_far _ c.args.made.now.ends (record { regs = refl; modulated = c.samples.invariant.modulated; memory = refl; table = refl; noise = λ i. refl })
+returns-then-last-to-clause-played c k at =
+    c.glide-glided.ensures.played _ c.args.made.now.ends
+    (record { regs = refl; modulated = c.samples.invariant.modulated; memory = refl; table = refl; clock = at; noise = λ i. refl })
     (lane_glides c.args.reads.now c.args.previous.now c.args.self.now k c.samples.j c.end_from-end.result
     (λ i since below. c.plain_samples-plain.ensures i (omega (arith, below, c.end_from-end.ensures.to, c.requires.few)) (c.end_from-end.ensures.plain i since below)))
-    (c.samples.invariant.so_far k at)
+    (c.samples.invariant.played k at)
 
 pub returns-then-last-to-clause-level : goal.returns-then-last-to-clause-level
 unfolding lane_input
 returns-then-last-to-clause-level c k at all =
-    let level = c.glide-glided.ensures.level _ c.args.made.now.ends (record { regs = refl; modulated = c.samples.invariant.modulated; memory = refl; table = refl; noise = λ i. refl })
+    let level = c.glide-glided.ensures.level _ c.args.made.now.ends
+    (record { regs = refl; modulated = c.samples.invariant.modulated; memory = refl; table = refl; clock = at; noise = λ i. refl })
     (lane_glides c.args.reads.now c.args.previous.now c.args.self.now k c.samples.j c.end_from-end.result
     (λ i since below. c.plain_samples-plain.ensures i (omega (arith, below, c.end_from-end.ensures.to, c.requires.few)) (c.end_from-end.ensures.plain i since below)))
-    (c.samples.invariant.so_far k at) (omega (arith, all, c.samples-test.true)) in
+    (c.samples.invariant.played k at) (omega (arith, all, c.samples-test.true)) in
     rw all at level

@@ -1,9 +1,9 @@
-use Rattle.std.proofs.Common.{◌≡◌, ◌+◌, ◌-◌, ◌*◌, ◌^◌, ◌<◌, ◌≤◌, nat_lt, ℕ, Bool, true, false, List, ℤ, ◌⊎◌, inl, inr, drop, slice_index, refl, ap, sym, ◌∙◌, arith}
+use Rattle.std.proofs.Common.{◌≡◌, ◌+◌, ◌-◌, ◌*◌, ◌^◌, ◌<◌, ◌≤◌, nat_lt, ℕ, Bool, true, false, List, ℤ, drop, slice_index, refl, ap, sym, ◌∙◌, arith}
 use Rattle.std.proofs.lemmas.Bool.Decides.{nat_tests}
+use Rattle.num_fix.specs.Arithmetic.{has_bit}
 use Rattle.aram_core.specs.Memory.{byte_at}
-use Rattle.voice_unit.specs.Directory.{loop_word}
-use Rattle.voice_unit.specs.Rest.{IsSilent}
-use Rattle.voice_unit.specs.Row.{place_after, groups_before, ended_in, place_of}
+use Rattle.voice_unit.specs.Calm.{IsCalm}
+use Rattle.voice_unit.specs.Row.{ended_in, place_of}
 use Rattle.voice_unit.specs.Track.{point_at}
 use Rattle.voice_unit.specs.Voice.{is_silencing, VoiceState}
 use Rattle.voice_unit.proofs.EndBits.{bit-bound}
@@ -13,8 +13,8 @@ use Rattle.voice_unit.proofs.PartsOfRow.{last_twelve}
 use Rattle.voice_unit.proofs.OverRow.{glided_over, last_level}
 use Rattle.voice_unit.proofs.voice.Voice.play_stretch.Goals as goal
 
-pub returns-clause-so_far : goal.returns-clause-so_far
-returns-clause-so_far c plays before over glides so_far =
+pub returns-clause-played : goal.returns-clause-played
+returns-clause-played c plays before over glides played =
     let regs = over.regs in
     let memory = over.memory in
     let table = over.table in
@@ -22,64 +22,52 @@ returns-clause-so_far c plays before over glides so_far =
     let row : List ℤ = c.read_stretch-stretch.new.row in
     let m : ℕ = c.read_stretch-stretch.result.samples in
     let few : m ≤ c.args.n = c.read_stretch-stretch.ensures.stretch.few in
-    let points : ℕ → ℕ = point_at c.course-course.result.track in
+    let calm : IsCalm c.args.reads.now.seen.reset (has_bit c.args.reads.now.seen.koff c.args.reads.now.seen.voice) plays.memory v = rw memory c.requires.calm in
     let groups = c.read_stretch-stretch.ensures.stretch.groups in
     let next = rw (c.course-course.ensures.loop_word, c.course-course.ensures.first, ← memory, ← regs) at c.read_stretch-stretch.ensures.stretch.next in
     let kept = rw (c.course-course.ensures.loop_word, c.course-course.ensures.first, c.begin_row.ensures.row, ← memory, ← regs) at c.read_stretch-stretch.ensures.row in
     let awake : is_silencing c.course-course.result.reset (byte_at c.args.reads.now.memory.now c.course-course.result.first.block) ≡ true → c.course-course.result.silent ≡ true =
-    λ loud. c.course-course.ensures.all_silent (so_far.at_rest.silencing (omega (arith, c.requires.some, c.requires.resting))
-    (rw (c.course-course.ensures.reset, c.course-course.ensures.first, ← memory) at loud)) in
+    λ loud. c.course-course.ensures.all_silent (c.requires.calm.silencing (rw (c.course-course.ensures.reset, c.course-course.ensures.first) at loud)) in
     let quiet = rw (c.course-course.ensures.reset, c.course-course.ensures.loop_word, c.course-course.ensures.first, ← memory, ← regs) at (c.read_stretch-stretch.ensures.quiet awake) in
     let marks = rw (c.course-course.ensures.voice, c.course-course.ensures.loop_word, c.course-course.ensures.first, ← memory, ← regs) at c.read_stretch-stretch.ensures.ends.marks in
-    let outs = rw (c.course-course.ensures.noisy, c.course-course.ensures.level, ← table) at c.sound.ensures.outs in
-    let is_position = ap (λ (w : VoiceState). w.position + 0x4000 * c.read_stretch-stretch.result.groups) c.go_to.ensures ∙ c.position_after-position.ensures.value in
+    let outs = rw (c.course-course.ensures.noisy, c.course-course.ensures.envelope, ← table, ← regs) at (c.sound-sounded.ensures.outs plays.k over.clock) in
+    let envelope = rw (c.course-course.ensures.envelope, ← regs) at (c.sound-sounded.ensures.envelope plays.k over.clock) in
+    let took = c.take_envelope.ensures in
+    let is_position = ap (λ (w : VoiceState). w.position + 0x4000 * c.read_stretch-stretch.result.groups) (took ∙ ap (λ (w : VoiceState). record w { envelope = c.sound-sounded.result.envelope }) c.go_to.ensures)
+    ∙ c.position_after-position.ensures.value in
     let position = rw groups at is_position in
-    let twelve = ap (λ (w : VoiceState). w.samples) c.go_to.ensures ∙ last_twelve row (4 * c.read_stretch-stretch.result.groups) ∙ ap (drop (4 * c.read_stretch-stretch.result.groups)) kept in
-    let stops : (b : Bool) → c.read_stretch-stretch.result.woken ≡ b
-    → (c.rest_after.result ≡ 0) ⊎ ((c.rest_after.result ≡ c.args.rest - m)
-    × (0 < groups_before points m
-    → is_silencing c.args.reads.now.seen.reset (byte_at plays.memory (place_after plays.memory (loop_word c.args.reads.now.seen.dir plays.regs.srcn plays.memory) (place_of v) (groups_before points m)).block) ≡ true
-    → IsSilent v.envelope)) = λ b. elim b as (λ b. c.read_stretch-stretch.result.woken ≡ b
-    → (c.rest_after.result ≡ 0) ⊎ ((c.rest_after.result ≡ c.args.rest - m)
-    × (0 < groups_before points m
-    → is_silencing c.args.reads.now.seen.reset (byte_at plays.memory (place_after plays.memory (loop_word c.args.reads.now.seen.dir plays.regs.srcn plays.memory) (place_of v) (groups_before points m)).block) ≡ true
-    → IsSilent v.envelope))) [
-      | true ↦ λ e. inl (c.rest_after.ensures.woken e)
-      | false ↦ λ e. inr (
-        c.rest_after.ensures.goes_on e,
-        λ some loud. c.course-course.ensures.silent (rw (c.course-course.ensures.reset, next, groups, ← memory) at (c.read_stretch-stretch.ensures.goes_on awake e) loud),
-      )
-    ] in
-    glided_over c.args.reads.now.seen plays c.args.at m c.args.rest before c.args.made.now.ends c.args.made.now.outs v so_far c.begin_row.ensures.twelve
+    let twelve = ap (λ (w : VoiceState). w.samples) took ∙ ap (λ (w : VoiceState). w.samples) c.go_to.ensures ∙ last_twelve row (4 * c.read_stretch-stretch.result.groups)
+    ∙ ap (drop (4 * c.read_stretch-stretch.result.groups)) kept in
+    glided_over c.args.reads.now.seen plays c.args.at m before c.args.made.now.ends c.args.made.now.outs v played calm c.begin_row.ensures.twelve
     (rw c.course-course.ensures.position at c.course-course.ensures.course.track.position)
-    (slice_index c.args.reads.now.rows.now.noise) over.noise (λ j below. glides (c.args.at + j) (omega arith) (omega (arith, below, few))) c.read_stretch-stretch.ensures.stretch.some (omega (arith, few, c.requires.resting))
+    (slice_index c.args.reads.now.rows.now.noise) over.noise (λ j below. glides (c.args.at + j) (omega arith) (omega (arith, below, few))) c.read_stretch-stretch.ensures.stretch.some
     (point_at c.course-course.result.track)
     (track_points c.args.reads.now c.args.work.now.pitches plays c.course-course.result.track c.args.at c.args.n c.read_stretch-stretch.result.samples c.args.self.now.position c.put_points.new.points
     over glides c.requires.few few c.requires.pitch c.course-course.ensures.position c.course-course.ensures.pitch c.course-course.ensures.modulated c.course-course.ensures.points c.put_points.ensures.points)
     (λ j below some loud. c.course-course.ensures.silent (quiet j below loud))
-    c.go_to.new.self c.rest_after.result c.read_stretch-stretch.new.ends c.sound.new.outs row
+    c.take_envelope.new.self c.read_stretch-stretch.new.ends c.sound-sounded.new.outs row
     (rw groups at kept) (rw groups at twelve) position
-    (rw groups at (ap place_of c.go_to.ensures ∙ next)) (ap (λ (w : VoiceState). w.delay) c.go_to.ensures) (ap (λ (w : VoiceState). w.envelope) c.go_to.ensures)
-    (stops c.read_stretch-stretch.result.woken refl)
-    c.sound.ensures.before outs c.read_stretch-stretch.ensures.ends.before_it marks c.read_stretch-stretch.ensures.ends.later
+    (rw groups at (ap place_of took ∙ ap place_of c.go_to.ensures ∙ next)) (ap (λ (w : VoiceState). w.delay) took ∙ ap (λ (w : VoiceState). w.delay) c.go_to.ensures)
+    (ap (λ (w : VoiceState). w.envelope) took ∙ envelope)
+    c.sound-sounded.ensures.before outs c.read_stretch-stretch.ensures.ends.before_it marks c.read_stretch-stretch.ensures.ends.later
 
 pub returns-clause-level : goal.returns-clause-level
-returns-clause-level c plays before over glides so_far =
+returns-clause-level c plays before over glides played =
     let regs = over.regs in
     let memory = over.memory in
     let few : c.read_stretch-stretch.result.samples ≤ c.args.n = c.read_stretch-stretch.ensures.stretch.few in
+    let calm : IsCalm c.args.reads.now.seen.reset (has_bit c.args.reads.now.seen.koff c.args.reads.now.seen.voice) plays.memory c.args.self.now = rw memory c.requires.calm in
     let awake : is_silencing c.course-course.result.reset (byte_at c.args.reads.now.memory.now c.course-course.result.first.block) ≡ true → c.course-course.result.silent ≡ true =
-    λ loud. c.course-course.ensures.all_silent (so_far.at_rest.silencing (omega (arith, c.requires.some, c.requires.resting))
-    (rw (c.course-course.ensures.reset, c.course-course.ensures.first, ← memory) at loud)) in
+    λ loud. c.course-course.ensures.all_silent (c.requires.calm.silencing (rw (c.course-course.ensures.reset, c.course-course.ensures.first) at loud)) in
     let quiet = rw (c.course-course.ensures.reset, c.course-course.ensures.loop_word, c.course-course.ensures.first, ← memory, ← regs) at (c.read_stretch-stretch.ensures.quiet awake) in
-    let same = last_level c.args.reads.now.seen plays c.args.at c.read_stretch-stretch.result.samples c.args.rest before c.args.made.now.ends c.args.made.now.outs c.args.self.now so_far c.begin_row.ensures.twelve
+    let same = last_level c.args.reads.now.seen plays c.args.at c.read_stretch-stretch.result.samples before c.args.made.now.ends c.args.made.now.outs c.args.self.now played calm c.begin_row.ensures.twelve
     (rw c.course-course.ensures.position at c.course-course.ensures.course.track.position)
-    (slice_index c.args.reads.now.rows.now.noise) over.noise (λ j below. glides (c.args.at + j) (omega arith) (omega (arith, below, few))) c.read_stretch-stretch.ensures.stretch.some (omega (arith, few, c.requires.resting))
+    (slice_index c.args.reads.now.rows.now.noise) over.noise (λ j below. glides (c.args.at + j) (omega arith) (omega (arith, below, few))) c.read_stretch-stretch.ensures.stretch.some
     (point_at c.course-course.result.track)
     (track_points c.args.reads.now c.args.work.now.pitches plays c.course-course.result.track c.args.at c.args.n c.read_stretch-stretch.result.samples c.args.self.now.position c.put_points.new.points
     over glides c.requires.few few c.requires.pitch c.course-course.ensures.position c.course-course.ensures.pitch c.course-course.ensures.modulated c.course-course.ensures.points c.put_points.ensures.points)
     (λ j below some loud. c.course-course.ensures.silent (quiet j below loud)) in
-    ap (λ (w : VoiceState). w.envelope.level) c.go_to.ensures ∙ sym same
+    rw (c.course-course.ensures.envelope, ← regs) at (c.sound-sounded.ensures.level plays.k over.clock) ∙ sym same
 
 pub returns-clause-lower : goal.returns-clause-lower
 returns-clause-lower c i from below = by (nat_lt i (c.args.at + c.read_stretch-stretch.result.samples)) refl

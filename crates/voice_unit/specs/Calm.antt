@@ -1,0 +1,18 @@
+-- Calm voices: nothing but their own steps changes their envelopes.
+use Rattle.std.specs.Prelude.{◌≡◌, ℕ, List, Bool, true}
+use Rattle.aram_core.specs.Memory.{byte_at}
+use Rattle.envelope.specs.Envelope.{EnvelopeState}
+use Rattle.envelope.specs.declared.Mode.TheVariants.{Release}
+use Rattle.voice_unit.specs.Voice.{VoiceState, is_silencing}
+
+-- an envelope that is released at level 0
+pub record IsSilent (e : EnvelopeState) : Type 0 where
+  pub mode : e.mode ≡ Release
+  pub level : e.level ≡ 0
+
+-- Where a voice isn't keyed, nothing but its own step changes its envelope at its block: it has no delay, and what would silence or release it has
+-- done so.
+pub record IsCalm (reset koff : Bool) (memory : List ℕ) (v : VoiceState) : Type 0 where
+  pub delay : v.delay ≡ 0
+  pub silencing : is_silencing reset (byte_at memory v.block) ≡ true → IsSilent v.envelope
+  pub key_off : koff ≡ true → v.envelope.mode ≡ Release
