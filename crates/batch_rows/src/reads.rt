@@ -13,7 +13,7 @@ use rate_clock::RateClock;
 use voice_unit::{BatchRows, VoiceReads, VoiceView};
 
 /// The samples of a batch.
-#[derive(Clone, Copy, Debug)]
+#[derive(Clone, Copy)]
 pub struct BatchSamples {
     /// The number of the first of them.
     pub number: u32,

@@ -9,7 +9,7 @@ use num_fix::{Frame, clamp16, scaled};
 use voice_unit::VoiceOut;
 
 /// The sums of both sides: of all voices, and of those that are sent to the echo.
-#[derive(Clone, Copy, Debug)]
+#[derive(Clone, Copy)]
 pub struct Sums {
     pub main: Frame,
     pub sent: Frame,

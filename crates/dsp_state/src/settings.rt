@@ -13,7 +13,7 @@ use num_fix::has_bit;
 use voice_unit::is_modulated;
 
 /// What a sample reads.
-#[derive(Clone, Copy, Debug)]
+#[derive(Clone, Copy)]
 pub struct Settings {
     pub voices: [VoiceSettings; 8],
     pub volumes: [Volumes; 8],

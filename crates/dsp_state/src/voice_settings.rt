@@ -5,7 +5,7 @@ ghost use Rattle.std.specs.Prelude.{◌<◌};
 use voice_unit::VoiceRegs;
 
 /// What one voice reads beside its volumes.
-#[derive(Clone, Copy, Debug)]
+#[derive(Clone, Copy)]
 pub struct VoiceSettings {
     pub regs: VoiceRegs,
     /// The pitch is changed by the voice before: its bit of PMON, never of voice 0.
@@ -18,7 +18,7 @@ pub struct VoiceSettings {
 }
 
 /// What all voices share in a sample beside the registers.
-#[derive(Clone, Copy, Debug)]
+#[derive(Clone, Copy)]
 pub struct SharedByVoices {
     /// The noise, at most 7FFFh.
     pub noise: u16,

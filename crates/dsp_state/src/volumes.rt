@@ -7,7 +7,7 @@ use crate::registers::{EON, Registers, VOLL, VOLR, voice_register};
 use num_fix::{has_bit, sign8};
 
 /// The volumes of a voice, each -128 to 127, in 128ths.
-#[derive(Clone, Copy, Debug)]
+#[derive(Clone, Copy)]
 pub struct Volumes {
     /// The left volume, VOLL; a negative one turns the wave over.
     pub left: i16,

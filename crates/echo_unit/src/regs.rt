@@ -2,7 +2,7 @@
 
 /// The registers that a step of the echo reads (Anomie's S-DSP Doc, "DSP Register Map"). The volumes, EFB and the coefficients of the
 /// filter are bytes with a sign: -128 to 127.
-#[derive(Clone, Copy, Debug, PartialEq, Eq)]
+#[derive(Clone, Copy)]
 pub struct EchoRegs {
     /// ESA: the page of 256 bytes at which the buffer begins.
     pub esa: u8,

@@ -18,7 +18,7 @@ pub use voices::{
 };
 
 /// A part of memory: `len` bytes from `start` on, which go on at 0000h after FFFFh.
-#[derive(Clone, Copy)]
+#[derive(Clone, Copy, PartialEq, Eq)]
 pub struct Window {
     pub start: u16,
     pub len: u32,

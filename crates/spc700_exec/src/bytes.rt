@@ -62,7 +62,7 @@ impl Calculation for Sbc {
 }
 
 /// What a byte is changed by.
-#[derive(Clone, Copy, Debug, PartialEq, Eq)]
+#[derive(Clone, Copy)]
 pub enum Modification {
     /// ASL, ROL, LSR or ROR.
     Shift(ShiftKind),

@@ -15,7 +15,7 @@ use spc700_alu::flags::{DIRECT_PAGE, is_set};
 use spc700_table::{Form, OpRow, byte_count, is_in_text_order};
 
 /// An operand, once the bytes that name it were read.
-#[derive(Clone, Copy, Debug, PartialEq, Eq)]
+#[derive(Clone, Copy)]
 pub enum Operand {
     /// The register A.
     A,
@@ -38,7 +38,7 @@ pub enum Operand {
 }
 
 /// The two operands of an instruction.
-#[derive(Clone, Copy, Debug, PartialEq, Eq)]
+#[derive(Clone, Copy)]
 pub struct Both {
     pub first: Operand,
     pub second: Operand,
@@ -111,7 +111,7 @@ fn next_in_its_page(at: u16) -> u16
 }
 
 /// Where the word of a pointer stands: the addresses of its low and of its high byte.
-#[derive(Clone, Copy, Debug, PartialEq, Eq)]
+#[derive(Clone, Copy)]
 pub struct Pointer {
     pub low: u16,
     pub high: u16,

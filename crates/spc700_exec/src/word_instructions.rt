@@ -14,7 +14,7 @@ use spc700_alu::{Out16, addw, cmpw, subw};
 use spc700_table::OpRow;
 
 /// What is calculated of YA and a word.
-#[derive(Clone, Copy, Debug, PartialEq, Eq)]
+#[derive(Clone, Copy)]
 pub enum WordCalculation {
     /// MOVW: the word itself.
     Load,

@@ -1,4 +1,5 @@
-use Rattle.std.proofs.Common.{◌≡◌, ◌≤◌, to_z, of_z, length, rules, ◌∙◌}
+use Rattle.std.proofs.Common.{arith, ◌≡◌, ◌≤◌, to_z, of_z, length, rules, ◌∙◌}
+use Rattle.std.proofs.lemmas.Grind.{common_steps}
 use Rattle.std.specs.Int.{w16}
 use Rattle.dsp_state.specs.Mix.{main_frame, sent_frame}
 use Rattle.dsp_state.specs.declared.volumes.Volumes.{Volumes}
@@ -24,3 +25,6 @@ returns-clause-sent c =
     let whole_left : to_z w16 (of_z w16 c.loop-v.total.sent.left) ≡ c.loop-v.total.sent.left = search rules in
     let whole_right : to_z w16 (of_z w16 c.loop-v.total.sent.right) ≡ c.loop-v.total.sent.right = search rules in
     frame_of _ _ _ (whole_left ∙ left) (whole_right ∙ right)
+
+pub loop-v-preserved : goal.loop-v-preserved
+loop-v-preserved c = grind (arith, common_steps)

@@ -1,4 +1,5 @@
-use Rattle.std.proofs.Common.{◌∙◌, sym, ap, List, ℕ, ◌++◌, get_or, take}
+use Rattle.std.proofs.Common.{arith, ◌∙◌, sym, ap, List, ℕ, ◌++◌, get_or, take}
+use Rattle.std.proofs.lemmas.Grind.{common_steps}
 use Rattle.std.specs.List.{flat_map}
 use Rattle.std.proofs.lemmas.List.{flat_map_more, take_more}
 use Rattle.report_text.specs.Texts.{shown_byte}
@@ -13,3 +14,6 @@ loop-byte-preserved c =
     ∙ ap (λ (l : List ℕ). l ++ shown_byte byte) c.loop-byte.invariant
     ∙ flat_map_more shown_byte c.args.report.now.items (take i text) byte
     ∙ ap (λ (l : List ℕ). c.args.report.now.items ++ flat_map shown_byte l) (sym (take_more text i 0 c.loop-byte-test.true))
+
+pub returns : goal.returns
+returns c = grind (arith, common_steps)
