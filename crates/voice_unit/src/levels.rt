@@ -9,9 +9,20 @@ use crate::batch::VoiceReads;
 use crate::level::LEVELS;
 use envelope::{Envelope, Mode};
 use num_fix::BATCH_SIZE;
+use rate_clock::RateClock;
 
 /// What each step of a released envelope takes from its level.
 const FALL: u16 = 8;
+
+/// The clock in sample `at` of a batch. Most stretches begin with its first one.
+pub(crate) fn clock_in(reads: &VoiceReads, at: u8) -> RateClock
+    ensures { (k : ℕ) → reads.now.clock ≡ counter_at k → result ≡ counter_at (k + at) }
+{
+    if at == 0 {
+        return reads.clock;
+    }
+    reads.clock.after_samples(at)
+}
 
 /// Puts a level for n samples, from sample `at` on.
 fn put_level(levels: &mut [u16; BATCH_SIZE], at: u8, n: u8, level: u16)
@@ -72,7 +83,7 @@ fn put_steady(
 {
     let regs = &reads.regs;
     let level = envelope.level();
-    let clock = reads.clock.after_samples(at);
+    let clock = clock_in(reads, at);
     let rest = envelope.rest(regs.adsr1, regs.adsr2, regs.gain, &clock);
     if u16::from(n) <= rest {
         put_level(levels, at, n, level);
@@ -85,7 +96,8 @@ fn put_steady(
     last + 1
 }
 
-/// Puts the level at which each of n samples sounds, from sample `at` on, and steps an envelope over them.
+/// Puts the level at which each of n samples sounds, from sample `at` on, and steps an envelope over them. It stands apart, since most stretches have one level.
+#[inline(never)]
 pub(crate) fn put_levels(
     levels: &mut [u16; BATCH_SIZE],
     at: u8,

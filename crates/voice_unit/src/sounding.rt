@@ -15,7 +15,7 @@ ghost use Rattle.voice_unit.specs.OutsOverRow.{mixed_at, sounding_at, out_in_str
 use crate::batch::VoiceReads;
 use crate::course::Course;
 use crate::level::{LEVELS, at_level};
-use crate::levels::put_levels;
+use crate::levels::{clock_in, put_levels};
 use crate::row::ROW_SIZE;
 use crate::short_sounding::{
     HALF_LEVEL, LAST_OF_EIGHT, factors_of_level, put_short, put_short_by_levels,
@@ -239,7 +239,9 @@ impl<'a> Course<'a> {
         }
     }
 
-    /// The outputs of n samples from sample `at` on, each at its own level, over a row of kept samples or over noise.
+    /// The outputs of n samples from sample `at` on, each at its own level, over a row of kept samples or over noise. It stands apart, since most stretches
+    /// have one level.
+    #[inline(never)]
     fn sound_by_levels(
         &self,
         outs: &mut [i16; BATCH_SIZE],
@@ -298,7 +300,7 @@ impl<'a> Course<'a> {
     {
         let regs = &reads.regs;
         let mut envelope = self.envelope;
-        let clock = reads.clock.after_samples(at);
+        let clock = clock_in(reads, at);
         let rest = envelope.rest(regs.adsr1, regs.adsr2, regs.gain, &clock);
         if u16::from(n) <= rest {
             self.sound_at_level(outs, places, at, n, row, reads);

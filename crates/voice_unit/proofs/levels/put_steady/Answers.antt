@@ -8,17 +8,17 @@ use Rattle.voice_unit.proofs.levels.put_steady.Goals as goal
 pub returns-then-from-rest-clause-stays : goal.returns-then-from-rest-clause-stays
 returns-then-from-rest-clause-stays c k is j below =
     after_rest c.args.envelope.now c.args.reads.now.regs (k + c.args.at) c.rest-rest.result j
-    (c.rest-rest.ensures.rests (k + c.args.at) (c.after_samples-clock.ensures.at k is)) (omega (arith, below))
+    (c.rest-rest.ensures.rests (k + c.args.at) (c.clock_in-clock.ensures k is)) (omega (arith, below))
 
 pub returns-then-from-rest-clause-envelope : goal.returns-then-from-rest-clause-envelope
 returns-then-from-rest-clause-envelope c k is =
     sym (after_rest c.args.envelope.now c.args.reads.now.regs (k + c.args.at) c.rest-rest.result c.args.n
-    (c.rest-rest.ensures.rests (k + c.args.at) (c.after_samples-clock.ensures.at k is)) (omega arith))
+    (c.rest-rest.ensures.rests (k + c.args.at) (c.clock_in-clock.ensures k is)) (omega arith))
 
 pub returns-clause-stays : goal.returns-clause-stays
 returns-clause-stays c k is j below =
     after_rest c.args.envelope.now c.args.reads.now.regs (k + c.args.at) c.rest-rest.result j
-    (c.rest-rest.ensures.rests (k + c.args.at) (c.after_samples-clock.ensures.at k is)) (omega (arith, below))
+    (c.rest-rest.ensures.rests (k + c.args.at) (c.clock_in-clock.ensures k is)) (omega (arith, below))
 
 pub returns-clause-envelope : goal.returns-clause-envelope
 returns-clause-envelope c k is =
@@ -26,7 +26,7 @@ returns-clause-envelope c k is =
     let r : VoiceRegs = c.args.reads.now.regs in
     let at : ℕ = k + c.args.at in
     let last : ℕ = c.rest-rest.result in
-    let rests = c.rest-rest.ensures.rests at (c.after_samples-clock.ensures.at k is) in
-    let then : c.after_samples-then.result ≡ counter_at (at + last) = c.after_samples-then.ensures.at at (c.after_samples-clock.ensures.at k is) in
+    let rests = c.rest-rest.ensures.rests at (c.clock_in-clock.ensures k is) in
+    let then : c.after_samples-then.result ≡ counter_at (at + last) = c.after_samples-then.ensures.at at (c.clock_in-clock.ensures k is) in
     rw then at c.step.ensures
     ∙ sym (envelope_after-more e r at last ∙ ap (λ (x : EnvelopeState). envelope_step x r.adsr1 r.adsr2 r.gain (counter_at (at + last))) (after_rest e r at last last rests (omega arith)))

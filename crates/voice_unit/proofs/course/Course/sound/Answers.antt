@@ -7,18 +7,18 @@ use Rattle.voice_unit.proofs.course.Course.sound.Goals as goal
 pub returns-then-from-rest-clause-outs : goal.returns-then-from-rest-clause-outs
 returns-then-from-rest-clause-outs c k is j below =
     let still = after_rest c.args.self.now.envelope c.args.reads.now.regs (k + c.args.at) c.rest-rest.result j
-    (c.rest-rest.ensures.rests (k + c.args.at) (c.after_samples-clock.ensures.at k is)) (omega (arith, below)) in
+    (c.rest-rest.ensures.rests (k + c.args.at) (c.clock_in-clock.ensures k is)) (omega (arith, below)) in
     rw (level_in, still) (c.sound_at_level.ensures.outs j below)
 
 pub returns-then-from-rest-clause-envelope : goal.returns-then-from-rest-clause-envelope
 returns-then-from-rest-clause-envelope c k is =
     sym (after_rest c.args.self.now.envelope c.args.reads.now.regs (k + c.args.at) c.rest-rest.result c.args.n
-    (c.rest-rest.ensures.rests (k + c.args.at) (c.after_samples-clock.ensures.at k is)) (omega arith))
+    (c.rest-rest.ensures.rests (k + c.args.at) (c.clock_in-clock.ensures k is)) (omega arith))
 
 pub returns-then-from-rest-clause-level : goal.returns-then-from-rest-clause-level
 returns-then-from-rest-clause-level c k is =
     let still = after_rest c.args.self.now.envelope c.args.reads.now.regs (k + c.args.at) c.rest-rest.result (c.args.n - 1)
-    (c.rest-rest.ensures.rests (k + c.args.at) (c.after_samples-clock.ensures.at k is)) (omega arith) in
+    (c.rest-rest.ensures.rests (k + c.args.at) (c.clock_in-clock.ensures k is)) (omega arith) in
     c.level.ensures.value ∙ sym (ap (λ (x : EnvelopeState). x.level) still)
 
 pub returns-clause-outs : goal.returns-clause-outs
