@@ -31,10 +31,10 @@ file_answer wave muted held_table held_list file = answer_from (table_in held_ta
 abbrev pub cuts_answer : (wave : List ℕ) → (muted : ℕ) → (held_file held_table held_list : Option (List ℕ)) → Answer Cause
 cuts_answer wave muted held_file held_table held_list = answer_from (file_in held_file) (file_answer wave muted held_table held_list)
 
--- what is answered by what the names of the inputs hold
-abbrev pub answer_over : (wave : List ℕ) → (muted : ℕ) → (file table list : List ℕ) → Files → Answer Cause
-answer_over wave muted file table list = λ files. cuts_answer wave muted (files file) (files table) (files list)
+-- what is answered, by what the inputs of these names hold
+abbrev pub cuts_over : (wave : List ℕ) → (muted : ℕ) → (file table list : List ℕ) → Files → Answer Cause
+cuts_over wave muted file table list = λ files. cuts_answer wave muted (files file) (files table) (files list)
 
 -- the inputs of these names, in the order in which they are read
-abbrev pub inputs_of : (file table list : List ℕ) → List NamedInput
-inputs_of file table list = spc_input file ∷ table_input table ∷ input_up_to input_limit list ∷ []
+abbrev pub cuts_inputs : (file table list : List ℕ) → List NamedInput
+cuts_inputs file table list = spc_input file ∷ table_input table ∷ input_up_to input_limit list ∷ []

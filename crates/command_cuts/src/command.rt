@@ -12,7 +12,7 @@ ghost use Rattle.cut_form.specs.CutBook.{cut_book};
 ghost use Rattle.cut_form.specs.Slices.{cut_frames, cut_samples};
 ghost use Rattle.cut_files.specs.CutFiles.{cuts_report, to_come_of, report_of};
 ghost use Rattle.tune_opening.specs.Tune.{tune_frames, tune_pages};
-ghost use Rattle.command_cuts.specs.Cuts.{list_answer, table_answer, file_answer, answer_over, inputs_of};
+ghost use Rattle.command_cuts.specs.Cuts.{list_answer, table_answer, file_answer, cuts_over, cuts_inputs};
 
 use crate::list::read_list;
 use command_frame::{OutOfMemory, Refusal, StreamedPlan, carry_stream};
@@ -114,9 +114,9 @@ fn prepare<'a, H: Host>(
     wave: &'a str,
     muted: u8,
 ) -> Result<StreamedPlan<'a, CutFiles<Dsp>>, Refusal<Cause>>
-    ensures { let answer = answer_over wave.now muted file.now table.now list.now in
+    ensures { let answer = cuts_over wave.now muted file.now table.now list.now in
         Prepares (stream_makes (to_come_of dsp_chip dsp_saving) (report_of dsp_chip dsp_saving)) answer
-        (inputs_of file.now table.now list.now) (H.state host.old) (H.state host.new) result }
+        (cuts_inputs file.now table.now list.now) (H.state host.old) (H.state host.new) result }
 {
     let file = read_file(alloc, host, file)?;
     prepare_table(alloc, host, &file, table, list, wave, muted)
@@ -134,8 +134,8 @@ pub fn cuts<H: Host>(
     muted: u8,
 ) -> Option<Refusal<Cause>>
     requires outputs { CanDeliver (H.state host.old) }
-    ensures attempts { let answer = answer_over wave.now muted file.now table.now list.now in
-        Attempts answer (inputs_of file.now table.now list.now) result (H.state host.old) (H.state host.new) }
+    ensures attempts { let answer = cuts_over wave.now muted file.now table.now list.now in
+        Attempts answer (cuts_inputs file.now table.now list.now) result (H.state host.old) (H.state host.new) }
     ensures not_usage { result ≡ Some Refusal.Usage → ⊥ }
 {
     let prepared = prepare(alloc, host, file, table, list, wave, muted);

@@ -54,10 +54,10 @@ abbrev pub render_answer : (wave : List ℕ) → Options → (held_file held_tab
 render_answer wave options held_file held_table =
     answer_from (file_in held_file) (file_answer wave options held_table)
 
--- what is answered by what the names of the inputs hold
-abbrev pub answer_over : (wave : List ℕ) → Options → (file table : List ℕ) → Files → Answer Cause
-answer_over wave options file table = λ files. render_answer wave options (files file) (files table)
+-- what is answered, by what the inputs of these names hold
+abbrev pub render_over : (wave : List ℕ) → Options → (file table : List ℕ) → Files → Answer Cause
+render_over wave options file table = λ files. render_answer wave options (files file) (files table)
 
 -- the inputs of these names, in the order in which they are read
-abbrev pub inputs_of : (file table : List ℕ) → List NamedInput
-inputs_of file table = spc_input file ∷ table_input table ∷ []
+abbrev pub render_inputs : (file table : List ℕ) → List NamedInput
+render_inputs file table = spc_input file ∷ table_input table ∷ []

@@ -15,7 +15,7 @@ ghost use Rattle.num_fix.specs.Limits.{most_frames};
 ghost use Rattle.render_files.specs.RenderFiles.{trace_of, to_come_of, report_of};
 ghost use Rattle.tune_opening.specs.Tune.{tune_frames, tune_records, tune_counts};
 ghost use Rattle.render_options.specs.Options.{options_of, SamplesWithinHour};
-ghost use Rattle.command_render.specs.Render.{length_with, traced_voices, muted_voices, rendering_answer, file_answer, answer_over, inputs_of};
+ghost use Rattle.command_render.specs.Render.{length_with, traced_voices, muted_voices, rendering_answer, file_answer, render_over, render_inputs};
 
 use command_frame::{OutOfMemory, Refusal, StreamedPlan, carry_stream};
 use dsp_core::Dsp;
@@ -137,9 +137,9 @@ fn prepare<'a, H: Host>(
     options: RenderOptions<'a>,
 ) -> Result<StreamedPlan<'a, RenderFiles<Dsp>>, Refusal<Cause>>
     requires { SamplesWithinHour options.samples }
-    ensures { let answer = answer_over wave.now (options_of options.entry) file.now table.now in
+    ensures { let answer = render_over wave.now (options_of options.entry) file.now table.now in
         Prepares (stream_makes (to_come_of dsp_chip) (report_of dsp_chip)) answer
-        (inputs_of file.now table.now) (H.state host.old) (H.state host.new) result }
+        (render_inputs file.now table.now) (H.state host.old) (H.state host.new) result }
 {
     let file = read_file(alloc, host, file)?;
     prepare_with(alloc, host, &file, table, wave, options)
@@ -156,9 +156,9 @@ pub fn render<H: Host>(
 ) -> Option<Refusal<Cause>>
     requires outputs { CanDeliver (H.state host.old) }
     requires within_hour { SamplesWithinHour options.samples }
-    ensures attempts { let answer = answer_over wave.now (options_of options.entry) file.now table.now in
-        Attempts answer (inputs_of file.now table.now) result (H.state host.old) (H.state host.new) }
-    ensures at_once { let answer = answer_over wave.now (options_of options.entry) file.now table.now in
+    ensures attempts { let answer = render_over wave.now (options_of options.entry) file.now table.now in
+        Attempts answer (render_inputs file.now table.now) result (H.state host.old) (H.state host.new) }
+    ensures at_once { let answer = render_over wave.now (options_of options.entry) file.now table.now in
         IfTold (H.state host.old).holds (λ files. MadeAtOnce (outputs_of (answer files)) (H.state host.old) (H.state host.new)) }
     ensures not_usage { result ≡ Some Refusal.Usage → ⊥ }
 {

@@ -43,10 +43,10 @@ file_answer wave options held_table held_script file = answer_from (table_in hel
 abbrev pub serve_answer : (wave : List ℕ) → SessionOptions → (held_file held_table held_script : Option (List ℕ)) → Answer Cause
 serve_answer wave options held_file held_table held_script = answer_from (file_in held_file) (file_answer wave options held_table held_script)
 
--- what is answered by what the names of the inputs hold
-abbrev pub answer_over : (wave : List ℕ) → SessionOptions → (file table script : List ℕ) → Files → Answer Cause
-answer_over wave options file table script = λ files. serve_answer wave options (files file) (files table) (files script)
+-- what is answered, by what the inputs of these names hold
+abbrev pub serve_over : (wave : List ℕ) → SessionOptions → (file table script : List ℕ) → Files → Answer Cause
+serve_over wave options file table script = λ files. serve_answer wave options (files file) (files table) (files script)
 
 -- the inputs of these names, in the order in which they are read
-abbrev pub inputs_of : (file table script : List ℕ) → List NamedInput
-inputs_of file table script = spc_input file ∷ table_input table ∷ input_up_to input_limit script ∷ []
+abbrev pub serve_inputs : (file table script : List ℕ) → List NamedInput
+serve_inputs file table script = spc_input file ∷ table_input table ∷ input_up_to input_limit script ∷ []

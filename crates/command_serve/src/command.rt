@@ -16,7 +16,7 @@ ghost use Rattle.cut_text.specs.Playing.{played_frames};
 ghost use Rattle.session_files.specs.Report.{report_on};
 ghost use Rattle.session_files.specs.SessionFiles.{to_come_of, report_of};
 ghost use Rattle.tune_opening.specs.Tune.{tune_frames};
-ghost use Rattle.command_serve.specs.Serve.{tune_replies, script_answer, table_answer, file_answer, answer_over, inputs_of};
+ghost use Rattle.command_serve.specs.Serve.{tune_replies, script_answer, table_answer, file_answer, serve_over, serve_inputs};
 
 use crate::script::read_lines;
 use command_frame::{OutOfMemory, Refusal, StreamedPlan, carry_stream};
@@ -128,9 +128,9 @@ fn prepare<'a, H: Host>(
 ) -> Result<StreamedPlan<'a, SessionFiles<Dsp>>, Refusal<Cause>>
     requires enough { fewest_pages ≤ options.pages }
     requires few { options.pages ≤ most_pages }
-    ensures { let answer = answer_over wave.now options file.now table.now script.now in
+    ensures { let answer = serve_over wave.now options file.now table.now script.now in
         Prepares (stream_makes (to_come_of dsp_chip dsp_saving) (report_of dsp_chip dsp_saving)) answer
-        (inputs_of file.now table.now script.now) (H.state host.old) (H.state host.new) result }
+        (serve_inputs file.now table.now script.now) (H.state host.old) (H.state host.new) result }
 {
     let file = read_file(alloc, host, file)?;
     prepare_table(alloc, host, &file, table, script, wave, options)
@@ -150,8 +150,8 @@ pub fn serve<H: Host>(
     requires outputs { CanDeliver (H.state host.old) }
     requires enough { fewest_pages ≤ options.pages }
     requires few { options.pages ≤ most_pages }
-    ensures attempts { let answer = answer_over wave.now options file.now table.now script.now in
-        Attempts answer (inputs_of file.now table.now script.now) result (H.state host.old) (H.state host.new) }
+    ensures attempts { let answer = serve_over wave.now options file.now table.now script.now in
+        Attempts answer (serve_inputs file.now table.now script.now) result (H.state host.old) (H.state host.new) }
     ensures not_usage { result ≡ Some Refusal.Usage → ⊥ }
 {
     let prepared = prepare(alloc, host, file, table, script, wave, options);

@@ -3,17 +3,17 @@ use Rattle.command_frame.specs.Plan.{stream_makes}
 use Rattle.command_frame.proofs.Obeying.{attempts, attempts_no_usage}
 use Rattle.dsp_core.specs.DspChip.{dsp_chip, dsp_saving}
 use Rattle.cut_files.specs.CutFiles.{to_come_of, report_of}
-use Rattle.command_cuts.specs.Cuts.{answer_over}
+use Rattle.command_cuts.specs.Cuts.{cuts_over}
 use Rattle.command_cuts.proofs.command.cuts.Goals as goal
 
 pub returns-clause-attempts : goal.returns-clause-attempts
 returns-clause-attempts g c =
-    attempts (stream_makes (to_come_of dsp_chip dsp_saving) (report_of dsp_chip dsp_saving)) (answer_over c.args.wave.now c.args.muted c.args.file.now c.args.table.now c.args.list.now)
+    attempts (stream_makes (to_come_of dsp_chip dsp_saving) (report_of dsp_chip dsp_saving)) (cuts_over c.args.wave.now c.args.muted c.args.file.now c.args.table.now c.args.list.now)
     (g.H.Host.state c.args.host.now) (g.H.Host.state c.prepare-prepared.new.host) (g.H.Host.state c.carry_stream.new.host)
     c.prepare-prepared.result c.carry_stream.result _ c.prepare-prepared.ensures c.carry_stream.ensures.carries (search rules)
 
 pub returns-clause-not_usage : goal.returns-clause-not_usage
 returns-clause-not_usage g c =
-    attempts_no_usage (stream_makes (to_come_of dsp_chip dsp_saving) (report_of dsp_chip dsp_saving)) (answer_over c.args.wave.now c.args.muted c.args.file.now c.args.table.now c.args.list.now)
+    attempts_no_usage (stream_makes (to_come_of dsp_chip dsp_saving) (report_of dsp_chip dsp_saving)) (cuts_over c.args.wave.now c.args.muted c.args.file.now c.args.table.now c.args.list.now)
     (g.H.Host.state c.args.host.now) (g.H.Host.state c.prepare-prepared.new.host) (g.H.Host.state c.carry_stream.new.host)
     c.prepare-prepared.result c.carry_stream.result _ c.prepare-prepared.ensures c.carry_stream.ensures.carries (search rules)
