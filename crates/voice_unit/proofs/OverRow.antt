@@ -143,7 +143,7 @@ module _ (own : VoiceView) (lane : Lane) (n m : ℕ) (before ends : List ℕ) (o
       by zero same = calm.silencing (rw same at loud)
       by (suc d) same = quiet j below (omega (arith, same)) loud
 
-  -- the voice stays calm, as nothing but its steps changes its envelope
+  -- the voice stays calm, as only the steps of its envelope change that
   calm_at : (j : ℕ) → j < m → (s j).envelope ≡ e j → IsCalm (lane.inputs (n + j)).reset (lane.inputs (n + j)).koff lane.memory (s j)
   calm_at j below same =
       let plain = glides j below in

@@ -21,11 +21,11 @@ use crate::workspace::Workspace;
 use num_fix::{BATCH_SIZE, has_bit};
 
 /// Where a voice that glided has come to.
-#[derive(Clone, Copy, Debug)]
+#[derive(Clone, Copy)]
 pub(crate) struct Glided {
     /// The sample that is next.
     pub at: u8,
-    /// The level at which the last one sounds, where it glided over any.
+    /// The level at which the last one sounds, where it glided over that one; else 0.
     pub level: u16,
 }
 
@@ -130,7 +130,7 @@ impl Voice {
         let samples = stretch.samples;
         let sounded = course.sound(
             &mut made.outs,
-            &mut work.places,
+            &mut work.rows,
             at,
             samples,
             &work.row,
@@ -145,7 +145,7 @@ impl Voice {
         }
     }
 
-    /// Makes samples from sample `j` up to another one, between which no key on is taken, if the voice is calm.
+    /// Makes samples from sample `j` up to another one, between which no key on is taken, if the voice is calm; fewer where a header silences it.
     pub(crate) fn glide(
         &mut self,
         j: u8,

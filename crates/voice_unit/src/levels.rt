@@ -96,7 +96,7 @@ fn put_steady(
     last + 1
 }
 
-/// Puts the level at which each of n samples sounds, from sample `at` on, and steps an envelope over them. It stands apart, since most stretches have one level.
+/// Puts the level at which each of n samples sounds, from sample `at` on, and steps an envelope over them. It stands apart, as most stretches have one level.
 #[inline(never)]
 pub(crate) fn put_levels(
     levels: &mut [u16; BATCH_SIZE],
