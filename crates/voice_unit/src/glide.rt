@@ -150,14 +150,12 @@ impl Voice {
         &mut self,
         j: u8,
         end: u8,
-        calm: bool,
         reads: &VoiceReads,
         work: &mut Workspace,
         made: &mut PlayedRows,
     ) -> Glided
         requires few { end ≤ BATCH_SIZE }
         requires from { j ≤ end }
-        requires calm { calm ≡ true → IsCalm reads.now.seen.reset (has_bit reads.now.seen.koff reads.now.seen.voice) reads.now.memory.now self.old }
         requires voice { reads.now.seen.voice < 8 }
         requires pitch { reads.now.regs.pitch < 0x4000 }
         requires lower { (i : ℕ) → j ≤ i → i < BATCH_SIZE → slice_index made.old.ends i < 2 ^ reads.now.seen.voice }
@@ -175,7 +173,8 @@ impl Voice {
         ensures later { (i : ℕ) → result.at ≤ i → slice_index made.new.ends i ≡ slice_index made.old.ends i }
         ensures lower { (i : ℕ) → i < BATCH_SIZE → slice_index made.new.ends i < 2 ^ (reads.now.seen.voice + 1) }
     {
-        if calm && j < end {
+        let seen = &reads.seen;
+        if j < end && self.is_calm(seen.reset, has_bit(seen.koff, seen.voice), reads.memory) {
             return self.play_stretch(j, end - j, reads, work, made);
         }
         Glided { at: j, level: 0 }
