@@ -7,7 +7,7 @@ ghost use Rattle.gauss_table.specs.Interpolation.{mix_of};
 ghost use Rattle.gauss_table.specs.Quads.{AreQuads};
 ghost use Rattle.rate_clock.specs.Counter.{counter_at};
 ghost use Rattle.voice_unit.specs.Course.{IsCourse};
-ghost use Rattle.voice_unit.specs.Levels.{envelope_after, level_in};
+ghost use Rattle.voice_unit.specs.Levels.{envelope_from, level_in};
 ghost use Rattle.voice_unit.specs.Voice.{interpolation};
 ghost use Rattle.voice_unit.specs.Track.{IsTrack, point_at};
 ghost use Rattle.voice_unit.specs.OutsOverRow.{mixed_at, sounding_at, out_in_stretch};
@@ -295,7 +295,7 @@ impl<'a> Course<'a> {
             reads.now.table.now row.now (point_at self.now.track j) (level_in self.now.envelope reads.now.regs (k + at) j) }
         ensures before { (i : ℕ) → i < at → number_at outs.new i ≡ number_at outs.old i }
         ensures envelope { (k : ℕ) → reads.now.clock ≡ counter_at k
-            → result.envelope ≡ envelope_after self.now.envelope reads.now.regs (k + at) n }
+            → result.envelope ≡ envelope_from self.now.envelope reads.now.regs (k + at) n }
         ensures within { result.level ≤ 0x7ff }
         ensures level { (k : ℕ) → reads.now.clock ≡ counter_at k
             → result.level ≡ level_in self.now.envelope reads.now.regs (k + at) (n - 1) }
