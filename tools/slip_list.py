@@ -448,7 +448,7 @@ SLIPS = [
     Slip('a fall by a 128th', ['envelope', 'envelope_laws'], ['worked_parts'], [
         (ENVELOPE, 'floor_shift e 8', 'floor_shift e 7'), (TARGET, 'less >> 8', 'less >> 7')]),
     Slip('a release by 16', ['envelope', 'envelope_laws'], ['worked_parts'], [
-        (ENVELOPE, 's.level - 8', 's.level - 16'), (ENVELOPE_CODE, 'self.level.saturating_sub(8)', 'self.level.saturating_sub(16)')]),
+        (ENVELOPE, 's.level - 8', 's.level - 16'), (ENVELOPE_CODE, 'RELEASE_FALL: u16 = 8', 'RELEASE_FALL: u16 = 16')]),
     Slip('an attack of three bits', ['envelope', 'envelope_laws'], ['worked_parts'], [
         (ENVELOPE, '(adsr1 % 16) + 1', '(adsr1 % 8) + 1'), (TARGET, '(adsr1 % 16) + 1', '(adsr1 % 8) + 1')]),
     Slip('a decay of two bits', ['envelope', 'envelope_laws'], ['worked_parts'], [

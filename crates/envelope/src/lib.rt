@@ -13,6 +13,9 @@ use rate_clock::RateClock;
 use std::marker::Model;
 use target::{step_target, sustain_level};
 
+/// What each step of a released envelope takes from its level, down to 0.
+pub const RELEASE_FALL: u16 = 8;
+
 /// What an envelope is doing.
 #[derive(Clone, Copy, Debug, PartialEq, Eq)]
 pub enum Mode {
@@ -141,7 +144,7 @@ impl Envelope {
         ensures { self.new ≡ envelope_step self.old adsr1 adsr2 gain clock.now }
     {
         match step_target(self.mode, self.level, self.hidden, adsr1, adsr2, gain) {
-            None => self.level = self.level.saturating_sub(8),
+            None => self.level = self.level.saturating_sub(RELEASE_FALL),
             Some(target) => {
                 self.mode = next_mode(self.mode, target.value, sustain_level(adsr1, adsr2, gain));
                 self.hidden = target.value;

@@ -1,12 +1,8 @@
--- An envelope over several samples, and how many of them a rise or a release takes.
-use Rattle.std.specs.Prelude.{◌≡◌, ◌≢◌, ℕ, zero, suc, ◌-◌, ◌*◌, ◌%◌, ◌<◌, ◌≤◌, pos}
-use Rattle.envelope.specs.Envelope.{EnvelopeState, envelope_step}
+-- How an envelope moves over several samples, and how many of them a rise or a release takes.
+use Rattle.std.specs.Prelude.{◌≡◌, ◌≢◌, ℕ, ◌-◌, ◌*◌, ◌%◌, ◌<◌, ◌≤◌, pos}
+use Rattle.envelope.specs.Envelope.{EnvelopeState}
+use Rattle.envelope.specs.Steps.{envelope_after}
 use Rattle.envelope.specs.declared.Mode.TheVariants.{Attack, Release}
-
--- the envelope after n samples with the same registers, at the counter of each sample
-unfoldable pub envelope_after : (n : ℕ) → EnvelopeState → (adsr1 adsr2 gain : ℕ) → (counter : ℕ → ℕ) → EnvelopeState
-envelope_after zero e adsr1 adsr2 gain counter = e
-envelope_after (suc n) e adsr1 adsr2 gain counter = envelope_step (envelope_after n e adsr1 adsr2 gain counter) adsr1 adsr2 gain (counter n)
 
 -- a release falls by 8 in each sample, and changes nothing else
 abbrev pub ReleaseFalls : Type 0

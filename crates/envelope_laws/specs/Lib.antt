@@ -1,4 +1,4 @@
 -- OneStep: what one step does to the level, mode by mode.
--- Course: an envelope over several samples.
+-- Course: how an envelope moves over several samples.
 pub mod OneStep
 pub mod Course

@@ -35,13 +35,6 @@ mark_one ends at q j v memory place points n group moves early below reads endin
         let none : slice_index ends (at + j) ≡ slice_index ends (at + j) + 0 = omega arith in
         rw (is_read-other points n group q j moves early below reads other) (get_or-set_other ends (at + q) (at + j) (slice_index ends (at + q) + 2 ^ v) 0 apart ∙ none)
 
--- a group that isn't the last of its block ends none
-pub no_end : (memory : List ℕ) (place : Place) (points : ℕ → ℕ) (group j v x : ℕ) → place.offset ≢ 7 → x ≡ x + bit_if (ends_in memory place points group j) v
-no_end memory place points group j v x other =
-    let test : (place.offset == 7) ≡ false = grind (arith, nat_tests, other) in
-    let none : ends_in memory place points group j ≡ false = rw test (and_right (is_read_in points group j) false refl) in
-    rw none (omega arith)
-
 module _ (memory : List ℕ) (loop_word : ℕ) (first : Place) (points : ℕ → ℕ) (v : ℕ) where
   -- what is marked in sample j once so many groups are read
   abbrev pub marked : (groups j : ℕ) → Bool

@@ -15,7 +15,7 @@ use Rattle.voice_unit.specs.Batch.{steps, answer_of_step}
 use Rattle.voice_unit.specs.Plain.{PlaysPlainly}
 use Rattle.voice_unit.specs.Play.{Lane, IsPlayed, voice_at, answer_at}
 use Rattle.voice_unit.specs.Calm.{IsSilent, IsCalm}
-use Rattle.voice_unit.specs.Levels.{envelope_after, level_in}
+use Rattle.voice_unit.specs.Levels.{envelope_from, level_in}
 use Rattle.voice_unit.specs.Row.{ArePoints, place_after, groups_before, is_end, is_read_in, ended_in, PlaysOn, row_of, place_of, StandsAt}
 use Rattle.voice_unit.specs.Track.{MoveOn}
 use Rattle.voice_unit.specs.OutsOverRow.{sounding_at, out_in_stretch}
@@ -26,7 +26,7 @@ use Rattle.voice_unit.specs.declared.row.Place.{Place}
 use Rattle.voice_unit.proofs.CalmStep.{enveloped, calm_step, calm_out, calm_level, calm_ended, envelope-after_reading}
 use Rattle.voice_unit.proofs.Counting.{moves_on, groups_before-more, groups_before-rise}
 use Rattle.voice_unit.proofs.RowOfVoice.{plays_row, reads_row}
-use Rattle.voice_unit.proofs.Stepped.{envelope_after-zero, envelope_after-more, stays_released, stays_silent}
+use Rattle.voice_unit.proofs.Stepped.{envelope_from-zero, envelope_from-more, stays_released, stays_silent}
 
 -- an interpolation looks at four samples of a row
 interpolation-same : (table xs ys : List ℤ) (point : ℕ) → ((k : ℕ) → k < point / 0x1000 + 4 → number_at xs k ≡ number_at ys k) → interpolation table xs point ≡ interpolation table ys point
@@ -108,7 +108,7 @@ module _ (own : VoiceView) (lane : Lane) (n m : ℕ) (before ends : List ℕ) (o
 
   -- its envelope
   abbrev e : ℕ → EnvelopeState
-  e j = envelope_after voice.envelope lane.regs (lane.k + n) j
+  e j = envelope_from voice.envelope lane.regs (lane.k + n) j
 
   on : (j : ℕ) → voice_at lane (n + j) ≡ s j
   unfolding steps
@@ -143,7 +143,7 @@ module _ (own : VoiceView) (lane : Lane) (n m : ℕ) (before ends : List ℕ) (o
       by zero same = calm.silencing (rw same at loud)
       by (suc d) same = quiet j below (omega (arith, same)) loud
 
-  -- the voice stays calm, as nothing but its steps changes its envelope
+  -- the voice stays calm, as only the steps of its envelope change that
   calm_at : (j : ℕ) → j < m → (s j).envelope ≡ e j → IsCalm (lane.inputs (n + j)).reset (lane.inputs (n + j)).koff lane.memory (s j)
   calm_at j below same =
       let plain = glides j below in
@@ -161,7 +161,7 @@ module _ (own : VoiceView) (lane : Lane) (n m : ℕ) (before ends : List ℕ) (o
 
   follows : (j : ℕ) → j ≤ m → (s j).envelope ≡ e j
   unfolding steps
-  follows zero few = sym (envelope_after-zero voice.envelope lane.regs (lane.k + n))
+  follows zero few = sym (envelope_from-zero voice.envelope lane.regs (lane.k + n))
   follows (suc j) few =
       let now : (s j).envelope ≡ e j = follows j (omega (arith, few)) in
       let far : lane.k + (n + j) ≡ lane.k + n + j = omega arith in
@@ -169,7 +169,7 @@ module _ (own : VoiceView) (lane : Lane) (n m : ℕ) (before ends : List ℕ) (o
       ap (λ (v : VoiceState). v.envelope) (step_is j (omega (arith, few)) now)
       ∙ envelope-after_reading (enveloped lane.regs (counter_at (lane.k + (n + j))) (s j)) lane.memory (byte_at lane.memory (s j).block)
       (loop_word (lane.inputs (n + j)).dir lane.regs.srcn lane.memory) (pitch_of lane.regs (lane.inputs (n + j))) in
-      let all : (s (j + 1)).envelope ≡ e (j + 1) = stepped ∙ rw (now, far) (sym (envelope_after-more voice.envelope lane.regs (lane.k + n) j)) in
+      let all : (s (j + 1)).envelope ≡ e (j + 1) = stepped ∙ rw (now, far) (sym (envelope_from-more voice.envelope lane.regs (lane.k + n) j)) in
       rw add-one at all
 
   -- what sample j gives

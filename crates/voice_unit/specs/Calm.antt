@@ -1,4 +1,4 @@
--- Calm voices: nothing but their own steps changes their envelopes.
+-- Calm voices: while they aren't keyed, only the steps of their envelopes change the envelopes.
 use Rattle.std.specs.Prelude.{◌≡◌, ℕ, List, Bool, true}
 use Rattle.aram_core.specs.Memory.{byte_at}
 use Rattle.envelope.specs.Envelope.{EnvelopeState}
@@ -10,7 +10,7 @@ pub record IsSilent (e : EnvelopeState) : Type 0 where
   pub mode : e.mode ≡ Release
   pub level : e.level ≡ 0
 
--- Where a voice isn't keyed, nothing but its own step changes its envelope at its block: it has no delay, and what would silence or release it has
+-- Where a voice isn't keyed, only the step of its envelope changes the envelope at its block: the voice has no delay, and what would silence or release it has
 -- done so.
 pub record IsCalm (reset koff : Bool) (memory : List ℕ) (v : VoiceState) : Type 0 where
   pub delay : v.delay ≡ 0

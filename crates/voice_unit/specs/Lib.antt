@@ -2,7 +2,7 @@
 -- Voice: what a voice is, and its step as a sequence of changes.
 -- Inside: the fields of a voice, and what holds of them.
 -- Batch: a voice over a batch of samples.
--- Calm: voices whose envelopes nothing but their own steps changes.
+-- Calm: voices whose envelopes change by the envelopes' own steps alone.
 -- OneSample: one sample of a voice.
 -- Plain: a sample in which nothing but its blocks, its registers and the voice before tells what a voice plays.
 -- Play: a voice over a batch, as rows of numbers alone.

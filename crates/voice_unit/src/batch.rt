@@ -22,7 +22,7 @@ pub struct BatchRows {
 }
 
 /// What a voice sees of the registers that all voices share, and its number, which tells its bits in them.
-#[derive(Clone, Copy, Debug)]
+#[derive(Clone, Copy)]
 pub struct VoiceView {
     /// The number of the voice, 0 to 7.
     pub voice: u8,

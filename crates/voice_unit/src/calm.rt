@@ -1,4 +1,4 @@
-//! Calm voices: nothing but their own steps changes their envelopes.
+//! Calm voices: while they aren't keyed, only the steps of their envelopes change the envelopes.
 
 ghost use Rattle.std.specs.Prelude.{◌≡◌, true, false};
 ghost use Rattle.aram_core.specs.Memory.{byte_at};
@@ -41,7 +41,7 @@ impl Voice {
         koff && self.envelope().mode != Mode::Release
     }
 
-    /// Whether nothing but its own steps changes the envelope of the voice while it isn't keyed.
+    /// Whether only the steps of its envelope change the envelope while the voice isn't keyed.
     pub(crate) fn is_calm(&self, reset: bool, koff: bool, memory: &Aram) -> bool
         ensures { result ≡ true → IsCalm reset koff memory.now self.now }
     {

@@ -36,7 +36,7 @@ pub(crate) struct Course<'a> {
 }
 
 /// A stretch of samples whose groups were read.
-#[derive(Clone, Copy, Debug)]
+#[derive(Clone, Copy)]
 pub(crate) struct Stretch {
     /// How many samples it has.
     pub samples: u8,
@@ -47,7 +47,7 @@ pub(crate) struct Stretch {
 }
 
 /// The block that a voice comes to after another one.
-#[derive(Clone, Copy, Debug)]
+#[derive(Clone, Copy)]
 pub(crate) struct NextBlock {
     /// Its first group.
     pub first: Place,

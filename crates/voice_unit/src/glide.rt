@@ -21,11 +21,11 @@ use crate::workspace::Workspace;
 use num_fix::{BATCH_SIZE, has_bit};
 
 /// Where a voice that glided has come to.
-#[derive(Clone, Copy, Debug)]
+#[derive(Clone, Copy)]
 pub(crate) struct Glided {
     /// The sample that is next.
     pub at: u8,
-    /// The level at which the last one sounds, where it glided over any.
+    /// The level at which the last one sounds, where it glided over that one; else 0.
     pub level: u16,
 }
 
@@ -130,7 +130,7 @@ impl Voice {
         let samples = stretch.samples;
         let sounded = course.sound(
             &mut made.outs,
-            &mut work.places,
+            &mut work.rows,
             at,
             samples,
             &work.row,
@@ -145,19 +145,17 @@ impl Voice {
         }
     }
 
-    /// Makes samples from sample `j` up to another one, between which no key on is taken, if the voice is calm.
+    /// Makes samples from sample `j` up to another one, between which no key on is taken, if the voice is calm; fewer where a header silences it.
     pub(crate) fn glide(
         &mut self,
         j: u8,
         end: u8,
-        calm: bool,
         reads: &VoiceReads,
         work: &mut Workspace,
         made: &mut PlayedRows,
     ) -> Glided
         requires few { end ≤ BATCH_SIZE }
         requires from { j ≤ end }
-        requires calm { calm ≡ true → IsCalm reads.now.seen.reset (has_bit reads.now.seen.koff reads.now.seen.voice) reads.now.memory.now self.old }
         requires voice { reads.now.seen.voice < 8 }
         requires pitch { reads.now.regs.pitch < 0x4000 }
         requires lower { (i : ℕ) → j ≤ i → i < BATCH_SIZE → slice_index made.old.ends i < 2 ^ reads.now.seen.voice }
@@ -175,7 +173,8 @@ impl Voice {
         ensures later { (i : ℕ) → result.at ≤ i → slice_index made.new.ends i ≡ slice_index made.old.ends i }
         ensures lower { (i : ℕ) → i < BATCH_SIZE → slice_index made.new.ends i < 2 ^ (reads.now.seen.voice + 1) }
     {
-        if calm && j < end {
+        let seen = &reads.seen;
+        if j < end && self.is_calm(seen.reset, has_bit(seen.koff, seen.voice), reads.memory) {
             return self.play_stretch(j, end - j, reads, work, made);
         }
         Glided { at: j, level: 0 }

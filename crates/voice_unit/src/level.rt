@@ -7,7 +7,7 @@ ghost use Rattle.voice_unit.specs.Voice.{modulated_pitch, pitch_of};
 use crate::interface::{VoiceIn, VoiceRegs};
 use num_fix::scaled;
 
-/// How many levels there are: each is below this, at which it would be a whole.
+/// How many levels there are, 0 to 7FFh: at this one a sample would be whole.
 pub(crate) const LEVELS: u16 = 0x800;
 
 /// A sample at a level.

@@ -3,16 +3,13 @@
 ghost use Rattle.std.specs.Prelude.{◌≡◌, ◌<◌, ◌≤◌, ◌+◌, ◌-◌, ◌*◌, ℕ, slice_index};
 ghost use Rattle.rate_clock.specs.Counter.{counter_at};
 ghost use Rattle.envelope.specs.declared.Mode.TheVariants.{Release};
-ghost use Rattle.voice_unit.specs.Levels.{envelope_after, level_in};
+ghost use Rattle.voice_unit.specs.Levels.{envelope_from, level_in};
 
 use crate::batch::VoiceReads;
 use crate::level::LEVELS;
-use envelope::{Envelope, Mode};
+use envelope::{Envelope, Mode, RELEASE_FALL};
 use num_fix::BATCH_SIZE;
 use rate_clock::RateClock;
-
-/// What each step of a released envelope takes from its level.
-const FALL: u16 = 8;
 
 /// The clock in sample `at` of a batch. Most stretches begin with its first one.
 pub(crate) fn clock_in(reads: &VoiceReads, at: u8) -> RateClock
@@ -39,13 +36,13 @@ fn put_level(levels: &mut [u16; BATCH_SIZE], at: u8, n: u8, level: u16)
 /// Puts falling levels for n samples, from sample `at` on, down to 0.
 fn put_falling(levels: &mut [u16; BATCH_SIZE], at: u8, n: u8, level: u16)
     requires { at + n ≤ BATCH_SIZE }
-    ensures { (j : ℕ) → j < n → slice_index levels.new (at + j) ≡ level - FALL * j }
+    ensures { (j : ℕ) → j < n → slice_index levels.new (at + j) ≡ level - RELEASE_FALL * j }
 {
     let from = usize::from(at);
     let mut fall = 0;
     for j in 0..usize::from(n) {
         levels[from + j] = level.saturating_sub(fall);
-        fall += FALL;
+        fall += RELEASE_FALL;
     }
 }
 
@@ -53,13 +50,13 @@ fn put_falling(levels: &mut [u16; BATCH_SIZE], at: u8, n: u8, level: u16)
 fn put_released(levels: &mut [u16; BATCH_SIZE], at: u8, n: u8, envelope: &mut Envelope)
     requires few { at + n ≤ BATCH_SIZE }
     requires released { envelope.old.mode ≡ Release }
-    ensures levels { (j : ℕ) → j < n → slice_index levels.new (at + j) ≡ envelope.old.level - FALL * j }
+    ensures levels { (j : ℕ) → j < n → slice_index levels.new (at + j) ≡ envelope.old.level - RELEASE_FALL * j }
     ensures within { (j : ℕ) → j < n → slice_index levels.new (at + j) < LEVELS }
-    ensures envelope { envelope.new ≡ record envelope.old { level = envelope.old.level - FALL * n } }
+    ensures envelope { envelope.new ≡ record envelope.old { level = envelope.old.level - RELEASE_FALL * n } }
 {
     let level = envelope.level();
     put_falling(levels, at, n, level);
-    envelope.level = level.saturating_sub(FALL * u16::from(n));
+    envelope.level = level.saturating_sub(RELEASE_FALL * u16::from(n));
 }
 
 /// Puts the level of an envelope for the samples from sample `at` on in which it stays, n at most, and steps it over them: the step in the last of them may
@@ -78,8 +75,8 @@ fn put_steady(
     ensures level { (j : ℕ) → j < result → slice_index levels.new (at + j) ≡ envelope.old.level }
     ensures within { (j : ℕ) → j < result → slice_index levels.new (at + j) < LEVELS }
     ensures before { (i : ℕ) → i < at → slice_index levels.new i ≡ slice_index levels.old i }
-    ensures stays { (k : ℕ) → reads.now.clock ≡ counter_at k → (j : ℕ) → j < result → envelope_after envelope.old reads.now.regs (k + at) j ≡ envelope.old }
-    ensures envelope { (k : ℕ) → reads.now.clock ≡ counter_at k → envelope.new ≡ envelope_after envelope.old reads.now.regs (k + at) result }
+    ensures stays { (k : ℕ) → reads.now.clock ≡ counter_at k → (j : ℕ) → j < result → envelope_from envelope.old reads.now.regs (k + at) j ≡ envelope.old }
+    ensures envelope { (k : ℕ) → reads.now.clock ≡ counter_at k → envelope.new ≡ envelope_from envelope.old reads.now.regs (k + at) result }
 {
     let regs = &reads.regs;
     let level = envelope.level();
@@ -96,7 +93,7 @@ fn put_steady(
     last + 1
 }
 
-/// Puts the level at which each of n samples sounds, from sample `at` on, and steps an envelope over them. It stands apart, since most stretches have one level.
+/// Puts the level at which each of n samples sounds, from sample `at` on, and steps an envelope over them. It stands apart, as most stretches have one level.
 #[inline(never)]
 pub(crate) fn put_levels(
     levels: &mut [u16; BATCH_SIZE],
@@ -109,7 +106,7 @@ pub(crate) fn put_levels(
     ensures levels { (k : ℕ) → reads.now.clock ≡ counter_at k → (j : ℕ) → j < n
         → slice_index levels.new (at + j) ≡ level_in envelope.old reads.now.regs (k + at) j }
     ensures within { (j : ℕ) → j < n → slice_index levels.new (at + j) < LEVELS }
-    ensures envelope { (k : ℕ) → reads.now.clock ≡ counter_at k → envelope.new ≡ envelope_after envelope.old reads.now.regs (k + at) n }
+    ensures envelope { (k : ℕ) → reads.now.clock ≡ counter_at k → envelope.new ≡ envelope_from envelope.old reads.now.regs (k + at) n }
 {
     if envelope.mode == Mode::Release {
         put_released(levels, at, n, envelope);

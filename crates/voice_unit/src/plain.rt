@@ -11,7 +11,7 @@ use num_fix::{BATCH_SIZE, has_bit};
 const END: u8 = BATCH_SIZE as u8;
 
 /// Samples of a batch that are known to be plain: those before one sample, and those from another one on.
-#[derive(Clone, Copy, Debug)]
+#[derive(Clone, Copy)]
 pub(crate) struct PlainSamples {
     pub before: u8,
     pub from: u8,

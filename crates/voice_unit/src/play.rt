@@ -12,7 +12,7 @@ use crate::interface::{VoiceIn, VoiceOut, is_keyed};
 use crate::level::high_byte;
 use crate::voice::Voice;
 use crate::workspace::Workspace;
-use num_fix::{BATCH_SIZE, has_bit};
+use num_fix::BATCH_SIZE;
 
 /// Adds the bit of a voice that ended in sample `j`.
 pub(crate) fn mark_ended(ends: &mut [u8; BATCH_SIZE], j: u8, ended: bool, voice: u8)
@@ -80,14 +80,12 @@ impl Voice {
         }
         // a copy, so that what is the same in all samples is worked out once
         let seen = reads.seen;
-        let koff = has_bit(seen.koff, seen.voice);
-        let mut calm = self.is_calm(seen.reset, koff, reads.memory);
         seen.put_pitches(&mut work.pitches, reads.regs.pitch, previous);
         let plain = seen.plain_samples(reads.rows);
         let mut j = 0;
         'samples: while j < last {
             let end = plain.end_from(j, n);
-            let glided = self.glide(j, end, calm, reads, work, made);
+            let glided = self.glide(j, end, reads, work, made);
             let to = glided.at;
             if last <= to {
                 return glided;
@@ -97,7 +95,6 @@ impl Voice {
             let answer = self.play_sample(to, reads, &input);
             made.outs[place] = answer.out;
             mark_ended(&mut made.ends, to, answer.ended, seen.voice);
-            calm = self.is_calm(seen.reset, koff, reads.memory);
             j = to + 1;
         }
         Glided { at: j, level: 0 }

@@ -14,7 +14,7 @@ use num_fix::BATCH_SIZE;
 pub(crate) const ROW_SIZE: usize = 12 + 4 * BATCH_SIZE + 12;
 
 /// Where a group stands.
-#[derive(Clone, Copy, Debug)]
+#[derive(Clone, Copy)]
 pub(crate) struct Place {
     /// The address of its block.
     pub block: u16,

@@ -7,7 +7,7 @@ ghost use Rattle.gauss_table.specs.Interpolation.{mix_of};
 ghost use Rattle.gauss_table.specs.Quads.{AreQuads};
 ghost use Rattle.rate_clock.specs.Counter.{counter_at};
 ghost use Rattle.voice_unit.specs.Course.{IsCourse};
-ghost use Rattle.voice_unit.specs.Levels.{envelope_after, level_in};
+ghost use Rattle.voice_unit.specs.Levels.{envelope_from, level_in};
 ghost use Rattle.voice_unit.specs.Voice.{interpolation};
 ghost use Rattle.voice_unit.specs.Track.{IsTrack, point_at};
 ghost use Rattle.voice_unit.specs.OutsOverRow.{mixed_at, sounding_at, out_in_stretch};
@@ -22,7 +22,7 @@ use crate::short_sounding::{
     take_short_track_taps,
 };
 use crate::track::{POINTS, Track};
-use crate::workspace::Places;
+use crate::workspace::StretchRows;
 use envelope::Envelope;
 use gauss_table::{GaussTable, Quad, Taps};
 use num_fix::{BATCH_SIZE, clear_bit0, wrap16};
@@ -133,7 +133,8 @@ fn put_noise(outs: &mut [i16; BATCH_SIZE], at: u8, n: u8, noise: &[u16; BATCH_SI
     }
 }
 
-/// The outputs of n samples, each at its own level. It stands apart, since few stretches are so.
+/// The outputs of n samples, each at its own level. That each is a level is made plain by what is left of it below LEVELS, so that no condition is wanted.
+/// It stands apart, since few stretches are so.
 #[inline(never)]
 fn put_by_levels(
     outs: &mut [i16; BATCH_SIZE],
@@ -154,7 +155,8 @@ fn put_by_levels(
     }
 }
 
-/// The outputs of n samples of noise, each at its own level. It stands apart, since few voices play noise.
+/// The outputs of n samples of noise, each at its own level. That each is a level is made plain by what is left of it below LEVELS, so that no condition is
+/// wanted. It stands apart, since few voices play noise.
 #[inline(never)]
 fn put_noise_by_levels(
     outs: &mut [i16; BATCH_SIZE],
@@ -188,8 +190,8 @@ fn put_silence(outs: &mut [i16; BATCH_SIZE], at: u8, n: u8)
     }
 }
 
-/// What a stretch of samples leaves of an envelope.
-#[derive(Clone, Copy, Debug)]
+/// What a stretch that sounded leaves: its envelope, and the level of its last sample.
+#[derive(Clone, Copy)]
 pub(crate) struct Sounded {
     /// The envelope after the last sample.
     pub envelope: Envelope,
@@ -203,7 +205,7 @@ impl<'a> Course<'a> {
     fn sound_at_level(
         &self,
         outs: &mut [i16; BATCH_SIZE],
-        places: &mut Places,
+        rows: &mut StretchRows,
         at: u8,
         n: u8,
         row: &[i16; ROW_SIZE],
@@ -227,14 +229,14 @@ impl<'a> Course<'a> {
         }
         match reads.table.factors() {
             Some(factors) if at <= LAST_OF_EIGHT => {
-                take_short_track_taps(&mut places.short_taps, n, row, factors, &self.track);
+                take_short_track_taps(&mut rows.short_taps, n, row, factors, &self.track);
                 let factors = factors_of_level(level);
                 let loud = HALF_LEVEL <= level;
-                put_short(outs, at, n, &places.short_taps, &factors, loud);
+                put_short(outs, at, n, &rows.short_taps, &factors, loud);
             }
             _ => {
-                take_track_taps(&mut places.taps, n, row, reads.table, &self.track);
-                put_at_level(outs, at, n, &places.taps, level);
+                take_track_taps(&mut rows.taps, n, row, reads.table, &self.track);
+                put_at_level(outs, at, n, &rows.taps, level);
             }
         }
     }
@@ -245,7 +247,7 @@ impl<'a> Course<'a> {
     fn sound_by_levels(
         &self,
         outs: &mut [i16; BATCH_SIZE],
-        places: &mut Places,
+        rows: &mut StretchRows,
         at: u8,
         n: u8,
         row: &[i16; ROW_SIZE],
@@ -255,21 +257,21 @@ impl<'a> Course<'a> {
         requires few { at + n ≤ BATCH_SIZE }
         ensures outs { (j : ℕ) → j < n
             → number_at outs.new (at + j) ≡ out_in_stretch self.now.noisy (slice_index reads.now.rows.now.noise (at + j))
-            reads.now.table.now row.now (point_at self.now.track j) (slice_index places.old.levels (at + j) % LEVELS) }
+            reads.now.table.now row.now (point_at self.now.track j) (slice_index rows.old.levels (at + j) % LEVELS) }
         ensures before { (i : ℕ) → i < at → number_at outs.new i ≡ number_at outs.old i }
     {
         if self.noisy {
-            put_noise_by_levels(outs, at, n, &reads.rows.noise, &places.levels);
+            put_noise_by_levels(outs, at, n, &reads.rows.noise, &rows.levels);
             return;
         }
         match reads.table.factors() {
             Some(factors) if at <= LAST_OF_EIGHT => {
-                take_short_track_taps(&mut places.short_taps, n, row, factors, &self.track);
-                put_short_by_levels(outs, at, n, &places.short_taps, &places.levels);
+                take_short_track_taps(&mut rows.short_taps, n, row, factors, &self.track);
+                put_short_by_levels(outs, at, n, &rows.short_taps, &rows.levels);
             }
             _ => {
-                take_track_taps(&mut places.taps, n, row, reads.table, &self.track);
-                put_by_levels(outs, at, n, &places.taps, &places.levels);
+                take_track_taps(&mut rows.taps, n, row, reads.table, &self.track);
+                put_by_levels(outs, at, n, &rows.taps, &rows.levels);
             }
         }
     }
@@ -279,7 +281,7 @@ impl<'a> Course<'a> {
     pub(crate) fn sound(
         &self,
         outs: &mut [i16; BATCH_SIZE],
-        places: &mut Places,
+        rows: &mut StretchRows,
         at: u8,
         n: u8,
         row: &[i16; ROW_SIZE],
@@ -293,7 +295,7 @@ impl<'a> Course<'a> {
             reads.now.table.now row.now (point_at self.now.track j) (level_in self.now.envelope reads.now.regs (k + at) j) }
         ensures before { (i : ℕ) → i < at → number_at outs.new i ≡ number_at outs.old i }
         ensures envelope { (k : ℕ) → reads.now.clock ≡ counter_at k
-            → result.envelope ≡ envelope_after self.now.envelope reads.now.regs (k + at) n }
+            → result.envelope ≡ envelope_from self.now.envelope reads.now.regs (k + at) n }
         ensures within { result.level ≤ 0x7ff }
         ensures level { (k : ℕ) → reads.now.clock ≡ counter_at k
             → result.level ≡ level_in self.now.envelope reads.now.regs (k + at) (n - 1) }
@@ -303,15 +305,15 @@ impl<'a> Course<'a> {
         let clock = clock_in(reads, at);
         let rest = envelope.rest(regs.adsr1, regs.adsr2, regs.gain, &clock);
         if u16::from(n) <= rest {
-            self.sound_at_level(outs, places, at, n, row, reads);
+            self.sound_at_level(outs, rows, at, n, row, reads);
             return Sounded {
                 envelope,
                 level: envelope.level(),
             };
         }
-        put_levels(&mut places.levels, at, n, &mut envelope, reads);
-        let level = places.levels[usize::from(at + n) - 1];
-        self.sound_by_levels(outs, places, at, n, row, reads);
+        put_levels(&mut rows.levels, at, n, &mut envelope, reads);
+        let level = rows.levels[usize::from(at + n) - 1];
+        self.sound_by_levels(outs, rows, at, n, row, reads);
         Sounded { envelope, level }
     }
 }

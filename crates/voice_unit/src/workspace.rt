@@ -7,9 +7,9 @@ use gauss_table::{GaussTable, ShortTaps, Taps};
 use num_fix::BATCH_SIZE;
 use std::alloc::Global;
 
-/// Places for the samples of a stretch: for their taps, those of any table and those of tables whose weights are from 0 to 2,047, and for their levels.
+/// The rows of a stretch: the taps of its samples, those of any table and those of tables whose weights are from 0 to 2,047, and their levels.
 #[derive(Clone, Copy)]
-pub(crate) struct Places {
+pub(crate) struct StretchRows {
     pub taps: [Taps; BATCH_SIZE],
     pub short_taps: [ShortTaps; BATCH_SIZE],
     pub levels: [u16; BATCH_SIZE],
@@ -21,7 +21,7 @@ pub(crate) struct Places {
 pub struct Workspace {
     /// Twelve samples, those of 64 groups, and the rest of the last one's block.
     pub(crate) row: [i16; ROW_SIZE],
-    pub(crate) places: Places,
+    pub(crate) rows: StretchRows,
     /// The pitches of a voice in a batch, where they are modulated.
     pub(crate) pitches: [u16; BATCH_SIZE],
     /// How far the samples of such a voice stand in the row, and the one after them.
@@ -35,7 +35,7 @@ impl Workspace {
     pub fn new(alloc: Global, table: &GaussTable) -> Result<Workspace, OutOfMemory> {
         Ok(Workspace {
             row: [0; ROW_SIZE],
-            places: Places {
+            rows: StretchRows {
                 taps: [Taps::at(table.quads(), 0, 0, 0, 0, 0); BATCH_SIZE],
                 short_taps: [ShortTaps::silent(); BATCH_SIZE],
                 levels: [0; BATCH_SIZE],

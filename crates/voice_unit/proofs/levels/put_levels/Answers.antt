@@ -3,9 +3,9 @@ use Rattle.std.proofs.lemmas.Bool.{cases_lt}
 use Rattle.rate_clock.specs.Counter.{counter_at}
 use Rattle.envelope.specs.Envelope.{EnvelopeState}
 use Rattle.envelope.specs.declared.Mode.TheVariants.{Release}
-use Rattle.voice_unit.specs.Levels.{envelope_after}
+use Rattle.voice_unit.specs.Levels.{envelope_from}
 use Rattle.voice_unit.specs.declared.interface.VoiceRegs.{VoiceRegs}
-use Rattle.voice_unit.proofs.Stepped.{envelope_after-zero, envelope_after-add, released_after}
+use Rattle.voice_unit.proofs.Stepped.{envelope_from-zero, envelope_from-add, released_after}
 use Rattle.voice_unit.proofs.levels.put_levels.Goals as goal
 
 pub levels-init : goal.levels-init
@@ -13,7 +13,7 @@ levels-init c = record {
   few = omega arith;
   levels = λ k is i below. absurd (omega (arith, below));
   within = λ i below. absurd (omega (arith, below));
-  envelope = λ k is. sym (envelope_after-zero c.args.envelope.now c.args.reads.now.regs (k + c.args.at));
+  envelope = λ k is. sym (envelope_from-zero c.args.envelope.now c.args.reads.now.regs (k + c.args.at));
 }
 
 pub levels-preserved : goal.levels-preserved
@@ -23,10 +23,10 @@ levels-preserved c =
     let e : EnvelopeState = c.args.envelope.now in
     let r : VoiceRegs = c.args.reads.now.regs in
     let held : ℕ = c.put_steady-j.result in
-    let now : (k : ℕ) → c.args.reads.now.clock ≡ counter_at k → (i : ℕ) → envelope_after e r (k + at) (j + i) ≡ envelope_after c.levels.envelope r (k + (at + j)) i =
+    let now : (k : ℕ) → c.args.reads.now.clock ≡ counter_at k → (i : ℕ) → envelope_from e r (k + at) (j + i) ≡ envelope_from c.levels.envelope r (k + (at + j)) i =
     λ k is i.
     let far : k + at + j ≡ k + (at + j) = omega arith in
-    envelope_after-add e r (k + at) j i ∙ rw (far, c.levels.invariant.envelope k is) refl in
+    envelope_from-add e r (k + at) j i ∙ rw (far, c.levels.invariant.envelope k is) refl in
     record {
       few = omega (arith, c.put_steady-j.ensures.few, c.levels-test.true);
       levels = λ k is i below. elim (cases_lt i j) [

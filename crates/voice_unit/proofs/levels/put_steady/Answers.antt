@@ -2,7 +2,7 @@ use Rattle.std.proofs.Common.{◌≡◌, ◌+◌, ℕ, sym, ap, ◌∙◌, arith
 use Rattle.rate_clock.specs.Counter.{counter_at}
 use Rattle.envelope.specs.Envelope.{EnvelopeState, envelope_step}
 use Rattle.voice_unit.specs.declared.interface.VoiceRegs.{VoiceRegs}
-use Rattle.voice_unit.proofs.Stepped.{envelope_after-more, after_rest}
+use Rattle.voice_unit.proofs.Stepped.{envelope_from-more, after_rest}
 use Rattle.voice_unit.proofs.levels.put_steady.Goals as goal
 
 pub returns-then-from-rest-clause-stays : goal.returns-then-from-rest-clause-stays
@@ -29,4 +29,4 @@ returns-clause-envelope c k is =
     let rests = c.rest-rest.ensures.rests at (c.clock_in-clock.ensures k is) in
     let then : c.after_samples-then.result ≡ counter_at (at + last) = c.after_samples-then.ensures.at at (c.clock_in-clock.ensures k is) in
     rw then at c.step.ensures
-    ∙ sym (envelope_after-more e r at last ∙ ap (λ (x : EnvelopeState). envelope_step x r.adsr1 r.adsr2 r.gain (counter_at (at + last))) (after_rest e r at last last rests (omega arith)))
+    ∙ sym (envelope_from-more e r at last ∙ ap (λ (x : EnvelopeState). envelope_step x r.adsr1 r.adsr2 r.gain (counter_at (at + last))) (after_rest e r at last last rests (omega arith)))

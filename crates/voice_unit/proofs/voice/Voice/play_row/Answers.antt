@@ -14,7 +14,6 @@ use Rattle.voice_unit.proofs.voice.Voice.play_row.Goals as goal
 pub samples-init : goal.samples-init
 samples-init c = record {
   played = λ k at. none_played (lane_of c.args.reads.now c.args.previous.now c.args.self.now k) c.args.reads.now.seen.voice c.args.made.now.ends c.args.made.now.outs;
-  calm = λ is. rw c.has_bit-koff.ensures at (c.is_calm-calm.ensures is);
   within = omega arith;
   later = λ j above. refl;
   lower = λ j below. rw (doubled c.args.reads.now.seen.voice) (omega (arith, c.requires.lower j below));
@@ -56,7 +55,6 @@ samples-preserved c =
           c.args.made.now.ends c.glide-glided.new.made.ends c.glide-glided.new.made.outs c.glide-glided.new.self c.play_sample-answer.new.self c.play_sample-answer.result.out c.play_sample-answer.result.ended
           (played k at) within_outs within_ends
           (step k at).voice (ap (λ (answer : VoiceOut). answer.out) (step k at).answer_is) (ap (λ (answer : VoiceOut). answer.ended) (step k at).answer_is));
-      calm = λ is. rw c.has_bit-koff.ensures at (c.is_calm-calm-in-samples.ensures is);
       within = omega (arith, c.if-last-to.false);
       later = λ i above.
           let other : i ≢ to = λ e. absurd (omega (arith, e, above)) in

@@ -1,8 +1,6 @@
 use Rattle.std.proofs.Common.{◌≡◌, ℕ, true, ◌+◌, ◌-◌, ◌≤◌, ◌<◌, ◌^◌, length, slice_index}
-use Rattle.num_fix.specs.Arithmetic.{has_bit}
 use Rattle.num_fix.specs.SignedWords.{number_at}
 use Rattle.rate_clock.specs.Counter.{counter_at}
-use Rattle.voice_unit.specs.Calm.{IsCalm}
 use Rattle.voice_unit.specs.Play.{IsPlayed, lane_of}
 use Rattle.voice_unit.specs.Voice.{is_modulated, modulated_pitch}
 use Rattle.voice_unit.proofs.voice.Voice.play_row.Given as goal
@@ -11,7 +9,6 @@ abbrev pub invariant-samples : goal.invariant-samples
 invariant-samples l = record {
   played : (k : ℕ) → l.reads.clock ≡ counter_at k
       → IsPlayed (lane_of l.reads l.previous l.initial.self k) l.reads.seen.voice l.j l.initial.made.ends l.made.ends l.made.outs l.self;
-  calm : l.calm ≡ true → IsCalm l.reads.seen.reset (has_bit l.reads.seen.koff l.reads.seen.voice) l.reads.memory.now l.self;
   within : l.j ≤ l.last;
   later : (j : ℕ) → l.j ≤ j → slice_index l.made.ends j ≡ slice_index l.initial.made.ends j;
   lower : (j : ℕ) → j < 64 → slice_index l.made.ends j < 2 ^ (l.reads.seen.voice + 1);
