@@ -15,8 +15,8 @@
  *  - malloc, realloc and free of one allocator; 512 KB of stack for spcwave_open, 32 KB for the others; no call from a signal handler.
  * Nothing is global: any number of handles may be used side by side.
  * Only spcwave_open takes memory: 561 KB, and 260 bytes a page. Only spcwave_close gives it back.
- * Measured of the example tune, on a processor of 2.5 GHz: a frame takes 361 instructions and 73 to 110 ns, spcwave_open 393,000 and 38 to 66
- * microseconds, whatever its pages are, and a seek back to a mark 79,000 instructions and 6 microseconds. A seek behind a mark takes the frames between as well.
+ * Measured of the example tune, on a processor of 2.5 GHz: a frame takes 336 instructions and 73 to 110 ns, spcwave_open 396,000 and 36 to 66
+ * microseconds, whatever its pages are, and a seek back to a mark 79,000 instructions and 4 to 7 microseconds. A seek behind a mark takes the frames between as well.
  */
 #ifndef SPCWAVE_H
 #define SPCWAVE_H
