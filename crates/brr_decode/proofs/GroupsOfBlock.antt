@@ -1,8 +1,7 @@
 -- Groups of a block that stand in a row.
-use Rattle.std.proofs.Common.{◌≡◌, ◌≢◌, ◌∙◌, sym, ap, refl, zero, suc, ◌+◌, ◌-◌, ◌*◌, ◌<◌, ◌≤◌, ◌==◌, ℕ, Bool, true, false, ℤ, pos, List, [], ◌∷◌, ◌++◌, length, take, drop, get_or, length-drop, append_assoc, arith}
+use Rattle.std.proofs.Common.{◌≡◌, ◌≢◌, ◌∙◌, sym, ap, refl, zero, suc, ◌+◌, ◌-◌, ◌*◌, ◌<◌, ◌≤◌, ◌==◌, ℕ, Bool, true, false, ℤ, pos, List, ◌++◌, length, take, drop, get_or, length-drop, append_assoc, arith}
 use Rattle.std.proofs.Math.Seq.{take-add, take-append-add}
 use Rattle.std.proofs.lemmas.List.{get_or_append_left, get_or-take, get_or-drop, length-take-le, take-take, take-append-le, take_at, drop_at, drop-take, append-nil, drop-drop, get_or-reverse}
-use Rattle.std.proofs.lemmas.List.FromFn.{fill_by_all}
 use Rattle.std.proofs.lemmas.Bool.Decides.{nat_tests}
 use Rattle.num_fix.specs.SignedWords.{number_at}
 use Rattle.brr_decode.specs.Kept.{EndsWith, sample_from_end, with_group}
@@ -84,20 +83,6 @@ module _ (header digits : ℕ) (row : List ℤ) (g : ℕ) (long : length row ≡
       ∙ known (g + d) (omega arith) (omega (arith, few)) (samples ++ part d) (ends_so d (omega (arith, few)))
       ∙ append_assoc samples (part d) (take 4 (drop (4 * (g + d) + 2) row))
       ∙ ap (λ (xs : List ℤ). samples ++ xs) (sym joined)
-
--- four numbers of a row, written out
-pub four_at : (row : List ℤ) (n : ℕ) → n + 6 ≤ length row
-    → take 4 (drop (n + 2) row) ≡ number_at row (n + 2) ∷ number_at row (n + 3) ∷ number_at row (n + 4) ∷ number_at row (n + 5) ∷ []
-four_at row n within =
-    let xs : List ℤ = take 4 (drop (n + 2) row) in
-    let long : length xs ≡ 4 = length-take-le 4 (drop (n + 2) row) (omega (arith, length-drop (n + 2) row, within)) in
-    let entry : (i m : ℕ) → i < 4 → n + 2 + i ≡ m → number_at xs i ≡ number_at row m =
-    λ i m below is. get_or-take 4 (drop (n + 2) row) i (pos 0) below ∙ get_or-drop (n + 2) row i (pos 0) ∙ ap (number_at row) is in
-    let a = entry 0 (n + 2) (omega arith) (omega arith) in
-    let b = entry 1 (n + 3) (omega arith) (omega arith) in
-    let c = entry 2 (n + 4) (omega arith) (omega arith) in
-    let d = entry 3 (n + 5) (omega arith) (omega arith) in
-    fill_by_all (number_at xs) xs 4 (pos 0) long (λ k below. refl) ∙ (λ i. a i ∷ b i ∷ c i ∷ d i ∷ [])
 
 -- the end of the first samples of a list
 pub ends_with_take : (row : List ℤ) (len : ℕ) → 2 ≤ len → len ≤ length row → EndsWith (take len row) (number_at row (len - 2)) (number_at row (len - 1))

@@ -1,9 +1,8 @@
 //! Blocks that were decoded, kept by what they were decoded from: a voice that loops, and each voice that plays the same sample, comes to
 //! the same blocks again and again.
-ghost use Rattle.std.specs.Prelude.{◌≡◌, ◌<◌, ◌≤◌, ◌+◌, ◌*◌, ◌++◌, ℕ, List, ℤ, true, length, take};
-ghost use Rattle.brr_decode.specs.Kept.{EndsWith, with_group};
+ghost use Rattle.std.specs.Prelude.{◌≡◌, ◌<◌, ◌≤◌, ◌+◌, ◌*◌, ℕ, true, length, take};
 ghost use Rattle.brr_decode.specs.Known.{WasDecodedFrom};
-ghost use Rattle.brr_decode.specs.Remembered.{byte_of, with_groups};
+ghost use Rattle.brr_decode.specs.Remembered.{with_groups};
 
 use crate::remembered::{RememberedBlock, byte_of};
 use crate::{OutOfMemory, decode_group};
@@ -86,8 +85,8 @@ impl BlockMemory {
         Ok(BlockMemory { blocks })
     }
 
-    /// The block at an address, decoded from one of its groups on, after the samples `p2` and `p1`, unless that is remembered. Where the block stands tells
-    /// where it is remembered and no more. Inlined, so that a block that is remembered costs no call.
+    /// The block at an address, decoded from one of its groups on, after the samples `p2` and then `p1`, unless that is remembered. Where the block stands
+    /// tells where it is remembered and no more. Inlined, so that a block that is remembered costs no call.
     #[inline(always)]
     fn recall(
         &mut self,
@@ -108,33 +107,8 @@ impl BlockMemory {
         &self.blocks[place]
     }
 
-    /// Decodes a group of a block, unless it is remembered. `p1` is the last kept sample and `p2` the kept sample before it.
-    #[inline(always)]
-    pub fn decode(
-        &mut self,
-        address: u16,
-        header: u8,
-        digits: u64,
-        group: u8,
-        p1: i16,
-        p2: i16,
-    ) -> [i16; 4]
-        requires { group < 4 }
-        ensures { (samples : List ℤ) → EndsWith samples p2 p1
-            → with_group samples header (byte_of digits (2 * group)) (byte_of digits (2 * group + 1)) ≡ samples ++ result }
-    {
-        let known = self.recall(address, header, digits, group, p1, p2);
-        let at = 4 * usize::from(group);
-        [
-            known.row[at + 2],
-            known.row[at + 3],
-            known.row[at + 4],
-            known.row[at + 5],
-        ]
-    }
-
-    /// Puts the rest of a block, from one of its groups on, after `len` kept samples of a row, unless it is remembered. Sixteen numbers are put, so that
-    /// they are copied at once; those after the block are of no account.
+    /// Puts the rest of a block, from one of its groups on, after `len` kept samples of a row. It is decoded unless it is remembered. Sixteen numbers
+    /// are put, so that they are copied at once; those after the block are of no account.
     #[inline(always)]
     pub fn read_rest(
         &mut self,

@@ -51,6 +51,14 @@ pub record AddsSamples {S : Type 0} (mask : ℕ) (made : SamplesResult S) (state
   pub frames_made : new_frames ≡ old_frames ++ made.frames
   pub records_made : new_records ≡ old_records ++ filter (in_mask mask) made.records
 
+-- What is there once one sample is made, likewise: its frame, and of its records those that are wanted.
+pub record AddsSample {S : Type 0} (mask : ℕ) (made : SampleResult S) (state : S) (memory : List ℕ)
+    (old_frames new_frames : List Frame) (old_records new_records : List Record) : Type 0 where
+  pub state_made : state ≡ made.state
+  pub memory_made : memory ≡ made.memory
+  pub frames_made : new_frames ≡ old_frames ++ made.frame ∷ []
+  pub records_made : new_records ≡ old_records ++ filter (in_mask mask) made.records
+
 -- a count with some more, which stands still at the end of 64 bits
 abbrev pub count_after : (count more : ℕ) → ℕ
 count_after count more = min (count + more) (2 ^ 64 - 1)

@@ -57,7 +57,7 @@ fn put_tag(report: &mut Vec<u8>, file: &SpcFile, tag: Tag) -> Result<(), OutOfMe
 fn put_tags(report: &mut Vec<u8>, file: &SpcFile) -> Result<(), OutOfMemory>
     ensures { OnOk result (report.new.items ≡ report.old.items ++ tag_lines file.now) }
 {
-    if file.tag_mark() != 0x1a {
+    if !file.is_tagged() {
         return report.extend_from_slice(b"tags no\n");
     }
     report.extend_from_slice(b"tags yes\n")?;

@@ -2,7 +2,7 @@
 ghost use Rattle.std.specs.Prelude.{◌≡◌, ◌+◌, ◌-◌, ◌*◌, ◌/◌, ◌<◌, ◌≤◌, true, false};
 ghost use Rattle.aram_core.specs.Memory.{byte_at, with_byte};
 ghost use Rattle.chip_form.specs.Limits.{most_samples_of_batch, most_samples_of_chip};
-ghost use Rattle.spc700_exec.specs.Bus.{most_calls, most_calls_before_step};
+ghost use Rattle.spc700_exec.specs.Bus.{most_calls, most_calls_before_step, most_calls_of_step};
 ghost use Rattle.spc700_exec.specs.Instruction.{step_outcome};
 ghost use Rattle.lock_step.specs.LockStep.{samples_due};
 ghost use Rattle.lag_bus.specs.Book.{may_be_read, may_be_written};
@@ -103,6 +103,6 @@ pub trait BehindBus {
         requires room { calls ≤ most_calls_before_step }
         requires time { clock / CYCLES_PER_SAMPLE < most_samples_of_chip - 1 }
         ensures does { (result, shows self.new) ≡ step_outcome (lagging Self.C.meaning) cpu (caught_up Self.C.meaning clock calls (shows self.old)) }
-        ensures calls { (shows self.new).machine.calls ≤ calls + 13 }
+        ensures calls { (shows self.new).machine.calls ≤ calls + most_calls_of_step }
         ensures some { clock < (shows self.new).machine.clock };
 }

@@ -10,15 +10,15 @@ use chip_form::Chip;
 pub enum Cause {
     /// A write of a register, or a read of one that samples write.
     Register,
-    /// A write of memory that they may read.
+    /// A write of memory that the pending samples may read.
     Memory,
-    /// A read of memory that they may write.
+    /// A read of memory that the pending samples may write.
     Echo,
-    /// There are as many as may be.
+    /// 64 samples are pending, as many as may be.
     Full,
-    /// There are as many events waiting for them as may be.
+    /// The ring is full of events, which wait for the pending samples.
     Events,
-    /// It was asked for.
+    /// The samples were asked for, by `settle`.
     End,
 }
 

@@ -5,6 +5,10 @@ use Rattle.std.specs.Prelude.{ℕ}
 abbrev pub most_frames : ℕ
 most_frames = 115200000
 
+-- the greatest number of a sample: a bus and its chip are run no further
+abbrev pub greatest_sample_number : ℕ
+greatest_sample_number = 4000000000
+
 -- the most bytes of an input that is no sound file: 1 MB
 abbrev pub most_input : ℕ
 most_input = 1048576

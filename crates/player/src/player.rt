@@ -128,7 +128,7 @@ impl Player {
     pub fn is_tagged(&self) -> bool
         ensures { result ≡ has_tags self.now.file }
     {
-        self.file.tag_mark() == 0x1A
+        self.file.is_tagged()
     }
 
     /// Writes the text of a tag, whatever its bytes are, as much as there is room for, and a zero byte; tells the whole text's length.

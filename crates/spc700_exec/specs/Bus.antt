@@ -1,10 +1,11 @@
 -- What contracts see of a bus: three functions on the bus as plain data, and three numbers of it.
 use Rattle.std.specs.Prelude.{◌≡◌, ℕ, ◌+◌, ◌/◌}
+use Rattle.num_fix.specs.Limits.{greatest_sample_number}
 use Rattle.spc700_exec.specs.declared.bus.TheConstants.{CYCLES_PER_SAMPLE, MOST_CALLS, MOST_CALLS_BEFORE_STEP}
 
 -- before a pass, fewer samples than this are due
 abbrev pub most_samples_of_bus : ℕ
-most_samples_of_bus = 4000000000
+most_samples_of_bus = greatest_sample_number
 
 -- the calls between two drains at most, and those before a step
 abbrev pub most_calls : ℕ
@@ -12,6 +13,10 @@ most_calls = MOST_CALLS
 
 abbrev pub most_calls_before_step : ℕ
 most_calls_before_step = MOST_CALLS_BEFORE_STEP
+
+-- the calls of one step at most
+abbrev pub most_calls_of_step : ℕ
+most_calls_of_step = 13
 
 pub record BusMeaning (S : Type 0) : Type 0 where
   -- a read of an address: the byte, and the bus after it

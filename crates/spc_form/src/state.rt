@@ -15,7 +15,7 @@ const ROM_PLACE: usize = 0xFFC0;
 /// Where the cells of ports and timers begin in memory.
 const CELLS_PLACE: usize = 0xF0;
 
-/// How many they are.
+/// How many cells of ports and timers memory has: F0h to FFh.
 const CELL_COUNT: usize = 16;
 
 /// What the machine begins with: the memory, the cells F0h to FFh, the boot ROM, and the registers of the S-DSP.

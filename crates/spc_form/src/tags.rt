@@ -13,6 +13,9 @@ use text_form::{decimal_value, place_of};
 /// The samples of a millisecond.
 pub const SAMPLES_PER_MILLISECOND: u32 = 32;
 
+/// The frames of a file whose tags tell no length: three minutes.
+const UNTOLD_FRAMES: u32 = 180 * SAMPLE_RATE;
+
 /// The tags of a file (SPC file format text v0.30).
 #[derive(Clone, Copy, Debug, PartialEq, Eq)]
 pub enum Tag {
@@ -60,7 +63,7 @@ fn field_start(tag: Tag) -> usize
     }
 }
 
-/// How many bytes it has.
+/// How many bytes the field of a tag has.
 fn field_size(tag: Tag) -> usize
     ensures size { result ≡ field_size tag }
     ensures bound { result ≤ 32 }
@@ -133,7 +136,7 @@ fn length_of_numbers(seconds: Option<u32>, fade: Option<u32>) -> Length
             }
         }
         _ => Length {
-            frames: 5_760_000,
+            frames: UNTOLD_FRAMES,
             fade: 0,
         },
     }
@@ -148,8 +151,7 @@ impl SpcFile {
         ensures most { result.frames ≤ most_told_frames }
         ensures fade_within { result.fade ≤ result.frames }
     {
-        let tagged = self.tag_mark() == 0x1A;
-        let seconds = if tagged {
+        let seconds = if self.is_tagged() {
             number_in(self.text(Tag::Seconds))
         } else {
             None

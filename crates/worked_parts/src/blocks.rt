@@ -21,10 +21,18 @@ fn shifts_and_filters(rt: HostRuntime) -> Result<(), Fail> {
 fn remembered_blocks(rt: HostRuntime) -> Result<(), Fail> {
     let mut blocks = BlockMemory::new(rt.alloc())?;
     for _ in 0..2 {
-        assert!(rt; blocks.decode(0x2000, 0xC4, 0, 0, 4096, 0) == [3840, 3600, 3374, 3162]);
-        assert!(rt; blocks.decode(0x2000, 0xC4, 0, 0, 0, 4096) == [0, 0, 0, 0]);
-        assert!(rt; blocks.decode(0x2000, 0xC0, 0x80, 0, 0, 0) == [-32768, 0, 0, 0]);
-        assert!(rt; blocks.decode(0x2000, 0xC0, 0x80_0000, 1, 0, 0) == [-32768, 0, 0, 0]);
+        for (header, digits, group, before, decoded) in [
+            (0xC4, 0, 0, [0, 4096], [3840, 3600, 3374, 3162]),
+            (0xC4, 0, 0, [4096, 0], [0, 0, 0, 0]),
+            (0xC0, 0x80, 0, [0, 0], [-32768, 0, 0, 0]),
+            (0xC0, 0x80_0000, 1, [0, 0], [-32768, 0, 0, 0]),
+        ] {
+            let mut row = [0; 18];
+            row[..2].copy_from_slice(&before);
+            assert!(rt; group < 4);
+            blocks.read_rest(0x2000, header, digits, group, &mut row, 2);
+            assert!(rt; &row[2..6] == decoded.as_slice());
+        }
     }
     Ok(())
 }
