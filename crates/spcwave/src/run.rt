@@ -86,7 +86,7 @@ fn attempt<H: Host>(alloc: Global, words: &[String], host: &mut H) -> Option<Ref
 /// Does what the words say, and answers how it ended. `words` are those after the program's name.
 ///
 /// All inputs are read and all memory is taken before the first output is created. A refusal writes one line of
-/// complaint; only where an output could not be written do parts of outputs stay behind.
+/// complaint; only where an output could not be created, written or ended may parts of outputs stay behind.
 pub fn run<H: Host>(alloc: Global, words: &[String], host: &mut H) -> Status
     requires { HasFewOutputs (H.state host.old) }
     ensures { IsRun (command_of (map string_bytes words.now)) (H.state host.old) (H.state host.new) result }
