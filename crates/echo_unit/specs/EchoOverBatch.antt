@@ -34,3 +34,7 @@ main_of sums = pair_of sums.main_left sums.main_right
 -- what is sent to the echo in each sample
 abbrev pub sent_of : SumRows → ℕ → Frame
 sent_of sums = pair_of sums.sent_left sums.sent_right
+
+-- the echo over the sums of a batch
+abbrev pub echo_over_sums : EchoRegs → SumRows → EchoState → (memory : List ℕ) → (samples : ℕ) → EchoOver
+echo_over_sums regs sums = echo_over regs (main_of sums) (sent_of sums)

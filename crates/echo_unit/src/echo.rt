@@ -4,7 +4,7 @@ ghost use Rattle.reach_map.specs.Window.{echo_window};
 ghost use Rattle.echo_unit.specs.Echo.{first_echo, is_at_cell, cell_address, with_newest, after_reading, length_in_force, at_next_cell, echo_heard, next_echo, echo_memory, output_frame, feedback_pair};
 ghost use Rattle.echo_unit.specs.Cells.{AreNeighbours, StandInLine, after_cells, with_cells};
 ghost use Rattle.echo_unit.specs.Flg.{has_echo_writes};
-ghost use Rattle.echo_unit.specs.EchoOverBatch.{echo_over, pair_of, main_of, sent_of};
+ghost use Rattle.echo_unit.specs.EchoOverBatch.{pair_of, sent_of, echo_over_sums};
 
 use crate::cell::{cell_address, cell_pair, put_cell};
 use crate::filter::filtered_pair;
@@ -207,7 +207,7 @@ impl Echo {
         self.write_cells(n, regs, &left, &right, memory);
     }
 
-    /// The same, unless FLG forbids it.
+    /// Writes what was sent and heard back into n cells, unless FLG forbids it.
     fn write_back(
         &self,
         n: u8,
@@ -237,8 +237,7 @@ impl Echo {
     ) -> [Frame; BATCH_SIZE]
         requires few { n ≤ BATCH_SIZE }
         requires apart { has_echo_writes regs.now.flg ≡ true → 0 < regs.now.edl % 16 }
-        ensures batch { echo_over regs.now (main_of sums.now) (sent_of sums.now) self.old memory.old n
-            ≡ record { echo = self.new; memory = memory.new; frames = take n result } }
+        ensures batch { echo_over_sums regs.now sums.now self.old memory.old n ≡ record { echo = self.new; memory = memory.new; frames = take n result } }
     {
         let mut left = [0; READ_SIZE];
         let mut right = [0; READ_SIZE];
@@ -261,8 +260,7 @@ impl Echo {
         memory: &mut Aram,
     ) -> [Frame; BATCH_SIZE]
         requires few { n ≤ BATCH_SIZE }
-        ensures batch { echo_over regs.now (main_of sums.now) (sent_of sums.now) self.old memory.old n
-            ≡ record { echo = self.new; memory = memory.new; frames = take n result } }
+        ensures batch { echo_over_sums regs.now sums.now self.old memory.old n ≡ record { echo = self.new; memory = memory.new; frames = take n result } }
     {
         let mut frames = [SILENT_FRAME; BATCH_SIZE];
         for j in 0..n {
@@ -284,8 +282,7 @@ impl Echo {
         memory: &mut Aram,
     ) -> [Frame; BATCH_SIZE]
         requires few { n ≤ BATCH_SIZE }
-        ensures batch { echo_over regs.now (main_of sums.now) (sent_of sums.now) self.old memory.old n
-            ≡ record { echo = self.new; memory = memory.new; frames = take n result } }
+        ensures batch { echo_over_sums regs.now sums.now self.old memory.old n ≡ record { echo = self.new; memory = memory.new; frames = take n result } }
     {
         if FEWEST_OF_ROWS <= n && are_cells_apart(regs) {
             self.play_rows(n, regs, sums, memory)

@@ -1,6 +1,6 @@
 use Rattle.std.proofs.Common.{rules, ◌≡◌, length, take, true, ap, sym, ◌∙◌}
 use Rattle.echo_unit.specs.Echo.{EchoState, is_at_cell}
-use Rattle.echo_unit.specs.EchoOverBatch.{echo_over, main_of, sent_of}
+use Rattle.echo_unit.specs.EchoOverBatch.{main_of, sent_of, echo_over_sums}
 use Rattle.echo_unit.specs.Cells.{after_cells}
 use Rattle.echo_unit.proofs.RunByRows.{IsPlayed, reads_first, run_by_rows}
 use Rattle.echo_unit.proofs.echo.Echo.play_rows.Goals as goal
@@ -29,7 +29,7 @@ returns c =
       frames_are = c.output_row.ensures;
     } in
     let echo : c.go_to.new.self ≡ record (after_cells c.args.self.now c.args.regs.now.edl c.args.n) { history = c.last_pairs.result } = rw c.read_cells-next.ensures.echo at c.go_to.ensures in
-    let batch : echo_over c.args.regs.now (main_of c.args.sums.now) (sent_of c.args.sums.now) c.args.self.now c.args.memory.now c.args.n
+    let batch : echo_over_sums c.args.regs.now c.args.sums.now c.args.self.now c.args.memory.now c.args.n
     ≡ record { echo = c.go_to.new.self; memory = c.write_back.new.memory; frames = take c.args.n c.output_row.result } =
     run_by_rows c.args.regs.now (main_of c.args.sums.now) (sent_of c.args.sums.now) c.args.self.now c.args.memory.now
     c.write_back.new.memory c.args.n c.read_cells-next.new.left c.read_cells-next.new.right c.filtered_row.result c.filtered_row-2.result c.last_pairs.result c.output_row.result played
