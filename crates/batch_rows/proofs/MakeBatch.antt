@@ -3,7 +3,7 @@ use Rattle.std.proofs.Common.{◌≡◌, ℕ, zero, suc, ◌+◌, ◌-◌, ◌<�
 use Rattle.voice_unit.specs.Voice.{VoiceState}
 use Rattle.voice_unit.specs.declared.batch.BatchRows.{BatchRows}
 use Rattle.voice_unit.specs.declared.interface.VoiceOut.{VoiceOut}
-use Rattle.echo_unit.specs.EchoOverBatch.{echo_over, main_of, sent_of}
+use Rattle.echo_unit.specs.EchoOverBatch.{main_of, sent_of, echo_over_sums}
 use Rattle.echo_unit.specs.declared.rows.SumRows.{SumRows}
 use Rattle.dsp_state.specs.Mix.{main_frame, sent_frame}
 use Rattle.dsp_state.specs.Registers.{echo_regs}
@@ -54,7 +54,7 @@ keyed_are k n s memory rows eight are small j few =
 
 module _ (k n : ℕ) (s : ChipState) (memory : List ℕ) (voices : List VoiceState) (last : List VoiceOut) (ends : List ℕ) (sums : SumRows)
     (played : IsPlayedBatch (inputs k s memory) n (all_volumes s.registers s.muted) s.hidden.voices voices last ends sums) where
-  pub echo_is : echo_over (echo_regs s.registers) (main_of sums) (sent_of sums) s.hidden.echo memory n ≡ echo_after k s memory n
+  pub echo_is : echo_over_sums (echo_regs s.registers) sums s.hidden.echo memory n ≡ echo_after k s memory n
   unfolding echo_after answers main_frame sent_frame
   echo_is =
       echo_over-rows (echo_regs s.registers) (main_of sums) (λ j. main_frame (all_volumes s.registers s.muted) (answers k s memory j)) (sent_of sums) (λ j. sent_frame (all_volumes s.registers s.muted) (answers k s memory j))

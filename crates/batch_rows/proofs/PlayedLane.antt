@@ -13,7 +13,7 @@ use Rattle.dsp_state.specs.Sample.{voice_in, voice_result}
 use Rattle.dsp_state.specs.declared.state.ChipState.{ChipState}
 use Rattle.batch_rows.specs.KeyRows.{AreKeyRows}
 use Rattle.batch_rows.specs.Lane.{voice_after, lane}
-use Rattle.batch_rows.specs.PlayedLane.{IsPlayedLane}
+use Rattle.batch_rows.specs.PlayedLane.{LaneMade, IsPlayedLane}
 use Rattle.batch_rows.specs.Reads.{voice_view}
 use Rattle.batch_rows.specs.Rows.{inputs}
 use Rattle.batch_rows.proofs.OneMore.{registers-keys_after, table-keys_after}
@@ -50,12 +50,12 @@ module _ (k n v : ℕ) (s : ChipState) (memory : List ℕ) (rows : BatchRows) (p
   unfolding answer_of_step lane voice_result inputs
   answers_are j few = rw (steps_are j (omega (arith, few)), reads j few, registers-keys_after k s (suc j), table-keys_after k s (suc j)) refl
 
-  pub played_lane : (before after : List ℕ) (row : List ℤ) (now : VoiceState) (last : VoiceOut) → 0 < n
-      → IsPlayed (chip_lane s v rows previous memory voice k) v n before after row now
-      → last ≡ answer_at (chip_lane s v rows previous memory voice k) (n - 1)
-      → IsPlayedLane (inputs k s memory) v n (number_at previous) voice now row before after last
-  played_lane before after row now last some played last_is = record {
-    voice = played.voice_is ∙ steps_are n (omega arith);
+  pub played_lane : (before : List ℕ) (made : LaneMade) → 0 < n
+      → IsPlayed (chip_lane s v rows previous memory voice k) v n before made.ends made.row made.voice
+      → made.last ≡ answer_at (chip_lane s v rows previous memory voice k) (n - 1)
+      → IsPlayedLane (inputs k s memory) v n (number_at previous) voice before made
+  played_lane before made some played last_is = record {
+    voice_is = played.voice_is ∙ steps_are n (omega arith);
     row_is = λ j few. played.outs_are j few ∙ ap (λ (answer : VoiceOut). answer.out) (answers_are j few);
     ends_are = λ j few. played.ends_are j few ∙ ap (λ (answer : VoiceOut). slice_index before j + (if answer.ended then 2 ^ v else 0)) (answers_are j few);
     last_is = last_is ∙ answers_are (n - 1) (omega (arith, some));

@@ -12,7 +12,7 @@ use Rattle.dsp_state.specs.Sample.{SharedInput}
 use Rattle.dsp_state.specs.declared.volumes.Volumes.{Volumes}
 use Rattle.batch_rows.specs.Lane.{lane, outs, voices_after}
 use Rattle.batch_rows.specs.PlayedBatch.{answers_from, sum_of, IsPlayedBatch}
-use Rattle.batch_rows.specs.PlayedLane.{IsPlayedLane}
+use Rattle.batch_rows.specs.PlayedLane.{LaneMade, IsPlayedLane}
 use Rattle.batch_rows.proofs.Lanes.{voices_after-rows}
 use Rattle.batch_rows.proofs.VoiceMore.{answers_from-rows, rest_same, opened}
 
@@ -35,39 +35,39 @@ pub record Remains (shared : ℕ → SharedInput) (n : ℕ) (volumes : List Volu
 
 module _ (shared : ℕ → SharedInput) (n : ℕ) (volumes : List Volumes) (before : List VoiceState) where
   -- one voice more
-  module _ (v : ℕ) (previous : List ℤ) (voices : List VoiceState) (within : v < length voices) (d : VoiceState) (now : VoiceState) (row : List ℤ) (ends ends_now : List ℕ) (last : VoiceOut)
-      (played : IsPlayedLane shared v n (number_at previous) (get_or voices v d) now row ends ends_now last) where
+  module _ (v : ℕ) (previous : List ℤ) (voices : List VoiceState) (within : v < length voices) (d : VoiceState) (ends : List ℕ) (made : LaneMade)
+      (played : IsPlayedLane shared v n (number_at previous) (get_or voices v d) ends made) where
     pub last_more : (answers : List VoiceOut) → v < length answers → 0 < n
         → answers_from shared 0 (λ j. pos 0) before (n - 1) ≡ take v answers ++ answers_from shared v (number_at previous) (drop v voices) (n - 1)
-        → answers_from shared 0 (λ j. pos 0) before (n - 1) ≡ take (v + 1) (slice_set answers v last) ++ answers_from shared (v + 1) (number_at row) (drop (v + 1) (slice_set voices v now)) (n - 1)
+        → answers_from shared 0 (λ j. pos 0) before (n - 1) ≡ take (v + 1) (slice_set answers v made.last) ++ answers_from shared (v + 1) (number_at made.row) (drop (v + 1) (slice_set voices v made.voice)) (n - 1)
     last_more answers long some is =
-        let rest = rest_same shared n v previous voices within d now row played.row_is (n - 1) (omega (arith, some)) in
-        let these = opened shared n v previous voices within d now row played.row_is (n - 1) in
-        rw (take_more_set answers v last long, append_assoc, rest, played.last_is) (is ∙ ap (λ (rest : List VoiceOut). take v answers ++ rest) these)
+        let rest = rest_same shared n v previous voices within d made.voice made.row played.row_is (n - 1) (omega (arith, some)) in
+        let these = opened shared n v previous voices within d made.voice made.row played.row_is (n - 1) in
+        rw (take_more_set answers v made.last long, append_assoc, rest, played.last_is) (is ∙ ap (λ (rest : List VoiceOut). take v answers ++ rest) these)
 
     pub ends_more : (j : ℕ) → j < n
         → bits_from (λ answer. answer.ended) 0 (answers_from shared 0 (λ j. pos 0) before j) ≡ slice_index ends j + bits_from (λ answer. answer.ended) v (answers_from shared v (number_at previous) (drop v voices) j)
         → bits_from (λ answer. answer.ended) 0 (answers_from shared 0 (λ j. pos 0) before j)
-        ≡ slice_index ends_now j + bits_from (λ answer. answer.ended) (v + 1) (answers_from shared (v + 1) (number_at row) (drop (v + 1) (slice_set voices v now)) j)
+        ≡ slice_index made.ends j + bits_from (λ answer. answer.ended) (v + 1) (answers_from shared (v + 1) (number_at made.row) (drop (v + 1) (slice_set voices v made.voice)) j)
     ends_more j few is =
-        let these = opened shared n v previous voices within d now row played.row_is j in
+        let these = opened shared n v previous voices within d made.voice made.row played.row_is j in
         let there = is ∙ ap (λ (answers : List VoiceOut). slice_index ends j + bits_from (λ answer. answer.ended) v answers) these in
         let bit : ℕ = if (lane shared v (number_at previous) (get_or voices v d) j).answer.ended then 2 ^ v else 0 in
         let rest : ℕ = bits_from (λ answer. answer.ended) (v + 1) (answers_from shared (v + 1) (outs shared v (number_at previous) (get_or voices v d)) (drop (v + 1) voices) j) in
         let regroup : slice_index ends j + (bit + rest) ≡ slice_index ends j + bit + rest = omega arith in
-        rw (rest_same shared n v previous voices within d now row played.row_is j few, played.ends_are j few) (there ∙ regroup)
+        rw (rest_same shared n v previous voices within d made.voice made.row played.row_is j few, played.ends_are j few) (there ∙ regroup)
 
     pub sum_more : (volume : Volumes → ℤ) (one : Volumes) (sums sums_now : List ℤ) → v < length volumes
-        → ((j : ℕ) → j < n → number_at sums_now j ≡ clamp16 (number_at sums j +ℤ scaled (number_at row j) (volume (get_or volumes v one)) 7))
+        → ((j : ℕ) → j < n → number_at sums_now j ≡ clamp16 (number_at sums j +ℤ scaled (number_at made.row j) (volume (get_or volumes v one)) 7))
         → SumRemains shared n volume volumes before v previous voices sums
-        → SumRemains shared n volume volumes before (v + 1) row (slice_set voices v now) sums_now
+        → SumRemains shared n volume volumes before (v + 1) made.row (slice_set voices v made.voice) sums_now
     sum_more volume one sums sums_now long added is j few =
         let opened_volumes : drop v volumes ≡ get_or volumes v one ∷ drop (v + 1) volumes = drop_more volumes v one long in
         let there = is j few
-        ∙ ap (λ (answers : List VoiceOut). clamped_sum (number_at sums j) (shares_at volume (drop v volumes) answers)) (opened shared n v previous voices within d now row played.row_is j)
+        ∙ ap (λ (answers : List VoiceOut). clamped_sum (number_at sums j) (shares_at volume (drop v volumes) answers)) (opened shared n v previous voices within d made.voice made.row played.row_is j)
         ∙ ap (λ (vols : List Volumes). clamped_sum (number_at sums j) (shares_at volume vols ((lane shared v (number_at previous) (get_or voices v d) j).answer
         ∷ answers_from shared (v + 1) (outs shared v (number_at previous) (get_or voices v d)) (drop (v + 1) voices) j))) opened_volumes in
-        rw (rest_same shared n v previous voices within d now row played.row_is j few, added j few, played.row_is j few) there
+        rw (rest_same shared n v previous voices within d made.voice made.row played.row_is j few, added j few, played.row_is j few) there
 
   -- none of eight voices remains
   pub all_played : (previous : List ℤ) (voices : List VoiceState) (answers : List VoiceOut) (ends : List ℕ) (sums : SumRows)

@@ -1,8 +1,9 @@
 //! A batch by rows.
 
-ghost use Rattle.std.specs.Prelude.{◌≡◌, ◌≤◌, ◌+◌, ◌++◌, length};
+ghost use Rattle.std.specs.Prelude.{◌≡◌, ◌≤◌, ◌+◌, length};
 ghost use Rattle.trace_form.specs.Rooms.{frame_room};
 ghost use Rattle.dsp_state.specs.Settings.{settings_of};
+ghost use Rattle.batch_rows.specs.AddsFrames.{AddsFrames};
 ghost use Rattle.batch_rows.specs.Reads.{IsBatch, batch_by_rows};
 
 use crate::echoes::play_echo;
@@ -31,18 +32,10 @@ pub fn play_batch(
     requires batch { IsBatch samples.now }
     requires settings { settings.now ≡ settings_of state.old.registers state.old.muted }
     requires frame_room { length frames.old + samples.now.n ≤ frame_room }
-    ensures state { state.new ≡ (batch_by_rows samples.now state.old memory.old).state }
-    ensures memory { memory.new ≡ (batch_by_rows samples.now state.old memory.old).memory }
-    ensures frames { frames.new ≡ frames.old ++ (batch_by_rows samples.now state.old memory.old).frames }
+    ensures made { AddsFrames (batch_by_rows samples.now state.old memory.old) state.new memory.new frames.old frames.new }
 {
     let n = samples.n;
-    let rows = step_keys(
-        state,
-        samples.number,
-        n,
-        settings.noise_rate,
-        &samples.clock,
-    );
+    let rows = step_keys(state, samples, settings.noise_rate);
     let reads = BatchReads {
         registers: &state.registers,
         rows: &rows,

@@ -59,7 +59,8 @@ fn walked_cells(memory: &Aram, chain: ChainStart, first: u16, cells: u8) -> u8
     left
 }
 
-/// The same. The chain is walked only where the cells are near to its start or to its loop word.
+/// How many of so many cells in line have no byte of a chain that a voice comes to by then. The chain is walked only where the cells are near to
+/// its start or to its loop word.
 fn chain_cells(memory: &Aram, chain: ChainStart, first: u16, cells: u8) -> u8
     requires { cells ≤ most_samples_of_batch }
     ensures few { result ≤ cells }

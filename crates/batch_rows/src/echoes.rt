@@ -2,7 +2,7 @@
 
 ghost use Rattle.std.specs.Prelude.{◌≡◌, ◌≤◌, ◌+◌, ◌++◌, length};
 ghost use Rattle.trace_form.specs.Rooms.{frame_room};
-ghost use Rattle.echo_unit.specs.EchoOverBatch.{echo_over, main_of, sent_of};
+ghost use Rattle.echo_unit.specs.EchoOverBatch.{echo_over_sums};
 ghost use Rattle.chip_form.specs.Limits.{most_samples_of_batch};
 
 use aram_core::Aram;
@@ -20,9 +20,9 @@ pub fn play_echo(
 )
     requires few { n ≤ most_samples_of_batch }
     requires frame_room { length frames.old + n ≤ frame_room }
-    ensures echo { echo.new ≡ (echo_over regs.now (main_of sums.now) (sent_of sums.now) echo.old memory.old n).echo }
-    ensures memory { memory.new ≡ (echo_over regs.now (main_of sums.now) (sent_of sums.now) echo.old memory.old n).memory }
-    ensures frames { frames.new ≡ frames.old ++ (echo_over regs.now (main_of sums.now) (sent_of sums.now) echo.old memory.old n).frames }
+    ensures echo { echo.new ≡ (echo_over_sums regs.now sums.now echo.old memory.old n).echo }
+    ensures memory { memory.new ≡ (echo_over_sums regs.now sums.now echo.old memory.old n).memory }
+    ensures frames { frames.new ≡ frames.old ++ (echo_over_sums regs.now sums.now echo.old memory.old n).frames }
 {
     let row = echo.play(n, regs, sums, memory);
     frames.extend(&row[..usize::from(n)]);

@@ -8,8 +8,10 @@ ghost use Rattle.dsp_state.specs.Sample.{is_polled, after_poll, after_noise};
 ghost use Rattle.dsp_state.specs.declared.registers.TheConstants.{FLG};
 ghost use Rattle.batch_rows.specs.KeyRows.{AreKeyRows};
 ghost use Rattle.batch_rows.specs.KeysAndNoise.{noise_after, with_keys_of, IsUnkeyed};
+ghost use Rattle.batch_rows.specs.Reads.{IsBatch};
 ghost use Rattle.batch_rows.specs.Rows.{keys_after};
 
+use crate::reads::BatchSamples;
 use dsp_state::ChipState;
 use num_fix::BATCH_SIZE;
 use rate_clock::{Noise, RateClock};
@@ -146,26 +148,20 @@ pub(crate) fn next_clock(clock: &RateClock) -> RateClock
     clock.after_samples(1)
 }
 
-/// Steps the keys and the noise through a batch of n samples from a number on, the first of them at a clock, and gives what its voices read as rows.
-/// The keys and the noise don't concern each other, and go through the batch one after the other. Rows that neither changes are put at once.
-pub fn step_keys(
-    state: &mut ChipState,
-    number: u32,
-    n: u8,
-    rate: u8,
-    first: &RateClock,
-) -> BatchRows
-    requires some { 0 < n }
-    requires few { n ≤ most_samples_of_batch }
-    requires number { number + n ≤ most_samples_of_chip }
+/// Steps the keys and the noise through the samples of a batch, and gives what its voices read as rows. The keys and the noise don't concern each
+/// other, and go through the batch one after the other. Rows that neither changes are put at once.
+pub fn step_keys(state: &mut ChipState, samples: &BatchSamples, rate: u8) -> BatchRows
+    requires batch { IsBatch samples.now }
     requires rate { rate ≡ noise_rate (slice_index state.old.registers FLG) }
-    requires clock { first.now ≡ counter_at number }
-    ensures state { state.new ≡ keys_after number state.old n }
-    ensures rows { AreKeyRows number n state.old result }
-    ensures noise { (j : ℕ) → j < n → slice_index result.noise j < 0x8000 }
-    ensures taken { (j : ℕ) → j < n → slice_index result.kon j < 0x100 }
+    ensures state { state.new ≡ keys_after samples.now.number state.old samples.now.n }
+    ensures rows { AreKeyRows samples.now.number samples.now.n state.old result }
+    ensures noise { (j : ℕ) → j < samples.now.n → slice_index result.noise j < 0x8000 }
+    ensures taken { (j : ℕ) → j < samples.now.n → slice_index result.kon j < 0x100 }
     ensures registers { state.new.registers ≡ state.old.registers }
 {
+    let number = samples.number;
+    let n = samples.n;
+    let first = &samples.clock;
     let keyed = keyed_samples(state, n);
     let firing = next_firing(0, n, rate, first);
     if keyed == 0 && firing == n {

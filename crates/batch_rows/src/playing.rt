@@ -6,7 +6,7 @@ ghost use Rattle.chip_form.specs.Limits.{most_samples_of_batch};
 ghost use Rattle.dsp_state.specs.declared.state.ChipState.{ChipState};
 ghost use Rattle.batch_rows.specs.Reads.{AreReadsOf};
 ghost use Rattle.batch_rows.specs.PlayedBatch.{IsPlayedBatch};
-ghost use Rattle.batch_rows.specs.PlayedLane.{IsPlayedLane};
+ghost use Rattle.batch_rows.specs.PlayedLane.{LaneMade, IsPlayedLane};
 ghost use Rattle.batch_rows.specs.Rows.{inputs};
 
 use crate::reads::BatchReads;
@@ -63,8 +63,8 @@ pub fn play_voice(
     requires noise { (j : ℕ) → j < n → slice_index reads.now.rows.now.noise j < 0x8000 }
     requires lower { (j : ℕ) → j < most_samples_of_batch → slice_index made.old.ends j < 2 ^ v }
     ensures played { (k : ℕ) (s : ChipState) → AreReadsOf k n s reads.now
-        → let shared = inputs k s reads.now.memory.now in
-        IsPlayedLane shared v n (number_at previous.now) voice.old voice.new made.new.outs made.old.ends made.new.ends result }
+        → let lane : LaneMade = record { voice = voice.new; row = made.new.outs; ends = made.new.ends; last = result } in
+        IsPlayedLane (inputs k s reads.now.memory.now) v n (number_at previous.now) voice.old made.old.ends lane }
     ensures lower { (j : ℕ) → j < most_samples_of_batch → slice_index made.new.ends j < 2 ^ (v + 1) }
 {
     let own = reads.of_voice(v);

@@ -1,12 +1,11 @@
 //! A batch whose records are wanted: each voice over the whole batch before the next, and then the rest of each sample.
 
-ghost use Rattle.std.specs.Prelude.{◌≡◌, ◌≤◌, ◌<◌, ◌+◌, ◌*◌, ◌++◌, ℕ, length, slice_index};
-ghost use Rattle.std.specs.List.{filter};
+ghost use Rattle.std.specs.Prelude.{◌≡◌, ◌≤◌, ◌<◌, ◌+◌, ◌*◌, ℕ, length, slice_index};
 ghost use Rattle.num_fix.specs.SignedWords.{number_at};
 ghost use Rattle.trace_form.specs.Rooms.{frame_room, record_room};
 ghost use Rattle.voice_unit.specs.RunOfVoice.{outs_of};
 ghost use Rattle.chip_form.specs.Limits.{most_samples_of_batch};
-ghost use Rattle.chip_form.specs.Samples.{in_mask};
+ghost use Rattle.chip_form.specs.Samples.{AddsSamples};
 ghost use Rattle.dsp_state.specs.Settings.{settings_of};
 ghost use Rattle.dsp_state.specs.declared.state.ChipState.{ChipState};
 ghost use Rattle.batch_rows.specs.Reads.{IsBatch, AreReadsOf, batch_by_rows};
@@ -89,14 +88,12 @@ pub fn play_recorded_batch(
     requires settings { settings.now ≡ settings_of state.old.registers state.old.muted }
     requires frame_room { length frames.old + samples.now.n ≤ frame_room }
     requires record_room { length records.old + 8 * samples.now.n ≤ record_room }
-    ensures state { state.new ≡ (batch_by_rows samples.now state.old memory.old).state }
-    ensures memory { memory.new ≡ (batch_by_rows samples.now state.old memory.old).memory }
-    ensures frames { frames.new ≡ frames.old ++ (batch_by_rows samples.now state.old memory.old).frames }
-    ensures records { records.new ≡ records.old ++ filter (in_mask mask) (batch_by_rows samples.now state.old memory.old).records }
+    ensures made { let made = batch_by_rows samples.now state.old memory.old in
+        AddsSamples mask made state.new memory.new frames.old frames.new records.old records.new }
 {
     let number = samples.number;
     let n = samples.n;
-    let rows = step_keys(state, number, n, settings.noise_rate, &samples.clock);
+    let rows = step_keys(state, samples, settings.noise_rate);
     let mut outs = [OutRow::silent(); 8];
     let reads = BatchReads {
         registers: &state.registers,

@@ -16,9 +16,9 @@ pub step_keys-rows-requires-clause-rate : goal.step_keys-rows-requires-clause-ra
 unfolding settings_of
 step_keys-rows-requires-clause-rate c = ap (λ (settings : Settings). settings.noise_rate) c.requires.settings
 
-pub returns-clause-state : goal.returns-clause-state
+pub returns : goal.returns
 unfolding by_rows settings_of
-returns-clause-state c =
+returns c =
     let s : ChipState = c.args.state.now in
     let k : ℕ = c.args.samples.now.number in
     let n : ℕ = c.args.samples.now.n in
@@ -35,34 +35,10 @@ returns-clause-state c =
     let endx : c.endx_of_batch-endx.result ≡ endx_after (answers k s c.args.memory.now) (slice_index s.registers ENDX) n = rw c.step_keys-rows.ensures.registers at (c.endx_of_batch-endx.ensures (answers k s c.args.memory.now) bits) in
     let registers = registers_are k n s c.args.memory.now c.play_voices.new.voices c.play_voices.new.made.last c.play_voices.new.made.rows.ends c.play_voices.new.made.sums played c.endx_of_batch-endx.result
     c.requires.batch.some eight long endx in
-    rw (c.put_all_levels.ensures, c.step_keys-rows.ensures.registers, registers, played.voices_are, c.play_echo.ensures.echo, regs, echo, ran, c.step_keys-rows.ensures.state) refl
-
-pub returns-clause-memory : goal.returns-clause-memory
-unfolding by_rows settings_of
-returns-clause-memory c =
-    let s : ChipState = c.args.state.now in
-    let k : ℕ = c.args.samples.now.number in
-    let n : ℕ = c.args.samples.now.n in
-    let volumes : c.args.settings.now.volumes ≡ all_volumes s.registers s.muted = ap (λ (settings : Settings). settings.volumes) c.requires.settings in
-    let voices : c.step_keys-rows.new.state.hidden.voices ≡ s.hidden.voices = ap (λ (t : ChipState). t.hidden.voices) c.step_keys-rows.ensures.state ∙ voices-keys_after k s n in
-    let table : s.table ≡ c.step_keys-rows.new.state.table = sym (ap (λ (t : ChipState). t.table) c.step_keys-rows.ensures.state ∙ table-keys_after k s n) in
-    let played = rw (volumes, voices) at (c.play_voices.ensures.played k s (record { registers = sym c.step_keys-rows.ensures.registers; table = table; rows = c.step_keys-rows.ensures.rows; clock = c.requires.batch.clock })) in
-    let regs : c.args.settings.now.echo ≡ echo_regs s.registers = ap (λ (settings : Settings). settings.echo) c.requires.settings in
-    let echo : c.step_keys-rows.new.state.hidden.echo ≡ s.hidden.echo = ap (λ (t : ChipState). t.hidden.echo) c.step_keys-rows.ensures.state ∙ echo-keys_after k s n in
-    let ran = echo_is k n s c.args.memory.now c.play_voices.new.voices c.play_voices.new.made.last c.play_voices.new.made.rows.ends c.play_voices.new.made.sums played in
-    rw (c.play_echo.ensures.memory, regs, echo, ran) refl
-
-pub returns-clause-frames : goal.returns-clause-frames
-unfolding by_rows settings_of
-returns-clause-frames c =
-    let s : ChipState = c.args.state.now in
-    let k : ℕ = c.args.samples.now.number in
-    let n : ℕ = c.args.samples.now.n in
-    let volumes : c.args.settings.now.volumes ≡ all_volumes s.registers s.muted = ap (λ (settings : Settings). settings.volumes) c.requires.settings in
-    let voices : c.step_keys-rows.new.state.hidden.voices ≡ s.hidden.voices = ap (λ (t : ChipState). t.hidden.voices) c.step_keys-rows.ensures.state ∙ voices-keys_after k s n in
-    let table : s.table ≡ c.step_keys-rows.new.state.table = sym (ap (λ (t : ChipState). t.table) c.step_keys-rows.ensures.state ∙ table-keys_after k s n) in
-    let played = rw (volumes, voices) at (c.play_voices.ensures.played k s (record { registers = sym c.step_keys-rows.ensures.registers; table = table; rows = c.step_keys-rows.ensures.rows; clock = c.requires.batch.clock })) in
-    let regs : c.args.settings.now.echo ≡ echo_regs s.registers = ap (λ (settings : Settings). settings.echo) c.requires.settings in
-    let echo : c.step_keys-rows.new.state.hidden.echo ≡ s.hidden.echo = ap (λ (t : ChipState). t.hidden.echo) c.step_keys-rows.ensures.state ∙ echo-keys_after k s n in
-    let ran = echo_is k n s c.args.memory.now c.play_voices.new.voices c.play_voices.new.made.last c.play_voices.new.made.rows.ends c.play_voices.new.made.sums played in
-    rw (c.play_echo.ensures.frames, regs, echo, ran) refl
+    record {
+      made = record {
+        state_made = rw (c.put_all_levels.ensures, c.step_keys-rows.ensures.registers, registers, played.voices_are, c.play_echo.ensures.echo, regs, echo, ran, c.step_keys-rows.ensures.state) refl;
+        memory_made = rw (c.play_echo.ensures.memory, regs, echo, ran) refl;
+        frames_made = rw (c.play_echo.ensures.frames, regs, echo, ran) refl;
+      };
+    }

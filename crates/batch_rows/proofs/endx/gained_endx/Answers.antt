@@ -1,4 +1,4 @@
-use Rattle.std.proofs.Common.{◌≡◌, ◌<◌, ℕ, Bool, true, false, if◌then◌else◌, refl, ap, ◌∙◌, sym, get_or, slice_index, arith}
+use Rattle.std.proofs.Common.{◌≡◌, ◌<◌, ℕ, Bool, true, false, if◌then◌else◌, refl, ◌∙◌, sym, get_or, slice_index, arith}
 use Rattle.voice_unit.specs.declared.interface.VoiceOut.{VoiceOut}
 use Rattle.dsp_state.specs.Results.{next_endx, bits_from}
 use Rattle.batch_rows.proofs.EchoOver.{endx_after-more}

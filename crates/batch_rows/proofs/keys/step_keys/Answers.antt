@@ -12,51 +12,51 @@ module _ (c : goal.After-idle_rows) where
   none : c.keyed_samples-keyed.result ≡ 0
   none = grind (arith, nat_tests, c.if-keyed-eq0.true)
 
-  all : c.next_firing-firing.result ≡ c.args.n
+  all : c.next_firing-firing.result ≡ c.args.samples.now.n
   all = grind (arith, nat_tests, c.if-firing-n.true)
 
-  at_once : IsUnkeyed (keys_after c.args.number c.args.state.now 0)
-  at_once = rw none at (c.keyed_samples-keyed.ensures.rest c.args.number (omega (arith, none, c.requires.some)))
+  at_once : IsUnkeyed (keys_after c.args.samples.now.number c.args.state.now 0)
+  at_once = rw none at (c.keyed_samples-keyed.ensures.rest c.args.samples.now.number (omega (arith, none, c.requires.batch.some)))
 
   untaken : c.args.state.now.hidden.taken ≡ 0
   unfolding keys_after
   untaken = at_once.taken
 
-  idle : (j : ℕ) → j ≤ c.args.n → keys_after c.args.number c.args.state.now j ≡ c.args.state.now
+  idle : (j : ℕ) → j ≤ c.args.samples.now.n → keys_after c.args.samples.now.number c.args.state.now j ≡ c.args.state.now
   idle =
-      all_idle c.args.number c.args.state.now c.args.n at_once
-      (λ j early late. rw c.requires.rate at (c.next_firing-firing.ensures.quiet c.args.number j c.requires.clock early (omega (arith, all, late))))
+      all_idle c.args.samples.now.number c.args.state.now c.args.samples.now.n at_once
+      (λ j early late. rw c.requires.rate at (c.next_firing-firing.ensures.quiet c.args.samples.now.number j c.requires.batch.clock early (omega (arith, all, late))))
 
 pub returns-then-firing-n-clause-state : goal.returns-then-firing-n-clause-state
-returns-then-firing-n-clause-state c = sym (idle c c.args.n (omega arith))
+returns-then-firing-n-clause-state c = sym (idle c c.args.samples.now.n (omega arith))
 
 pub returns-then-firing-n-clause-rows : goal.returns-then-firing-n-clause-rows
 returns-then-firing-n-clause-rows c = record {
-  noise = λ j below. rw (c.idle_rows.ensures.noise, idle c (suc j) below) (get_or-replicate 64 j c.args.state.now.hidden.noise 0 (omega (arith, below, c.requires.few)));
-  polls = λ j below. c.idle_rows.ensures.polls j (omega (arith, below, c.requires.few));
-  taken = λ j below. rw (c.idle_rows.ensures.kon, idle c (suc j) below, untaken c) (get_or-replicate {A = ℕ} 64 j 0 0 (omega (arith, below, c.requires.few)));
+  noise = λ j below. rw (c.idle_rows.ensures.noise, idle c (suc j) below) (get_or-replicate 64 j c.args.state.now.hidden.noise 0 (omega (arith, below, c.requires.batch.few)));
+  polls = λ j below. c.idle_rows.ensures.polls j (omega (arith, below, c.requires.batch.few));
+  taken = λ j below. rw (c.idle_rows.ensures.kon, idle c (suc j) below, untaken c) (get_or-replicate {A = ℕ} 64 j 0 0 (omega (arith, below, c.requires.batch.few)));
 }
 
 pub returns-then-firing-n-clause-noise : goal.returns-then-firing-n-clause-noise
 returns-then-firing-n-clause-noise c j below =
-    rw (c.idle_rows.ensures.noise, get_or-replicate 64 j c.args.state.now.hidden.noise 0 (omega (arith, below, c.requires.few))) c.idle_rows.ensures.bound
+    rw (c.idle_rows.ensures.noise, get_or-replicate 64 j c.args.state.now.hidden.noise 0 (omega (arith, below, c.requires.batch.few))) c.idle_rows.ensures.bound
 
 -- the noise is stepped from that of the state, which the polls left
-noise_is : (c : goal.After-polls_from) (j : ℕ) → noise_after c.args.rate c.args.number c.poll_each-kon.new.state.hidden.noise j ≡ (keys_after c.args.number c.args.state.now j).hidden.noise
+noise_is : (c : goal.After-polls_from) (j : ℕ) → noise_after c.args.rate c.args.samples.now.number c.poll_each-kon.new.state.hidden.noise j ≡ (keys_after c.args.samples.now.number c.args.state.now j).hidden.noise
 noise_is c j =
     let kept : c.poll_each-kon.new.state.hidden.noise ≡ c.args.state.now.hidden.noise = ap (λ (s : ChipState). s.hidden.noise) c.poll_each-kon.ensures.state in
-    rw (kept, c.requires.rate) (sym (noise-keys_after c.args.number c.args.state.now j))
+    rw (kept, c.requires.rate) (sym (noise-keys_after c.args.samples.now.number c.args.state.now j))
 
 pub returns-clause-state : goal.returns-clause-state
 returns-clause-state c =
     let s : ChipState = c.args.state.now in
-    let end : ChipState = keys_after c.args.number s c.args.n in
-    let noise : c.step_noise_each-noise.new.noise ≡ end.hidden.noise = c.step_noise_each-noise.ensures.noise c.args.number c.requires.clock ∙ noise_is c c.args.n in
-    rw (noise, c.poll_each-kon.ensures.state) (keys_and_noise_alone c.args.number s c.args.n)
+    let end : ChipState = keys_after c.args.samples.now.number s c.args.samples.now.n in
+    let noise : c.step_noise_each-noise.new.noise ≡ end.hidden.noise = c.step_noise_each-noise.ensures.noise c.args.samples.now.number c.requires.batch.clock ∙ noise_is c c.args.samples.now.n in
+    rw (noise, c.poll_each-kon.ensures.state) (keys_and_noise_alone c.args.samples.now.number s c.args.samples.now.n)
 
 pub returns-clause-rows : goal.returns-clause-rows
 returns-clause-rows c = record {
-  noise = λ j below. c.step_noise_each-noise.ensures.row c.args.number j c.requires.clock below ∙ noise_is c (suc j);
-  polls = λ j below. c.polls_from.ensures j (omega (arith, below, c.requires.few));
+  noise = λ j below. c.step_noise_each-noise.ensures.row c.args.samples.now.number j c.requires.batch.clock below ∙ noise_is c (suc j);
+  polls = λ j below. c.polls_from.ensures j (omega (arith, below, c.requires.batch.few));
   taken = c.poll_each-kon.ensures.taken;
 }

@@ -1,5 +1,6 @@
 use Rattle.std.proofs.Common.{rules, ◌≡◌, ◌<◌, ℕ, pos, replicate, length, sym, ◌∙◌, arith}
 use Rattle.std.proofs.lemmas.List.{length-set, get_or-replicate}
+use Rattle.batch_rows.specs.PlayedLane.{LaneMade}
 use Rattle.batch_rows.specs.Rows.{inputs}
 use Rattle.batch_rows.proofs.VoiceMore.{voices_more}
 use Rattle.batch_rows.proofs.Remains.{none_played, all_played, last_more, ends_more, sum_more}
@@ -33,24 +34,20 @@ loop-v-preserved c =
           let before = c.loop-v.invariant.remains k s are in
           let played = rw place at (c.play_voice-answer.ensures.played k s are) in
           let shared = inputs k s c.args.reads.now.memory.now in
+          let answer = c.play_voice-answer in
+          let made : LaneMade = record { voice = answer.new.voice; row = answer.new.made.outs; ends = answer.new.made.ends; last = answer.result } in
           rw place record {
             voices_are = voices_more shared c.args.n v c.loop-v.previous c.loop-v.voices within _ c.play_voice-answer.new.voice c.play_voice-answer.new.made.outs played.row_is
-                c.args.voices.now played.voice before.voices_are;
-            last_is = last_more shared c.args.n c.args.volumes.now c.args.voices.now v c.loop-v.previous c.loop-v.voices within _ c.play_voice-answer.new.voice c.play_voice-answer.new.made.outs
-                c.loop-v.made.rows.ends c.play_voice-answer.new.made.ends c.play_voice-answer.result played c.loop-v.made.last within_answers c.requires.some before.last_is;
-            ends_are = λ j few. ends_more shared c.args.n c.args.volumes.now c.args.voices.now v c.loop-v.previous c.loop-v.voices within _ c.play_voice-answer.new.voice c.play_voice-answer.new.made.outs
-                c.loop-v.made.rows.ends c.play_voice-answer.new.made.ends c.play_voice-answer.result played j few (before.ends_are j few);
-            main_left = sum_more shared c.args.n c.args.volumes.now c.args.voices.now v c.loop-v.previous c.loop-v.voices within _ c.play_voice-answer.new.voice c.play_voice-answer.new.made.outs
-                c.loop-v.made.rows.ends c.play_voice-answer.new.made.ends c.play_voice-answer.result played (λ one. one.left) _ c.loop-v.made.sums.main_left c.add_shares.new.sums.main_left within_volumes
+                c.args.voices.now played.voice_is before.voices_are;
+            last_is = last_more shared c.args.n c.args.volumes.now c.args.voices.now v c.loop-v.previous c.loop-v.voices within _ c.loop-v.made.rows.ends made played c.loop-v.made.last within_answers c.requires.some before.last_is;
+            ends_are = λ j few. ends_more shared c.args.n c.args.volumes.now c.args.voices.now v c.loop-v.previous c.loop-v.voices within _ c.loop-v.made.rows.ends made played j few (before.ends_are j few);
+            main_left = sum_more shared c.args.n c.args.volumes.now c.args.voices.now v c.loop-v.previous c.loop-v.voices within _ c.loop-v.made.rows.ends made played (λ one. one.left) _ c.loop-v.made.sums.main_left c.add_shares.new.sums.main_left within_volumes
                 (λ j few. rw place at (c.add_shares.ensures.main_left j (omega (arith, few, c.requires.few)))) before.main_left;
-            main_right = sum_more shared c.args.n c.args.volumes.now c.args.voices.now v c.loop-v.previous c.loop-v.voices within _ c.play_voice-answer.new.voice c.play_voice-answer.new.made.outs
-                c.loop-v.made.rows.ends c.play_voice-answer.new.made.ends c.play_voice-answer.result played (λ one. one.right) _ c.loop-v.made.sums.main_right c.add_shares.new.sums.main_right within_volumes
+            main_right = sum_more shared c.args.n c.args.volumes.now c.args.voices.now v c.loop-v.previous c.loop-v.voices within _ c.loop-v.made.rows.ends made played (λ one. one.right) _ c.loop-v.made.sums.main_right c.add_shares.new.sums.main_right within_volumes
                 (λ j few. rw place at (c.add_shares.ensures.main_right j (omega (arith, few, c.requires.few)))) before.main_right;
-            sent_left = sum_more shared c.args.n c.args.volumes.now c.args.voices.now v c.loop-v.previous c.loop-v.voices within _ c.play_voice-answer.new.voice c.play_voice-answer.new.made.outs
-                c.loop-v.made.rows.ends c.play_voice-answer.new.made.ends c.play_voice-answer.result played (λ one. one.sent_left) _ c.loop-v.made.sums.sent_left c.add_shares.new.sums.sent_left within_volumes
+            sent_left = sum_more shared c.args.n c.args.volumes.now c.args.voices.now v c.loop-v.previous c.loop-v.voices within _ c.loop-v.made.rows.ends made played (λ one. one.sent_left) _ c.loop-v.made.sums.sent_left c.add_shares.new.sums.sent_left within_volumes
                 (λ j few. rw place at (c.add_shares.ensures.sent_left j (omega (arith, few, c.requires.few)))) before.sent_left;
-            sent_right = sum_more shared c.args.n c.args.volumes.now c.args.voices.now v c.loop-v.previous c.loop-v.voices within _ c.play_voice-answer.new.voice c.play_voice-answer.new.made.outs
-                c.loop-v.made.rows.ends c.play_voice-answer.new.made.ends c.play_voice-answer.result played (λ one. one.sent_right) _ c.loop-v.made.sums.sent_right c.add_shares.new.sums.sent_right within_volumes
+            sent_right = sum_more shared c.args.n c.args.volumes.now c.args.voices.now v c.loop-v.previous c.loop-v.voices within _ c.loop-v.made.rows.ends made played (λ one. one.sent_right) _ c.loop-v.made.sums.sent_right c.add_shares.new.sums.sent_right within_volumes
                 (λ j few. rw place at (c.add_shares.ensures.sent_right j (omega (arith, few, c.requires.few)))) before.sent_right;
           };
       lower = c.play_voice-answer.ensures.lower;

@@ -75,18 +75,9 @@ loop-j-preserved c =
       record_count = omega (arith, c.loop-j.invariant.record_count, c.push_records.ensures.count);
     }
 
-pub returns-clause-state : goal.returns-clause-state
+pub returns : goal.returns
 unfolding by_rows
-returns-clause-state c = let done : c.loop-j.j ≡ c.args.samples.now.n = omega (arith, c.loop-j.auto.j-end, c.loop-j-test.false) in rw done at c.loop-j.invariant.state
-
-pub returns-clause-memory : goal.returns-clause-memory
-unfolding by_rows
-returns-clause-memory c = let done : c.loop-j.j ≡ c.args.samples.now.n = omega (arith, c.loop-j.auto.j-end, c.loop-j-test.false) in rw done at c.loop-j.invariant.memory
-
-pub returns-clause-frames : goal.returns-clause-frames
-unfolding by_rows
-returns-clause-frames c = let done : c.loop-j.j ≡ c.args.samples.now.n = omega (arith, c.loop-j.auto.j-end, c.loop-j-test.false) in rw done at c.loop-j.invariant.frames
-
-pub returns-clause-records : goal.returns-clause-records
-unfolding by_rows
-returns-clause-records c = let done : c.loop-j.j ≡ c.args.samples.now.n = omega (arith, c.loop-j.auto.j-end, c.loop-j-test.false) in rw done at c.loop-j.invariant.records
+returns c =
+    let done : c.loop-j.j ≡ c.args.samples.now.n = omega (arith, c.loop-j.auto.j-end, c.loop-j-test.false) in
+    let last = rw done at c.loop-j.invariant in
+    record { made = record { state_made = last.state; memory_made = last.memory; frames_made = last.frames; records_made = last.records } }

@@ -1,4 +1,4 @@
-use Rattle.std.proofs.Common.{rules, ◌≡◌, ◌<◌, ◌++◌, ◌∷◌, [], ℕ, true, length, get_or, map, take, sym, ◌∙◌, arith}
+use Rattle.std.proofs.Common.{rules, ◌≡◌, ◌<◌, ◌++◌, ◌∷◌, [], ℕ, true, length, get_or, take, sym, ◌∙◌, arith}
 use Rattle.std.proofs.lemmas.List.{map_more, take_all, take_more}
 use Rattle.dsp_state.specs.Volumes.{no_volumes}
 use Rattle.dsp_state.specs.declared.volumes.Volumes.{Volumes}
