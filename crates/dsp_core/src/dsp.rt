@@ -1,15 +1,15 @@
 //! The chip.
 
-ghost use Rattle.std.specs.Prelude.{◌≡◌, ◌≤◌, ◌<◌, ◌+◌, ◌*◌, ◌++◌, ◌∷◌, [], ◌==◌, true, false, length, IfOk, if◌then◌else◌, ℕ, List};
+ghost use Rattle.std.specs.Prelude.{◌≡◌, ◌≤◌, ◌<◌, ◌+◌, ◌*◌, ◌==◌, true, false, length, IfOk, if◌then◌else◌, ℕ, List};
 ghost use Rattle.std.specs.FinSet as set;
-ghost use Rattle.std.specs.List.{filter};
 ghost use Rattle.trace_form.specs.Rooms.{frame_room, record_room};
 ghost use Rattle.chip_form.specs.Limits.{most_samples_of_chip, most_samples_of_batch};
-ghost use Rattle.chip_form.specs.Samples.{in_mask, count_after};
+ghost use Rattle.chip_form.specs.Samples.{AddsSamples, AddsSample, count_after};
 ghost use Rattle.dsp_state.specs.Settings.{settings_of};
 ghost use Rattle.dsp_state.specs.Outside.{opened_state, register_read, register_write};
 ghost use Rattle.dsp_state.specs.Valid.{is_valid};
 ghost use Rattle.dsp_state.specs.Reach.{chip_reach};
+ghost use Rattle.batch_rows.specs.AddsFrames.{AddsFrames};
 ghost use Rattle.batch_rows.specs.Apart.{VoicesReadTheSame};
 ghost use Rattle.dsp_core.specs.Next.{next_sample, next_samples};
 ghost use Rattle.dsp_core.specs.Saved.{saved_state, loaded_state};
@@ -159,10 +159,8 @@ impl Dsp {
         requires frame_room { length frames.old < frame_room }
         requires record_room { length records.old + 8 ≤ record_room }
         requires number { self.old.sample < most_samples_of_chip }
-        ensures chip { self.new ≡ record self.old { state = (next_sample self.old memory.old).state; sample = self.old.sample + 1 } }
-        ensures memory { memory.new ≡ (next_sample self.old memory.old).memory }
-        ensures frames { frames.new ≡ frames.old ++ (next_sample self.old memory.old).frame ∷ [] }
-        ensures records { records.new ≡ records.old ++ filter (in_mask mask) (next_sample self.old memory.old).records }
+        ensures made { AddsSample mask (next_sample self.old memory.old) self.new.state memory.new frames.old frames.new records.old records.new }
+        ensures chip { self.new ≡ record self.old { state = self.new.state; sample = self.old.sample + 1 } }
         ensures record_count { length records.new ≤ length records.old + 8 }
     {
         self.clock.step();
@@ -193,10 +191,8 @@ impl Dsp {
         requires frame_room { length frames.old + n ≤ frame_room }
         requires record_room { length records.old + 8 * n ≤ record_room }
         requires number { self.old.sample + n ≤ most_samples_of_chip }
-        ensures chip { self.new ≡ record self.old { state = (next_samples n self.old memory.old).state; sample = self.old.sample + n } }
-        ensures memory { memory.new ≡ (next_samples n self.old memory.old).memory }
-        ensures frames { frames.new ≡ frames.old ++ (next_samples n self.old memory.old).frames }
-        ensures records { records.new ≡ records.old ++ filter (in_mask mask) (next_samples n self.old memory.old).records }
+        ensures made { AddsSamples mask (next_samples n self.old memory.old) self.new.state memory.new frames.old frames.new records.old records.new }
+        ensures chip { self.new ≡ record self.old { state = self.new.state; sample = self.old.sample + n } }
     {
         let mut answers = [UNHEARD; 8];
         'samples: for _ in 0..n {
@@ -212,9 +208,8 @@ impl Dsp {
         requires frame_room { length frames.old + n ≤ frame_room }
         requires number { self.old.sample + n ≤ most_samples_of_chip }
         requires apart { VoicesReadTheSame n self.old.sample self.old.state memory.old }
-        ensures chip { self.new ≡ record self.old { state = (next_samples n self.old memory.old).state; sample = self.old.sample + n } }
-        ensures memory { memory.new ≡ (next_samples n self.old memory.old).memory }
-        ensures frames { frames.new ≡ frames.old ++ (next_samples n self.old memory.old).frames }
+        ensures made { AddsFrames (next_samples n self.old memory.old) self.new.state memory.new frames.old frames.new }
+        ensures chip { self.new ≡ record self.old { state = self.new.state; sample = self.old.sample + n } }
     {
         let samples = BatchSamples::after(&self.clock, self.number, n);
         play_batch(
@@ -247,10 +242,8 @@ impl Dsp {
         requires record_room { length records.old + 8 * n ≤ record_room }
         requires number { self.old.sample + n ≤ most_samples_of_chip }
         requires apart { VoicesReadTheSame n self.old.sample self.old.state memory.old }
-        ensures chip { self.new ≡ record self.old { state = (next_samples n self.old memory.old).state; sample = self.old.sample + n } }
-        ensures memory { memory.new ≡ (next_samples n self.old memory.old).memory }
-        ensures frames { frames.new ≡ frames.old ++ (next_samples n self.old memory.old).frames }
-        ensures records { records.new ≡ records.old ++ filter (in_mask mask) (next_samples n self.old memory.old).records }
+        ensures made { AddsSamples mask (next_samples n self.old memory.old) self.new.state memory.new frames.old frames.new records.old records.new }
+        ensures chip { self.new ≡ record self.old { state = self.new.state; sample = self.old.sample + n } }
     {
         let samples = BatchSamples::after(&self.clock, self.number, n);
         play_recorded_batch(
@@ -307,11 +300,9 @@ impl Dsp {
         requires number { self.old.sample + n ≤ most_samples_of_chip }
         ensures some { 0 < result }
         ensures few { result ≤ n }
-        ensures chip { let made = next_samples result self.old memory.old in
-            self.new ≡ record self.old { state = made.state; sample = self.old.sample + result } }
-        ensures memory { memory.new ≡ (next_samples result self.old memory.old).memory }
-        ensures frames { frames.new ≡ frames.old ++ (next_samples result self.old memory.old).frames }
-        ensures records { records.new ≡ records.old ++ filter (in_mask mask) (next_samples result self.old memory.old).records }
+        ensures made { let made = next_samples result self.old memory.old in
+            AddsSamples mask made self.new.state memory.new frames.old frames.new records.old records.new }
+        ensures chip { self.new ≡ record self.old { state = self.new.state; sample = self.old.sample + result } }
     {
         let rows = self.samples_by_rows(n, memory);
         if rows == 0 {
@@ -341,13 +332,10 @@ impl Dsp {
         requires frame_room { length frames.old + n ≤ frame_room }
         requires record_room { length records.old + 8 * n ≤ record_room }
         requires number { self.old.sample + n ≤ most_samples_of_chip }
-        ensures state { self.new.state ≡ (next_samples n self.old memory.old).state }
+        ensures made { AddsSamples mask (next_samples n self.old memory.old) self.new.state memory.new frames.old frames.new records.old records.new }
         ensures sample { self.new.sample ≡ self.old.sample + n }
         ensures batches { self.new.batches ≡ (if n == 0 then self.old.batches else count_after self.old.batches 1) }
         ensures total { self.new.total ≡ count_after self.old.total n }
-        ensures memory { memory.new ≡ (next_samples n self.old memory.old).memory }
-        ensures frames { frames.new ≡ frames.old ++ (next_samples n self.old memory.old).frames }
-        ensures records { records.new ≡ records.old ++ filter (in_mask mask) (next_samples n self.old memory.old).records }
     {
         self.total = self.total.saturating_add(u64::from(n));
         if n == 0 {

@@ -5,17 +5,13 @@ use Rattle.chip_form.proofs.OneMoreSample.{samples_none}
 use Rattle.dsp_core.proofs.Batches.{samples_after, settings_of-samples, frames_fit, records_fit}
 use Rattle.dsp_core.proofs.dsp.Dsp.advance.Goals as goal
 
-pub returns-then-n-eq0-clause-state : goal.returns-then-n-eq0-clause-state
-returns-then-n-eq0-clause-state c = rw (c.if-n-eq0.true, samples_none, ← c.self.view_is) refl
-
-pub returns-then-n-eq0-clause-memory : goal.returns-then-n-eq0-clause-memory
-returns-then-n-eq0-clause-memory c = rw (c.if-n-eq0.true, samples_none) refl
-
-pub returns-then-n-eq0-clause-frames : goal.returns-then-n-eq0-clause-frames
-returns-then-n-eq0-clause-frames c = rw (c.if-n-eq0.true, samples_none) (sym (append-nil c.args.frames.now))
-
-pub returns-then-n-eq0-clause-records : goal.returns-then-n-eq0-clause-records
-returns-then-n-eq0-clause-records c = rw (c.if-n-eq0.true, samples_none) (sym (append-nil c.args.records.now))
+pub returns-then-n-eq0-clause-made : goal.returns-then-n-eq0-clause-made
+returns-then-n-eq0-clause-made c = record {
+  state_made = rw (c.if-n-eq0.true, samples_none, ← c.self.view_is) refl;
+  memory_made = rw (c.if-n-eq0.true, samples_none) refl;
+  frames_made = rw (c.if-n-eq0.true, samples_none) (sym (append-nil c.args.frames.now));
+  records_made = rw (c.if-n-eq0.true, samples_none) (sym (append-nil c.args.records.now));
+}
 
 pub samples-init : goal.samples-init
 samples-init c = record {
@@ -33,14 +29,14 @@ samples-init c = record {
 pub samples-preserved : goal.samples-preserved
 samples-preserved c = record {
   most = omega (arith, c.make_some-made.ensures.few);
-  state = rw (samples_after, c.make_some-made.ensures.chip, c.samples.invariant.state, c.samples.invariant.memory, c.samples.invariant.sample) refl;
+  state = rw (samples_after, c.make_some-made.ensures.made.state_made, c.samples.invariant.state, c.samples.invariant.memory, c.samples.invariant.sample) refl;
   sample = rw (c.make_some-made.ensures.chip) (omega (arith, c.samples.invariant.sample));
-  settings = rw (c.make_some-made.ensures.chip, settings_of-samples) c.samples.invariant.settings;
+  settings = rw (c.make_some-made.ensures.made.state_made, settings_of-samples) c.samples.invariant.settings;
   batches = rw (c.make_some-made.ensures.chip) c.samples.invariant.batches;
   total = rw (c.make_some-made.ensures.chip) c.samples.invariant.total;
-  memory = rw (samples_after, c.make_some-made.ensures.memory, c.samples.invariant.state, c.samples.invariant.memory, c.samples.invariant.sample) refl;
-  frames = rw (samples_after, c.make_some-made.ensures.frames, c.samples.invariant.state, c.samples.invariant.memory, c.samples.invariant.sample, c.samples.invariant.frames, append_assoc) refl;
-  records = rw (samples_after, filter-append, c.make_some-made.ensures.records, c.samples.invariant.state, c.samples.invariant.memory, c.samples.invariant.sample, c.samples.invariant.records, append_assoc) refl;
+  memory = rw (samples_after, c.make_some-made.ensures.made.memory_made, c.samples.invariant.state, c.samples.invariant.memory, c.samples.invariant.sample) refl;
+  frames = rw (samples_after, c.make_some-made.ensures.made.frames_made, c.samples.invariant.state, c.samples.invariant.memory, c.samples.invariant.sample, c.samples.invariant.frames, append_assoc) refl;
+  records = rw (samples_after, filter-append, c.make_some-made.ensures.made.records_made, c.samples.invariant.state, c.samples.invariant.memory, c.samples.invariant.sample, c.samples.invariant.records, append_assoc) refl;
 }
 
 pub make_some-made-requires-clause-frame_room : goal.make_some-made-requires-clause-frame_room

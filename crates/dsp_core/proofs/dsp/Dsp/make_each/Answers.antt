@@ -21,14 +21,14 @@ samples-init c = record {
 
 pub samples-preserved : goal.samples-preserved
 samples-preserved c = record {
-  state = rw (samples_more, c.make_one.ensures.chip, c.samples.invariant.state, c.samples.invariant.memory, c.samples.invariant.sample) refl;
+  state = rw (samples_more, c.make_one.ensures.made.state_made, c.samples.invariant.state, c.samples.invariant.memory, c.samples.invariant.sample) refl;
   sample = rw (c.make_one.ensures.chip) (omega (arith, c.samples.invariant.sample));
-  settings = rw (c.make_one.ensures.chip, settings_of-sample) c.samples.invariant.settings;
+  settings = rw (c.make_one.ensures.made.state_made, settings_of-sample) c.samples.invariant.settings;
   batches = rw (c.make_one.ensures.chip) c.samples.invariant.batches;
   total = rw (c.make_one.ensures.chip) c.samples.invariant.total;
-  memory = rw (samples_more, c.make_one.ensures.memory, c.samples.invariant.state, c.samples.invariant.memory, c.samples.invariant.sample) refl;
-  frames = rw (samples_more, c.make_one.ensures.frames, c.samples.invariant.state, c.samples.invariant.memory, c.samples.invariant.sample, c.samples.invariant.frames, append_assoc) refl;
-  records = rw (samples_more, filter-append, c.make_one.ensures.records, c.samples.invariant.state, c.samples.invariant.memory, c.samples.invariant.sample, c.samples.invariant.records, append_assoc) refl;
-  frame_count = rw (c.make_one.ensures.frames, length-append) (omega (arith, c.samples.invariant.frame_count));
+  memory = rw (samples_more, c.make_one.ensures.made.memory_made, c.samples.invariant.state, c.samples.invariant.memory, c.samples.invariant.sample) refl;
+  frames = rw (samples_more, c.make_one.ensures.made.frames_made, c.samples.invariant.state, c.samples.invariant.memory, c.samples.invariant.sample, c.samples.invariant.frames, append_assoc) refl;
+  records = rw (samples_more, filter-append, c.make_one.ensures.made.records_made, c.samples.invariant.state, c.samples.invariant.memory, c.samples.invariant.sample, c.samples.invariant.records, append_assoc) refl;
+  frame_count = rw (c.make_one.ensures.made.frames_made, length-append) (omega (arith, c.samples.invariant.frame_count));
   record_count = omega (arith, c.samples.invariant.record_count, c.make_one.ensures.record_count);
 }
