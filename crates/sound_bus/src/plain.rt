@@ -1,7 +1,6 @@
 // A bus that makes each sample at once.
-ghost use Rattle.std.specs.Prelude.{◌≡◌, ◌+◌, ◌*◌, ◌/◌, ◌<◌, ◌≤◌, ◌++◌, ◌∷◌, [], true, length, IfOk};
-ghost use Rattle.std.specs.List.{filter};
-ghost use Rattle.chip_form.specs.Samples.{in_mask};
+ghost use Rattle.std.specs.Prelude.{◌≡◌, ◌+◌, ◌*◌, ◌/◌, ◌<◌, ◌≤◌, true, length, IfOk};
+ghost use Rattle.chip_form.specs.Samples.{AddsSample};
 ghost use Rattle.trace_form.specs.Rooms.{frame_room, record_room};
 ghost use Rattle.chip_form.specs.Limits.{most_samples_of_chip};
 ghost use Rattle.lock_step.specs.Machine.{opened_machine};
@@ -73,11 +72,9 @@ fn make_sample<C: Chip>(
     requires number { C.sample chip.old < most_samples_of_chip }
     requires frame_room { length frames.old < frame_room }
     requires record_room { length records.old + 8 ≤ record_room }
-    ensures state { C.state chip.new ≡ (C.meaning.one_sample (C.sample chip.old) (C.state chip.old) memory.old).state }
+    ensures made { let made = C.meaning.one_sample (C.sample chip.old) (C.state chip.old) memory.old in
+        AddsSample mask made (C.state chip.new) memory.new frames.old frames.new records.old records.new }
     ensures sample { C.sample chip.new ≡ C.sample chip.old + 1 }
-    ensures memory { memory.new ≡ (C.meaning.one_sample (C.sample chip.old) (C.state chip.old) memory.old).memory }
-    ensures frames { frames.new ≡ frames.old ++ (C.meaning.one_sample (C.sample chip.old) (C.state chip.old) memory.old).frame ∷ [] }
-    ensures records { records.new ≡ records.old ++ filter (in_mask mask) (C.meaning.one_sample (C.sample chip.old) (C.state chip.old) memory.old).records }
     ensures frame_count { length frames.new ≡ length frames.old + 1 }
     ensures record_count { length records.new ≤ length records.old + 8 }
 {

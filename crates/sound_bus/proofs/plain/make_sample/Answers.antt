@@ -2,17 +2,13 @@ use Rattle.std.proofs.Common.{refl, arith, length-append}
 use Rattle.chip_form.proofs.RecordCounts.{samples_one, sample_record_count}
 use Rattle.sound_bus.proofs.plain.make_sample.Goals as goal
 
-pub returns-clause-state : goal.returns-clause-state
-returns-clause-state g c = rw (c.advance.ensures.made.state_made, samples_one) refl
-
-pub returns-clause-memory : goal.returns-clause-memory
-returns-clause-memory g c = rw (c.advance.ensures.made.memory_made, samples_one) refl
-
-pub returns-clause-frames : goal.returns-clause-frames
-returns-clause-frames g c = rw (c.advance.ensures.made.frames_made, samples_one) refl
-
-pub returns-clause-records : goal.returns-clause-records
-returns-clause-records g c = rw (c.advance.ensures.made.records_made, samples_one) refl
+pub returns-clause-made : goal.returns-clause-made
+returns-clause-made g c = record {
+  state_made = rw (c.advance.ensures.made.state_made, samples_one) refl;
+  memory_made = rw (c.advance.ensures.made.memory_made, samples_one) refl;
+  frames_made = rw (c.advance.ensures.made.frames_made, samples_one) refl;
+  records_made = rw (c.advance.ensures.made.records_made, samples_one) refl;
+}
 
 pub returns-clause-frame_count : goal.returns-clause-frame_count
 returns-clause-frame_count g c = rw (c.advance.ensures.made.frames_made, samples_one, length-append) (omega arith)
