@@ -10,9 +10,13 @@ use Rattle.chip_form.specs.Samples.{samples, in_mask}
 use Rattle.chip_form.proofs.OneMoreSample.{samples_none, samples_more}
 use Rattle.chip_form.specs.ChipMeaning.{ChipMeaning}
 use Rattle.lock_step.specs.LockStep.{crosses_sample, samples_due}
-use Rattle.lag_bus.specs.Lagging.{Lagging, lagging, with_book}
+use Rattle.lag_bus.specs.Lagging.{Lagging, lagging, with_book, HasNumbersOfBook}
 use Rattle.lag_bus.specs.Waiting.{with_fallen}
 use Rattle.spc700_exec.specs.declared.bus.TheConstants.{CYCLES_PER_SAMPLE}
+
+-- with the numbers of its book it is the bus with that book
+pub with_book-own : {S : Type 0} (bus : Lagging S) → HasNumbersOfBook bus → bus ≡ with_book bus.machine bus.book
+with_book-own bus numbers = λ i. record bus { chip_batches = numbers.batches i; chip_sample = numbers.sample i; chip_total = numbers.total i }
 
 module _ {S : Type 0} (chip : ChipMeaning S) (bus : Lagging S) where
   pub with_fallen-none : with_fallen chip bus 0 bus.machine.clock bus.machine.io bus.machine.calls ≡ with_book bus.machine bus.book

@@ -9,7 +9,7 @@ use Rattle.lag_bus.specs.Lagging.{Lagging, lagging, with_book, MatchesBook}
 use Rattle.lag_bus.specs.Waiting.{with_fallen}
 use Rattle.lag_bus.specs.Running.{fallen_at, caught_up, IsBehind}
 use Rattle.lag_bus.proofs.LateTicks.{no_ticks, ticks_to_come}
-use Rattle.lag_bus.proofs.FallenDue.{with_fallen-none, pass-with_fallen}
+use Rattle.lag_bus.proofs.FallenDue.{with_book-own, with_fallen-none, pass-with_fallen}
 use Rattle.spc700_exec.specs.declared.bus.TheConstants.{CYCLES_PER_SAMPLE}
 
 -- where memory alone is neither a port nor a timer nor the ROM is asked or told
@@ -54,9 +54,7 @@ module _ {S : Type 0} (chip : ChipMeaning S) (bus : Lagging S) where
       (λ i. with_fallen chip bus (none i) m.clock (no_ticks m.io m.clock i) m.calls) ∙ with_fallen-none chip bus
 
   pub caught_up-none : MatchesBook bus → caught_up chip bus.machine.clock bus.machine.calls bus ≡ bus
-  caught_up-none matches =
-      caught_up-book
-      ∙ (λ i. record bus { chip_batches = sym matches.batches i; chip_sample = sym matches.sample i; chip_total = sym matches.total i })
+  caught_up-none matches = caught_up-book ∙ sym (with_book-own bus matches.numbers)
 
   module _ (clock calls : ℕ) (behind : IsBehind clock calls bus) where
     -- cycles up to a moment at which fewer samples are pending than one batch has

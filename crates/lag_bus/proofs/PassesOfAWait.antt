@@ -5,7 +5,7 @@ use Rattle.chip_form.specs.ChipMeaning.{ChipMeaning}
 use Rattle.lock_step.specs.LockStep.{crosses_sample}
 use Rattle.lag_bus.specs.Lagging.{Lagging, lagging}
 use Rattle.lag_bus.specs.Waiting.{samples_in, with_fallen, after_wait, without_calls, IsKept}
-use Rattle.lag_bus.proofs.FallenDue.{with_fallen-none, pass-with_fallen}
+use Rattle.lag_bus.proofs.FallenDue.{with_book-own, with_fallen-none, pass-with_fallen}
 use Rattle.ports_timers.proofs.Ticks.{after_ticks_of-then, after_ticks_of-none}
 use Rattle.spc700_exec.specs.declared.bus.TheConstants.{CYCLES_PER_SAMPLE}
 
@@ -40,6 +40,5 @@ module _ {S : Type 0} (chip : ChipMeaning S) where
       let m = bus.machine in
       let none : 0 ≡ samples_in m.clock 0 = omega arith in
       let clock : m.clock ≡ m.clock + 0 = omega arith in
-      (λ i. record (without_calls bus) { chip_batches = kept.batches i; chip_sample = kept.sample i; chip_total = kept.total i })
-      ∙ ap (λ (x : Lagging S). without_calls x) (sym (with_fallen-none chip bus))
+      ap (λ (x : Lagging S). without_calls x) (with_book-own bus kept.numbers ∙ sym (with_fallen-none chip bus))
       ∙ (λ i. without_calls (with_fallen chip bus (none i) (clock i) (sym (after_ticks_of-none m.io m.clock) i) m.calls))

@@ -5,11 +5,16 @@ use Rattle.chip_form.specs.ChipMeaning.{ChipMeaning}
 use Rattle.chip_form.specs.ChipSaving.{ChipSaving}
 use Rattle.lock_step.specs.Emits.{CountsOn, IsCountedOn}
 use Rattle.lock_step.proofs.ChipCounts.{counts_on_none, counts_on_then}
-use Rattle.lag_bus.specs.Lagging.{Lagging, lagging}
+use Rattle.lock_step.specs.Machine.{Machine}
+use Rattle.lag_bus.specs.Book.{Book}
+use Rattle.lag_bus.specs.Lagging.{Lagging, lagging, with_book, HasNumbersOfBook}
 use Rattle.lag_bus.specs.LagEmits.{lag_emits}
 use Rattle.lag_bus.specs.LagLaws.{counting, counts-settle}
 use Rattle.lag_bus.specs.Calls.{Call, Read, Write, Pass, Settle, Drain, Load, after_calls, lagging_calls, LoadNothing, TotalsSamplesMade}
 use Rattle.spc700_exec.specs.declared.bus.TheConstants.{CYCLES_PER_SAMPLE}
+
+with_book-numbers : {S : Type 0} (machine : Machine S) (book : Book) → HasNumbersOfBook (with_book machine book)
+with_book-numbers machine book = record { batches = refl; sample = refl; total = refl }
 
 module _ {S V : Type 0} (chip : ChipMeaning S) (saving : ChipSaving S V) where
   abbrev later : List (Call V) → Lagging S → Lagging S
@@ -25,15 +30,14 @@ module _ {S V : Type 0} (chip : ChipMeaning S) (saving : ChipSaving S V) where
   counted-calls (Load saved memory ∷ calls) bus few = absurd few
 
   -- what every call leaves has the numbers of its book
-  of_book : (bus : Lagging S) → bus.chip_sample ≡ bus.machine.clock / CYCLES_PER_SAMPLE - bus.book.pending → bus.chip_total ≡ bus.book.total
-      → (calls : List (Call V)) → ((later calls bus).chip_sample ≡ (later calls bus).machine.clock / CYCLES_PER_SAMPLE - (later calls bus).book.pending) × ((later calls bus).chip_total ≡ (later calls bus).book.total)
-  of_book bus sample total [] = (sample, total)
-  of_book bus sample total (Read at ∷ calls) = of_book ((lagging chip).read bus at).1 refl refl calls
-  of_book bus sample total (Write at value ∷ calls) = of_book ((lagging chip).write bus at value) refl refl calls
-  of_book bus sample total (Pass cycles ∷ calls) = of_book ((lagging chip).pass bus cycles) refl refl calls
-  of_book bus sample total (Settle ∷ calls) = of_book ((lagging_calls chip saving).settle bus) refl refl calls
-  of_book bus sample total (Drain frames records ∷ calls) = of_book ((lagging_calls chip saving).drain frames records bus) refl refl calls
-  of_book bus sample total (Load saved memory ∷ calls) = of_book ((lagging_calls chip saving).load saved memory bus) refl refl calls
+  of_book : (bus : Lagging S) → HasNumbersOfBook bus → (calls : List (Call V)) → HasNumbersOfBook (later calls bus)
+  of_book bus numbers [] = numbers
+  of_book bus numbers (Read at ∷ calls) = of_book ((lagging chip).read bus at).1 (with_book-numbers _ _) calls
+  of_book bus numbers (Write at value ∷ calls) = of_book ((lagging chip).write bus at value) (with_book-numbers _ _) calls
+  of_book bus numbers (Pass cycles ∷ calls) = of_book ((lagging chip).pass bus cycles) (with_book-numbers _ _) calls
+  of_book bus numbers (Settle ∷ calls) = of_book ((lagging_calls chip saving).settle bus) (with_book-numbers _ _) calls
+  of_book bus numbers (Drain frames records ∷ calls) = of_book ((lagging_calls chip saving).drain frames records bus) (with_book-numbers _ _) calls
+  of_book bus numbers (Load saved memory ∷ calls) = of_book ((lagging_calls chip saving).load saved memory bus) (with_book-numbers _ _) calls
 
 -- a chip that counts on, by the numbers of its samples
 pub samples_of_count : (due pending total new_due new_pending new_total : ℕ) → CountsOn due pending total new_due new_pending new_total
@@ -52,8 +56,9 @@ same_numbers one two three four both = let less = both.0 in let counted = both.1
 pub total-calls : {S V : Type 0} (chip : ChipMeaning S) (saving : ChipSaving S V) → TotalsSamplesMade chip saving
 total-calls chip saving calls bus few matches =
     let new = later chip saving calls bus in
-    let book = of_book chip saving bus matches.sample matches.total calls in
-    let fits : bus.book.total < 2 ^ 64 = rw (← matches.total) matches.fits in
+    let numbers = matches.numbers in
+    let book = of_book chip saving bus numbers calls in
+    let fits : bus.book.total < 2 ^ 64 = rw (← numbers.total) matches.fits in
     let both = samples_of_count (bus.machine.clock / CYCLES_PER_SAMPLE) bus.book.pending bus.book.total (new.machine.clock / CYCLES_PER_SAMPLE) new.book.pending new.book.total
     (counted-calls chip saving calls bus few) matches.pending fits in
-    same_numbers matches.sample matches.total book.0 book.1 both
+    same_numbers numbers.sample numbers.total book.sample book.total both

@@ -26,11 +26,15 @@ with_book machine book = record {
   chip_total = book.total;
 }
 
--- What each bus in hand tells of its chip: its numbers are those of the book.
-pub record MatchesBook {S : Type 0} (bus : Lagging S) : Type 0 where
+-- the numbers of the chip in hand are those
+pub record HasNumbersOfBook {S : Type 0} (bus : Lagging S) : Type 0 where
   pub batches : bus.chip_batches ≡ bus.book.counts.batches
   pub sample : bus.chip_sample ≡ samples_due bus.machine - bus.book.pending
   pub total : bus.chip_total ≡ bus.book.total
+
+-- what each bus in hand tells of its chip
+pub record MatchesBook {S : Type 0} (bus : Lagging S) : Type 0 where
+  pub numbers : HasNumbersOfBook bus
   pub pending : bus.book.pending ≤ samples_due bus.machine
   pub fits : bus.chip_total < 2 ^ 64
 

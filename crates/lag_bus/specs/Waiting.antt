@@ -8,7 +8,7 @@ use Rattle.chip_form.specs.Samples.{samples, in_mask}
 use Rattle.chip_form.specs.ChipMeaning.{ChipMeaning}
 use Rattle.lock_step.specs.LockStep.{samples_due, bus_answer}
 use Rattle.lag_bus.specs.Book.{may_be_written}
-use Rattle.lag_bus.specs.Lagging.{Lagging, lagging, with_book}
+use Rattle.lag_bus.specs.Lagging.{Lagging, lagging, with_book, HasNumbersOfBook}
 use Rattle.lag_bus.specs.Late.{AreWritesWithin}
 use Rattle.chip_form.specs.Limits.{most_samples_of_batch}
 use Rattle.ports_timers.specs.Zeros.{counter_is_0, zeros_stay, AreTimers}
@@ -63,9 +63,7 @@ without_calls bus = record bus { machine = record bus.machine { calls = 0 } }
 
 -- what a bus that lags keeps: its chip made what the book says, and samples that come write where the book's reach says
 pub record IsKept {S : Type 0} (chip : ChipMeaning S) (bus : Lagging S) : Type 0 where
-  pub batches : bus.chip_batches ≡ bus.book.counts.batches
-  pub sample : bus.chip_sample ≡ samples_due bus.machine - bus.book.pending
-  pub total : bus.chip_total ≡ bus.book.total
+  pub numbers : HasNumbersOfBook bus
   pub writes : AreWritesWithin chip bus.book.reach bus.book.pending (samples_due bus.machine) bus.machine.chip bus.machine.memory
 
 -- Over cycles in which no counter that is 0 leaves 0, and at whose end fewer samples are pending than one batch has at most, rounds of

@@ -10,7 +10,7 @@ ghost use Rattle.lock_step.specs.Machine.{opened_machine};
 ghost use Rattle.lock_step.specs.LockStep.{samples_due, writes_register, writes_port, write_records};
 ghost use Rattle.lag_bus.specs.Ready.{ready_frames, ready_records};
 ghost use Rattle.lag_bus.specs.Book.{counts_with_batch, AddsUp, may_be_read, may_be_written};
-ghost use Rattle.lag_bus.specs.Lagging.{lagging, opened_lagging, after_settle, MatchesBook};
+ghost use Rattle.lag_bus.specs.Lagging.{lagging, opened_lagging, after_settle, HasNumbersOfBook, MatchesBook};
 ghost use Rattle.lag_bus.specs.Saved.{CanBeLoaded, saved_bus, loaded_lagging};
 ghost use Rattle.lag_bus.specs.LagEmits.{lag_emits, after_drain};
 ghost use Rattle.lag_bus.specs.LagLaws.{lagging-lawful, emits_frames, emits_records, frame_each, counting, beside};
@@ -534,7 +534,10 @@ impl<C: Chip> Looks for LagBus<C> {
 impl<C: Chip> DrainedBus for LagBus<C> {
     ghost emits = { lag_emits C.meaning };
 
-    fn due(&self) -> u32 {
+    fn due(&self) -> u32
+        ensures due { result ≡ samples_due self.now.machine }
+        ensures numbers { HasNumbersOfBook self.now }
+    {
         (self.time.clock() / CYCLES_PER_SAMPLE) as u32
     }
 
@@ -547,7 +550,6 @@ impl<C: Chip> DrainedBus for LagBus<C> {
     }
 
     fn wait(&mut self, cpu: &Cpu, samples: u32) {
-        self.late.writes_within();
         if !self.late.is_drained() {
             return;
         }

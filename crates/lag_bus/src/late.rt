@@ -310,19 +310,13 @@ impl<C: Chip> LateChip<C> {
         self.chip.writes_page(&self.memory, page_of(at))
     }
 
-    /// Samples to come, too, write on the write pages of the reach alone.
-    pub fn writes_within(&self)
-        ensures { AreWritesWithin C.meaning self.now.reach self.now.pending self.now.due self.now.chip self.now.memory }
-    {
-        let _pending = self.pending;
-    }
-
-    /// Whether nothing waits to be drained but what waits for pending samples.
+    /// Whether nothing waits to be drained but what waits for pending samples. Samples to come, too, write where the reach says.
     pub fn is_drained(&self) -> bool
         ensures frames { result ≡ true → self.now.frames_used ≡ self.now.pending }
         ensures records { result ≡ true → self.now.records_used ≡ self.now.events + 8 * self.now.pending }
         ensures drained { result ≡ true → NoneIsReady self.now.pending (self.now.due - self.now.pending) self.now.frames self.now.records }
         ensures none { NoneIsReady self.now.pending (self.now.due - self.now.pending) self.now.frames self.now.records → result ≡ true }
+        ensures writes { AreWritesWithin C.meaning self.now.reach self.now.pending self.now.due self.now.chip self.now.memory }
     {
         self.frames.as_slice().is_empty() && self.records.as_slice().is_empty()
     }

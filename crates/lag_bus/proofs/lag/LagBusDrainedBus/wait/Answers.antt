@@ -40,10 +40,8 @@ returns g c =
     let k : ℕ = most / c.from.result in
     let due : late.due ≡ clock / CYCLES_PER_SAMPLE = c.self.invariant.same_due in
     let kept : IsKept chip (lagging_of late io clock counts calls) = record {
-      batches = c.self.invariant.same_batches;
-      sample = ap (λ (n : ℕ). n - late.pending) due;
-      total = refl;
-      writes = λ fallen at few free. subst (λ (n : ℕ). byte_at (samples chip.one_sample fallen n late.chip late.memory).memory at ≡ byte_at late.memory at) due (c.writes_within.ensures fallen at few free);
+      numbers = record { batches = c.self.invariant.same_batches; sample = ap (λ (n : ℕ). n - late.pending) due; total = refl };
+      writes = λ fallen at few free. subst (λ (n : ℕ). byte_at (samples chip.one_sample fallen n late.chip late.memory).memory at ≡ byte_at late.memory at) due (c.is_drained.ensures.writes fallen at few free);
     } in
     let small : AreTimers io = rw (← c.self.view_is) at c.cycles_to_wait.ensures.timers in
     let free : late.pending + samples_in clock most < 64 = rw (← c.self.view_is) at c.cycles_to_wait.ensures.free in
