@@ -5,15 +5,26 @@ use Rattle.spc700_exec.specs.Bus.{BusMeaning, IsLawful}
 use Rattle.spc700_exec.specs.Emitting.{IsEmitting}
 use Rattle.spc700_exec.specs.Instruction.{step_outcome}
 use Rattle.spc700_exec.proofs.Bounds.{clock-step_outcome-least}
-use Rattle.lock_step.specs.Emits.{Emits, IsBeside}
+use Rattle.lock_step.specs.Emits.{Emits, IsCounting, IsBeside}
+use Rattle.lock_step.proofs.ChipCounts.{counts_on_then}
 use Rattle.render_core.specs.MachineRun.{Whole, after_step, after_run}
 use Rattle.render_core.specs.Items.{whole_at_rest, end_of_run}
+use Rattle.render_core.specs.BetweenSteps.{RunsAlike}
 use Rattle.render_core.proofs.RunBySteps.{after_run-next}
 use Rattle.render_core.proofs.ItemsBeforeRun.{items-after_run-drained, end-after_run-drained}
+use Rattle.render_core.proofs.CountedSteps.{counted-steps}
 use Rattle.idle_rounds.specs.Looking.{after_n_steps}
 use Rattle.lock_step.specs.WaitOfRounds.{IsWaitOf}
 use Rattle.lock_step.specs.StepsOfRun.{AreStepsOf}
 use Rattle.spc700_exec.specs.declared.bus.TheConstants.{CYCLES_PER_SAMPLE}
+
+pub runs_alike-then : {S : Type 0} {bus : BusMeaning S} {emits : Emits S} {samples : ℕ} {u v w : Whole S} → RunsAlike bus emits samples u v → RunsAlike bus emits samples v w → RunsAlike bus emits samples u w
+runs_alike-then first second = record {
+  frames = first.frames ∙ second.frames;
+  records = first.records ∙ second.records;
+  at_end = first.at_end ∙ second.at_end;
+  counted = counts_on_then first.counted second.counted;
+}
 
 module _ {S : Type 0} (bus : BusMeaning S) (lawful : IsLawful bus) (samples : ℕ) where
   -- steps that end before the last sample are the first ones of the run
@@ -61,18 +72,26 @@ module _ {S : Type 0} (bus : BusMeaning S) (lawful : IsLawful bus) (samples : �
         let below = wait.below in
         after_run-steps wait.steps (cpu, old) (omega arith) ∙ ap (λ (c : Cpu). after_run bus samples (c, reached)) wait.registers
 
-    -- a run emits the same after the wait, and comes to the same end
-    pub items-after_run-wait : {I : Type 0} (items : S → List I) → IsEmitting bus emits.cleared items → items reached ≡ items new
+    items-after_run-wait : {I : Type 0} (items : S → List I) → IsEmitting bus emits.cleared items → items reached ≡ items new
         → items (after_run bus samples (cpu, old)).1 ≡ items (after_run bus samples (cpu, new)).1
     items-after_run-wait items law same =
         ap (λ (w : Whole S). items w.1) (after_run-reached-wait items law)
         ∙ items-after_run-drained bus lawful emits.cleared items law samples cpu reached new [] same (sym wait.cleared)
 
-    pub end-after_run-wait : {I : Type 0} (items : S → List I) → IsEmitting bus emits.cleared items → IsBeside emits → items reached ≡ items new
+    end-after_run-wait : {I : Type 0} (items : S → List I) → IsEmitting bus emits.cleared items → IsBeside emits → items reached ≡ items new
         → end_of_run bus emits samples (cpu, old) ≡ end_of_run bus emits samples (cpu, new)
     end-after_run-wait items law beside same =
         ap (whole_at_rest emits) (after_run-reached-wait items law)
         ∙ end-after_run-drained bus lawful emits.cleared items law samples emits.at_rest beside.at_rest cpu reached new [] same (sym wait.cleared)
+
+    -- a run emits the same after the wait, and comes to the same end
+    pub runs_alike-wait : IsEmitting bus emits.cleared emits.frames → IsEmitting bus emits.cleared emits.records → IsBeside emits → RunsAlike bus emits samples (cpu, old) (cpu, new)
+    runs_alike-wait of_frames of_records beside = record {
+      frames = items-after_run-wait emits.frames of_frames wait.frames;
+      records = items-after_run-wait emits.records of_records wait.records;
+      at_end = end-after_run-wait emits.frames of_frames beside wait.frames;
+      counted = wait.counts;
+    }
 
     pub clock-wait : {I : Type 0} (items : S → List I) → IsEmitting bus emits.cleared items → bus.clock old ≤ bus.clock new
     clock-wait items law =
@@ -89,14 +108,22 @@ module _ {S : Type 0} (bus : BusMeaning S) (lawful : IsLawful bus) (samples : �
     after_run-came =
         after_run-begun taken.steps (cpu, old) taken.begun ∙ ap (λ (c : Cpu). after_run bus samples (c, came)) taken.registers
 
-    pub items-after_run-steps : {I : Type 0} (items : S → List I) → IsEmitting bus emits.cleared items → items came ≡ items new
+    items-after_run-steps : {I : Type 0} (items : S → List I) → IsEmitting bus emits.cleared items → items came ≡ items new
         → items (after_run bus samples (cpu, old)).1 ≡ items (after_run bus samples (next, new)).1
     items-after_run-steps items law same =
         ap (λ (w : Whole S). items w.1) after_run-came
         ∙ items-after_run-drained bus lawful emits.cleared items law samples next came new [] same (sym taken.cleared)
 
-    pub end-after_run-steps : {I : Type 0} (items : S → List I) → IsEmitting bus emits.cleared items → IsBeside emits → items came ≡ items new
+    end-after_run-steps : {I : Type 0} (items : S → List I) → IsEmitting bus emits.cleared items → IsBeside emits → items came ≡ items new
         → end_of_run bus emits samples (cpu, old) ≡ end_of_run bus emits samples (next, new)
     end-after_run-steps items law beside same =
         ap (whole_at_rest emits) after_run-came
         ∙ end-after_run-drained bus lawful emits.cleared items law samples emits.at_rest beside.at_rest next came new [] same (sym taken.cleared)
+
+    pub runs_alike-steps : IsEmitting bus emits.cleared emits.frames → IsEmitting bus emits.cleared emits.records → IsBeside emits → IsCounting bus emits → RunsAlike bus emits samples (cpu, old) (next, new)
+    runs_alike-steps of_frames of_records beside counting = record {
+      frames = items-after_run-steps emits.frames of_frames taken.frames;
+      records = items-after_run-steps emits.records of_records taken.records;
+      at_end = end-after_run-steps emits.frames of_frames beside taken.frames;
+      counted = counted-steps bus emits counting lawful emits.frames of_frames beside samples cpu next old new taken;
+    }

@@ -17,5 +17,5 @@ pub mod Whole
 pub mod Fade
 -- laws of these
 pub mod Laws
--- A word of the contracts within the crate; no promise speaks of it:
+-- Words of the contracts within the crate; no promise speaks of them:
 pub mod BetweenSteps

@@ -12,7 +12,7 @@ use Rattle.lock_step.specs.LockStepEmits.{lock_step_emits}
 use Rattle.chip_form.specs.Samples.{count_after}
 use Rattle.render_core.specs.MachineRun.{Whole}
 use Rattle.render_core.specs.Items.{run_frames, run_records, end_of_run}
-use Rattle.render_core.specs.RunCounts.{run_counts}
+use Rattle.render_core.specs.RunCounts.{with_opened_book, run_counts}
 use Rattle.spc700_exec.specs.declared.bus.TheConstants.{CYCLES_PER_SAMPLE}
 
 pub record RenderState (S : Type 0) : Type 0 where
@@ -43,6 +43,18 @@ is_at_length render = nat_le render.samples (samples_due render.bus.machine)
 -- the whole machine there: the one that the machine in lock step reaches from here
 abbrev pub whole_at_length : {S : Type 0} → ChipMeaning S → RenderState S → Whole (Machine S)
 whole_at_length chip render = end_of_run (lock_step chip) lock_step_emits render.samples (render.cpu, render.bus.machine)
+
+-- A render of so many samples as it is opened: it has this whole machine, over a chip that made so many samples in all, and all of the
+-- machine's run is to come.
+pub record IsOpenedOver {S : Type 0} (chip : ChipMeaning S) (machine : Whole (Machine S)) (made wanted : ℕ) (render : RenderState S) : Type 0 where
+  pub whole : (render.cpu, render.bus) ≡ with_opened_book chip machine made
+  pub samples : render.samples ≡ wanted
+  pub frames : frames_to_come chip render ≡ run_frames (lock_step chip) lock_step_emits wanted machine
+  pub records : records_to_come chip render ≡ run_records (lock_step chip) lock_step_emits wanted machine
+  pub counts : counts_to_come chip render ≡ run_counts chip wanted (with_opened_book chip machine made)
+  -- a frame for each sample
+  pub count : length (frames_to_come chip render) ≡ wanted
+  pub at_length : whole_at_length chip render ≡ end_of_run (lock_step chip) lock_step_emits wanted machine
 
 -- frames and records that are the next piece between two states of a render, and whether it is the last one
 pub record IsNextPiece {S : Type 0} (chip : ChipMeaning S) (old new : RenderState S) (given : List Frame) (written : List Record)

@@ -1,9 +1,8 @@
 // One piece, over any bus that emits.
-ghost use Rattle.std.specs.Prelude.{nat_le, ◌≡◌, ◌+◌, ◌*◌, ◌++◌, ◌<◌, ◌≤◌, [], length, true, false};
-ghost use Rattle.render_core.specs.BetweenSteps.{IsBetweenSteps};
+ghost use Rattle.std.specs.Prelude.{nat_le, ◌≡◌, ◌+◌, ◌*◌, ◌<◌, ◌≤◌, [], length, true, false};
+ghost use Rattle.render_core.specs.BetweenSteps.{IsBetweenSteps, RunsAlike, HandsOver, IsOver};
 ghost use Rattle.num_fix.specs.Limits.{most_frames};
-ghost use Rattle.render_core.specs.MachineRun.{after_run};
-ghost use Rattle.render_core.specs.Items.{run_frames, run_records, records_before, end_of_run};
+ghost use Rattle.render_core.specs.Items.{run_frames, records_before};
 ghost use Rattle.lock_step.specs.Emits.{IsCountedOn};
 
 use crate::OutOfMemory;
@@ -67,23 +66,11 @@ impl Lists {
     }
 }
 
-/// Makes at once whole rounds of the loop at which the processor stands, as far as they only wait.
-fn make_rounds<B: DrainedBus>(cpu: &Cpu, bus: &mut B, samples: u32)
-    requires more { B.means.due bus.old < samples }
-    requires few { samples ≤ most_frames }
-    ensures frames { B.emits.frames (after_run B.means samples (cpu.now, bus.old)).1 ≡ B.emits.frames (after_run B.means samples (cpu.now, bus.new)).1 }
-    ensures records { B.emits.records (after_run B.means samples (cpu.now, bus.old)).1 ≡ B.emits.records (after_run B.means samples (cpu.now, bus.new)).1 }
-    ensures at_end { end_of_run B.means B.emits samples (cpu.now, bus.old) ≡ end_of_run B.means B.emits samples (cpu.now, bus.new) }
-    ensures counted { IsCountedOn B.means B.emits bus.old bus.new }
-    ensures later { B.means.clock bus.old ≤ B.means.clock bus.new }
-    ensures more { B.means.due bus.new < samples }
-    ensures calls { B.means.calls bus.new ≡ B.means.calls bus.old }
-{
-    bus.wait(cpu, samples);
-}
+/// The longest pause between two trials.
+const LONGEST_TRIAL_PAUSE: u8 = 63;
 
 /// How long no rounds are tried, in fillings of the bus's room for calls. After a trial by which no sample fell due it is twice as long as before and
-/// one more, 63 at most.
+/// one more, up to the longest one.
 #[derive(Drop)]
 pub(crate) struct TrialPause {
     left: u8,
@@ -105,27 +92,27 @@ impl TrialPause {
         self.length = if was_found {
             0
         } else {
-            self.length.saturating_mul(2).saturating_add(1).min(63)
+            self.length
+                .saturating_mul(2)
+                .saturating_add(1)
+                .min(LONGEST_TRIAL_PAUSE)
         };
         self.left = self.length;
     }
 }
 
-/// Makes rounds at once, where it is time for a trial.
+/// Where it is time for a trial, makes at once whole rounds of the loop at which the processor stands, as far as they only wait.
 fn make_rounds_if_due<B: DrainedBus>(cpu: &Cpu, bus: &mut B, samples: u32, pause: &mut TrialPause)
     requires more { B.means.due bus.old < samples }
     requires few { samples ≤ most_frames }
-    ensures frames { B.emits.frames (after_run B.means samples (cpu.now, bus.old)).1 ≡ B.emits.frames (after_run B.means samples (cpu.now, bus.new)).1 }
-    ensures records { B.emits.records (after_run B.means samples (cpu.now, bus.old)).1 ≡ B.emits.records (after_run B.means samples (cpu.now, bus.new)).1 }
-    ensures at_end { end_of_run B.means B.emits samples (cpu.now, bus.old) ≡ end_of_run B.means B.emits samples (cpu.now, bus.new) }
-    ensures counted { IsCountedOn B.means B.emits bus.old bus.new }
+    ensures alike { RunsAlike B.means B.emits samples (cpu.now, bus.old) (cpu.now, bus.new) }
     ensures later { B.means.clock bus.old ≤ B.means.clock bus.new }
     ensures more { B.means.due bus.new < samples }
     ensures calls { B.means.calls bus.new ≡ B.means.calls bus.old }
 {
     if pause.is_over() {
         let before = bus.due();
-        make_rounds(cpu, bus, samples);
+        bus.wait(cpu, samples);
         pause.begin(before < bus.due());
     }
 }
@@ -141,10 +128,7 @@ fn take_rounds_and_steps<B: DrainedBus>(
     requires calls { B.means.calls bus.old ≡ 0 }
     requires more { B.means.due bus.old < samples }
     requires few { samples ≤ most_frames }
-    ensures frames { B.emits.frames (after_run B.means samples (cpu.old, bus.old)).1 ≡ B.emits.frames (after_run B.means samples (cpu.new, bus.new)).1 }
-    ensures records { B.emits.records (after_run B.means samples (cpu.old, bus.old)).1 ≡ B.emits.records (after_run B.means samples (cpu.new, bus.new)).1 }
-    ensures at_end { end_of_run B.means B.emits samples (cpu.old, bus.old) ≡ end_of_run B.means B.emits samples (cpu.new, bus.new) }
-    ensures counted { IsCountedOn B.means B.emits bus.old bus.new }
+    ensures alike { RunsAlike B.means B.emits samples (cpu.old, bus.old) (cpu.new, bus.new) }
     ensures later { B.means.clock bus.old < B.means.clock bus.new }
 {
     make_rounds_if_due(cpu, bus, samples, pause);
@@ -156,10 +140,7 @@ fn step_and_drain<B: DrainedBus>(cpu: &mut Cpu, bus: &mut B, samples: u32, lists
     requires no_calls { B.means.calls bus.old ≡ 0 }
     requires more { B.means.due bus.old < samples }
     requires few { samples ≤ most_frames }
-    ensures frames { run_frames B.means B.emits samples (cpu.old, bus.old) ≡ lists.new.frames ++ run_frames B.means B.emits samples (cpu.new, bus.new) }
-    ensures records { run_records B.means B.emits samples (cpu.old, bus.old) ≡ lists.new.records ++ run_records B.means B.emits samples (cpu.new, bus.new) }
-    ensures at_end { end_of_run B.means B.emits samples (cpu.old, bus.old) ≡ end_of_run B.means B.emits samples (cpu.new, bus.new) }
-    ensures counted { IsCountedOn B.means B.emits bus.old bus.new }
+    ensures hands_over { HandsOver B.means B.emits samples (cpu.old, bus.old) (cpu.new, bus.new) lists.new.frames lists.new.records }
     ensures between_steps { IsBetweenSteps B.means B.emits samples bus.new }
     ensures later { B.means.clock bus.old < B.means.clock bus.new }
 {
@@ -179,15 +160,9 @@ pub(crate) fn make_piece<B: DrainedBus>(
 ) -> bool
     requires between_steps { IsBetweenSteps B.means B.emits samples bus.old }
     requires few { samples ≤ most_frames }
-    ensures frames { run_frames B.means B.emits samples (cpu.old, bus.old) ≡ lists.new.frames ++ run_frames B.means B.emits samples (cpu.new, bus.new) }
-    ensures records { run_records B.means B.emits samples (cpu.old, bus.old) ≡ lists.new.records ++ run_records B.means B.emits samples (cpu.new, bus.new) }
+    ensures hands_over { HandsOver B.means B.emits samples (cpu.old, bus.old) (cpu.new, bus.new) lists.new.frames lists.new.records }
     ensures between_steps { IsBetweenSteps B.means B.emits samples bus.new }
-    ensures at_end { end_of_run B.means B.emits samples (cpu.old, bus.old) ≡ end_of_run B.means B.emits samples (cpu.new, bus.new) }
-    ensures counted { IsCountedOn B.means B.emits bus.old bus.new }
-    ensures over { result ≡ true → after_run B.means samples (cpu.new, bus.new) ≡ (cpu.new, bus.new) }
-    ensures settled { result ≡ true → B.emits.pending bus.new ≡ 0 }
-    ensures frames_done { result ≡ true → run_frames B.means B.emits samples (cpu.new, bus.new) ≡ [] }
-    ensures records_done { result ≡ true → run_records B.means B.emits samples (cpu.new, bus.new) ≡ [] }
+    ensures over { result ≡ true → IsOver B.means B.emits samples (cpu.new, bus.new) }
     ensures some { result ≡ false → 0 < length lists.new.frames + length lists.new.records }
     ensures more { result ≡ false → 0 < length (run_frames B.means B.emits samples (cpu.new, bus.new)) }
     ensures later { result ≡ false → B.means.clock bus.old < B.means.clock bus.new }

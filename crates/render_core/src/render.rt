@@ -1,16 +1,13 @@
 // A render, piece by piece.
-ghost use Rattle.std.specs.Prelude.{◌≡◌, ◌+◌, ◌-◌, ◌/◌, ◌<◌, ◌≤◌, [], length, true, false, IfOk};
+ghost use Rattle.std.specs.Prelude.{◌≡◌, ◌+◌, ◌-◌, ◌<◌, ◌≤◌, [], length, true, false, IfOk};
 ghost use Rattle.std.specs.Borrow.{sem};
 ghost use Rattle.std.specs.Io.BufRead.{Rests};
 ghost use Rattle.trace_form.specs.Rooms.{frame_room, record_room};
 ghost use Rattle.num_fix.specs.Limits.{most_frames};
-ghost use Rattle.lock_step.specs.LockStep.{lock_step, samples_due};
-ghost use Rattle.lock_step.specs.LockStepEmits.{lock_step_emits};
+ghost use Rattle.lock_step.specs.LockStep.{samples_due};
 ghost use Rattle.lag_bus.specs.Lagging.{MatchesBook};
-ghost use Rattle.render_core.specs.Items.{run_frames, run_records, end_of_run};
-ghost use Rattle.render_core.specs.RunCounts.{with_opened_book, run_counts};
 ghost use Rattle.render_core.specs.Opening.{opened_whole, opened_cpu};
-ghost use Rattle.render_core.specs.RenderState.{frames_to_come, records_to_come, counts_to_come, is_at_length, whole_at_length, IsNextPiece};
+ghost use Rattle.render_core.specs.RenderState.{frames_to_come, is_at_length, whole_at_length, IsOpenedOver, IsNextPiece};
 ghost use Rattle.render_core.specs.Saved.{saved_whole, CanBePlayed, loaded_render};
 ghost use Rattle.render_core.specs.contracts.render.Render.{the_row};
 
@@ -107,18 +104,7 @@ impl<C: Chip> Render<C> {
         requires few { samples ≤ most_frames }
         requires sample { C.sample chip ≡ 0 }
         requires batches { C.batches chip ≡ 0 }
-        ensures whole { let whole = opened_whole file.now (C.state chip) mask in
-            IfOk result (λ render. (render.cpu, render.bus) ≡ with_opened_book C.meaning whole (C.total chip)) }
-        ensures samples { IfOk result (λ render. render.samples ≡ samples) }
-        ensures frames { let whole = opened_whole file.now (C.state chip) mask in
-            IfOk result (λ render. frames_to_come C.meaning render ≡ run_frames (lock_step C.meaning) lock_step_emits samples whole) }
-        ensures records { let whole = opened_whole file.now (C.state chip) mask in
-            IfOk result (λ render. records_to_come C.meaning render ≡ run_records (lock_step C.meaning) lock_step_emits samples whole) }
-        ensures counts { let whole = with_opened_book C.meaning (opened_whole file.now (C.state chip) mask) (C.total chip) in
-            IfOk result (λ render. counts_to_come C.meaning render ≡ run_counts C.meaning samples whole) }
-        ensures count { IfOk result (λ render. length (frames_to_come C.meaning render) ≡ samples) }
-        ensures at_length { let whole = opened_whole file.now (C.state chip) mask in
-            IfOk result (λ render. whole_at_length C.meaning render ≡ end_of_run (lock_step C.meaning) lock_step_emits samples whole) }
+        ensures { IfOk result (λ render. IsOpenedOver C.meaning (opened_whole file.now (C.state chip) mask) (C.total chip) samples render) }
     {
         let lists = Lists::reserve(alloc)?;
         let state = opening(alloc, file)?;
@@ -164,7 +150,6 @@ impl<C: Chip> Render<C> {
         ensures sample { result ≡ true → self.now.bus.chip_sample ≡ self.now.samples }
         ensures whole { result ≡ true → (self.now.cpu, self.now.bus.machine) ≡ whole_at_length C.meaning self.now }
     {
-        self.bus.matches_its_book();
         self.bus.due() >= self.samples
     }
 

@@ -1,17 +1,12 @@
-use Rattle.std.proofs.Common.{◌≡◌, ◌++◌, ◌+◌, ◌*◌, ◌-◌, ◌<◌, ◌≤◌, length}
-use Rattle.render_core.specs.BetweenSteps.{IsBetweenSteps}
-use Rattle.render_core.specs.Items.{run_frames, run_records, end_of_run}
-use Rattle.lock_step.specs.Emits.{IsCountedOn}
+use Rattle.std.proofs.Common.{◌+◌, ◌*◌, ◌-◌, ◌<◌, ◌≤◌, length}
+use Rattle.render_core.specs.BetweenSteps.{IsBetweenSteps, HandsOver}
 use Rattle.render_core.proofs.making.make_piece.Given as goal
 use Rattle.spc700_exec.specs.declared.bus.TheConstants.{CYCLES_PER_SAMPLE}
 
 -- what was to come is the piece so far and what is to come
 abbrev pub invariant-steps : goal.invariant-steps
 invariant-steps g l = record {
-  frames : run_frames g.B.Bus.means g.B.DrainedBus.emits l.samples (l.fn.cpu, l.fn.bus) ≡ l.lists.frames ++ run_frames g.B.Bus.means g.B.DrainedBus.emits l.samples (l.cpu, l.bus);
-  records : run_records g.B.Bus.means g.B.DrainedBus.emits l.samples (l.fn.cpu, l.fn.bus) ≡ l.lists.records ++ run_records g.B.Bus.means g.B.DrainedBus.emits l.samples (l.cpu, l.bus);
-  at_end : end_of_run g.B.Bus.means g.B.DrainedBus.emits l.samples (l.fn.cpu, l.fn.bus) ≡ end_of_run g.B.Bus.means g.B.DrainedBus.emits l.samples (l.cpu, l.bus);
-  counted : IsCountedOn g.B.Bus.means g.B.DrainedBus.emits l.fn.bus l.bus;
+  hands_over : HandsOver g.B.Bus.means g.B.DrainedBus.emits l.samples (l.fn.cpu, l.fn.bus) (l.cpu, l.bus) l.lists.frames l.lists.records;
   between_steps : IsBetweenSteps g.B.Bus.means g.B.DrainedBus.emits l.samples l.bus;
   later : 0 < length l.lists.frames + length l.lists.records → g.B.Bus.means.clock l.fn.bus < g.B.Bus.means.clock l.bus;
   on : g.B.Bus.means.clock l.fn.bus ≤ g.B.Bus.means.clock l.bus;
