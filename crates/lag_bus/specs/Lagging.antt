@@ -26,7 +26,7 @@ with_book machine book = record {
   chip_total = book.total;
 }
 
--- the numbers of the chip in hand are those
+-- the numbers of the chip in hand are those that the book has
 pub record HasNumbersOfBook {S : Type 0} (bus : Lagging S) : Type 0 where
   pub batches : bus.chip_batches ≡ bus.book.counts.batches
   pub sample : bus.chip_sample ≡ samples_due bus.machine - bus.book.pending

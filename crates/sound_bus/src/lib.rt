@@ -1,4 +1,4 @@
-//! The bus that makes each sample at once, as the machine in lock step is told. Here stand also all names of buses and chips.
+//! The plain bus, which makes each sample in the moment in which it falls due. Here stand also the bus that lags, and what every bus and chip has.
 #![tactic(auto)]
 
 mod plain;

@@ -1,4 +1,4 @@
-// A bus that makes each sample at once.
+// A bus that makes each sample in the moment in which it falls due.
 ghost use Rattle.std.specs.Prelude.{◌≡◌, ◌+◌, ◌*◌, ◌/◌, ◌<◌, ◌≤◌, true, length, IfOk};
 ghost use Rattle.chip_form.specs.Samples.{AddsSample};
 ghost use Rattle.trace_form.specs.Rooms.{frame_room, record_room};
@@ -19,7 +19,7 @@ use std::alloc::Global;
 use std::marker::Model;
 use trace_form::{Frames, Record, Records};
 
-/// A bus over a chip that makes each sample at once. What is emitted waits in it for the next drain.
+/// A bus over a chip that makes each sample in the moment in which it falls due. What is emitted waits in it for the next drain.
 #[derive(Drop)]
 pub struct PlainBus<C: Chip> {
     memory: Aram,
