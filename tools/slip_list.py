@@ -115,7 +115,6 @@ RESULTS = 'dsp_state/specs/Results.antt'
 RESULTS_CODE = 'dsp_state/src/results.rt'
 OUTSIDE = 'dsp_state/specs/Outside.antt'
 DSP_CODE = 'dsp_core/src/dsp.rt'
-BOOK = 'cut_form/specs/CutBook.antt'
 CUT = 'cut_form/src/cut.rt'
 
 SLIPS = [
@@ -773,12 +772,11 @@ SLIPS = [
         (ENCODING, 'most_samples = 116480', 'most_samples = 116496'), (ENCODING, 'most_blocks = 7280', 'most_blocks = 7281'),
         ('brr_encode/src/encoder.rt', 'MOST_SAMPLES: usize = 116480', 'MOST_SAMPLES: usize = 116496'), ('sample_rip/src/blocks.rt', 'MOST_BLOCKS: u32 = 7280', 'MOST_BLOCKS: u32 = 7281')]),
     Slip('63 checkpoints', ['cut_form', 'mark_laws'], ['worked_renders', 'worked_tunes'], [
-        ('cut_form/specs/Checkpoints.antt', 'most_checkpoints = 64', 'most_checkpoints = 63'),
-        ('cut_form/src/cut.rt', 'MOST_CHECKPOINTS: u32 = 64', 'MOST_CHECKPOINTS: u32 = 63')]),
+        (CUT, 'MOST_CHECKPOINTS: u32 = 64', 'MOST_CHECKPOINTS: u32 = 63')]),
     Slip('4,097 pages for lists of cuts', ['cut_form', 'cut_files', 'command_cuts'], ['worked_tunes'], [
-        (BOOK, 'slots_for_cuts = 4096', 'slots_for_cuts = 4097'), (CUT, 'SLOTS_FOR_CUTS: u32 = 4096', 'SLOTS_FOR_CUTS: u32 = 4097')]),
+        (CUT, 'SLOTS_FOR_CUTS: u32 = 4096', 'SLOTS_FOR_CUTS: u32 = 4097')]),
     Slip('4,095 pages for lists of cuts', ['cut_form', 'cut_files', 'command_cuts'], ['worked_tunes'], [
-        (BOOK, 'slots_for_cuts = 4096', 'slots_for_cuts = 4095'), (CUT, 'SLOTS_FOR_CUTS: u32 = 4096', 'SLOTS_FOR_CUTS: u32 = 4095')]),
+        (CUT, 'SLOTS_FOR_CUTS: u32 = 4096', 'SLOTS_FOR_CUTS: u32 = 4095')]),
     Slip('numbers of eight digits at most in lists and scripts', ['cut_form', 'cut_text'], ['worked_files'], [
         ('cut_form/specs/TextLines.antt', 'most_digits = 9', 'most_digits = 8'), ('cut_text/src/lines.rt', 'MOST_DIGITS: usize = 9', 'MOST_DIGITS: usize = 8')]),
     Slip('the position told before the frames that were played', ['cut_form', 'session_files'], ['worked_tunes'], [

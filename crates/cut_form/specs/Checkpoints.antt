@@ -7,6 +7,7 @@ use Rattle.std.specs.List.{sum_by, count_by, list_any, range_with_len}
 use Rattle.std.specs.Str.{bytes_eq}
 use Rattle.aram_core.specs.Memory.{page_bytes}
 use Rattle.aram_core.specs.declared.aram.TheConstants.{PAGE_COUNT}
+use Rattle.cut_form.specs.declared.cut.TheConstants.{MOST_CHECKPOINTS}
 
 -- how many pages a memory has
 abbrev pub page_count : ℕ
@@ -36,9 +37,9 @@ by_places test (x ∷ xs) (y ∷ ys) = test x y ∷ by_places test xs ys
 
 -- Live checkpoints stand in the order in which they were taken: the newest is the last one, and the first is that of sample 0.
 
--- the most live checkpoints
+-- the most live checkpoints: 64
 abbrev pub most_checkpoints : ℕ
-most_checkpoints = 64
+most_checkpoints = MOST_CHECKPOINTS
 
 -- which pages a checkpoint shares with the newest
 abbrev pub shared_with_newest : List Checkpoint → (pages : List (List ℕ)) → List Bool

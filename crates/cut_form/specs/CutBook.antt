@@ -2,6 +2,7 @@
 -- memory that the run from the opening has once k samples are made.
 use Rattle.std.specs.Prelude.{ℕ, ◌+◌, ◌-◌, ◌*◌, ◌^◌, min, not, ◌&&◌, nat_le, if◌then◌else◌, List, [], fold}
 use Rattle.cut_form.specs.declared.cut.Cut.{Cut}
+use Rattle.cut_form.specs.declared.cut.TheConstants.{MOST_PLAYED, SLOTS_FOR_CUTS}
 use Rattle.cut_form.specs.Checkpoints.{Checkpoint, with_checkpoint, without_checkpoint, slots_needed, has_room_for_one, stands_at, nearest}
 
 pub record CutBook : Type 0 where
@@ -25,9 +26,9 @@ runs_from book at =
 abbrev pub after_seek : CutBook → (at : ℕ) → CutBook
 after_seek book at = record book { position = at; made = book.made + (at - runs_from book at) }
 
--- the most samples that are played at once
+-- the most samples that are played at once: 64
 abbrev pub most_played : ℕ
-most_played = 64
+most_played = MOST_PLAYED
 
 -- the bytes of these samples in a sound file
 abbrev pub most_played_bytes : ℕ
@@ -57,9 +58,9 @@ counted_book book = record book { made = min book.made (2 ^ 64 - 1) }
 
 -- The books of lists of cuts.
 
--- the slots of their pool
+-- the slots of their pool: 4096
 abbrev pub slots_for_cuts : ℕ
-slots_for_cuts = 4096
+slots_for_cuts = SLOTS_FOR_CUTS
 
 -- one more is taken where none stands and there is room for it
 abbrev pub with_one_if_room : (slots : ℕ) → (pages_at : ℕ → List (List ℕ)) → CutBook → CutBook

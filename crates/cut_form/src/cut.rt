@@ -12,8 +12,8 @@ pub const MOST_CHECKPOINTS: u32 = 64;
 /// The most frames that are played at once.
 pub const MOST_PLAYED: u32 = 64;
 
-/// The bytes of these frames in a sound file.
-pub const PLAYED_BYTES: usize = 256;
+/// The bytes of these frames in a sound file, four each.
+pub const PLAYED_BYTES: usize = 4 * MOST_PLAYED as usize;
 
 /// So many frames of a tune from a sample on, before any fade.
 #[derive(Clone, Copy, Debug, PartialEq, Eq)]
