@@ -15,8 +15,8 @@ use cut_form::{MOST_FRAMES, ScriptLine};
 use std::alloc::Global;
 use text_form::first_part;
 
-/// The line that a name alone says.
-fn plain_line(name: &[u8]) -> Option<ScriptLine>
+/// The line of a name alone.
+fn lone_word_line(name: &[u8]) -> Option<ScriptLine>
     ensures line { result ≡ line_of_words (name.now ∷ []) }
     ensures within { IfSome result (λ line. IsWithinHour line) }
 {
@@ -79,7 +79,7 @@ pub(crate) fn line_in(line: &[u8]) -> Option<ScriptLine>
     let (name, rest) = first_part(b' ', line);
     match rest {
         Some(rest) => line_after(name, rest),
-        None => plain_line(name),
+        None => lone_word_line(name),
     }
 }
 
