@@ -128,7 +128,7 @@ fn is_alike(word: &[u8], first: &Option<Operand>, second: &Option<Operand>, row:
     is_capitals_of(word, mnemonic(row.kind)) && fits(row.first, first) && fits(row.second, second)
 }
 
-/// Whether it is, and has the row's own numbers.
+/// Whether an instruction is written as one of a row, and has the row's own numbers.
 fn is_this(word: &[u8], first: &Option<Operand>, second: &Option<Operand>, row: &OpRow) -> bool
     ensures { result ≡ is_this (capitals word.now) (as_seen first.now) (as_seen second.now) row.now }
 {
