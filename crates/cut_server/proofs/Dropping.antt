@@ -6,7 +6,7 @@ use Rattle.page_pool.specs.declared.slot.Slot.{Slot}
 use Rattle.page_pool.specs.Pool.{slot_at, KeepsBytes}
 use Rattle.cut_form.specs.Checkpoints.{slots_used, without_entry}
 use Rattle.cut_server.specs.declared.table.LiveCheckpoint.{LiveCheckpoint}
-use Rattle.cut_server.specs.Table.{saved_checkpoint, saved_checkpoints, checkpoints_after, times_named, most_named, AreApart, StandTogether, IsKept}
+use Rattle.cut_server.specs.Table.{saved_checkpoint, saved_checkpoints, checkpoints_after, times_named, most_named, AreApart, StandTogether, AreKeptIn}
 use Rattle.cut_server.specs.Placing.{AreGiven}
 use Rattle.cut_server.proofs.Naming.{times-remove}
 use Rattle.cut_server.proofs.Placing.{pages_in-kept}
@@ -26,7 +26,7 @@ apart_read (x ∷ xs) (suc i) checkpoint runs within read = apart_read xs i chec
 
 -- What is known of a table from which one is dropped.
 pub record IsDropping {S : Type 0} (old new : List Slot) (checkpoints : List (LiveCheckpoint S)) (i : ℕ) (checkpoint : LiveCheckpoint S) : Type 0 where
-  pub kept : IsKept old checkpoints
+  pub kept : AreKeptIn old checkpoints
   pub within : i < length checkpoints
   pub read : checkpoint ≡ get_or checkpoints i checkpoint
   pub given : AreGiven old new checkpoint.pages
@@ -49,7 +49,7 @@ saved_dropped {old = old} {new} {checkpoints} {i} is = saved_checkpoints-kept ol
 pub live_dropped : {S : Type 0} {old new : List Slot} {checkpoints : List (LiveCheckpoint S)} {i : ℕ} {checkpoint : LiveCheckpoint S} → IsDropping old new checkpoints i checkpoint → checkpoints_after new [] (remove checkpoints i) ≡ without_entry (checkpoints_after old [] checkpoints) i
 live_dropped {old = old} {checkpoints = checkpoints} {i} is = live_same is ∙ live_removed checkpoints i (among_all old checkpoints is.kept.runs is.kept.whole is.kept.owners) is.within
 
-pub kept_dropped : {S : Type 0} {old new : List Slot} {checkpoints : List (LiveCheckpoint S)} {i : ℕ} {checkpoint : LiveCheckpoint S} → IsDropping old new checkpoints i checkpoint → IsKept new (remove checkpoints i)
+pub kept_dropped : {S : Type 0} {old new : List Slot} {checkpoints : List (LiveCheckpoint S)} {i : ℕ} {checkpoint : LiveCheckpoint S} → IsDropping old new checkpoints i checkpoint → AreKeptIn new (remove checkpoints i)
 kept_dropped {old = old} {new} {checkpoints} {i} {checkpoint} is =
     let among = among_all old checkpoints is.kept.runs is.kept.whole is.kept.owners in
     record {

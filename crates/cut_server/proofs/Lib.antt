@@ -1,9 +1,9 @@
 pub mod Adding
-pub mod Course
 pub mod Dropping
 pub mod Giving
 pub mod Memories
 pub mod Naming
+pub mod OnTheRun
 pub mod Places
 pub mod Placing
 pub mod Removing

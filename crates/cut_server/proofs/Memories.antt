@@ -10,7 +10,7 @@ use Rattle.page_pool.specs.declared.slot.Slot.{Slot}
 use Rattle.page_pool.specs.Pool.{slot_at}
 use Rattle.page_pool.proofs.Links.{one_if}
 use Rattle.cut_server.specs.declared.table.LiveCheckpoint.{LiveCheckpoint}
-use Rattle.cut_server.specs.Table.{Saved, saved_checkpoint, saved_checkpoints, memory_in, times_named, AreWhole, IsKept}
+use Rattle.cut_server.specs.Table.{Saved, saved_checkpoint, saved_checkpoints, memory_in, times_named, AreWhole, AreKeptIn}
 
 -- a page put after those that are there
 pub length-with_page : (memory : List ℕ) (p : ℕ) (bytes : List ℕ) → length memory ≡ 0x10000 → p < 256 → length bytes ≡ 256 → length (with_page memory p bytes) ≡ 0x10000
@@ -53,7 +53,7 @@ named_once pages p d within =
     let one : one_if (nat_eq page (get_or pages p d)) ≡ 1 = rw same refl in
     omega (arith, one, get_or-le-sum_by (λ x. one_if (nat_eq page x)) pages p d within)
 
-pub owned_page : {S : Type 0} {pool : List Slot} {checkpoints : List (LiveCheckpoint S)} → IsKept pool checkpoints → (i : ℕ) (checkpoint : LiveCheckpoint S) → i < length checkpoints → checkpoint ≡ get_or checkpoints i checkpoint → (p d : ℕ) → p < 256
+pub owned_page : {S : Type 0} {pool : List Slot} {checkpoints : List (LiveCheckpoint S)} → AreKeptIn pool checkpoints → (i : ℕ) (checkpoint : LiveCheckpoint S) → i < length checkpoints → checkpoint ≡ get_or checkpoints i checkpoint → (p d : ℕ) → p < 256
     → 0 < (slot_at pool (get_or checkpoint.pages p d)).owners
 owned_page {pool = pool} {checkpoints} kept i checkpoint within read p d inside =
     let whole : length checkpoint.pages ≡ 256 = whole_read checkpoints i checkpoint kept.whole within read in
@@ -66,7 +66,7 @@ pub within_checkpoints : {S : Type 0} (checkpoints : List (LiveCheckpoint S)) (i
 within_checkpoints checkpoints i within = omega (arith, within, length-map checkpoints (λ checkpoint. checkpoint.sample))
 
 -- a live checkpoint whose pages hold a memory
-pub saved_here : {S : Type 0} {pool : List Slot} {checkpoints : List (LiveCheckpoint S)} → IsKept pool checkpoints → (i : ℕ) (checkpoint : LiveCheckpoint S) (memory : List ℕ) → i < length checkpoints → checkpoint ≡ get_or checkpoints i checkpoint → length memory ≡ 0x10000
+pub saved_here : {S : Type 0} {pool : List Slot} {checkpoints : List (LiveCheckpoint S)} → AreKeptIn pool checkpoints → (i : ℕ) (checkpoint : LiveCheckpoint S) (memory : List ℕ) → i < length checkpoints → checkpoint ≡ get_or checkpoints i checkpoint → length memory ≡ 0x10000
     → take 65536 memory ≡ memory_in pool (take 256 checkpoint.pages)
     → slice_get (saved_checkpoints pool checkpoints) i ≡ Some (record { sample = slice_index (map (λ checkpoint. checkpoint.sample) checkpoints) i; state = checkpoint.state; memory = memory })
 saved_here {S = S} {pool} {checkpoints} kept i checkpoint memory within read long same =

@@ -23,7 +23,7 @@ use Rattle.cut_server.specs.Machines.{AreLawful}
 use Rattle.cut_server.specs.Table.{TableState, Saved, saved_of, live_checkpoints}
 use Rattle.cut_server.specs.Server.{lock_step_machines, standing_of, chip_after}
 use Rattle.cut_server.specs.ServerState.{book_of, first_machine, pages_after}
-use Rattle.cut_server.specs.IsServed.{IsOnCourse}
+use Rattle.cut_server.specs.IsServed.{IsOnTheRun}
 use Rattle.cut_server.specs.Renders.{HasHandedOver, IsServing, IsOnWay, RunsOut}
 
 -- the machines of a chip are lawful
@@ -50,7 +50,7 @@ can_be_played saves w few = record {
   few = omega (arith, few, saves.number_saved w.1.chip (due_in w));
 }
 
-pub played_at : {S V : Type 0} {chip : ChipMeaning S} {saving : ChipSaving S V} → IsLawfulSaving chip saving → (w start : Whole (Machine S)) (saved : Saved (PlayState V)) → IsOnCourse (lock_step_machines chip saving) w start saved
+pub played_at : {S V : Type 0} {chip : ChipMeaning S} {saving : ChipSaving S V} → IsLawfulSaving chip saving → (w start : Whole (Machine S)) (saved : Saved (PlayState V)) → IsOnTheRun (lock_step_machines chip saving) w start saved
     → CanBePlayed saving saved.state
 unfolding lock_step_machines
 played_at {chip = chip} {saving} saves w start saved on =
@@ -127,14 +127,14 @@ pub pages_here : {S V : Type 0} {chip : ChipMeaning S} {saving : ChipSaving S V}
     → memory ≡ render.bus.machine.memory → pages_of memory ≡ pages_after (lock_step_machines chip saving) (opening_of chip saving render table) render.samples
 unfolding lock_step_machines
 pages_here {chip = chip} {saving} {render} {table = table} serving memory is =
-    ap pages_of is ∙ ap (λ w. pages_of w.1.memory) serving.served.course ∙ ap (pages_after (lock_step_machines chip saving) (opening_of chip saving render table)) (sym serving.served.position)
+    ap pages_of is ∙ ap (λ w. pages_of w.1.memory) serving.served.on_the_run ∙ ap (pages_after (lock_step_machines chip saving) (opening_of chip saving render table)) (sym serving.served.position)
 
 -- and the chip there
 pub chip_there : {S V : Type 0} {chip : ChipMeaning S} {saving : ChipSaving S V} {render : RenderState S} {made : ℕ} {table : TableState (PlayState V)} {at : ℕ} → IsServing chip saving render made table at
     → render.bus.machine.chip ≡ chip_after chip (opening_of chip saving render table) render.samples
 unfolding lock_step_machines
 chip_there {chip = chip} {saving} {render} {table = table} serving =
-    ap (λ w. w.1.chip) serving.served.course ∙ ap (chip_after chip (opening_of chip saving render table)) (sym serving.served.position)
+    ap (λ w. w.1.chip) serving.served.on_the_run ∙ ap (chip_after chip (opening_of chip saving render table)) (sym serving.served.position)
 
 -- so many slots a checkpoint there needs, and this is the book with it
 pub needed_is : {S V : Type 0} {chip : ChipMeaning S} {saving : ChipSaving S V} {render : RenderState S} {made : ℕ} {table : TableState (PlayState V)} {at : ℕ} → IsServing chip saving render made table at → (memory : List ℕ)

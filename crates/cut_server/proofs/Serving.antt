@@ -23,7 +23,7 @@ use Rattle.cut_server.specs.ServerState.{book_of, pages_after, frames_after}
 use Rattle.cut_server.specs.Server.{lock_step_machines, standing_of, KeepsTune}
 use Rattle.cut_server.specs.IsServed.{GoesOn, GoesBack}
 use Rattle.cut_server.specs.Renders.{IsServing}
-use Rattle.cut_server.proofs.Course.{course_of, served_on, served_back, served_more, served_less, served_opened, start_opened, frames_here, goes, goes_back, tune_on}
+use Rattle.cut_server.proofs.OnTheRun.{on_the_run_of, served_on, served_back, served_more, served_less, served_opened, start_opened, frames_here, goes, goes_back, tune_on}
 use Rattle.cut_server.proofs.Renders.{machines_lawful, played_at, Arrives, aimed_frames, loaded_whole_is, loaded_samples, loaded_handed_over, opened_handed_over, opening_of, pages_here}
 
 -- A new server stands at the opening.
@@ -52,7 +52,7 @@ module _ {S V : Type 0} {chip : ChipMeaning S} {saving : ChipSaving S V} where
   -- it goes back to a checkpoint
   pub saved_can_be_played : IsLawfulSaving chip saving → {render : RenderState S} {made : ℕ} {table : TableState (PlayState V)} {at : ℕ} → IsServing chip saving render made table at → (i : ℕ) (s : Saved (PlayState V))
       → slice_get (saved_of table) i ≡ Some s → CanBePlayed saving s.state
-  saved_can_be_played saves serving i s read = played_at saves _ _ s (course_of serving.served i s read)
+  saved_can_be_played saves serving i s read = played_at saves _ _ s (on_the_run_of serving.served i s read)
 
   pub serving_back : IsLawfulSaving chip saving → {render : RenderState S} {made : ℕ} {table : TableState (PlayState V)} {at : ℕ} → IsServing chip saving render made table at → (i : ℕ) (s : Saved (PlayState V)) → slice_get (saved_of table) i ≡ Some s
       → (new : RenderState S) → new ≡ loaded_render chip saving render s.state s.memory → is_at_length new ≡ true → {still : ℕ} → still ≡ new.bus.chip_total → IsServing chip saving new still table s.sample

@@ -81,7 +81,7 @@ StandTogether [] = Unit {0}
 StandTogether (checkpoint ∷ checkpoints) = AreApart checkpoint.pages × LeavesForGood checkpoint.pages checkpoints × StandTogether checkpoints
 
 -- What a table keeps. No contract cites it.
-pub record IsKept {S : Type 0} (pool : List Slot) (checkpoints : List (LiveCheckpoint S)) : Type 0 where
+pub record AreKeptIn {S : Type 0} (pool : List Slot) (checkpoints : List (LiveCheckpoint S)) : Type 0 where
   pub owners : AreOwnersCounted (record { pool = pool; checkpoints = checkpoints })
   pub whole : AreWhole checkpoints
   pub few : length checkpoints ≤ most_checkpoints

@@ -36,13 +36,13 @@ pub(crate) struct Table<S: Copy> {
 impl<S: Copy> Model for Table<S> {
     ghost use Rattle.std.specs.Prelude.{◌≤◌, vec_capacity};
     ghost use Rattle.cut_form.specs.Checkpoints.{most_checkpoints};
-    ghost use Rattle.cut_server.specs.Table.{TableState, IsKept};
+    ghost use Rattle.cut_server.specs.Table.{TableState, AreKeptIn};
 
     ghost Value = { TableState S };
 
     ghost view = { λ t. record { pool = t.pool; checkpoints = t.checkpoints.items } };
 
-    ghost invariant = { λ t. (most_checkpoints ≤ vec_capacity t.checkpoints) × IsKept t.pool t.checkpoints.items };
+    ghost invariant = { λ t. (most_checkpoints ≤ vec_capacity t.checkpoints) × AreKeptIn t.pool t.checkpoints.items };
 }
 
 /// The pages of the newest checkpoint, if there is one.

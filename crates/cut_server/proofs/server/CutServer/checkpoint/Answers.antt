@@ -2,7 +2,7 @@ use Rattle.std.proofs.Common.{◌≡◌, ◌∙◌, true, false, refl, sym, ap, 
 use Rattle.cut_form.specs.Checkpoints.{pages_of, shared_with_newest, own_slots}
 use Rattle.cut_server.specs.Table.{live_checkpoints}
 use Rattle.cut_server.proofs.Places.{length-live, length-samples}
-use Rattle.cut_server.proofs.Course.{tune_more}
+use Rattle.cut_server.proofs.OnTheRun.{tune_more}
 use Rattle.cut_server.proofs.Renders.{needed_is, taken_is}
 use Rattle.cut_server.proofs.Serving.{serving_more}
 use Rattle.cut_server.proofs.server.CutServer.checkpoint.Goals as goal

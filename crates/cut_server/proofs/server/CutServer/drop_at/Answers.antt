@@ -1,5 +1,5 @@
 use Rattle.std.proofs.Common.{◌<◌, suc}
-use Rattle.cut_server.proofs.Course.{tune_less, later_than_first}
+use Rattle.cut_server.proofs.OnTheRun.{tune_less, later_than_first}
 use Rattle.cut_server.proofs.Serving.{serving_less}
 use Rattle.cut_server.proofs.server.CutServer.drop_at.Goals as goal
 

@@ -2,7 +2,7 @@ use Rattle.std.proofs.Common.{◌-◌, ◌∙◌, ap, arith, length}
 use Rattle.cut_form.specs.Marks.{room_made}
 use Rattle.cut_server.specs.Table.{live_checkpoints}
 use Rattle.cut_server.proofs.Renders.{pages_here}
-use Rattle.cut_server.proofs.Course.{tune_less}
+use Rattle.cut_server.proofs.OnTheRun.{tune_less}
 use Rattle.cut_server.proofs.Serving.{serving_less}
 use Rattle.cut_server.proofs.server.CutServer.make_room.Goals as goal
 
