@@ -11,7 +11,7 @@ ghost use Rattle.num_fix.specs.Limits.{most_frames};
 ghost use Rattle.render_files.specs.RenderFiles.{stereo_size, most_bytes_of_frames, most_bytes_of_lines, trace_of, to_come_of, held_of, report_of, work_of, IsUnmade};
 ghost use Rattle.report_text.specs.Room.{room_size};
 
-use crate::rows::put_frames;
+use crate::rows::{STEREO_SIZE, put_frames};
 use crate::sound_report::put_sound_report;
 use chip_form::Chip;
 use command_frame::{OutOfMemory, Pieces};
@@ -20,14 +20,14 @@ use render_core::{Render, faded};
 use report_text::ByteRoom;
 use std::alloc::Global;
 use std::marker::Model;
-use trace_form::{Record, line};
+use trace_form::{FRAME_ROOM, LINE_SIZE, RECORD_ROOM, Record, line};
 use wav_form::put_frame;
 
 /// The bytes of the most frames that a piece of a render has.
-const WAVE_PIECE: usize = 512;
+const WAVE_PIECE: usize = STEREO_SIZE * FRAME_ROOM;
 
 /// The bytes of the most lines that it has.
-const TRACE_PIECE: usize = 64512;
+const TRACE_PIECE: usize = LINE_SIZE * RECORD_ROOM;
 
 /// A render over any chip that is turned into the bytes of a sound file, and of a trace where there is one, and then
 /// into a report.

@@ -8,13 +8,14 @@ ghost use Rattle.render_files.specs.RenderFiles.{stereo_size};
 
 use num_fix::Frame;
 use report_text::ByteRoom;
+use trace_form::FRAME_ROOM;
 use wav_form::put_frame;
 
 /// The bytes of a frame of two channels.
-const STEREO_SIZE: usize = 4;
+pub(crate) const STEREO_SIZE: usize = 4;
 
 /// The most frames of a row: as many as a piece of a render has at most.
-const ROW: usize = 128;
+const ROW: usize = FRAME_ROOM;
 
 /// Adds the bytes of a row of frames at once.
 fn put_row(wave: &mut ByteRoom, frames: &[Frame])
