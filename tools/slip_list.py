@@ -818,7 +818,7 @@ SLIPS = [
     Slip('a play that ends with the hour is refused', ['cut_form', 'cut_text', 'session_files'], ['worked_files'], [
         (SESSION, 'nat_le (session.book.position + count) most_frames &&', 'nat_lt (session.book.position + count) most_frames &&'), (SESSION, '◌==◌, nat_le', '◌==◌, nat_le, nat_lt'),
         ('cut_text/specs/Playing.antt', 'nat_le (position + count) most_frames &&', 'nat_lt (position + count) most_frames &&'), ('cut_text/specs/Playing.antt', '◌&&◌, nat_le', '◌&&◌, nat_le, nat_lt'),
-        ('session_files/src/player.rt', 'at > MOST_FRAMES ||', 'at >= MOST_FRAMES ||'), ('cut_text/src/script.rt', 'position + count <= MOST_FRAMES &&', 'position + count < MOST_FRAMES &&')]),
+        ('session_files/src/session_run.rt', 'at > MOST_FRAMES ||', 'at >= MOST_FRAMES ||'), ('cut_text/src/script.rt', 'position + count <= MOST_FRAMES &&', 'position + count < MOST_FRAMES &&')]),
     Slip('lists of 16 MB', ['command_cuts'], ['worked_tunes'], [
         ('command_cuts/specs/Lists.antt', 'bytes_in input_limit InputTooLong held', 'bytes_in 16777216 InputTooLong held'),
         ('command_cuts/src/list.rt', 'use input_files::{INPUT_LIMIT, read_input};', 'use input_files::{WAVE_LIMIT as INPUT_LIMIT, read_input};')]),

@@ -15,9 +15,9 @@ use Rattle.cut_form.specs.Slices.{cut_frames}
 use Rattle.cut_form.specs.Session.{Session, LineOutcome, replies, played_cuts}
 use Rattle.cut_server.specs.ServerState.{pages_after, frames_after, slots_of}
 use Rattle.cut_server.specs.Server.{ChipServer, lock_step_machines, pages_at, frames_to, KeepsTune}
-use Rattle.session_files.specs.Player.{session_of, left_to_play, Answers}
+use Rattle.session_files.specs.SessionRun.{session_of, left_to_play, Answers}
 use Rattle.session_files.specs.Report.{reply_line, report_on}
-use Rattle.session_files.specs.SessionFiles.{FilesState, replies_to_come, frames_left, GoesOn}
+use Rattle.session_files.specs.SessionFiles.{FilesState, replies_to_come, frames_left, SessionGoesOn}
 use Rattle.cut_server.proofs.SameTune.{frames_kept}
 use Rattle.render_files.proofs.Waves.{moved}
 use Rattle.session_files.proofs.Playing.{frames_first}
@@ -46,34 +46,34 @@ module _ {S V : Type 0} (chip : ChipMeaning S) (saving : ChipSaving S V) where
       ∙ ap (λ (r : List Reply). cut_frames (frames_to chip saving old) (played_cuts r)) same
 
   -- frames were played
-  pub played_on : {old new : FilesState S V} (played : List Frame) → KeepsTune chip saving old.player.server new.player.server → session_of new.player ≡ session_of old.player → new.lines ≡ old.lines → new.told ≡ old.told
-      → played ++ left_to_play chip saving new.player ≡ left_to_play chip saving old.player → new.wave ≡ old.wave ++ flat_map frame_bytes played → new.player.left < old.player.left → GoesOn chip saving old new
+  pub played_on : {old new : FilesState S V} (played : List Frame) → KeepsTune chip saving old.run.server new.run.server → session_of new.run ≡ session_of old.run → new.lines ≡ old.lines → new.told ≡ old.told
+      → played ++ left_to_play chip saving new.run ≡ left_to_play chip saving old.run → new.wave ≡ old.wave ++ flat_map frame_bytes played → new.run.left < old.run.left → SessionGoesOn chip saving old new
   played_on {old} {new} played tune same lines told split wave less =
-      let later : replies_to_come chip saving new ≡ replies_to_come chip saving old = told_kept tune (session_of old.player) (session_of new.player) old.lines new.lines same lines in
+      let later : replies_to_come chip saving new ≡ replies_to_come chip saving old = told_kept tune (session_of old.run) (session_of new.run) old.lines new.lines same lines in
       record {
-        wave = moved old.wave new.wave played (left_to_play chip saving old.player) (left_to_play chip saving new.player) _ _ wave split (rest_kept tune (replies_to_come chip saving new) (replies_to_come chip saving old) later);
+        wave = moved old.wave new.wave played (left_to_play chip saving old.run) (left_to_play chip saving new.run) _ _ wave split (rest_kept tune (replies_to_come chip saving new) (replies_to_come chip saving old) later);
         report = ap (λ (l : List ℕ). l ++ report_on (replies_to_come chip saving new)) told ∙ ap (λ (r : List Reply). old.told ++ report_on r) later;
         less_work = omega (arith, less, ap length lines);
       }
 
   -- a line was answered
-  pub answered : {old new : FilesState S V} (line : ScriptLine) (reply : Reply) → Answers chip saving line old.player new.player reply → left_to_play chip saving old.player ≡ [] → old.lines ≡ line ∷ new.lines
-      → new.told ≡ old.told ++ reply_line reply → new.wave ≡ old.wave → GoesOn chip saving old new
+  pub answered : {old new : FilesState S V} (line : ScriptLine) (reply : Reply) → Answers chip saving line old.run new.run reply → left_to_play chip saving old.run ≡ [] → old.lines ≡ line ∷ new.lines
+      → new.told ≡ old.told ++ reply_line reply → new.wave ≡ old.wave → SessionGoesOn chip saving old new
   answered {old} {new} line reply answers before lines told wave =
-      let server = old.player.server in
+      let server = old.run.server in
       let f = frames_to chip saving server in
-      let rest = replies (slots_of server) (pages_at chip saving server) (session_of new.player) new.lines in
+      let rest = replies (slots_of server) (pages_at chip saving server) (session_of new.run) new.lines in
       let all : replies_to_come chip saving old ≡ reply ∷ rest =
-      ap (replies (slots_of server) (pages_at chip saving server) (session_of old.player)) lines
+      ap (replies (slots_of server) (pages_at chip saving server) (session_of old.run)) lines
       ∙ ap (λ (o : LineOutcome). o.reply ∷ replies (slots_of server) (pages_at chip saving server) o.session new.lines) answers.outcome in
-      let later : replies_to_come chip saving new ≡ rest = told_kept answers.tune (session_of new.player) (session_of new.player) new.lines new.lines refl refl in
+      let later : replies_to_come chip saving new ≡ rest = told_kept answers.tune (session_of new.run) (session_of new.run) new.lines new.lines refl refl in
       record {
         wave =
             ap (λ (l : List Frame). old.wave ++ flat_map frame_bytes (l ++ cut_frames f (played_cuts (replies_to_come chip saving old)))) before
             ∙ ap (λ (r : List Reply). old.wave ++ flat_map frame_bytes (cut_frames f (played_cuts r))) all
             ∙ ap (λ (l : List Frame). old.wave ++ flat_map frame_bytes l) (frames_first f reply rest)
             ∙ ap (λ (l : List Frame). old.wave ++ flat_map frame_bytes (l ++ cut_frames f (played_cuts rest))) (sym answers.frames)
-            ∙ ap (λ (l : List Frame). old.wave ++ flat_map frame_bytes (left_to_play chip saving new.player ++ l)) (sym (rest_kept answers.tune (replies_to_come chip saving new) rest later))
+            ∙ ap (λ (l : List Frame). old.wave ++ flat_map frame_bytes (left_to_play chip saving new.run ++ l)) (sym (rest_kept answers.tune (replies_to_come chip saving new) rest later))
             ∙ ap (λ (l : List ℕ). l ++ flat_map frame_bytes (frames_left chip saving new)) (sym wave);
         report =
             ap (λ (l : List ℕ). l ++ report_on (replies_to_come chip saving new)) told

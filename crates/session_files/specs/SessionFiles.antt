@@ -13,11 +13,11 @@ use Rattle.cut_form.specs.Slices.{cut_frames}
 use Rattle.cut_server.specs.ServerState.{slots_of}
 use Rattle.cut_server.specs.Server.{ChipServer, pages_at, frames_to}
 use Rattle.command_frame.specs.Stream.{Both}
-use Rattle.session_files.specs.Player.{PlayerState, session_of, left_to_play}
+use Rattle.session_files.specs.SessionRun.{SessionRunState, session_of, left_to_play}
 use Rattle.session_files.specs.Report.{report_on, most_reply_bytes}
 
 pub record FilesState (S V : Type 0) : Type 0 where
-  pub player : PlayerState S V
+  pub run : SessionRunState S V
   -- the lines that are still to be answered
   pub lines : List ScriptLine
   -- the replies so far
@@ -32,12 +32,12 @@ replies_of_server chip saving server script =
 
 -- the replies to come
 abbrev pub replies_to_come : {S V : Type 0} → ChipMeaning S → ChipSaving S V → FilesState S V → List Reply
-replies_to_come chip saving files = replies (slots_of files.player.server) (pages_at chip saving files.player.server) (session_of files.player) files.lines
+replies_to_come chip saving files = replies (slots_of files.run.server) (pages_at chip saving files.run.server) (session_of files.run) files.lines
 
 -- the frames to come: those of the last line, and those that the replies to come tell
 abbrev pub frames_left : {S V : Type 0} → ChipMeaning S → ChipSaving S V → FilesState S V → List Frame
 frames_left chip saving files =
-    left_to_play chip saving files.player ++ cut_frames (frames_to chip saving files.player.server) (played_cuts (replies_to_come chip saving files))
+    left_to_play chip saving files.run ++ cut_frames (frames_to chip saving files.run.server) (played_cuts (replies_to_come chip saving files))
 
 abbrev pub held_of : {S V : Type 0} → FilesState S V → Both
 held_of files = record { wave = files.wave; trace = [] }
@@ -52,19 +52,19 @@ report_of chip saving files = files.told ++ report_on (replies_to_come chip savi
 
 -- the frames of the last line and the lines that are left
 abbrev pub work_of : {S V : Type 0} → FilesState S V → ℕ
-work_of files = files.player.left + (most_frames + 1) * length files.lines
+work_of files = files.run.left + (most_frames + 1) * length files.lines
 
 -- whether all lines are answered and played
 abbrev pub is_finished : {S V : Type 0} → FilesState S V → Bool
-is_finished files = files.player.left == 0 && length files.lines == 0
+is_finished files = files.run.left == 0 && length files.lines == 0
 
 -- What is kept: there is room for the replies to come, and the count of samples doesn't reach its end. No contract cites it.
-pub record IsOnScript {S V : Type 0} (player : PlayerState S V) (lines : List ScriptLine) (told : List ℕ) (room : ℕ) : Type 0 where
+pub record IsOnScript {S V : Type 0} (run : SessionRunState S V) (lines : List ScriptLine) (told : List ℕ) (room : ℕ) : Type 0 where
   pub enough : length told + most_reply_bytes * length lines ≤ room
-  pub counted : (session_of player).book.made + most_frames * length lines < 2 ^ 64
+  pub counted : (session_of run).book.made + most_frames * length lines < 2 ^ 64
 
 -- Frames were played, or a line was answered: what is made and what is to come are together what they were. No contract that others see cites it.
-pub record GoesOn {S V : Type 0} (chip : ChipMeaning S) (saving : ChipSaving S V) (old new : FilesState S V) : Type 0 where
+pub record SessionGoesOn {S V : Type 0} (chip : ChipMeaning S) (saving : ChipSaving S V) (old new : FilesState S V) : Type 0 where
   pub wave : old.wave ++ flat_map frame_bytes (frames_left chip saving old) ≡ new.wave ++ flat_map frame_bytes (frames_left chip saving new)
   pub report : report_of chip saving new ≡ report_of chip saving old
   pub less_work : work_of new < work_of old

@@ -9,15 +9,15 @@ ghost use Rattle.cut_server.specs.ServerState.{book_of};
 ghost use Rattle.cut_server.specs.Server.{pages_at, frames_to};
 ghost use Rattle.cut_text.specs.Playing.{played_frames};
 ghost use Rattle.cut_form.specs.GrowingFrames.{AreOfRun};
-ghost use Rattle.session_files.specs.Player.{left_to_play};
+ghost use Rattle.session_files.specs.SessionRun.{left_to_play};
 ghost use Rattle.session_files.specs.Report.{report_on};
-ghost use Rattle.session_files.specs.SessionFiles.{replies_of_server, to_come_of, held_of, report_of, work_of, is_finished, GoesOn};
+ghost use Rattle.session_files.specs.SessionFiles.{replies_of_server, to_come_of, held_of, report_of, work_of, is_finished, SessionGoesOn};
 ghost use Rattle.render_files.specs.RenderFiles.{stereo_size};
 ghost use Rattle.report_text.specs.Room.{room_size};
 
 use crate::OutOfMemory;
-use crate::player::Player;
 use crate::replies::put_line;
+use crate::session_run::SessionRun;
 use chip_form::Chip;
 use command_frame::Pieces;
 use cut_form::PLAYED_BYTES;
@@ -35,7 +35,7 @@ const REPLY_BYTES: usize = 80;
 /// A session over any chip that is turned into the bytes of a sound file, and then into its replies.
 #[derive(Drop)]
 pub struct SessionFiles<C: Chip> {
-    player: Player<C>,
+    run: SessionRun<C>,
     script: ScriptLines,
     next: usize,
     frames: Frames,
@@ -50,13 +50,13 @@ impl<C: Chip> Model for SessionFiles<C> {
     ghost Value = { FilesState C.State C.Saved };
 
     ghost view = { λ f. record {
-      player = f.player;
+      run = f.run;
       lines = drop f.next f.script;
       told = f.report.items;
       wave = f.wave;
     } };
 
-    ghost invariant = { λ f. (f.next ≤ length f.script) × IsOnScript f.player (drop f.next f.script) f.report.items (vec_capacity f.report) };
+    ghost invariant = { λ f. (f.next ≤ length f.script) × IsOnScript f.run (drop f.next f.script) f.report.items (vec_capacity f.report) };
 }
 
 /// Adds the bytes of the frames that were played.
@@ -109,9 +109,9 @@ impl<C: Chip> SessionFiles<C> {
             IfOk result (λ files. report_of C.meaning C.saving files ≡ report_on told) }
     {
         let rooms = SessionRooms::reserve(alloc, script.len() * REPLY_BYTES)?;
-        let player = Player::new(server);
+        let run = SessionRun::new(server);
         Ok(SessionFiles {
-            player,
+            run,
             script,
             next: 0,
             frames: rooms.frames,
@@ -122,10 +122,10 @@ impl<C: Chip> SessionFiles<C> {
 
     /// The chip of the server that plays. It made the samples that the replies tell.
     pub fn chip(&self) -> &C
-        ensures made { C.total result.now ≡ (book_of self.now.player.server).made }
-        ensures position { C.sample result.now ≡ (book_of self.now.player.server).position }
+        ensures made { C.total result.now ≡ (book_of self.now.run.server).made }
+        ensures position { C.sample result.now ≡ (book_of self.now.run.server).position }
     {
-        self.player.chip()
+        self.run.chip()
     }
 
     /// Whether all lines are answered and played.
@@ -133,28 +133,28 @@ impl<C: Chip> SessionFiles<C> {
         ensures finished { result ≡ is_finished self.now }
         ensures nothing { result ≡ true → (to_come_of C.meaning C.saving self.now).wave ≡ [] }
     {
-        self.player.left() == 0 && self.next == self.script.len()
+        self.run.left() == 0 && self.next == self.script.len()
     }
 
     /// Plays the next frames of the last line.
     fn play_some(&mut self)
-        requires some { 0 < self.old.player.left }
+        requires some { 0 < self.old.run.left }
         requires room { length self.old.wave + most_played_bytes ≤ room_size }
-        ensures { GoesOn C.meaning C.saving self.old self.new }
+        ensures { SessionGoesOn C.meaning C.saving self.old self.new }
     {
-        self.player.play_some(&mut self.frames);
+        self.run.play_some(&mut self.frames);
         put_played(&mut self.wave, &self.frames);
     }
 
     /// Answers the next line.
     fn answer_next(&mut self)
-        requires played { self.old.player.left ≡ 0 }
-        requires none { left_to_play C.meaning C.saving self.old.player ≡ [] }
+        requires played { self.old.run.left ≡ 0 }
+        requires none { left_to_play C.meaning C.saving self.old.run ≡ [] }
         requires some { 0 < length self.old.lines }
-        ensures { GoesOn C.meaning C.saving self.old self.new }
+        ensures { SessionGoesOn C.meaning C.saving self.old self.new }
     {
         let line = self.script.line(self.next);
-        let reply = self.player.answer(line);
+        let reply = self.run.answer(line);
         put_line(&mut self.report, reply);
         self.next += 1;
     }
@@ -163,9 +163,9 @@ impl<C: Chip> SessionFiles<C> {
     fn step(&mut self)
         requires more { is_finished self.old ≡ false }
         requires room { length self.old.wave + most_played_bytes ≤ room_size }
-        ensures { GoesOn C.meaning C.saving self.old self.new }
+        ensures { SessionGoesOn C.meaning C.saving self.old self.new }
     {
-        if self.player.left() > 0 {
+        if self.run.left() > 0 {
             self.play_some();
         } else {
             self.answer_next();

@@ -2,8 +2,8 @@
 #![tactic(auto)]
 
 mod files;
-mod player;
 mod replies;
+mod session_run;
 
 pub use files::SessionFiles;
 pub use std::alloc::AllocError as OutOfMemory;

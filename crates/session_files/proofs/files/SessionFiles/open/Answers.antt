@@ -21,7 +21,7 @@ returns-clause-wave g c =
     let told = replies slots pages (opened_session pages) script in
     let whole = length-session f c.requires.run slots pages (opened_session pages) script in
     let count : played_frames 0 0 script ≡ length (cut_frames f (played_cuts told)) = omega (arith, whole) in
-    rw c.new-player.ensures
+    rw c.new-run.ensures
     (whole_wave f told _ _ (played_frames 0 0 script) (slice_none f (book_of server).position 0 c.requires.run refl)
     (ap (λ (b : CutBook). replies slots pages (record { book = after_play b 0; frames = 0 }) script) c.requires.opened) count)
 
@@ -29,5 +29,5 @@ pub returns-clause-report : goal.returns-clause-report
 returns-clause-report g c =
     let server = c.args.server in
     let pages = pages_at g.C.Chip.meaning g.C.Chip.saving server in
-    rw (c.new-player.ensures, c.in_ok-rooms.ensures.report)
+    rw (c.new-run.ensures, c.in_ok-rooms.ensures.report)
     (ap (λ (b : CutBook). report_on (replies (slots_of server) pages (record { book = after_play b 0; frames = 0 }) c.args.script)) c.requires.opened)

@@ -7,7 +7,7 @@ ghost use Rattle.cut_server.specs.ServerState.{book_of, slots_of};
 ghost use Rattle.cut_server.specs.Server.{frames_to, pages_at, KeepsTune};
 ghost use Rattle.cut_text.specs.Playing.{IsWithinHour};
 ghost use Rattle.cut_form.specs.GrowingFrames.{AreOfRun};
-ghost use Rattle.session_files.specs.Player.{PlayerState, session_of, left_to_play, CanAnswer, Answers};
+ghost use Rattle.session_files.specs.SessionRun.{SessionRunState, session_of, left_to_play, CanAnswer, Answers};
 
 use chip_form::Chip;
 use cut_form::{MOST_FRAMES, MOST_PLAYED, Reply, ScriptLine};
@@ -17,30 +17,30 @@ use trace_form::Frames;
 
 /// A session on a server of cuts. No call takes memory.
 #[derive(Drop)]
-pub(crate) struct Player<C: Chip> {
+pub(crate) struct SessionRun<C: Chip> {
     server: CutServer<C>,
     frames: u32,
     left: u32,
 }
 
-impl<C: Chip> Model for Player<C> {
-    ghost use Rattle.session_files.specs.Player.{PlayerState, IsPlaying};
+impl<C: Chip> Model for SessionRun<C> {
+    ghost use Rattle.session_files.specs.SessionRun.{SessionRunState, IsRunning};
 
-    ghost Value = { PlayerState C.State C.Saved };
+    ghost Value = { SessionRunState C.State C.Saved };
 
-    ghost view = { λ p. record { server = p.server; frames = p.frames; left = p.left } };
+    ghost view = { λ r. record { server = r.server; frames = r.frames; left = r.left } };
 
-    ghost invariant = { λ p. IsPlaying C.meaning C.saving p.server p.frames p.left };
+    ghost invariant = { λ r. IsRunning C.meaning C.saving r.server r.frames r.left };
 }
 
-impl<C: Chip> Player<C> {
+impl<C: Chip> SessionRun<C> {
     /// A session at the opening of a server.
-    pub(crate) fn new(server: CutServer<C>) -> Player<C>
+    pub(crate) fn new(server: CutServer<C>) -> SessionRun<C>
         requires run { AreOfRun (frames_to C.meaning C.saving server) }
         requires opened { (book_of server).position ≡ 0 }
         ensures { result ≡ record { server = server; frames = 0; left = 0 } }
     {
-        Player {
+        SessionRun {
             server,
             frames: 0,
             left: 0,
@@ -111,7 +111,7 @@ impl<C: Chip> Player<C> {
     }
 
     /// Answers a line that asks what is free.
-    fn count(&self) -> Reply
+    fn tell_free(&self) -> Reply
         requires { CanAnswer self.now }
         ensures { Answers C.meaning C.saving lines.Free self.now self.now result }
     {
@@ -133,7 +133,7 @@ impl<C: Chip> Player<C> {
             ScriptLine::Play(count) => self.play(count),
             ScriptLine::Mark => self.mark(),
             ScriptLine::Drop(sample) => self.drop_at(sample),
-            ScriptLine::Free => self.count(),
+            ScriptLine::Free => self.tell_free(),
         }
     }
 

@@ -3,7 +3,7 @@ use Rattle.cut_server.specs.Server.{frames_to}
 use Rattle.cut_server.specs.ServerState.{book_of}
 use Rattle.cut_form.proofs.Slices.{played_part}
 use Rattle.cut_server.proofs.SameTune.{frames_kept}
-use Rattle.session_files.proofs.player.Player.play_some.Goals as goal
+use Rattle.session_files.proofs.session_run.SessionRun.play_some.Goals as goal
 
 pub returns-clause-frames : goal.returns-clause-frames
 returns-clause-frames g c =
