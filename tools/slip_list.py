@@ -828,6 +828,6 @@ SLIPS = [
     Slip('the list refused before the table', ['command_cuts'], ['worked_tunes'], [
         ('command_cuts/specs/Cuts.antt', 'file_answer wave muted held_table held_list file = answer_from (table_in held_table) (table_answer wave muted held_list file)',
          'file_answer wave muted held_table held_list file = answer_from (cuts_in held_list) (λ cuts. answer_from (table_in held_table) (λ table. list_answer wave muted file table cuts))'),
-        ('command_cuts/src/command.rt', '    let table = read_table(alloc, host, table)?;\n    prepare_list(alloc, host, file, table, list, wave, muted)',
-         '    let cuts = read_list(alloc, host, list)?;\n    let table = read_table(alloc, host, table)?;\n    plan(alloc, file, table, cuts, wave, muted)')]),
+        ('command_cuts/src/command.rt', '    let table = read_table(alloc, host, names.table)?;\n    prepare_list(alloc, host, file, table, names, muted)',
+         '    let cuts = read_list(alloc, host, names.list)?;\n    let table = read_table(alloc, host, names.table)?;\n    plan(alloc, file, table, cuts, names.wave, muted)')]),
 ]

@@ -29,6 +29,15 @@ use std::alloc::Global;
 use tune_opening::open_server;
 use wav_form::header;
 
+/// The names of the inputs of a list of cuts, and of its sound file.
+#[derive(Clone, Copy)]
+struct Names<'a> {
+    file: &'a str,
+    table: &'a str,
+    list: &'a str,
+    wave: &'a str,
+}
+
 /// Opens the cuts of a list over a file and a table, with these voices muted.
 fn open_cuts(
     alloc: Global,
@@ -74,16 +83,15 @@ fn prepare_list<'a, H: Host>(
     host: &mut H,
     file: &SpcFile,
     table: GaussTable,
-    list: &str,
-    wave: &'a str,
+    names: Names<'a>,
     muted: u8,
 ) -> Result<StreamedPlan<'a, CutFiles<Dsp>>, Refusal<Cause>>
-    ensures { let answer = λ (files : Files). table_answer wave.now muted (files list.now) file.now table in
+    ensures { let answer = λ (files : Files). table_answer names.entry.wave.now muted (files names.entry.list.now) file.now table in
         Prepares (stream_makes (to_come_of dsp_chip dsp_saving) (report_of dsp_chip dsp_saving)) answer
-        (input_up_to input_limit list.now ∷ []) (H.state host.old) (H.state host.new) result }
+        (input_up_to input_limit names.entry.list.now ∷ []) (H.state host.old) (H.state host.new) result }
 {
-    let cuts = read_list(alloc, host, list)?;
-    plan(alloc, file, table, cuts, wave, muted)
+    let cuts = read_list(alloc, host, names.list)?;
+    plan(alloc, file, table, cuts, names.wave, muted)
 }
 
 /// Reads the table and the list and makes the plan for them and a file.
@@ -91,35 +99,30 @@ fn prepare_table<'a, H: Host>(
     alloc: Global,
     host: &mut H,
     file: &SpcFile,
-    table: &str,
-    list: &str,
-    wave: &'a str,
+    names: Names<'a>,
     muted: u8,
 ) -> Result<StreamedPlan<'a, CutFiles<Dsp>>, Refusal<Cause>>
-    ensures { let answer = λ (files : Files). file_answer wave.now muted (files table.now) (files list.now) file.now in
+    ensures { let answer = λ (files : Files). file_answer names.entry.wave.now muted (files names.entry.table.now) (files names.entry.list.now) file.now in
         Prepares (stream_makes (to_come_of dsp_chip dsp_saving) (report_of dsp_chip dsp_saving)) answer
-        (table_input table.now ∷ input_up_to input_limit list.now ∷ []) (H.state host.old) (H.state host.new) result }
+        (table_input names.entry.table.now ∷ input_up_to input_limit names.entry.list.now ∷ []) (H.state host.old) (H.state host.new) result }
 {
-    let table = read_table(alloc, host, table)?;
-    prepare_list(alloc, host, file, table, list, wave, muted)
+    let table = read_table(alloc, host, names.table)?;
+    prepare_list(alloc, host, file, table, names, muted)
 }
 
 /// Reads the file, the table and the list and makes the plan for them.
 fn prepare<'a, H: Host>(
     alloc: Global,
     host: &mut H,
-    file: &str,
-    table: &str,
-    list: &str,
-    wave: &'a str,
+    names: Names<'a>,
     muted: u8,
 ) -> Result<StreamedPlan<'a, CutFiles<Dsp>>, Refusal<Cause>>
-    ensures { let answer = cuts_over wave.now muted file.now table.now list.now in
+    ensures { let answer = cuts_over names.entry.wave.now muted names.entry.file.now names.entry.table.now names.entry.list.now in
         Prepares (stream_makes (to_come_of dsp_chip dsp_saving) (report_of dsp_chip dsp_saving)) answer
-        (cuts_inputs file.now table.now list.now) (H.state host.old) (H.state host.new) result }
+        (cuts_inputs names.entry.file.now names.entry.table.now names.entry.list.now) (H.state host.old) (H.state host.new) result }
 {
-    let file = read_file(alloc, host, file)?;
-    prepare_table(alloc, host, &file, table, list, wave, muted)
+    let file = read_file(alloc, host, names.file)?;
+    prepare_table(alloc, host, &file, names, muted)
 }
 
 /// Renders the cuts of the list, of the tune of the file and the table with these voices muted, joined to the sound file, and
@@ -138,6 +141,12 @@ pub fn cuts<H: Host>(
         Attempts answer (cuts_inputs file.now table.now list.now) result (H.state host.old) (H.state host.new) }
     ensures not_usage { result ≡ Some Refusal.Usage → ⊥ }
 {
-    let prepared = prepare(alloc, host, file, table, list, wave, muted);
+    let names = Names {
+        file,
+        table,
+        list,
+        wave,
+    };
+    let prepared = prepare(alloc, host, names, muted);
     carry_stream(host, prepared)
 }
