@@ -1,9 +1,11 @@
 -- What `serve` answers: the frames that a session plays, each cut a slice of the tune's run, and a reply to each line of its script.
-use Rattle.std.specs.Prelude.{ℕ, ℤ, List, [], ◌∷◌, None, Option}
+use Rattle.std.specs.Prelude.{ℕ, ◌≤◌, ℤ, List, [], ◌∷◌, None, Option}
 use Rattle.wav_form.specs.Wave.{stereo_wave}
 use Rattle.snd_host.specs.Host.{Files}
+use Rattle.page_pool.specs.Pool.{most_pages}
 use Rattle.cut_form.specs.declared.script.ScriptLine.{ScriptLine}
 use Rattle.cut_form.specs.declared.script.Reply.{Reply}
+use Rattle.cut_form.specs.Checkpoints.{fewest_pages}
 use Rattle.cut_form.specs.Session.{opened_session, replies, played_cuts}
 use Rattle.cut_form.specs.Slices.{cut_frames}
 use Rattle.command_frame.specs.Answer.{Answer, done}
@@ -16,6 +18,10 @@ use Rattle.render_options.specs.declared.SessionOptions.{SessionOptions}
 use Rattle.tune_opening.specs.Tune.{tune_frames, tune_pages}
 use Rattle.session_files.specs.Report.{report_on}
 use Rattle.command_serve.specs.Scripts.{script_in}
+
+-- as many pages as a memory has, or more, up to the most of a pool
+abbrev pub AreOptionsInRange : SessionOptions → Type 0
+AreOptionsInRange options = (fewest_pages ≤ options.pages) × (options.pages ≤ most_pages)
 
 -- the replies to lines of a session over a tune: so many slots for the pages of its checkpoints, and these voices muted
 abbrev pub tune_replies : SessionOptions → (file : List ℕ) → (table : List ℤ) → List ScriptLine → List Reply

@@ -1,9 +1,7 @@
 // The command `serve`: a session over a tune.
-ghost use Rattle.std.specs.Prelude.{◌≡◌, ◌≤◌, ◌++◌, IfOk, [], ◌∷◌};
+ghost use Rattle.std.specs.Prelude.{◌≡◌, ◌++◌, IfOk, [], ◌∷◌};
 ghost use Rattle.wav_form.specs.Wave.{header_of, stereo_wave};
 ghost use Rattle.dsp_core.specs.DspChip.{dsp_chip, dsp_saving};
-ghost use Rattle.page_pool.specs.Pool.{most_pages};
-ghost use Rattle.cut_form.specs.Checkpoints.{fewest_pages};
 ghost use Rattle.snd_host.specs.Host.{HostState, Files};
 ghost use Rattle.input_files.specs.Reading.{input_limit, input_up_to};
 ghost use Rattle.input_files.specs.Inputs.{table_input};
@@ -16,7 +14,7 @@ ghost use Rattle.cut_text.specs.Playing.{played_frames};
 ghost use Rattle.session_files.specs.Report.{report_on};
 ghost use Rattle.session_files.specs.SessionFiles.{to_come_of, report_of};
 ghost use Rattle.tune_opening.specs.Tune.{tune_frames};
-ghost use Rattle.command_serve.specs.Serve.{tune_replies, script_answer, table_answer, file_answer, serve_over, serve_inputs};
+ghost use Rattle.command_serve.specs.Serve.{AreOptionsInRange, tune_replies, script_answer, table_answer, file_answer, serve_over, serve_inputs};
 
 use crate::script::read_lines;
 use command_frame::{OutOfMemory, Refusal, StreamedPlan, carry_stream};
@@ -33,6 +31,15 @@ use std::alloc::Global;
 use tune_opening::open_server;
 use wav_form::header;
 
+/// The names of the inputs of a session, and of its sound file.
+#[derive(Clone, Copy)]
+struct Names<'a> {
+    file: &'a str,
+    table: &'a str,
+    script: &'a str,
+    wave: &'a str,
+}
+
 /// Opens the session of a script over a file and a table.
 fn open_session(
     alloc: Global,
@@ -41,8 +48,7 @@ fn open_session(
     script: ScriptLines,
     options: SessionOptions,
 ) -> Result<SessionFiles<Dsp>, OutOfMemory>
-    requires enough { fewest_pages ≤ options.pages }
-    requires few { options.pages ≤ most_pages }
+    requires { AreOptionsInRange options }
     ensures wave { IfOk result (λ files. header_of 2 (played_frames 0 0 script) ++ (to_come_of dsp_chip dsp_saving files).wave
         ≡ stereo_wave (cut_frames (tune_frames file.now table options.muted 0) (played_cuts (tune_replies options file.now table script)))) }
     ensures report { IfOk result (λ files. report_of dsp_chip dsp_saving files ≡ report_on (tune_replies options file.now table script)) }
@@ -61,8 +67,7 @@ fn plan<'a>(
     wave: &'a str,
     options: SessionOptions,
 ) -> Result<StreamedPlan<'a, SessionFiles<Dsp>>, Refusal<Cause>>
-    requires enough { fewest_pages ≤ options.pages }
-    requires few { options.pages ≤ most_pages }
+    requires { AreOptionsInRange options }
     ensures { let answer = script_answer wave.now options file.now table script in
         Plans (stream_makes (to_come_of dsp_chip dsp_saving) (report_of dsp_chip dsp_saving)) answer result }
 {
@@ -82,18 +87,16 @@ fn prepare_script<'a, H: Host>(
     host: &mut H,
     file: &SpcFile,
     table: GaussTable,
-    script: &str,
-    wave: &'a str,
+    names: Names<'a>,
     options: SessionOptions,
 ) -> Result<StreamedPlan<'a, SessionFiles<Dsp>>, Refusal<Cause>>
-    requires enough { fewest_pages ≤ options.pages }
-    requires few { options.pages ≤ most_pages }
-    ensures { let answer = λ (files : Files). table_answer wave.now options (files script.now) file.now table in
+    requires { AreOptionsInRange options }
+    ensures { let answer = λ (files : Files). table_answer names.entry.wave.now options (files names.entry.script.now) file.now table in
         Prepares (stream_makes (to_come_of dsp_chip dsp_saving) (report_of dsp_chip dsp_saving)) answer
-        (input_up_to input_limit script.now ∷ []) (H.state host.old) (H.state host.new) result }
+        (input_up_to input_limit names.entry.script.now ∷ []) (H.state host.old) (H.state host.new) result }
 {
-    let lines = read_lines(alloc, host, script)?;
-    plan(alloc, file, table, lines, wave, options)
+    let lines = read_lines(alloc, host, names.script)?;
+    plan(alloc, file, table, lines, names.wave, options)
 }
 
 /// Reads the table and the script and makes the plan for them and a file.
@@ -101,39 +104,32 @@ fn prepare_table<'a, H: Host>(
     alloc: Global,
     host: &mut H,
     file: &SpcFile,
-    table: &str,
-    script: &str,
-    wave: &'a str,
+    names: Names<'a>,
     options: SessionOptions,
 ) -> Result<StreamedPlan<'a, SessionFiles<Dsp>>, Refusal<Cause>>
-    requires enough { fewest_pages ≤ options.pages }
-    requires few { options.pages ≤ most_pages }
-    ensures { let answer = λ (files : Files). file_answer wave.now options (files table.now) (files script.now) file.now in
+    requires { AreOptionsInRange options }
+    ensures { let answer = λ (files : Files). file_answer names.entry.wave.now options (files names.entry.table.now) (files names.entry.script.now) file.now in
         Prepares (stream_makes (to_come_of dsp_chip dsp_saving) (report_of dsp_chip dsp_saving)) answer
-        (table_input table.now ∷ input_up_to input_limit script.now ∷ []) (H.state host.old) (H.state host.new) result }
+        (table_input names.entry.table.now ∷ input_up_to input_limit names.entry.script.now ∷ []) (H.state host.old) (H.state host.new) result }
 {
-    let table = read_table(alloc, host, table)?;
-    prepare_script(alloc, host, file, table, script, wave, options)
+    let table = read_table(alloc, host, names.table)?;
+    prepare_script(alloc, host, file, table, names, options)
 }
 
 /// Reads the file, the table and the script and makes the plan for them.
 fn prepare<'a, H: Host>(
     alloc: Global,
     host: &mut H,
-    file: &str,
-    table: &str,
-    script: &str,
-    wave: &'a str,
+    names: Names<'a>,
     options: SessionOptions,
 ) -> Result<StreamedPlan<'a, SessionFiles<Dsp>>, Refusal<Cause>>
-    requires enough { fewest_pages ≤ options.pages }
-    requires few { options.pages ≤ most_pages }
-    ensures { let answer = serve_over wave.now options file.now table.now script.now in
+    requires { AreOptionsInRange options }
+    ensures { let answer = serve_over names.entry.wave.now options names.entry.file.now names.entry.table.now names.entry.script.now in
         Prepares (stream_makes (to_come_of dsp_chip dsp_saving) (report_of dsp_chip dsp_saving)) answer
-        (serve_inputs file.now table.now script.now) (H.state host.old) (H.state host.new) result }
+        (serve_inputs names.entry.file.now names.entry.table.now names.entry.script.now) (H.state host.old) (H.state host.new) result }
 {
-    let file = read_file(alloc, host, file)?;
-    prepare_table(alloc, host, &file, table, script, wave, options)
+    let file = read_file(alloc, host, names.file)?;
+    prepare_table(alloc, host, &file, names, options)
 }
 
 /// Runs the script over the tune of the file and the table, with the pages for its checkpoints and the muted voices that the
@@ -148,12 +144,17 @@ pub fn serve<H: Host>(
     options: SessionOptions,
 ) -> Option<Refusal<Cause>>
     requires outputs { CanDeliver (H.state host.old) }
-    requires enough { fewest_pages ≤ options.pages }
-    requires few { options.pages ≤ most_pages }
+    requires pages { AreOptionsInRange options }
     ensures attempts { let answer = serve_over wave.now options file.now table.now script.now in
         Attempts answer (serve_inputs file.now table.now script.now) result (H.state host.old) (H.state host.new) }
     ensures not_usage { result ≡ Some Refusal.Usage → ⊥ }
 {
-    let prepared = prepare(alloc, host, file, table, script, wave, options);
+    let names = Names {
+        file,
+        table,
+        script,
+        wave,
+    };
+    let prepared = prepare(alloc, host, names, options);
     carry_stream(host, prepared)
 }

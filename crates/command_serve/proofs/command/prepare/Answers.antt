@@ -13,8 +13,8 @@ use Rattle.command_serve.proofs.command.prepare.Goals as goal
 
 pub returns : goal.returns
 returns g c =
-    reads_then (stream_makes (to_come_of dsp_chip dsp_saving) (report_of dsp_chip dsp_saving)) (λ (files : Files). file_in (files c.args.file.now))
-    (λ (files : Files) (file : List ℕ). file_answer c.args.wave.now c.args.options (files c.args.table.now) (files c.args.script.now) file)
+    reads_then (stream_makes (to_come_of dsp_chip dsp_saving) (report_of dsp_chip dsp_saving)) (λ (files : Files). file_in (files c.args.names.file.now))
+    (λ (files : Files) (file : List ℕ). file_answer c.args.names.wave.now c.args.options (files c.args.names.table.now) (files c.args.names.script.now) file)
     (g.H.Host.state c.args.host.now) (g.H.Host.state c.read_file.new.host) (g.H.Host.state c.prepare_table.new.host) c.in_ok-file.file c.prepare_table.result
     (λ (files : Files). refl) c.in_ok-file.ensures c.prepare_table.ensures
 
@@ -22,6 +22,6 @@ pub returns-in_err-file : goal.returns-in_err-file
 returns-in_err-file g c =
     let p = err_from_is_err_and c.from_residual.result c.from_residual.ensures.1 in
     rw (p.1 ∙ ap (λ (why : Refusal Cause). Err why) p.2)
-    (reads_declined_before (stream_makes (to_come_of dsp_chip dsp_saving) (report_of dsp_chip dsp_saving)) (λ (files : Files). file_in (files c.args.file.now))
-    (λ (files : Files) (file : List ℕ). file_answer c.args.wave.now c.args.options (files c.args.table.now) (files c.args.script.now) file)
+    (reads_declined_before (stream_makes (to_come_of dsp_chip dsp_saving) (report_of dsp_chip dsp_saving)) (λ (files : Files). file_in (files c.args.names.file.now))
+    (λ (files : Files) (file : List ℕ). file_answer c.args.names.wave.now c.args.options (files c.args.names.table.now) (files c.args.names.script.now) file)
     (g.H.Host.state c.args.host.now) (g.H.Host.state c.read_file.new.host) _ (λ (files : Files). refl) c.in_err-file.ensures)

@@ -13,8 +13,8 @@ use Rattle.command_serve.proofs.command.prepare_table.Goals as goal
 
 pub returns : goal.returns
 returns g c =
-    reads_then (stream_makes (to_come_of dsp_chip dsp_saving) (report_of dsp_chip dsp_saving)) (λ (files : Files). table_in (files c.args.table.now))
-    (λ (files : Files) (table : List ℤ). table_answer c.args.wave.now c.args.options (files c.args.script.now) c.args.file.now table)
+    reads_then (stream_makes (to_come_of dsp_chip dsp_saving) (report_of dsp_chip dsp_saving)) (λ (files : Files). table_in (files c.args.names.table.now))
+    (λ (files : Files) (table : List ℤ). table_answer c.args.names.wave.now c.args.options (files c.args.names.script.now) c.args.file.now table)
     (g.H.Host.state c.args.host.now) (g.H.Host.state c.read_table.new.host) (g.H.Host.state c.prepare_script.new.host) c.in_ok-table.table c.prepare_script.result
     (λ (files : Files). refl) c.in_ok-table.ensures c.prepare_script.ensures
 
@@ -22,6 +22,6 @@ pub returns-in_err-table : goal.returns-in_err-table
 returns-in_err-table g c =
     let p = err_from_is_err_and c.from_residual.result c.from_residual.ensures.1 in
     rw (p.1 ∙ ap (λ (why : Refusal Cause). Err why) p.2)
-    (reads_declined_before (stream_makes (to_come_of dsp_chip dsp_saving) (report_of dsp_chip dsp_saving)) (λ (files : Files). table_in (files c.args.table.now))
-    (λ (files : Files) (table : List ℤ). table_answer c.args.wave.now c.args.options (files c.args.script.now) c.args.file.now table)
+    (reads_declined_before (stream_makes (to_come_of dsp_chip dsp_saving) (report_of dsp_chip dsp_saving)) (λ (files : Files). table_in (files c.args.names.table.now))
+    (λ (files : Files) (table : List ℤ). table_answer c.args.names.wave.now c.args.options (files c.args.names.script.now) c.args.file.now table)
     (g.H.Host.state c.args.host.now) (g.H.Host.state c.read_table.new.host) _ (λ (files : Files). refl) c.in_err-table.ensures)
