@@ -3,6 +3,7 @@
 
 use command_info::info;
 use command_render::render;
+use num_fix::SAMPLE_RATE;
 use render_options::RenderOptions;
 use spc_form::{Length, SpcRefusal, read_spc};
 use std::alloc::Global;
@@ -10,15 +11,17 @@ use std::rt::Stdout;
 use std::{fs, io};
 use test_support::{HEADER_SIZE, OUTPUT_ROOM, Outcome, host_with};
 
-/// The tune, the table of weights that it is rendered over, and what a render of it writes.
+/// The tune.
 const TUNE: &str = "tune.spc";
 
+/// The table of weights that it is rendered over.
 const TABLE: &str = "gauss.table";
 
+/// The sound file that a render of it writes.
 const WAVE: &str = "tune.wav";
 
 /// The frames of a second.
-const SECOND: u32 = 32000;
+const SECOND: u32 = SAMPLE_RATE;
 
 /// A sample that is heard.
 const HEARD: i16 = 1000;
