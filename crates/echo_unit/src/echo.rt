@@ -160,7 +160,7 @@ impl Echo {
         }
     }
 
-    /// How many of the next cells, at most so many, stand one after another before the buffer's end.
+    /// How many of the next cells, at most so many, stand one after another before the buffer's end. Fewer are free: no clause says how many are told.
     pub fn cells_in_line(&self, edl: u8, most: u8) -> u8
         ensures few { result ≤ most }
         ensures line { StandInLine edl result self.now }
