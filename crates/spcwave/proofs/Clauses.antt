@@ -183,13 +183,13 @@ module _ (command : Command) (r : Option (Refusal Cause)) (x z : HostState) (sta
   either a (inl same) = inl (status_is _ same)
   either a (inr same) = inr (status_is _ same)
 
-  pub completes_calmly : clause.CompletesCalmly command x z status
-  completes_calmly files told calm = either (answer_of command files) (o.complete files told calm)
+  pub completes_without_faults : clause.CompletesWithoutFaults command x z status
+  completes_without_faults files told none_rose = either (answer_of command files) (o.complete files told none_rose)
 
   pub completes_inputs : clause.CompletesInputs command x z status
   completes_inputs = record {
     status_is = λ steady files told. of_three (answer_of command files) ((o.answered files told).steady steady);
-    calm = λ steady files told other. (o.answered files told).steady_inputs steady (λ is_read. other (ap status_of is_read));
+    no_fault = λ steady files told other. (o.answered files told).steady_inputs steady (λ is_read. other (ap status_of is_read));
   }
     where
       of_three : (a : Answer Cause) → (r ≡ refusal_of a) ⊎ ((r ≡ Some WriteFault) ⊎ (r ≡ Some OutOfMemory)) → (status ≡ answer_status a) ⊎ ((status ≡ statuses.WriteFault) ⊎ (status ≡ statuses.OutOfMemory))
@@ -200,18 +200,18 @@ module _ (command : Command) (r : Option (Refusal Cause)) (x z : HostState) (sta
   pub completes_outputs : clause.CompletesOutputs command x z status
   completes_outputs = record {
     status_is = λ rooms steady files told have fits. either (answer_of command files) ((o.answered files told).enough rooms steady have fits).0;
-    calm = λ rooms steady files told have fits. ((o.answered files told).enough rooms steady have fits).1;
+    no_fault = λ rooms steady files told have fits. ((o.answered files told).enough rooms steady have fits).1;
   }
 
   -- on a steady host that has room for the line of the end
-  calm_with : (rooms : List ℕ) → x.steady ≡ Some rooms → (end : Option (Refusal Cause)) → r ≡ end → length (end_line end) ≤ slice_index rooms 1 → z.faults.notes ≡ x.faults.notes
-  calm_with rooms steady end same fits =
+  no_fault_with : (rooms : List ℕ) → x.steady ≡ Some rooms → (end : Option (Refusal Cause)) → r ≡ end → length (end_line end) ≤ slice_index rooms 1 → z.faults.notes ≡ x.faults.notes
+  no_fault_with rooms steady end same fits =
       o.complains.steady rooms steady (subst (λ (e : Option (Refusal Cause)). length (end_line e) ≤ slice_index rooms 1) (sym same) fits)
 
   pub completes_complaint : clause.CompletesComplaint command x z status
   completes_complaint = record {
-    calm = λ rooms steady files told. calm_with rooms steady _ (line_is files told);
-    calm_plain = λ rooms steady end plain. calm_with rooms steady end (plain_is r end (ap end_without_numbers (sym is) ∙ plain));
+    no_fault = λ rooms steady files told. no_fault_with rooms steady _ (line_is files told);
+    no_fault_plain = λ rooms steady end plain. no_fault_with rooms steady end (plain_is r end (ap end_without_numbers (sym is) ∙ plain));
   }
 
   pub untold : clause.Untold command x z status

@@ -72,15 +72,15 @@ MakesOutputs (rip file prefix range) old new = MadeInTurn old new
 MakesOutputs command old new = Unit {0}
 
 -- Where no count of faults rose, the status is the answer's, or there was no memory.
-abbrev pub CompletesCalmly : Command → HostState → HostState → Status → Type 0
-CompletesCalmly command old new status = IfTold old.holds (λ files.
+abbrev pub CompletesWithoutFaults : Command → HostState → HostState → Status → Type 0
+CompletesWithoutFaults command old new status = IfTold old.holds (λ files.
     NoneRose old new → (status ≡ answer_status (answer_of command files)) ⊎ (status ≡ statuses.OutOfMemory))
 
 -- On a steady host no input fails that is there,
 pub record CompletesInputs (command : Command) (old new : HostState) (status : Status) : Type 0 where
   pub status_is : IsSome old.steady → IfTold old.holds (λ files.
       (status ≡ answer_status (answer_of command files)) ⊎ (status ≡ statuses.WriteFault) ⊎ (status ≡ statuses.OutOfMemory))
-  pub calm : IsSome old.steady → IfTold old.holds (λ files.
+  pub no_fault : IsSome old.steady → IfTold old.holds (λ files.
       answer_status (answer_of command files) ≢ statuses.ReadFault → new.faults.inputs ≡ old.faults.inputs)
 
 -- and no output that there is room for,
@@ -88,16 +88,16 @@ pub record CompletesOutputs (command : Command) (old new : HostState) (status : 
   pub status_is : IfTold old.steady (λ rooms. IfTold old.holds (λ files. let a = answer_of command files in
       HaveRooms (outputs_of a) rooms (length old.ended + 2) → length (report_of a) ≤ slice_index rooms 0 →
       (status ≡ answer_status a) ⊎ (status ≡ statuses.OutOfMemory)))
-  pub calm : IfTold old.steady (λ rooms. IfTold old.holds (λ files. let a = answer_of command files in
+  pub no_fault : IfTold old.steady (λ rooms. IfTold old.holds (λ files. let a = answer_of command files in
       HaveRooms (outputs_of a) rooms (length old.ended + 2) → length (report_of a) ≤ slice_index rooms 0 →
       new.faults.outputs ≡ old.faults.outputs))
 
 -- and no complaint that there is room for.
 pub record CompletesComplaint (command : Command) (old new : HostState) (status : Status) : Type 0 where
-  pub calm : IfTold old.steady (λ rooms. IfTold old.holds (λ files.
+  pub no_fault : IfTold old.steady (λ rooms. IfTold old.holds (λ files.
       length (status_line status (answer_of command files)) ≤ slice_index rooms 1 → new.faults.notes ≡ old.faults.notes))
   -- A status without numbers has its line, whatever is told of the inputs.
-  pub calm_plain : IfTold old.steady (λ rooms. IfTold (end_without_numbers status) (λ end.
+  pub no_fault_plain : IfTold old.steady (λ rooms. IfTold (end_without_numbers status) (λ end.
       length (end_line end) ≤ slice_index rooms 1 → new.faults.notes ≡ old.faults.notes))
 
 -- What holds on every host, whether it tells anything or not.
@@ -128,7 +128,7 @@ pub record IsRun (command : Command) (old new : HostState) (status : Status) : T
   -- how several outputs are made, whatever the status is
   pub making : MakesOutputs command old new
   -- Where they do not come: no call failed, or the host is steady and has room.
-  pub complete_calm : CompletesCalmly command old new status
+  pub complete_without_faults : CompletesWithoutFaults command old new status
   pub complete_inputs : CompletesInputs command old new status
   pub complete_outputs : CompletesOutputs command old new status
   pub complete_complaint : CompletesComplaint command old new status
