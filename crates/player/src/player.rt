@@ -97,7 +97,7 @@ impl Player {
         })
     }
 
-    /// The same, from the bytes of an SPC file and those of a table: 512 numbers of 16 bits, low byte first.
+    /// A player at the opening, from the bytes of an SPC file and those of a table: 512 numbers of 16 bits, low byte first.
     pub fn open_bytes(
         alloc: Global,
         bytes: &[u8],

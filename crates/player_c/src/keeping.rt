@@ -16,7 +16,7 @@ impl SpcwavePointer {
         self.at = ptr as *mut u8;
     }
 
-    /// Gives it back.
+    /// Gives back what the box of the handle owned.
     fn take_parts(&mut self, alloc: Global) -> Parts<SpcwavePlayer, Global>
         requires { IsSome self.old.handle }
         ensures handle { Some result.value ≡ self.old.handle }

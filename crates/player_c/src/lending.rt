@@ -34,7 +34,7 @@ impl OwnedPlayer {
         self.at = ptr as *mut u8;
     }
 
-    /// Gives it back.
+    /// Gives back what the box of the player owned.
     fn take_parts(&mut self, alloc: Global) -> Parts<Player, Global>
         requires { IsSome self.old.playing }
         ensures player { Some result.value ≡ self.old.playing }
