@@ -242,14 +242,13 @@ SLIPS = [
     Slip('the fade one byte later', ['spc_form'], ['worked_files', 'worked_commands'], [
         (TAGS, 'field_start Fade = 0xAC', 'field_start Fade = 0xAD'), (TAGS_CODE, 'Tag::Fade => 0xAC', 'Tag::Fade => 0xAD')]),
     Slip('1Bh for the mark of tags', ['spc_form'], ['worked_files', 'worked_commands'], [
-        (TAGS, 'tag_mark_of file == 0x1A', 'tag_mark_of file == 0x1B'), (TAGS_CODE, 'self.tag_mark() == 0x1A', 'self.tag_mark() == 0x1B'),
-        (INFO_CODE, 'file.tag_mark() != 0x1a', 'file.tag_mark() != 0x1b'), ('player/src/player.rt', 'tag_mark() == 0x1A', 'tag_mark() == 0x1B')]),
+        (TAGS, 'tag_mark_of file == 0x1A', 'tag_mark_of file == 0x1B'), ('spc_form/src/file.rt', 'self.tag_mark() == 0x1A', 'self.tag_mark() == 0x1B')]),
     Slip('bit 6 shows the ROM at the opening', ['spc_form'], ['worked_files'], [
         (STATE, '(memory_of file) 0xF1) 7', '(memory_of file) 0xF1) 6'), (STATE_CODE, 'has_bit(image[0xF1], 7)', 'has_bit(image[0xF1], 6)')]),
     Slip('31 frames a millisecond of a fade', ['spc_form'], ['worked_files'], [
         (TAGS_CODE, 'SAMPLES_PER_MILLISECOND: u32 = 32', 'SAMPLES_PER_MILLISECOND: u32 = 31')]),
     Slip('another length without tags', ['spc_form'], ['worked_files'], [
-        (TAGS, 'frames = 5760000;', 'frames = 5760001;'), (TAGS_CODE, '5_760_000', '5_760_001')]),
+        (TAGS, 'frames = 5760000;', 'frames = 5760001;'), (TAGS_CODE, '180 * SAMPLE_RATE', '180 * SAMPLE_RATE + 1')]),
     Slip('a signature in small letters', ['spc_form'], ['worked_files', 'worked_commands'], [
         (ACCEPTED, 'codes "SNES-SPC700 Sound File Data"', 'codes "SNES-SPC700 sound File Data"'),
         (READING, '*b"SNES-SPC700 Sound File Data"', '*b"SNES-SPC700 sound File Data"')]),
