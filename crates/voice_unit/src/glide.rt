@@ -9,7 +9,7 @@ ghost use Rattle.voice_unit.specs.Course.{IsCourse};
 ghost use Rattle.voice_unit.specs.Row.{ArePoints, place_of};
 ghost use Rattle.voice_unit.specs.Track.{MoveOn, pitches_from};
 ghost use Rattle.voice_unit.specs.Voice.{is_modulated};
-ghost use Rattle.voice_unit.specs.Play.{Lane, IsLaneOver, IsPlayed, Glides, answer_at};
+ghost use Rattle.voice_unit.specs.Play.{Lane, IsPlayed, CanGlide, answer_at};
 
 use crate::batch::{PlayedRows, VoiceReads, VoiceView};
 use crate::calm::is_silent;
@@ -104,13 +104,11 @@ impl Voice {
         requires lower { (i : ℕ) → at ≤ i → i < BATCH_SIZE → slice_index made.old.ends i < 2 ^ reads.now.seen.voice }
         ensures from { at < result.at }
         ensures to { result.at ≤ at + n }
-        ensures played { (lane : Lane) (before : List ℕ) → IsLaneOver reads.now work.old.pitches lane
-            → Glides reads.now.seen lane at (at + n) → IsPlayed lane reads.now.seen.voice at before made.old.ends made.old.outs self.old
+        ensures played { (lane : Lane) (before : List ℕ) → CanGlide reads.now work.old.pitches lane at (at + n) before made.old.ends made.old.outs self.old
             → IsPlayed lane reads.now.seen.voice result.at before made.new.ends made.new.outs self.new }
         ensures pitches { work.new.pitches ≡ work.old.pitches }
         ensures within { result.level ≤ 0x7ff }
-        ensures level { (lane : Lane) (before : List ℕ) → IsLaneOver reads.now work.old.pitches lane
-            → Glides reads.now.seen lane at (at + n) → IsPlayed lane reads.now.seen.voice at before made.old.ends made.old.outs self.old
+        ensures level { (lane : Lane) (before : List ℕ) → CanGlide reads.now work.old.pitches lane at (at + n) before made.old.ends made.old.outs self.old
             → result.level ≡ (answer_at lane (result.at - 1)).level }
         ensures later { (i : ℕ) → result.at ≤ i → slice_index made.new.ends i ≡ slice_index made.old.ends i }
         ensures before { (i : ℕ) → i < at → slice_index made.new.ends i ≡ slice_index made.old.ends i }
@@ -162,13 +160,11 @@ impl Voice {
         requires before { (i : ℕ) → i < BATCH_SIZE → slice_index made.old.ends i < 2 ^ (reads.now.seen.voice + 1) }
         ensures from { j ≤ result.at }
         ensures to { result.at ≤ end }
-        ensures played { (lane : Lane) (before : List ℕ) → IsLaneOver reads.now work.old.pitches lane
-            → Glides reads.now.seen lane j end → IsPlayed lane reads.now.seen.voice j before made.old.ends made.old.outs self.old
+        ensures played { (lane : Lane) (before : List ℕ) → CanGlide reads.now work.old.pitches lane j end before made.old.ends made.old.outs self.old
             → IsPlayed lane reads.now.seen.voice result.at before made.new.ends made.new.outs self.new }
         ensures pitches { work.new.pitches ≡ work.old.pitches }
         ensures within { result.level ≤ 0x7ff }
-        ensures level { (lane : Lane) (before : List ℕ) → IsLaneOver reads.now work.old.pitches lane
-            → Glides reads.now.seen lane j end → IsPlayed lane reads.now.seen.voice j before made.old.ends made.old.outs self.old
+        ensures level { (lane : Lane) (before : List ℕ) → CanGlide reads.now work.old.pitches lane j end before made.old.ends made.old.outs self.old
             → j < result.at → result.level ≡ (answer_at lane (result.at - 1)).level }
         ensures later { (i : ℕ) → result.at ≤ i → slice_index made.new.ends i ≡ slice_index made.old.ends i }
         ensures lower { (i : ℕ) → i < BATCH_SIZE → slice_index made.new.ends i < 2 ^ (reads.now.seen.voice + 1) }

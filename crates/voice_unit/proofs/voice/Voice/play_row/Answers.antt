@@ -33,11 +33,13 @@ samples-preserved c =
     let played : (k : ℕ) → c.args.reads.now.clock ≡ counter_at k
     → IsPlayed (lane_of c.args.reads.now c.args.previous.now c.args.self.now k) c.args.reads.now.seen.voice
     to c.args.made.now.ends c.glide-glided.new.made.ends c.glide-glided.new.made.outs c.glide-glided.new.self =
-    λ k at. c.glide-glided.ensures.played _ c.args.made.now.ends
-    (record { regs = refl; modulated = c.samples.invariant.modulated; memory = refl; table = refl; clock = at; noise = λ i. refl })
-    (lane_glides c.args.reads.now c.args.previous.now c.args.self.now k c.samples.j c.end_from-end.result
-    (λ i since below. c.plain_samples-plain.ensures i (omega (arith, below, c.end_from-end.ensures.to, c.requires.few)) (c.end_from-end.ensures.plain i since below)))
-    (c.samples.invariant.played k at) in
+    λ k at. c.glide-glided.ensures.played (lane_of c.args.reads.now c.args.previous.now c.args.self.now k) c.args.made.now.ends
+    (record {
+      over = record { regs = refl; modulated = c.samples.invariant.modulated; memory = refl; table = refl; clock = at; noise = λ i. refl };
+      plainly = lane_glides c.args.reads.now c.args.previous.now c.args.self.now k c.samples.j c.end_from-end.result
+          (λ i since below. c.plain_samples-plain.ensures i (omega (arith, below, c.end_from-end.ensures.to, c.requires.few)) (c.end_from-end.ensures.plain i since below));
+      played = c.samples.invariant.played k at;
+    }) in
     let whole : to_z w16 (of_z w16 (number_at c.args.previous.now to)) ≡ number_at c.args.previous.now to = search rules in
     let input : c.input-input.result ≡ lane_inputs c.args.reads.now.seen c.args.reads.now.rows.now c.args.previous.now to = rw whole at (rw place at c.input-input.ensures.value) in
     let step : (k : ℕ) → c.args.reads.now.clock ≡ counter_at k
@@ -81,18 +83,22 @@ returns-then-last-eq0-clause-played c k at =
 pub returns-then-last-to-clause-played : goal.returns-then-last-to-clause-played
 unfolding lane_input
 returns-then-last-to-clause-played c k at =
-    c.glide-glided.ensures.played _ c.args.made.now.ends
-    (record { regs = refl; modulated = c.samples.invariant.modulated; memory = refl; table = refl; clock = at; noise = λ i. refl })
-    (lane_glides c.args.reads.now c.args.previous.now c.args.self.now k c.samples.j c.end_from-end.result
-    (λ i since below. c.plain_samples-plain.ensures i (omega (arith, below, c.end_from-end.ensures.to, c.requires.few)) (c.end_from-end.ensures.plain i since below)))
-    (c.samples.invariant.played k at)
+    c.glide-glided.ensures.played (lane_of c.args.reads.now c.args.previous.now c.args.self.now k) c.args.made.now.ends
+    (record {
+      over = record { regs = refl; modulated = c.samples.invariant.modulated; memory = refl; table = refl; clock = at; noise = λ i. refl };
+      plainly = lane_glides c.args.reads.now c.args.previous.now c.args.self.now k c.samples.j c.end_from-end.result
+          (λ i since below. c.plain_samples-plain.ensures i (omega (arith, below, c.end_from-end.ensures.to, c.requires.few)) (c.end_from-end.ensures.plain i since below));
+      played = c.samples.invariant.played k at;
+    })
 
 pub returns-then-last-to-clause-level : goal.returns-then-last-to-clause-level
 unfolding lane_input
 returns-then-last-to-clause-level c k at all =
-    let level = c.glide-glided.ensures.level _ c.args.made.now.ends
-    (record { regs = refl; modulated = c.samples.invariant.modulated; memory = refl; table = refl; clock = at; noise = λ i. refl })
-    (lane_glides c.args.reads.now c.args.previous.now c.args.self.now k c.samples.j c.end_from-end.result
-    (λ i since below. c.plain_samples-plain.ensures i (omega (arith, below, c.end_from-end.ensures.to, c.requires.few)) (c.end_from-end.ensures.plain i since below)))
-    (c.samples.invariant.played k at) (omega (arith, all, c.samples-test.true)) in
+    let level = c.glide-glided.ensures.level (lane_of c.args.reads.now c.args.previous.now c.args.self.now k) c.args.made.now.ends
+    (record {
+      over = record { regs = refl; modulated = c.samples.invariant.modulated; memory = refl; table = refl; clock = at; noise = λ i. refl };
+      plainly = lane_glides c.args.reads.now c.args.previous.now c.args.self.now k c.samples.j c.end_from-end.result
+          (λ i since below. c.plain_samples-plain.ensures i (omega (arith, below, c.end_from-end.ensures.to, c.requires.few)) (c.end_from-end.ensures.plain i since below));
+      played = c.samples.invariant.played k at;
+    }) (omega (arith, all, c.samples-test.true)) in
     rw all at level

@@ -14,7 +14,10 @@ use Rattle.voice_unit.proofs.OverRow.{glided_over, last_level}
 use Rattle.voice_unit.proofs.voice.Voice.play_stretch.Goals as goal
 
 pub returns-clause-played : goal.returns-clause-played
-returns-clause-played c plays before over glides played =
+returns-clause-played c plays before can =
+    let over = can.over in
+    let glides = can.plainly in
+    let played = can.played in
     let regs = over.regs in
     let memory = over.memory in
     let table = over.table in
@@ -52,7 +55,10 @@ returns-clause-played c plays before over glides played =
     c.sound-sounded.ensures.before outs c.read_stretch-stretch.ensures.ends.before_it marks c.read_stretch-stretch.ensures.ends.later
 
 pub returns-clause-level : goal.returns-clause-level
-returns-clause-level c plays before over glides played =
+returns-clause-level c plays before can =
+    let over = can.over in
+    let glides = can.plainly in
+    let played = can.played in
     let regs = over.regs in
     let memory = over.memory in
     let few : c.read_stretch-stretch.result.samples ≤ c.args.n = c.read_stretch-stretch.ensures.stretch.few in
