@@ -29,7 +29,7 @@ use std::alloc::Global;
 use tune_opening::open_server;
 use wav_form::header;
 
-/// The names of the inputs of a list of cuts, and of its sound file.
+/// The names of the inputs of `cuts`, and of its sound file.
 #[derive(Clone, Copy)]
 struct Names<'a> {
     file: &'a str,

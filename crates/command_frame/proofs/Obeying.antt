@@ -41,65 +41,65 @@ pub prepared_is_settled : {C : Type 0} → IsSettled {C = C} None
 prepared_is_settled = (λ wrong. absurd (cc), λ wrong. absurd (cc))
 
 -- all was delivered
-all_done : {C T E : Type 0} (outputs : List Output) (report : List ℕ) (x y z : HostState) (t : T) (reads : ChangesInputs x y) (calm : y.faults.inputs ≡ x.faults.inputs) (d : Delivers {T = T} {E = E} outputs report y z (Ok t)) → EndsAs {C = C} (done outputs report) None d.reported d.begun d.ended x z
-all_done outputs report x y z t reads calm d = record {
+all_done : {C T E : Type 0} (outputs : List Output) (report : List ℕ) (x y z : HostState) (t : T) (reads : ChangesInputs x y) (no_fault : y.faults.inputs ≡ x.faults.inputs) (d : Delivers {T = T} {E = E} outputs report y z (Ok t)) → EndsAs {C = C} (done outputs report) None d.reported d.begun d.ended x z
+all_done outputs report x y z t reads no_fault d = record {
   settled = λ same. (d.ok.0, d.ok.1, d.ok.2);
   written = λ is. absurd (cc);
   ended_whole = d.ended_whole;
   report_last = d.report_last;
   truthful = inl refl;
   steady = λ steady. inl refl;
-  steady_inputs = λ steady other. faults_kept y z d.inputs ∙ calm;
+  steady_inputs = λ steady other. faults_kept y z d.inputs ∙ no_fault;
   enough = λ rooms told have fits. (inl refl, d.cause.same ∙ reads.outputs);
 }
 
 -- a write failed
-part_done : {C T E : Type 0} (outputs : List Output) (report : List ℕ) (x y z : HostState) (e : E) (reads : ChangesInputs x y) (calm : y.faults.inputs ≡ x.faults.inputs) (d : Delivers {T = T} {E = E} outputs report y z (Err e)) → EndsAs {C = C} (done outputs report) (Some WriteFault) d.reported d.begun d.ended x z
-part_done {C = C} {T = T} {E = E} outputs report x y z e reads calm d = record {
+part_done : {C T E : Type 0} (outputs : List Output) (report : List ℕ) (x y z : HostState) (e : E) (reads : ChangesInputs x y) (no_fault : y.faults.inputs ≡ x.faults.inputs) (d : Delivers {T = T} {E = E} outputs report y z (Err e)) → EndsAs {C = C} (done outputs report) (Some WriteFault) d.reported d.begun d.ended x z
+part_done {C = C} {T = T} {E = E} outputs report x y z e reads no_fault d = record {
   settled = λ same. absurd (cc);
   written = λ is. (refl, d.part.0, d.part.1);
   ended_whole = d.ended_whole;
   report_last = d.report_last;
   truthful = inr (inr (inl refl));
   steady = λ steady. inr (inl refl);
-  steady_inputs = λ steady other. faults_kept y z d.inputs ∙ calm;
+  steady_inputs = λ steady other. faults_kept y z d.inputs ∙ no_fault;
   enough = λ rooms told have fits.
       let ok : IsOk {T = T} {E = E} (Err e) = d.enough rooms (reads.rooms rooms told) (subst (λ (l : List Bool). HaveRooms outputs rooms (length l + 2)) (sym reads.ended) have) fits in absurd (search rules);
 }
 
 -- it was refused as the answer says
 refused_so : {C : Type 0} (why : Refusal C) (x y : HostState) → (why ≡ WriteFault → ⊥) → ChangesInputs x y → ((why ≡ ReadFault → ⊥) → y.faults.inputs ≡ x.faults.inputs) → EndsAs (refused why) (Some why) [] [] [] x y
-refused_so {C = C} why x y no_write reads calm = record {
+refused_so {C = C} why x y no_write reads no_fault = record {
   settled = λ same. (refl, refl, refl);
   written = λ is. absurd (no_write cc);
   ended_whole = tt;
   report_last = λ some. absurd (some refl);
   truthful = inl refl;
   steady = λ steady. inl refl;
-  steady_inputs = λ steady other. calm (λ is. other (ap (λ (r : Refusal C). Some r) is));
+  steady_inputs = λ steady other. no_fault (λ is. other (ap (λ (r : Refusal C). Some r) is));
   enough = λ rooms told have fits. (inl refl, reads.outputs);
 }
 
 -- memory was wanting
 no_memory : {C : Type 0} (a : Answer C) (x y : HostState) → ChangesInputs x y → y.faults.inputs ≡ x.faults.inputs → EndsAs a (Some OutOfMemory) [] [] [] x y
-no_memory (done outputs report) x y reads calm = record {
+no_memory (done outputs report) x y reads no_fault = record {
   settled = λ same. absurd (cc);
   written = λ is. absurd (cc);
   ended_whole = tt;
   report_last = λ some. absurd (some refl);
   truthful = inr (inr (inr refl));
   steady = λ steady. inr (inr refl);
-  steady_inputs = λ steady other. calm;
+  steady_inputs = λ steady other. no_fault;
   enough = λ rooms told have fits. (inr refl, reads.outputs);
 }
-no_memory (refused why) x y reads calm = record {
+no_memory (refused why) x y reads no_fault = record {
   settled = λ same. (refl, refl, refl);
   written = λ is. absurd (cc);
   ended_whole = tt;
   report_last = λ some. absurd (some refl);
   truthful = inr (inr (inr refl));
   steady = λ steady. inr (inr refl);
-  steady_inputs = λ steady other. calm;
+  steady_inputs = λ steady other. no_fault;
   enough = λ rooms told have fits. (inr refl, reads.outputs);
 }
 
@@ -132,8 +132,8 @@ module _ {P C : Type 0} {inputs : List NamedInput} (makes : P → Delivery) (ans
     ended = d.ended;
     made = made_after d.reported [] d.begun d.ended x y z p.others d.made;
     causes = record {
-      calm_inputs = λ _. faults_kept y z d.inputs ∙ calm;
-      calm_outputs = λ _. d.cause.same ∙ p.others.outputs;
+      no_fault_inputs = λ _. faults_kept y z d.inputs ∙ no_fault;
+      no_fault_outputs = λ _. d.cause.same ∙ p.others.outputs;
       read = λ wrong. absurd (cc);
       write = λ wrong. absurd (cc);
       refused = λ some not_write. absurd (some refl);
@@ -143,19 +143,19 @@ module _ {P C : Type 0} {inputs : List NamedInput} (makes : P → Delivery) (ans
     read = λ files told. reads_same files x y z (p.opened files told) (λ settled. settled) (λ delivered. delivered) (opened_kept y z d.inputs);
     notes = d.notes ∙ p.others.notes;
     note_room = note_room_kept (makes plan).outputs (makes plan).report x y z (Ok t) p.others d;
-    answered = λ files told. subst (λ (a : Answer C). EndsAs a None d.reported d.begun d.ended x z) (sym (p.ok files told)) (all_done (makes plan).outputs (makes plan).report x y z t p.others calm d);
+    answered = λ files told. subst (λ (a : Answer C). EndsAs a None d.reported d.begun d.ended x z) (sym (p.ok files told)) (all_done (makes plan).outputs (makes plan).report x y z t p.others no_fault d);
   })
     where
-      calm : y.faults.inputs ≡ x.faults.inputs
-      calm = p.calm (λ wrong. absurd (cc))
+      no_fault : y.faults.inputs ≡ x.faults.inputs
+      no_fault = p.no_fault (λ wrong. absurd (cc))
   attempts_done plan refusal p (Err e) is d = subst (λ (r : Option (Refusal C)). Attempts answer inputs r x z) (sym is) (record {
     report = d.reported;
     outputs = d.begun;
     ended = d.ended;
     made = made_after d.reported [] d.begun d.ended x y z p.others d.made;
     causes = record {
-      calm_inputs = λ _. faults_kept y z d.inputs ∙ calm;
-      calm_outputs = λ other. absurd (other refl);
+      no_fault_inputs = λ _. faults_kept y z d.inputs ∙ no_fault;
+      no_fault_outputs = λ other. absurd (other refl);
       read = λ wrong. absurd (cc);
       write = λ _. record { once = d.cause.failed.once ∙ ap next_count p.others.outputs; last = d.cause.failed.last };
       refused = λ some not_write. absurd (not_write refl);
@@ -165,11 +165,11 @@ module _ {P C : Type 0} {inputs : List NamedInput} (makes : P → Delivery) (ans
     read = λ files told. reads_same files x y z (p.opened files told) (λ settled. prepared_is_settled {C = C}) (λ delivered. inl refl) (opened_kept y z d.inputs);
     notes = d.notes ∙ p.others.notes;
     note_room = note_room_kept (makes plan).outputs (makes plan).report x y z (Err e) p.others d;
-    answered = λ files told. subst (λ (a : Answer C). EndsAs a (Some WriteFault) d.reported d.begun d.ended x z) (sym (p.ok files told)) (part_done (makes plan).outputs (makes plan).report x y z e p.others calm d);
+    answered = λ files told. subst (λ (a : Answer C). EndsAs a (Some WriteFault) d.reported d.begun d.ended x z) (sym (p.ok files told)) (part_done (makes plan).outputs (makes plan).report x y z e p.others no_fault d);
   })
     where
-      calm : y.faults.inputs ≡ x.faults.inputs
-      calm = p.calm (λ wrong. absurd (cc))
+      no_fault : y.faults.inputs ≡ x.faults.inputs
+      no_fault = p.no_fault (λ wrong. absurd (cc))
 
   refused_answer : (why : Refusal C) (p : Prepares makes answer inputs x y (Err why)) (files : Files) → x.holds ≡ Some files → EndsAs (answer files) (Some why) [] [] [] x y
   refused_answer why p files told = by (p.err files told)
@@ -177,13 +177,13 @@ module _ {P C : Type 0} {inputs : List NamedInput} (makes : P → Delivery) (ans
       no_write : why ≡ WriteFault → ⊥
       no_write is = p.no_write (ap (λ (r : Refusal C). Err r) is)
 
-      calm : (why ≡ ReadFault → ⊥) → y.faults.inputs ≡ x.faults.inputs
-      calm other = p.calm (λ is. other cc)
+      no_fault : (why ≡ ReadFault → ⊥) → y.faults.inputs ≡ x.faults.inputs
+      no_fault other = p.no_fault (λ is. other cc)
 
       by : (answer files ≡ refused why) ⊎ ((why ≡ ReadFault) ⊎ (why ≡ OutOfMemory)) → EndsAs (answer files) (Some why) [] [] [] x y
-      by (inl is) = subst (λ (a : Answer C). EndsAs a (Some why) [] [] [] x y) (sym is) (refused_so why x y no_write p.others calm)
+      by (inl is) = subst (λ (a : Answer C). EndsAs a (Some why) [] [] [] x y) (sym is) (refused_so why x y no_write p.others no_fault)
       by (inr (inl is)) = subst (λ (r : Refusal C). EndsAs (answer files) (Some r) [] [] [] x y) (sym is) (not_read (answer files) x y p.others (λ steady. p.steady (ap (λ (r : Refusal C). Err r) is) steady files told))
-      by (inr (inr is)) = subst (λ (r : Refusal C). EndsAs (answer files) (Some r) [] [] [] x y) (sym is) (no_memory (answer files) x y p.others (calm (λ wrong. absurd (cc))))
+      by (inr (inr is)) = subst (λ (r : Refusal C). EndsAs (answer files) (Some r) [] [] [] x y) (sym is) (no_memory (answer files) x y p.others (no_fault (λ wrong. absurd (cc))))
 
   attempts_refused : (why : Refusal C) (p : Prepares makes answer inputs x y (Err why)) → Attempts answer inputs (Some why) x y
   attempts_refused why p = record {
@@ -192,8 +192,8 @@ module _ {P C : Type 0} {inputs : List NamedInput} (makes : P → Delivery) (ans
     ended = [];
     made = gains_nothing x y p.others.given p.others.ended p.others.holds;
     causes = record {
-      calm_inputs = λ other. p.calm (λ is. other cc);
-      calm_outputs = λ other. p.others.outputs;
+      no_fault_inputs = λ other. p.no_fault (λ is. other cc);
+      no_fault_outputs = λ other. p.others.outputs;
       read = λ is. p.read (ap (λ (r : Refusal C). Err r) cc);
       write = λ is. absurd (p.no_write (ap (λ (r : Refusal C). Err r) cc));
       refused = λ some not_write. (refl, refl, refl);
@@ -231,10 +231,10 @@ obeys {C = C} line answer named refusal x y z t c silent = record {
     ended = c.wrote.ended ∙ t.made.ended;
     holds = c.wrote.others.holds ∙ t.made.holds;
   };
-  ok = λ is. (λ i. record { inputs = (inputs ∙ t.causes.calm_inputs (no_read is)) i; notes = (ap (λ (s : HostState). s.faults.notes) (silent is) ∙ t.notes) i; outputs = (c.outputs ∙ t.causes.calm_outputs (no_write is)) i });
+  ok = λ is. (λ i. record { inputs = (inputs ∙ t.causes.no_fault_inputs (no_read is)) i; notes = (ap (λ (s : HostState). s.faults.notes) (silent is) ∙ t.notes) i; outputs = (c.outputs ∙ t.causes.no_fault_outputs (no_write is)) i });
   causes = record {
-    calm_inputs = λ other. inputs ∙ t.causes.calm_inputs other;
-    calm_outputs = λ other. c.outputs ∙ t.causes.calm_outputs other;
+    no_fault_inputs = λ other. inputs ∙ t.causes.no_fault_inputs other;
+    no_fault_outputs = λ other. c.outputs ∙ t.causes.no_fault_outputs other;
     read = λ is. let r = t.causes.read is in (record { once = inputs ∙ r.0.once; last = c.last ∙ r.0.last }, r.1);
     write = λ is. let w = t.causes.write is in record { once = c.outputs ∙ w.once; last = c.last ∙ w.last };
     refused = t.causes.refused;
@@ -244,12 +244,12 @@ obeys {C = C} line answer named refusal x y z t c silent = record {
   read = λ files told. reads_same files x y z (t.read files told) (λ settled. settled) (λ delivered. delivered) (opened_kept y z c.wrote.others.inputs);
   complains = record {
     part = c.complains.part;
-    all = λ calm. c.complains.all (subst (λ (n : ℕ). Rose n z.faults.notes → ⊥) (sym t.notes) calm);
+    all = λ no_fault. c.complains.all (subst (λ (n : ℕ). Rose n z.faults.notes → ⊥) (sym t.notes) no_fault);
     once = subst (λ (n : ℕ). (z.faults.notes ≡ n) ⊎ (z.faults.notes ≡ next_count n)) t.notes c.complains.once;
     steady = λ rooms told fits. let after = t.note_room rooms told in c.complains.steady after.0 after.1 (subst (λ (n : ℕ). length (line_of line refusal) ≤ n) (sym after.2) fits) ∙ t.notes;
   };
   answered = λ files told. same (answer files) (t.answered files told);
-  complete = λ files told calm. complete (answer files) (t.answered files told) calm;
+  complete = λ files told no_fault. complete (answer files) (t.answered files told) no_fault;
 }
   where
     no_read : refusal ≡ None → refusal ≡ Some ReadFault → ⊥
@@ -274,13 +274,13 @@ obeys {C = C} line answer named refusal x y z t c silent = record {
     }
 
     by_cause : (a : Answer C) → NoneRose x z → (refusal ≡ refusal_of a) ⊎ ((refusal ≡ Some ReadFault) ⊎ ((refusal ≡ Some WriteFault) ⊎ (refusal ≡ Some OutOfMemory))) → (refusal ≡ refusal_of a) ⊎ (refusal ≡ Some OutOfMemory)
-    by_cause a calm (inl is) = inl is
-    by_cause a calm (inr (inl is)) = absurd (calm.inputs (rose x.faults.inputs z.faults.inputs (inputs ∙ (t.causes.read is).0.once)))
-    by_cause a calm (inr (inr (inl is))) = absurd (calm.outputs (rose x.faults.outputs z.faults.outputs (c.outputs ∙ (t.causes.write is).once)))
-    by_cause a calm (inr (inr (inr is))) = inr is
+    by_cause a no_fault (inl is) = inl is
+    by_cause a no_fault (inr (inl is)) = absurd (no_fault.inputs (rose x.faults.inputs z.faults.inputs (inputs ∙ (t.causes.read is).0.once)))
+    by_cause a no_fault (inr (inr (inl is))) = absurd (no_fault.outputs (rose x.faults.outputs z.faults.outputs (c.outputs ∙ (t.causes.write is).once)))
+    by_cause a no_fault (inr (inr (inr is))) = inr is
 
     complete : (a : Answer C) → EndsAs a refusal t.report t.outputs t.ended x y → NoneRose x z → (refusal ≡ refusal_of a) ⊎ (refusal ≡ Some OutOfMemory)
-    complete a d calm = by_cause a calm d.truthful
+    complete a d no_fault = by_cause a no_fault d.truthful
 
 pub carried_out : {P C : Type 0} (makes : P → Delivery) (plan : P) (x y : HostState) (outcome : Result (Unit {0}) Failed) → Delivers (makes plan).outputs (makes plan).report x y outcome → CarriesOut {C = C} makes (Ok plan) x y (delivery_refusal outcome)
 carried_out makes plan x y outcome d = record { ok = (outcome, refl, d); err = tt }
@@ -305,8 +305,8 @@ attempts_usage x = record {
   ended = [];
   made = gains_nothing x x refl refl refl;
   causes = record {
-    calm_inputs = λ other. refl;
-    calm_outputs = λ other. refl;
+    no_fault_inputs = λ other. refl;
+    no_fault_outputs = λ other. refl;
     read = λ wrong. absurd (cc);
     write = λ wrong. absurd (cc);
     refused = λ some not_write. (refl, refl, refl);

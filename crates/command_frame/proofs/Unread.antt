@@ -20,7 +20,7 @@ module _ {P C : Type 0} (makes : P → Delivery) (answer : Answer C) where
     others = record { holds = refl; given = refl; ended = refl; notes = refl; outputs = refl; rooms = λ rooms told. told };
     opened = λ files told. record { order = in_order_nothing _ x; all = λ delivered. refl };
     read = λ wrong. absurd (cc);
-    calm = λ other. refl;
+    no_fault = λ other. refl;
     no_usage = p.no_usage;
     no_write = p.no_write;
     ok = λ files told. p.ok;
@@ -31,7 +31,7 @@ module _ {P C : Type 0} (makes : P → Delivery) (answer : Answer C) where
     others = record { holds = refl; given = refl; ended = refl; notes = refl; outputs = refl; rooms = λ rooms told. told };
     opened = λ files told. record { order = in_order_nothing _ x; all = λ delivered. refl };
     read = λ is. absurd (p.no_read is);
-    calm = λ other. refl;
+    no_fault = λ other. refl;
     no_usage = p.no_usage;
     no_write = p.no_write;
     ok = search rules;

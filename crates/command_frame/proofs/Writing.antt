@@ -53,7 +53,7 @@ then_second {T = T} {T' = T'} {E = E} file xs ys a b c x (Err e) first second = 
 pub complained : {T E : Type 0} (line : List ℕ) (a b : HostState) (r : Result T E) → WritesAll 1 line a b r → WritesComplaint line a b
 complained line a b (Ok x) w = record {
   complaint = line;
-  complains = record { part = record { rest = []; split = append-nil line }; all = λ calm. refl; once = inl (w.cause.notes refl).same; steady = λ rooms told fits. (w.cause.notes refl).same };
+  complains = record { part = record { rest = []; split = append-nil line }; all = λ no_fault. refl; once = inl (w.cause.notes refl).same; steady = λ rooms told fits. (w.cause.notes refl).same };
   wrote = w.wrote;
   outputs = w.cause.outputs_kept refl;
   last = w.last_kept refl;
@@ -62,7 +62,7 @@ complained line a b (Err e) w = record {
   complaint = w.part.part;
   complains = record {
     part = w.part.prefix;
-    all = λ calm. absurd (calm (rose a.faults.notes b.faults.notes (w.cause.notes refl).failed));
+    all = λ no_fault. absurd (no_fault (rose a.faults.notes b.faults.notes (w.cause.notes refl).failed));
     once = inr (w.cause.notes refl).failed;
     steady = λ rooms told fits. let ok = w.steady rooms told fits in absurd (search rules);
   };
@@ -74,7 +74,7 @@ complained line a b (Err e) w = record {
 pub silent : (a : HostState) → WritesComplaint [] a a
 silent a = record {
   complaint = [];
-  complains = record { part = record { rest = []; split = refl }; all = λ calm. refl; once = inl refl; steady = λ rooms told fits. refl };
+  complains = record { part = record { rest = []; split = refl }; all = λ no_fault. refl; once = inl refl; steady = λ rooms told fits. refl };
   wrote = wrote_nothing 1 a;
   outputs = refl;
   last = refl;

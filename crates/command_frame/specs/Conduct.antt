@@ -38,8 +38,8 @@ pub record EndsAs {C : Type 0} (a : Answer C) (refusal : Option (Refusal C)) (re
 -- nothing.
 pub record HasCauses {C : Type 0} (names_input : Bool) (refusal : Option (Refusal C)) (report : List ℕ) (outputs : List Output) (ended : List Bool)
     (old new : HostState) : Type 0 where
-  pub calm_inputs : (refusal ≡ Some ReadFault → ⊥) → new.faults.inputs ≡ old.faults.inputs
-  pub calm_outputs : (refusal ≡ Some WriteFault → ⊥) → new.faults.outputs ≡ old.faults.outputs
+  pub no_fault_inputs : (refusal ≡ Some ReadFault → ⊥) → new.faults.inputs ≡ old.faults.inputs
+  pub no_fault_outputs : (refusal ≡ Some WriteFault → ⊥) → new.faults.outputs ≡ old.faults.outputs
   pub read : refusal ≡ Some ReadFault → InputFailed old new × IsTrue names_input
   pub write : refusal ≡ Some WriteFault → OutputFailed old new
   pub refused : refusal ≢ None → refusal ≢ Some WriteFault → (report ≡ []) × (outputs ≡ []) × (ended ≡ [])
@@ -134,7 +134,7 @@ pub record Prepares {P C : Type 0} (makes : P → Delivery) (answer : Files → 
   pub others : ChangesInputs old new
   pub opened : ReadsInOrder inputs (refusal_in result) old new
   pub read : result ≡ Err ReadFault → InputFailed old new × IsTrue (are_some inputs)
-  pub calm : (result ≡ Err ReadFault → ⊥) → new.faults.inputs ≡ old.faults.inputs
+  pub no_fault : (result ≡ Err ReadFault → ⊥) → new.faults.inputs ≡ old.faults.inputs
   pub no_usage : result ≡ Err Usage → ⊥
   pub no_write : result ≡ Err WriteFault → ⊥
   pub ok : IfOk result (λ plan. IfTold old.holds (λ files. answer files ≡ done (makes plan).outputs (makes plan).report))

@@ -26,7 +26,7 @@ runs_from book at =
 abbrev pub after_seek : CutBook → (at : ℕ) → CutBook
 after_seek book at = record book { position = at; made = book.made + (at - runs_from book at) }
 
--- the most samples that are played at once: 64
+-- the most samples that a server plays into a list at once: 64
 abbrev pub most_played : ℕ
 most_played = MOST_PLAYED
 

@@ -9,7 +9,7 @@ pub const SLOTS_FOR_CUTS: u32 = 4096;
 /// The most live checkpoints.
 pub const MOST_CHECKPOINTS: u32 = 64;
 
-/// The most frames that are played at once.
+/// The most frames that a server plays into a list at once.
 pub const MOST_PLAYED: u32 = 64;
 
 /// The bytes of these frames in a sound file, four each.

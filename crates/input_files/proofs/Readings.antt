@@ -62,7 +62,7 @@ declined_at {P = P} {C = C} {input = input} {inputs = inputs} makes given next x
     all = λ delivered. absurd (none_delivered delivered);
   };
   read = λ is. (r.err.read (inside {T = P} why ReadFault is), search rules);
-  calm = λ other. r.err.calm (λ is. other (ap (λ (w : Refusal C). Err w) is));
+  no_fault = λ other. r.err.no_fault (λ is. other (ap (λ (w : Refusal C). Err w) is));
   no_usage = λ is. r.err.no_usage (inside {T = P} why Usage is);
   no_write = λ is. r.err.no_write (inside {T = P} why WriteFault is);
   ok = tt;
@@ -111,8 +111,8 @@ accepted_at {T = T} {P = P} {C = C} {input = input} {inputs = inputs} makes give
             (in_order_then (input_read files input) (inputs_reached files inputs) _ _ x y z (r.opened files told) (prepared_is_settled {C = C}) rest.order);
         all = λ delivered. reached files told ∙ ap (λ (l : List OpenedInput). input_read files input ∷ l) (rest.all delivered);
       };
-  read = λ is. let failed = p.read is in (record { once = failed.0.once ∙ ap next_count r.calm; last = failed.0.last }, search rules);
-  calm = λ other. p.calm other ∙ r.calm;
+  read = λ is. let failed = p.read is in (record { once = failed.0.once ∙ ap next_count r.no_fault; last = failed.0.last }, search rules);
+  no_fault = λ other. p.no_fault other ∙ r.no_fault;
   no_usage = p.no_usage;
   no_write = p.no_write;
   ok = ok_of result p.ok;
@@ -151,7 +151,7 @@ prepares_plan {P = P} {C = C} makes answer x result p = record {
   others = record { holds = refl; given = refl; ended = refl; notes = refl; outputs = refl; rooms = λ rooms told. told };
   opened = λ files told. record { order = in_order_nothing _ x; all = λ delivered. refl };
   read = λ is. absurd (p.no_read is);
-  calm = λ other. refl;
+  no_fault = λ other. refl;
   no_usage = p.no_usage;
   no_write = p.no_write;
   ok = ok_of result p.ok;
@@ -185,12 +185,12 @@ pub reads_refused : {T U C : Type 0} {name : List ℕ} {limit : ℕ} (given : Fi
 reads_refused {T = T} {U = U} {C = C} given value x y why r = record {
   others = r.others;
   opened = r.opened;
-  calm = tt;
+  no_fault = tt;
   ok = tt;
   err = record {
     told = λ files told. told_of files (r.err.told files told);
     read = r.err.read;
-    calm = r.err.calm;
+    no_fault = r.err.no_fault;
     steady = λ is steady files told. ap (λ g. value_from g value) (r.err.steady is steady files told);
     no_usage = r.err.no_usage;
     no_write = r.err.no_write;
@@ -208,19 +208,19 @@ pub reads_accepts : {T U C : Type 0} {name : List ℕ} {limit : ℕ} (given : Fi
 reads_accepts {T = T} {U = U} {C = C} given value x y bytes (Ok accepted) r a = record {
   others = r.others;
   opened = r.opened;
-  calm = r.calm;
+  no_fault = r.no_fault;
   ok = λ files told. ap (λ g. value_from g value) (r.ok files told) ∙ a.ok;
   err = tt;
 }
 reads_accepts {T = T} {U = U} {C = C} given value x y bytes (Err why) r a = record {
   others = r.others;
   opened = λ files told. in_order_same _ _ _ x y y (r.opened files told) (λ settled. prepared_is_settled {C = C}) refl;
-  calm = tt;
+  no_fault = tt;
   ok = tt;
   err = record {
     told = λ files told. told_of files (ap (λ g. value_from g value) (r.ok files told)) a.err.told;
     read = λ is. absurd (a.err.no_read is);
-    calm = λ other. r.calm;
+    no_fault = λ other. r.no_fault;
     steady = λ is. absurd (a.err.no_read is);
     no_usage = a.err.no_usage;
     no_write = a.err.no_write;

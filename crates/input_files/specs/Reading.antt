@@ -56,7 +56,7 @@ pub record Accepts {T C : Type 0} (given : Result T (Refusal C)) (result : Resul
 pub record DeclinesInput {T C : Type 0} (given : Files → Result T (Refusal C)) (old new : HostState) (refusal : Refusal C) : Type 0 where
   pub told : IfTold old.holds (λ files. (given files ≡ Err refusal) ⊎ (refusal ≡ ReadFault) ⊎ (refusal ≡ OutOfMemory))
   pub read : refusal ≡ ReadFault → InputFailed old new
-  pub calm : (refusal ≡ ReadFault → ⊥) → new.faults.inputs ≡ old.faults.inputs
+  pub no_fault : (refusal ≡ ReadFault → ⊥) → new.faults.inputs ≡ old.faults.inputs
   pub steady : refusal ≡ ReadFault → IsSome old.steady → IfTold old.holds (λ files. given files ≡ Err ReadFault)
   pub no_usage : refusal ≡ Usage → ⊥
   pub no_write : refusal ≡ WriteFault → ⊥
@@ -66,6 +66,6 @@ pub record Reads {T C : Type 0} (name : List ℕ) (limit : ℕ) (given : Files �
     (result : Result T (Refusal C)) : Type 0 where
   pub others : ChangesInputs old new
   pub opened : IfTold old.holds (λ files. OpensInOrder (whole_input files name limit ∷ []) (IsSettled (refusal_in result)) old new)
-  pub calm : IfOk result (λ value. new.faults.inputs ≡ old.faults.inputs)
+  pub no_fault : IfOk result (λ value. new.faults.inputs ≡ old.faults.inputs)
   pub ok : IfOk result (λ value. IfTold old.holds (λ files. given files ≡ Ok value))
   pub err : IfErr result (λ refusal. DeclinesInput given old new refusal)

@@ -534,6 +534,7 @@ impl<C: Chip> Looks for LagBus<C> {
 impl<C: Chip> DrainedBus for LagBus<C> {
     ghost emits = { lag_emits C.meaning };
 
+    /// The samples that are due. The chip's numbers are those of the book, as after every call.
     fn due(&self) -> u32
         ensures due { result ≡ samples_due self.now.machine }
         ensures numbers { HasNumbersOfBook self.now }

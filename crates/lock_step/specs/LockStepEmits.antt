@@ -1,4 +1,4 @@
--- What the bus emits and counts that makes each sample at once.
+-- What the plain bus emits and counts, which makes each sample in the moment in which it falls due.
 use Rattle.std.specs.Prelude.{[]}
 use Rattle.chip_form.specs.Samples.{count_after}
 use Rattle.lock_step.specs.declared.counts.Counts.{Counts}

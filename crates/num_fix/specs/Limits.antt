@@ -5,7 +5,7 @@ use Rattle.std.specs.Prelude.{ℕ}
 abbrev pub most_frames : ℕ
 most_frames = 115200000
 
--- the greatest number of a sample: a bus and its chip are run no further
+-- the greatest number that a next sample may have, of a bus and of its chip
 abbrev pub greatest_sample_number : ℕ
 greatest_sample_number = 4000000000
 

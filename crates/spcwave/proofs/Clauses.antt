@@ -217,8 +217,8 @@ module _ (command : Command) (r : Option (Refusal Cause)) (x z : HostState) (sta
   pub untold : clause.Untold command x z status
   untold = record {
     misread = (λ same. misread.0 (end_of (Some Usage) statuses.Usage refl same), λ words. status_is _ (misread.1 words));
-    unread = λ other. o.causes.calm_inputs (λ same. other (status_is _ same));
-    unwritten = λ other. o.causes.calm_outputs (λ same. other (status_is _ same));
+    unread = λ other. o.causes.no_fault_inputs (λ same. other (status_is _ same));
+    unwritten = λ other. o.causes.no_fault_outputs (λ same. other (status_is _ same));
     refused = λ not_ok not_write. nothing (λ none. not_ok (status_is _ none)) (λ write. not_write (status_is _ write));
     report_last = reports_behind_ended o.report o.complaint o.outputs o.ended x z o.made o.causes.report_last;
     complaint = λ end plain. complains_of end (plain_is r end (ap end_without_numbers (sym is) ∙ plain));

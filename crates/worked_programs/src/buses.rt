@@ -79,7 +79,7 @@ fn call_over<B: CountedBus>(alloc: Global, bus: &mut B, calls: &[Call]) -> Resul
     })
 }
 
-/// Calls of the bus that makes each sample at once, over the source and these registers.
+/// Calls of the plain bus, over the source and these registers.
 fn call_plain(alloc: Global, registers: &[(usize, u8)], calls: &[Call]) -> Result<Told, Fail> {
     let opening = opening_of(alloc, &SOURCE, registers)?;
     let mut bus = open_plain(alloc, opening, 1)?;
@@ -247,7 +247,7 @@ fn opening_at(alloc: Global, at: u8) -> Result<OpenState, Fail> {
     opening_of(alloc, &entry, &KEYED_REGISTERS)
 }
 
-/// The last frame of the bus that makes each sample at once, once the source is written at that address.
+/// The last frame of the plain bus, once the source is written at that address.
 fn last_at_once(alloc: Global, at: u8) -> Result<Option<Frame>, Fail> {
     let mut bus = open_plain(alloc, opening_at(alloc, at)?, 1)?;
     last_frame(alloc, &mut bus, u16::from(at))

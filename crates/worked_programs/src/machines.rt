@@ -79,7 +79,7 @@ pub fn chip_of(alloc: Global, opening: &OpenState) -> Result<Dsp, Fail>
     Ok(Dsp::open(alloc, &opening.dsp, GaussTable::straight(alloc)?, 0)?)
 }
 
-/// The bus that makes each sample at once, with the records of the voices in a mask.
+/// The plain bus, with the records of the voices in a mask.
 pub fn open_plain(alloc: Global, opening: OpenState, mask: u8) -> Result<PlainBus<Dsp>, Fail> {
     let chip = chip_of(alloc, &opening)?;
     Ok(PlainBus::open(alloc, opening, chip, mask)?)
@@ -214,7 +214,7 @@ fn run_over<B: CountedBus>(alloc: Global, bus: &mut B, samples: u32) -> Result<R
     })
 }
 
-/// A run over the bus that makes each sample at once.
+/// A run over the plain bus.
 pub fn run_plain(alloc: Global, opening: OpenState, samples: u32) -> Result<Run, Fail> {
     let mut bus = open_plain(alloc, opening, 0)?;
     run_over(alloc, &mut bus, samples)

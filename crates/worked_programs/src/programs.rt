@@ -1,4 +1,4 @@
-//! Runs of the processor over the bus that makes each sample at once.
+//! Runs of the processor over the plain bus.
 
 use crate::machines::{KEYED_REGISTERS, SOURCE, opening_of, run_plain};
 use std::alloc::Global;

@@ -42,7 +42,7 @@ fn take_over<B: CountedBus>(alloc: Global, bus: &mut B) -> Result<Taken, Fail> {
     })
 }
 
-/// A program over the bus that makes each sample at once.
+/// A program over the plain bus.
 fn take_plain(alloc: Global, code: &[u8]) -> Result<Taken, Fail> {
     let opening = opening_of(alloc, &[(0x0400, code)], &QUIET)?;
     let mut bus = open_plain(alloc, opening, 0)?;

@@ -12,12 +12,12 @@ returns-in-Err-TooLong-clause-reads g c =
       others = e.others;
       opened = λ files told. in_order_same _ _ _ (g.H.Host.state c.args.host.now) (g.H.Host.state c.read_whole.new.host) (g.H.Host.state c.read_whole.new.host) (e.opened files told)
           (λ settled. (λ wrong. absurd (cc), λ wrong. absurd (cc))) refl;
-      calm = tt;
+      no_fault = tt;
       ok = tt;
       err = record {
         told = λ files told. inl (too_long_bytes c.args.limit c.args.too_long (files c.args.name.now) (e.too_long is files told));
         read = λ wrong. absurd (cc);
-        calm = λ _. e.same (λ wrong. absurd (cc));
+        no_fault = λ _. e.same (λ wrong. absurd (cc));
         steady = λ wrong. absurd (cc);
         no_usage = λ wrong. absurd (cc);
         no_write = λ wrong. absurd (cc);
