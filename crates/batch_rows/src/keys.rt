@@ -14,7 +14,7 @@ ghost use Rattle.batch_rows.specs.Rows.{keys_after};
 use crate::reads::BatchSamples;
 use dsp_state::ChipState;
 use num_fix::BATCH_SIZE;
-use rate_clock::{Noise, RateClock};
+use rate_clock::{Noise, RateClock, samples_between_firings};
 use voice_unit::BatchRows;
 
 /// Whether the sample of a number polls the keys, as each even one does.
@@ -80,20 +80,30 @@ fn poll_each(state: &mut ChipState, number: u32, n: u8) -> [u8; BATCH_SIZE]
     kon
 }
 
-/// The first of n samples, from one of them on, at which the noise's rate fires; n where it fires at none.
-fn next_firing(from: u8, n: u8, rate: u8, first: &RateClock) -> u8
+/// The first of n samples at which the noise's rate fires; n where it fires at none.
+fn first_firing(n: u8, rate: u8, first: &RateClock) -> u8
     requires rate { rate < 32 }
-    requires from { from ≤ n }
-    ensures after { from ≤ result }
     ensures within { result ≤ n }
-    ensures quiet { (k j : ℕ) → first.now ≡ counter_at k → from ≤ j → j < result → fires rate (counter_at (k + j)) ≡ false }
+    ensures some { result < n → 0 < rate }
+    ensures quiet { (k j : ℕ) → first.now ≡ counter_at k → j < result → fires rate (counter_at (k + j)) ≡ false }
     ensures fires { (k : ℕ) → first.now ≡ counter_at k → result < n → fires rate (counter_at (k + result)) ≡ true }
 {
     if rate == 0 {
         return n;
     }
-    let quiet = first.after_samples(from).until_fires(rate);
-    from + quiet.min(u16::from(n - from)) as u8
+    first.until_fires(rate).min(u16::from(n)) as u8
+}
+
+/// The next of n samples at which a rate fires, some samples after one at which it does; n where it fires no more.
+fn next_firing(at: u8, n: u8, between: u16) -> u8
+    requires at { at < n }
+    requires between { 1 ≤ between }
+    ensures after { at < result }
+    ensures within { result ≤ n }
+    ensures near { result ≤ at + between }
+    ensures fires { result < n → result ≡ at + between }
+{
+    at + between.min(u16::from(n - at)) as u8
 }
 
 /// Steps the noise through n samples, from one firing of its rate to the next, and gives the noise of each.
@@ -105,9 +115,10 @@ fn step_noise_each(noise: &mut Noise, n: u8, rate: u8, first: &RateClock) -> [u1
     ensures bound { (j : ℕ) → j < n → slice_index result j < 0x8000 }
 {
     let mut row = [noise.value(); BATCH_SIZE];
-    let mut at = next_firing(0, n, rate, first);
+    let between = samples_between_firings(rate);
+    let mut at = first_firing(n, rate, first);
     'firings: while at < n {
-        let next = next_firing(at + 1, n, rate, first);
+        let next = next_firing(at, n, between);
         noise.step(true);
         row[usize::from(at)..usize::from(next)].fill(noise.value());
         at = next;
@@ -163,7 +174,7 @@ pub fn step_keys(state: &mut ChipState, samples: &BatchSamples, rate: u8) -> Bat
     let n = samples.n;
     let first = &samples.clock;
     let keyed = keyed_samples(state, n);
-    let firing = next_firing(0, n, rate, first);
+    let firing = first_firing(n, rate, first);
     if keyed == 0 && firing == n {
         return idle_rows(state, number);
     }

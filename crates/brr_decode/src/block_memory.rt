@@ -20,8 +20,7 @@ fn place_of(address: u16) -> usize
 }
 
 impl RememberedBlock {
-    /// Decodes a block from one of its groups on. It stands apart, so that what finds a remembered block is short.
-    #[inline(never)]
+    /// Decodes a block from one of its groups on.
     fn decoded(header: u8, digits: u64, group: u8, p1: i16, p2: i16) -> RememberedBlock
         requires { group < 4 }
         ensures { WasDecodedFrom result header digits group p1 p2 }
@@ -43,6 +42,15 @@ impl RememberedBlock {
             from: group,
             row,
         }
+    }
+
+    /// Puts a decoded block in place of this one. It stands apart, so that what finds a remembered block makes no room for another.
+    #[inline(never)]
+    fn replace(&mut self, header: u8, digits: u64, group: u8, p1: i16, p2: i16)
+        requires { group < 4 }
+        ensures { WasDecodedFrom self.new header digits group p1 p2 }
+    {
+        *self = RememberedBlock::decoded(header, digits, group, p1, p2);
     }
 
     /// Whether the block is one of such a header and such digits, and was decoded after these two samples before one of its groups.
@@ -102,7 +110,7 @@ impl BlockMemory {
     {
         let place = place_of(address);
         if !self.blocks[place].is_known(header, digits, group, p1, p2) {
-            self.blocks[place] = RememberedBlock::decoded(header, digits, group, p1, p2);
+            self.blocks[place].replace(header, digits, group, p1, p2);
         }
         &self.blocks[place]
     }

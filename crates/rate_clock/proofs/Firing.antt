@@ -2,6 +2,7 @@
 use Rattle.std.proofs.Common.{◌≡◌, ℕ, zero, suc, ◌+◌, ◌-◌, ◌*◌, ◌/◌, ◌%◌, ◌<◌, ◌≤◌, ◌==◌, nat_lt, drop, true, false, get_or, slice_index, refl, sym, arith}
 use Rattle.std.proofs.Math.Nat.{div-add-mod}
 use Rattle.std.proofs.lemmas.Nat.{mod-mul-add, mod_below}
+use Rattle.std.proofs.lemmas.Bool.{and_parts}
 use Rattle.std.proofs.lemmas.Bool.Decides.{nat_tests}
 use Rattle.rate_clock.specs.Counter.{counter_at, periods, offsets, fires, until_fires, IsQuiet}
 use Rattle.rate_clock.proofs.Tables.{list_all-entry, period_positive}
@@ -62,3 +63,54 @@ fires_then rate k positive within =
     let some : nat_lt 0 rate ≡ true = grind (arith, nat_tests) in
     let none : count - count ≡ 0 = omega arith in
     rw (some, rest, none) refl
+
+positive_factor : (a p y : ℕ) → a * p ≡ y + 1 → 0 < a
+positive_factor zero p y e = absurd (omega arith)
+positive_factor (suc a) p y e = omega arith
+
+-- a firing leaves no rest, and the next sample all but one of the period
+rest_after : (p q x y m d : ℕ) → p * q ≡ 30720 → 0 < p → x ≡ p * m → y + 1 ≡ x + 30720 * d → y % p ≡ p - 1
+rest_after p q x y m d whole positive parts fall =
+    let turned : 30720 * d ≡ q * d * p = rw (← whole) (omega arith) in
+    let all : (m + q * d) * p ≡ y + 1 = omega (arith, turned) in
+    let some : 0 < m + q * d = positive_factor (m + q * d) p y all in
+    let fewer : ℕ = m + q * d - 1 in
+    let next : m + q * d ≡ fewer + 1 = omega (arith, some) in
+    let is : y ≡ fewer * p + (p - 1) = omega (arith, positive, (rw next at all)) in
+    rw is (mod-mul-add fewer p (p - 1) (omega arith))
+
+until_after : (rate k : ℕ) → 0 < rate → rate < 32 → until_fires rate (counter_at k) ≡ 0 → until_fires rate (counter_at (k + 1)) ≡ slice_index periods rate - 1
+until_after rate k positive within now =
+    rest_after p (30720 / p) x (counter_at (k + 1) + offset) (x / p) ((k + 1) / 30720 - k / 30720)
+    (divides-round rate positive within) (period_positive rate positive within) (omega (arith, div-add-mod x p, now))
+    (omega (arith, falls k 1, rounds k 1))
+  where
+    p : ℕ
+    p = slice_index periods rate
+
+    offset : ℕ
+    offset = slice_index offsets rate
+
+    x : ℕ
+    x = counter_at k + offset
+
+-- a rate that fires is above 0, and no sample is left until it does
+fires_now : (rate counter : ℕ) → fires rate counter ≡ true → (0 < rate) × (until_fires rate counter ≡ 0)
+unfolding fires
+fires_now rate counter h =
+    let parts = and_parts (nat_lt 0 rate) (until_fires rate counter == 0) h in
+    (grind (arith, nat_tests, parts.0), grind (arith, nat_tests, parts.1))
+
+-- from a firing on a rate is quiet for its period
+pub quiet_after : (rate k : ℕ) → rate < 32 → fires rate (counter_at k) ≡ true → IsQuiet rate (k + 1) (slice_index periods rate - 1)
+quiet_after rate k within h =
+    let now = fires_now rate (counter_at k) h in
+    rw (until_after rate k now.0 within now.1) at (quiet_until rate (k + 1) now.0 within)
+
+-- and then it fires
+pub fires_after : (rate k : ℕ) → rate < 32 → fires rate (counter_at k) ≡ true → fires rate (counter_at (k + slice_index periods rate)) ≡ true
+fires_after rate k within h =
+    let now = fires_now rate (counter_at k) h in
+    let some = period_positive rate now.0 within in
+    let place : k + 1 + (slice_index periods rate - 1) ≡ k + slice_index periods rate = omega (arith, some) in
+    rw (until_after rate k now.0 within now.1, place) at (fires_then rate (k + 1) now.0 within)

@@ -1,6 +1,6 @@
 //! The counter that all rates look at.
 
-ghost use Rattle.std.specs.Prelude.{◌≡◌, ℕ, ◌+◌, ◌-◌, ◌%◌, ◌==◌, ◌<◌, true, if◌then◌else◌};
+ghost use Rattle.std.specs.Prelude.{◌≡◌, ℕ, ◌+◌, ◌-◌, ◌%◌, ◌==◌, ◌<◌, ◌≤◌, true, if◌then◌else◌};
 ghost use Rattle.rate_clock.specs.Counter.{counter_round, counter_at, counter_after, fires, until_fires, IsQuiet};
 ghost use Rattle.rate_clock.specs.Inside.{rest_at};
 
@@ -67,6 +67,16 @@ fn number_before(n: u16, modulus: u16) -> u16
     ensures bound { result < modulus }
 {
     if n == 0 { modulus - 1 } else { n - 1 }
+}
+
+/// The samples from one firing of a rate, 0 to 31, to its next.
+pub fn samples_between_firings(rate: u8) -> u16
+    requires { rate < 32 }
+    ensures some { 0 < rate → 1 ≤ result }
+    ensures quiet { (k : ℕ) → fires rate (counter_at k) ≡ true → IsQuiet rate (k + 1) (result - 1) }
+    ensures then_fires { (k : ℕ) → fires rate (counter_at k) ≡ true → fires rate (counter_at (k + result)) ≡ true }
+{
+    PERIODS[usize::from(rate)]
 }
 
 impl RateClock {

@@ -4,5 +4,5 @@
 mod clock;
 mod noise;
 
-pub use clock::RateClock;
+pub use clock::{RateClock, samples_between_firings};
 pub use noise::Noise;

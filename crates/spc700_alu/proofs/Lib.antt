@@ -8,3 +8,5 @@ pub mod Overflow
 pub mod Division
 -- decimal sums, by a test of all of them
 pub mod DecimalSums
+-- the flags of a byte by bits alone
+pub mod BitFlags

@@ -5,10 +5,10 @@ use Rattle.spc700_alu.specs.Flags.{N, V, H, Z, C, flag, with_flag}
 use Rattle.spc700_alu.proofs.Apart.{all_below, at_each, same, from_same}
 
 -- a test of both answers
-abbrev of_both : (Bool → Bool) → Bool
+abbrev pub of_both : (Bool → Bool) → Bool
 of_both test = test true && test false
 
-at_one : (test : Bool → Bool) (b : Bool) → of_both test ≡ true → test b ≡ true
+pub at_one : (test : Bool → Bool) (b : Bool) → of_both test ≡ true → test b ≡ true
 at_one test true h = (and_parts _ _ h).0
 at_one test false h = (and_parts _ _ h).1
 

@@ -42,11 +42,11 @@ fn add_with_carry(a: u8, b: u8, carry: u8, psw: u8) -> Out8
 {
     let whole = a as u16 + b as u16 + carry as u16;
     let value = (whole % 0x100) as u8;
-    let same_sign = (a >= 0x80) == (b >= 0x80);
-    let overflow = same_sign && (a >= 0x80) != (value >= 0x80);
-    let psw = put(psw, CARRY, whole >= 0x100);
-    let psw = put(psw, HALF, a % 0x10 + b % 0x10 + carry >= 0x10);
-    let psw = put(psw, OVERFLOW, overflow);
+    let out = (whole / 0x100) as u8;
+    // In bit 4 a sum differs from its terms without carries where one comes in. It overflows where its sign is neither term's.
+    let half = ((a ^ b ^ value) & 0x10) / 2;
+    let overflow = ((a ^ value) & (b ^ value) & 0x80) / 2;
+    let psw = psw & !(CARRY | HALF | OVERFLOW) | out | half | overflow;
     Out8 {
         value,
         psw: put_nz(psw, value),

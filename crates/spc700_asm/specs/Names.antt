@@ -27,10 +27,14 @@ HasMore old new name value = (other : List ℕ) → value_in_table new other ≡
 abbrev pub Holds : Names → Labels → Type 0
 Holds names labels = (name : List ℕ) → value_in_table names name ≡ value_of labels name
 
+-- something holds of all the names that a table has
+abbrev pub OfNames : Names → (Labels → Type 0) → Type 0
+OfNames names Holding = (labels : Labels) → Holds names labels → Holding labels
+
 -- a line without a fault has its name among the names, unless there is no memory
 abbrev pub Defines : (old new : Names) → (at : ℕ) → Option Statement → Result (Unit {0}) LineError → Type 0
 Defines old new at line result =
-    (labels : Labels) → Holds old labels → first_fault labels at line ≡ None → OnOk result (Holds new (labels ++ label_at at line))
+    OfNames old (λ labels. first_fault labels at line ≡ None → OnOk result (Holds new (labels ++ label_at at line)))
 
 -- the bytes of the words between commas
 abbrev pub word_bytes : Labels → (items : List ℕ) → Result (List ℕ) LineFault

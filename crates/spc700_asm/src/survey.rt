@@ -2,11 +2,11 @@
 ghost use Rattle.std.specs.Prelude.{◌≡◌, ◌+◌, ◌≤◌, ◌++◌, [], None, length, IfOk, IfErr, OnOk};
 ghost use Rattle.spc700_asm.specs.Instructions.{memory_end};
 ghost use Rattle.spc700_asm.specs.Statements.{statement_of};
-ghost use Rattle.spc700_asm.specs.Labels.{Labels, size_of_line, label_at, labels_of};
+ghost use Rattle.spc700_asm.specs.Labels.{size_of_line, label_at, labels_of};
 ghost use Rattle.spc700_asm.specs.Faults.{first_fault, first_refusal};
 ghost use Rattle.spc700_asm.specs.Assembly.{lines_of, most_source};
 ghost use Rattle.spc700_asm.specs.Seen.{statement_seen};
-ghost use Rattle.spc700_asm.specs.Names.{Holds, Defines, IsFault, IsRefusal};
+ghost use Rattle.spc700_asm.specs.Names.{Holds, OfNames, Defines, IsFault, IsRefusal};
 
 use crate::faults::checked_size;
 use crate::names::Names;
@@ -33,9 +33,9 @@ fn define_label<'a>(
 /// Goes over a line at an address: the address after it, its name among the names.
 fn survey_line<'a>(names: &mut Names<'a>, at: u32, line: &'a [u8]) -> Result<u32, LineError>
     requires { at ≤ memory_end }
-    ensures fault { (labels : Labels) → Holds names.old labels → IfErr result (λ error. IsFault error (first_fault labels at (statement_of line.now))) }
-    ensures fine { (labels : Labels) → Holds names.old labels → OnOk result (first_fault labels at (statement_of line.now) ≡ None) }
-    ensures defined { (labels : Labels) → Holds names.old labels → OnOk result (Holds names.new (labels ++ label_at at (statement_of line.now))) }
+    ensures fault { OfNames names.old (λ labels. IfErr result (λ error. IsFault error (first_fault labels at (statement_of line.now)))) }
+    ensures fine { OfNames names.old (λ labels. OnOk result (first_fault labels at (statement_of line.now) ≡ None)) }
+    ensures defined { OfNames names.old (λ labels. OnOk result (Holds names.new (labels ++ label_at at (statement_of line.now)))) }
     ensures next { IfOk result (λ next. next ≡ at + size_of_line (statement_of line.now)) }
     ensures within { IfOk result (λ next. next ≤ memory_end) }
 {

@@ -12,7 +12,7 @@ module _ (c : goal.After-idle_rows) where
   none : c.keyed_samples-keyed.result ≡ 0
   none = grind (arith, nat_tests, c.if-keyed-eq0.true)
 
-  all : c.next_firing-firing.result ≡ c.args.samples.now.n
+  all : c.first_firing-firing.result ≡ c.args.samples.now.n
   all = grind (arith, nat_tests, c.if-firing-n.true)
 
   at_once : IsUnkeyed (keys_after c.args.samples.now.number c.args.state.now 0)
@@ -25,7 +25,7 @@ module _ (c : goal.After-idle_rows) where
   idle : (j : ℕ) → j ≤ c.args.samples.now.n → keys_after c.args.samples.now.number c.args.state.now j ≡ c.args.state.now
   idle =
       all_idle c.args.samples.now.number c.args.state.now c.args.samples.now.n at_once
-      (λ j early late. rw c.requires.rate at (c.next_firing-firing.ensures.quiet c.args.samples.now.number j c.requires.batch.clock early (omega (arith, all, late))))
+      (λ j early late. rw c.requires.rate at (c.first_firing-firing.ensures.quiet c.args.samples.now.number j c.requires.batch.clock (omega (arith, all, late))))
 
 pub returns-then-firing-n-clause-state : goal.returns-then-firing-n-clause-state
 returns-then-firing-n-clause-state c = sym (idle c c.args.samples.now.n (omega arith))

@@ -1,8 +1,8 @@
-use Rattle.std.proofs.Common.{rules, ◌≡◌, ◌-◌, ◌<◌, ◌≤◌, ℕ, suc, get_or, replicate, length, List, take, drop, ap, sym, ◌∙◌, inl, inr, arith}
+use Rattle.std.proofs.Common.{rules, ◌≡◌, ◌+◌, ◌-◌, false, ◌<◌, ◌≤◌, ℕ, suc, get_or, replicate, length, List, take, drop, ap, sym, ◌∙◌, inl, inr, arith}
 use Rattle.std.proofs.lemmas.Bool.{cases_lt}
 use Rattle.std.proofs.lemmas.List.{get_or-replicate, places}
 use borrow.Rule.Slice.PartMut.{put_mid}
-use Rattle.rate_clock.specs.Counter.{counter_at}
+use Rattle.rate_clock.specs.Counter.{counter_at, fires}
 use Rattle.rate_clock.specs.Noise.{next_noise}
 use Rattle.batch_rows.specs.KeysAndNoise.{noise_after}
 use Rattle.batch_rows.proofs.KeysApart.{noise_before, noise_between}
@@ -27,16 +27,17 @@ module _ (row : List ℕ) (from to noise : ℕ) (order : from ≤ to) (long : to
 
 pub firings-init : goal.firings-init
 firings-init c =
-    let at : ℕ = c.next_firing-at.result in
+    let at : ℕ = c.first_firing-at.result in
     let noise : ℕ = c.args.noise.now in
     let stays : (k j : ℕ) → c.args.first.now ≡ counter_at k → j ≤ at → noise ≡ noise_after c.args.rate k noise j =
-    λ k j is upto. sym (noise_before c.args.rate k noise at j (λ i early late. c.next_firing-at.ensures.quiet k i is early late) upto) in
+    λ k j is upto. sym (noise_before c.args.rate k noise at j (λ i early late. c.first_firing-at.ensures.quiet k i is late) upto) in
     let entry : (j : ℕ) → j < 64 → get_or (replicate 64 c.value-row.result) j 0 ≡ noise = λ j below. get_or-replicate 64 j c.value-row.result 0 below ∙ c.value-row.ensures.value in
     record {
-      within = c.next_firing-at.ensures.within;
-      fires = c.next_firing-at.ensures.fires;
+      within = c.first_firing-at.ensures.within;
+      some = c.first_firing-at.ensures.some;
+      fires = c.first_firing-at.ensures.fires;
       noise = λ k is. stays k at is (omega arith);
-      row = λ k j is below. entry j (omega (arith, below, c.requires.few, c.next_firing-at.ensures.within)) ∙ stays k (suc j) is (omega (arith, below));
+      row = λ k j is below. entry j (omega (arith, below, c.requires.few, c.first_firing-at.ensures.within)) ∙ stays k (suc j) is (omega (arith, below));
       bound = λ j below. rw (get_or-replicate 64 j c.value-row.result 0 (omega (arith, below, c.requires.few))) c.value-row.ensures.bound;
       long = search rules;
     }
@@ -46,16 +47,23 @@ firings-preserved c =
     let at : ℕ = c.firings.at in
     let next : ℕ = c.next_firing-next.result in
     let first : ℕ = c.args.noise.now in
+    let quiet : (k i : ℕ) → c.args.first.now ≡ counter_at k → at < i → i < next → fires c.args.rate (counter_at (k + i)) ≡ false =
+    λ k i is after below.
+    let place : k + at + 1 + (i - (at + 1)) ≡ k + i = omega (arith, after) in
+    rw place at (c.samples_between_firings-between.ensures.quiet (k + at) (c.firings.invariant.fires k is c.firings-test.true) (i - (at + 1)) (omega (arith, after, below, c.next_firing-next.ensures.near))) in
     let goes_on : (k j : ℕ) → c.args.first.now ≡ counter_at k → at < j → j ≤ next → c.step.new.self ≡ noise_after c.args.rate k first j =
     λ k j is after upto. c.step.ensures.next ∙ ap next_noise (c.firings.invariant.noise k is)
-    ∙ sym (noise_between c.args.rate k first at next j (c.firings.invariant.fires k is c.firings-test.true) (λ i early late. c.next_firing-next.ensures.quiet k i is early late) after upto) in
+    ∙ sym (noise_between c.args.rate k first at next j (c.firings.invariant.fires k is c.firings-test.true) (λ i early late. quiet k i is (omega (arith, early)) late) after upto) in
     let order : at ≤ next = omega (arith, c.next_firing-next.ensures.after) in
     let long : next ≤ length c.firings.row = rw c.firings.invariant.long (omega (arith, c.requires.few, c.next_firing-next.ensures.within)) in
     let part : length (take (next - at) (drop at c.firings.row)) ≡ next - at = search (rules, places) in
     let filled : c.fill.new.self ≡ replicate (next - at) c.value.result = rw part at (rw (c.from.ensures, c.from-in-firings.ensures) at (c.fill.ensures.after (λ y same. search rules))) in
     rw (c.from.ensures, c.from-in-firings.ensures, filled) (record {
       within = c.next_firing-next.ensures.within;
-      fires = c.next_firing-next.ensures.fires;
+      some = λ below. c.firings.invariant.some c.firings-test.true;
+      fires = λ k is below.
+          let place : k + at + c.samples_between_firings-between.result ≡ k + next = omega (arith, c.next_firing-next.ensures.fires below) in
+          rw place at (c.samples_between_firings-between.ensures.then_fires (k + at) (c.firings.invariant.fires k is c.firings-test.true));
       noise = λ k is. goes_on k next is (omega (arith, c.next_firing-next.ensures.after)) (omega arith);
       row = λ k j is below. elim (cases_lt j at) [
         | inl early ↦ before c.firings.row at next c.value.result order long j early ∙ c.firings.invariant.row k j is early
@@ -70,3 +78,8 @@ firings-preserved c =
       ];
       long = length-filled c.firings.row at next c.value.result order long ∙ c.firings.invariant.long;
     })
+
+pub returns-clause-noise : goal.returns-clause-noise
+returns-clause-noise c k is =
+    let all : c.firings.at ≡ c.args.n = omega (arith, c.firings.invariant.within) in
+    rw all at (c.firings.invariant.noise k is)

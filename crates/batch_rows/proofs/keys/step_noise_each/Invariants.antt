@@ -6,6 +6,7 @@ use Rattle.batch_rows.proofs.keys.step_noise_each.Given as goal
 abbrev pub invariant-firings : goal.invariant-firings
 invariant-firings l = record {
   within : l.at ≤ l.n;
+  some : l.at < l.n → 0 < l.rate;
   fires : (k : ℕ) → l.first ≡ counter_at k → l.at < l.n → fires l.rate (counter_at (k + l.at)) ≡ true;
   noise : (k : ℕ) → l.first ≡ counter_at k → l.noise ≡ noise_after l.rate k l.fn.noise l.at;
   row : (k j : ℕ) → l.first ≡ counter_at k → j < l.at → slice_index l.row j ≡ noise_after l.rate k l.fn.noise (suc j);
