@@ -26,7 +26,7 @@ help_text =
 
 -- the program's name and number
 abbrev pub version_text : List ℕ
-version_text = codes "spcwave 1.1.0\n"
+version_text = codes "spcwave 1.2.0\n"
 
 abbrev pub help_answer : Answer Cause
 help_answer = done [] help_text

@@ -34,7 +34,7 @@ The manual page spcwave(1) and docs/FORMATS.md describe files, texts and exit st
 ";
 
 /// The program's name and number.
-const VERSION: &[u8] = b"spcwave 1.1.0\n";
+const VERSION: &[u8] = b"spcwave 1.2.0\n";
 
 /// The plan for a text.
 fn plan<'a>(alloc: Global, text: &[u8]) -> Result<Plan<'a>, Refusal<Cause>>

@@ -35,15 +35,26 @@ files_answer wave trace frames counts wave_bytes lines = done (pair wave trace w
 abbrev pub muted_voices : Options → ℕ
 muted_voices options = unwrap_or options.muted 0
 
+-- the sound file of so many frames of a tune, faded, with its header; the lines of its trace, where there is one; and its report
+abbrev pub rendered_wave : (file : List ℕ) → (table : List ℤ) → (muted : ℕ) → (voices : Option ℕ) → Length → List ℕ
+rendered_wave file table muted voices length =
+    stereo_wave (faded_frames (tune_frames file table muted (unwrap_or voices 0) length.frames) length.fade)
+
+abbrev pub rendered_trace : (file : List ℕ) → (table : List ℤ) → (muted : ℕ) → (voices : Option ℕ) → Length → List ℕ
+rendered_trace file table muted voices length =
+    trace_of (is_some voices) (tune_records file table muted (unwrap_or voices 0) length.frames)
+
+abbrev pub rendered_counts : (file : List ℕ) → (table : List ℤ) → (muted : ℕ) → (voices : Option ℕ) → Length → Counts
+rendered_counts file table muted voices length = tune_counts file table muted (unwrap_or voices 0) length.frames
+
 -- What a file and a table answer: the frames of the run, faded, the lines of its records, and the counts of its batches.
 abbrev pub rendering_answer : (wave : List ℕ) → Options → (file : List ℕ) → (table : List ℤ) → Answer Cause
 rendering_answer wave options file table =
     let length = length_with options.samples file in
     let muted = muted_voices options in
     let voices = traced_voices options in
-    files_answer wave options.trace length.frames (tune_counts file table muted (unwrap_or voices 0) length.frames)
-    (stereo_wave (faded_frames (tune_frames file table muted (unwrap_or voices 0) length.frames) length.fade))
-    (trace_of (is_some voices) (tune_records file table muted (unwrap_or voices 0) length.frames))
+    files_answer wave options.trace length.frames (rendered_counts file table muted voices length)
+    (rendered_wave file table muted voices length) (rendered_trace file table muted voices length)
 
 -- the same by what the table holds
 abbrev pub file_answer : (wave : List ℕ) → Options → (held_table : Option (List ℕ)) → (file : List ℕ) → Answer Cause

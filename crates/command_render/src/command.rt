@@ -1,7 +1,6 @@
 // The command `render`: the sound of an SPC file over a table of weights, and its trace where it is wanted.
 ghost use Rattle.std.specs.Prelude.{◌≡◌, ◌≤◌, ◌++◌, IfOk, is_some, unwrap_or, [], ◌∷◌};
-ghost use Rattle.wav_form.specs.Wave.{header_of, stereo_wave};
-ghost use Rattle.render_core.specs.Fade.{faded_frames};
+ghost use Rattle.wav_form.specs.Wave.{header_of};
 ghost use Rattle.dsp_core.specs.DspChip.{dsp_chip};
 ghost use Rattle.snd_host.specs.Host.{HostState, Files, IfTold};
 ghost use Rattle.input_files.specs.Inputs.{table_input};
@@ -12,10 +11,9 @@ ghost use Rattle.command_frame.specs.Making.{MadeAtOnce};
 ghost use Rattle.command_frame.specs.Plan.{stream_makes};
 ghost use Rattle.render_files.specs.RenderReport.{sound_report};
 ghost use Rattle.num_fix.specs.Limits.{most_frames};
-ghost use Rattle.render_files.specs.RenderFiles.{trace_of, to_come_of, report_of};
-ghost use Rattle.tune_opening.specs.Tune.{tune_frames, tune_records, tune_counts};
+ghost use Rattle.render_files.specs.RenderFiles.{to_come_of, report_of};
 ghost use Rattle.render_options.specs.Options.{options_of, SamplesWithinHour};
-ghost use Rattle.command_render.specs.Render.{length_with, traced_voices, muted_voices, rendering_answer, file_answer, render_over, render_inputs};
+ghost use Rattle.command_render.specs.Render.{length_with, traced_voices, muted_voices, rendered_wave, rendered_trace, rendered_counts, rendering_answer, file_answer, render_over, render_inputs};
 
 use command_frame::{OutOfMemory, Refusal, StreamedPlan, carry_stream};
 use dsp_core::Dsp;
@@ -72,12 +70,9 @@ fn open_files(
 ) -> Result<RenderFiles<Dsp>, OutOfMemory>
     requires limit { length.frames ≤ most_frames }
     requires within { length.fade ≤ length.frames }
-    ensures wave { IfOk result (λ files. header_of 2 length.frames ++ (to_come_of dsp_chip files).wave
-        ≡ stereo_wave (faded_frames (tune_frames file.now table muted (unwrap_or voices 0) length.frames) length.fade)) }
-    ensures trace { IfOk result (λ files. (to_come_of dsp_chip files).trace
-        ≡ trace_of (is_some voices) (tune_records file.now table muted (unwrap_or voices 0) length.frames)) }
-    ensures report { IfOk result (λ files. report_of dsp_chip files
-        ≡ sound_report length.frames (tune_counts file.now table muted (unwrap_or voices 0) length.frames)) }
+    ensures wave { IfOk result (λ files. header_of 2 length.frames ++ (to_come_of dsp_chip files).wave ≡ rendered_wave file.now table muted voices length) }
+    ensures trace { IfOk result (λ files. (to_come_of dsp_chip files).trace ≡ rendered_trace file.now table muted voices length) }
+    ensures report { IfOk result (λ files. report_of dsp_chip files ≡ sound_report length.frames (rendered_counts file.now table muted voices length)) }
 {
     let mask = voices.unwrap_or(0);
     let render = open_tune(alloc, file, table, muted, length.frames, mask)?;

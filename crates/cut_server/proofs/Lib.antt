@@ -8,6 +8,7 @@ pub mod Places
 pub mod Placing
 pub mod Removing
 pub mod Renders
+pub mod Restarting
 pub mod Rooms
 pub mod SameTune
 pub mod Serving

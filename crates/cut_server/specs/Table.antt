@@ -44,6 +44,11 @@ saved_checkpoints pool checkpoints = map (saved_checkpoint pool) checkpoints
 abbrev pub saved_of : {S : Type 0} → TableState S → List (Saved S)
 saved_of table = saved_checkpoints table.pool table.checkpoints
 
+-- this was saved first
+abbrev pub IsSavedFirst : {S : Type 0} → List (Saved S) → S → Type 0
+IsSavedFirst [] state = ⊥
+IsSavedFirst (first ∷ rest) state = state ≡ first.state
+
 -- the samples of the live checkpoints
 abbrev pub samples_of : {S : Type 0} → TableState S → List ℕ
 samples_of table = map (λ checkpoint. checkpoint.sample) table.checkpoints

@@ -6,10 +6,12 @@ ghost use Rattle.lock_step.specs.LockStep.{lock_step};
 ghost use Rattle.lock_step.specs.LockStepEmits.{lock_step_emits};
 ghost use Rattle.render_core.specs.Items.{run_frames};
 ghost use Rattle.render_core.specs.Opening.{opened_whole};
+ghost use Rattle.render_core.specs.Whole.{with_chip};
 ghost use Rattle.cut_form.specs.Checkpoints.{most_checkpoints, fewest_pages, slots_free, stands_at};
-ghost use Rattle.cut_form.specs.CutBook.{opened_book, after_seek, most_played, after_play, counted_book, needed_here, with_live, with_one_here, without_one};
+ghost use Rattle.cut_form.specs.CutBook.{opened_book, runs_from, after_seek, most_played, after_play, counted_book, needed_here, with_live, with_one_here, without_one};
 ghost use Rattle.cut_form.specs.Marks.{room_made, mark_here};
 ghost use Rattle.cut_form.specs.Slices.{slice_of};
+ghost use Rattle.cut_form.specs.GrowingFrames.{AreOfRun};
 ghost use Rattle.cut_server.specs.Server.{lock_step_machines};
 ghost use Rattle.cut_server.specs.Table.{samples_of, AreOwnersCounted};
 ghost use Rattle.cut_server.specs.ServerState.{book_of, slots_of};
@@ -84,7 +86,9 @@ impl<C: Chip> CutServer<C> {
 
     /// The position: the number of samples before it.
     pub fn at(&self) -> u32
-        ensures { result ≡ (book_of self.now).position }
+        ensures position { result ≡ (book_of self.now).position }
+        ensures within { result ≤ most_frames }
+        ensures run { AreOfRun (frames_to C.meaning C.saving self.now) }
     {
         self.position
     }
@@ -130,6 +134,31 @@ impl<C: Chip> CutServer<C> {
         self.render.chip()
     }
 
+    /// What is saved of the chip at the opening.
+    pub fn opening_chip(&self) -> C::Saved
+        ensures { result ≡ C.saving.saved (opening C.meaning C.saving self.now).1.chip 0 }
+    {
+        self.table.first().chip()
+    }
+
+    /// Begins anew over another chip at the opening, of which this was saved before its sample 0: what is fixed of the chip in hand stays, and
+    /// all else of the opening. It stands at sample 0, with one checkpoint, and made nothing for it.
+    pub fn restart(&mut self, chip: C::Saved)
+        requires { C.saving.number chip ≡ 0 }
+        ensures opening { let old = opening C.meaning C.saving self.old in
+            opening C.meaning C.saving self.new ≡ with_chip old (C.saving.loaded old.1.chip chip) }
+        ensures book { book_of self.new ≡ record (opened_book (pages_at C.meaning C.saving self.new)) { made = (book_of self.old).made } }
+        ensures slots { slots_of self.new ≡ slots_of self.old }
+    {
+        let first = self.table.load(0, &mut self.scratch);
+        let state = first.with_chip(chip);
+        self.render.load(&state, &self.scratch);
+        self.position = 0;
+        self.table.has_pages();
+        let saved = self.render.save();
+        self.table.restart(saved, self.render.memory());
+    }
+
     /// Goes back to a checkpoint.
     fn load(&mut self, index: usize)
         requires { index < length (samples_of self.old.table) }
@@ -149,6 +178,17 @@ impl<C: Chip> CutServer<C> {
         self.render.aim(at);
         run_out(&mut self.render);
         self.position = at;
+    }
+
+    /// Where a seek to a sample runs from.
+    pub fn runs_from(&self, at: u32) -> u32
+        ensures { result ≡ runs_from (book_of self.now) at }
+    {
+        let checkpoint = self.table.sample(self.table.nearest(at));
+        if self.position <= at && checkpoint <= self.position {
+            return self.position;
+        }
+        checkpoint
     }
 
     /// Goes to a sample: from where it stands, unless that is after the sample, or before the last checkpoint up to it; then

@@ -1,20 +1,19 @@
 // The table of checkpoints, over a pool of pages.
-ghost use Rattle.std.specs.Prelude.{◌≡◌, ◌==◌, ◌≤◌, ◌+◌, ◌-◌, ◌<◌, ◌++◌, ◌∷◌, [], false, length, vec_len, vec_capacity, slice_index, slice_get};
+ghost use Rattle.std.specs.Prelude.{◌≡◌, ◌==◌, ◌≤◌, ◌+◌, ◌-◌, ◌<◌, ◌++◌, ◌∷◌, [], false, length, slice_index, slice_get};
 ghost use Rattle.std.specs.Prelude.{IfOk, IfSome, IsNone, Some, ◌↔◌};
 ghost use Rattle.std.specs.List.{list_any, position, remove, remove_range};
-ghost use Rattle.std.specs.Vec.{SameBlock};
 ghost use Rattle.page_pool.specs.Pool.{most_pages, free_slots};
 ghost use Rattle.cut_form.specs.Checkpoints.{page_count, most_checkpoints, fewest_pages, pages_of, with_checkpoint, without_checkpoint, without_entry, stands_at, nearest};
 ghost use Rattle.cut_form.specs.Checkpoints.{shared_with_newest, own_slots, slots_needed, slots_free, has_room_for_one};
 ghost use Rattle.cut_form.specs.Marks.{room_made};
-ghost use Rattle.cut_server.specs.Table.{Saved, live_checkpoints, saved_of, samples_of, newest_from, AreOwnersCounted};
+ghost use Rattle.cut_server.specs.Table.{Saved, live_checkpoints, saved_of, samples_of, newest_from, AreOwnersCounted, IsSavedFirst};
 ghost use Rattle.cut_server.specs.IsServed.{BeginAtOpening};
 
 use crate::OutOfMemory;
 use crate::pages::{give_all, own_slots, place_all};
 use aram_core::Aram;
 use cut_form::{MOST_CHECKPOINTS, PAGE_COUNT};
-use page_pool::{Page, PagePool};
+use page_pool::{Page, PagePool, push_within_capacity};
 use std::alloc::Global;
 use std::marker::Model;
 
@@ -53,16 +52,6 @@ fn newest_pages<S: Copy>(checkpoints: &[LiveCheckpoint<S>]) -> &[Page]
         Some(newest) => &newest.pages,
         None => &[],
     }
-}
-
-/// Adds a checkpoint, for which there is room: the block of the list stays.
-fn push_checkpoint<S: Copy>(checkpoints: &mut Vec<LiveCheckpoint<S>>, checkpoint: LiveCheckpoint<S>)
-    requires { vec_len checkpoints.old < vec_capacity checkpoints.old }
-    ensures items { checkpoints.new.items ≡ checkpoints.old.items ++ checkpoint ∷ [] }
-    ensures block { SameBlock checkpoints.old checkpoints.new }
-{
-    let end = checkpoints.len();
-    let _ = checkpoints.insert(end, checkpoint);
 }
 
 /// Whether one of the checkpoints was taken at a sample.
@@ -216,7 +205,7 @@ impl<S: Copy> Table<S> {
             memory,
             shared,
         );
-        push_checkpoint(
+        push_within_capacity(
             &mut self.checkpoints,
             LiveCheckpoint {
                 sample,
@@ -235,6 +224,46 @@ impl<S: Copy> Table<S> {
     {
         let checkpoint = self.checkpoints.remove(place);
         give_all(&mut self.pool, &checkpoint.pages);
+    }
+
+    /// What was saved first.
+    pub(crate) fn first(&self) -> S
+        requires { 0 < length (samples_of self.now) }
+        ensures { IsSavedFirst (saved_of self.now) result }
+    {
+        self.checkpoints[0].state
+    }
+
+    /// Drops all.
+    fn clear(&mut self)
+        ensures none { length (live_checkpoints self.new) ≡ 0 }
+        ensures size { length self.new.pool ≡ length self.old.pool }
+    {
+        'checkpoints: while self.len() > 0 {
+            self.remove(0);
+        }
+    }
+
+    /// Drops all, and takes that of the opening anew.
+    pub(crate) fn restart(&mut self, state: S, memory: &Aram)
+        requires { fewest_pages ≤ length self.old.pool }
+        ensures saved { saved_of self.new ≡ record { sample = 0; state = state; memory = memory.now } ∷ [] }
+        ensures live { live_checkpoints self.new ≡ with_checkpoint [] 0 (pages_of memory.now) }
+        ensures size { length self.new.pool ≡ length self.old.pool }
+    {
+        self.clear();
+        let shared = self.shared_pages(memory);
+        let _free = self.free();
+        let _live = self.len();
+        self.add(0, state, memory, &shared);
+    }
+
+    /// Where one is live, the pool has a page for each of its pages.
+    pub(crate) fn has_pages(&self)
+        requires { 0 < length (samples_of self.now) }
+        ensures { fewest_pages ≤ length self.now.pool }
+    {
+        let _free = self.pool.free();
     }
 
     /// Whether there is room for one of a memory.

@@ -1,6 +1,10 @@
-//! The host of real files: it tells no contents.
+//! The host of real files: it tells no contents, and asks a disk that counts its calls.
 #![tactic(auto)]
 
-mod disk;
+mod asked;
+mod host;
+mod real;
 
-pub use disk::DiskHost;
+pub use asked::Disk;
+pub use host::DiskHost;
+pub use real::RealDisk;

@@ -19,6 +19,6 @@ dsp_chip = record {
   is_valid = is_valid;
 }
 
--- the table and the muted voices are its fixed part
+-- the table is its fixed part
 abbrev pub dsp_saving : ChipSaving ChipState SavedDsp
 dsp_saving = record { saved = saved_state; loaded = loaded_state; number = λ saved. saved.sample }

@@ -10,7 +10,6 @@ use Rattle.dsp_state.specs.Results.{without_bits}
 use Rattle.dsp_state.specs.Sample.{VoiceResult, results_from, records_from, shared_input, is_polled, after_poll, after_noise, before_voices, sample}
 use Rattle.dsp_state.specs.Valid.{is_valid}
 use Rattle.dsp_state.proofs.EightVoices.{polled_part, length-results_from, voices-before_voices}
-use Rattle.dsp_state.proofs.ReadOnce.{muted-sample}
 use Rattle.dsp_state.proofs.Valid.{valid_of, is_valid-sample, is_valid-register_write}
 use Rattle.reach_laws.proofs.Registers.{registers_stay}
 use Rattle.reach_laws.proofs.Starts.{reach_stays}
@@ -51,7 +50,7 @@ dsp_is_lawful = record {
   registers_stay = λ n k s memory address _ free. registers_stay n k s memory address free;
 }
 
--- a write of a register and a sample leave the table alone, and the muted voices
+-- a write of a register and a sample leave the table alone
 table-register_write : (s : ChipState) (address byte : ℕ) → (register_write s address byte).table ≡ s.table
 unfolding register_write
 table-register_write s address byte = by (nat_le 0x80 address) _ _
@@ -65,15 +64,6 @@ table-sample : (k : ℕ) (s : ChipState) (memory : List ℕ) → (sample k s mem
 unfolding sample after_poll after_noise
 table-sample k s memory = polled_part (λ (s : ChipState). s.table) (is_polled k) s (without_bits s.hidden.waiting s.hidden.taken) refl
 
-muted-register_write : (s : ChipState) (address byte : ℕ) → (register_write s address byte).muted ≡ s.muted
-unfolding register_write
-muted-register_write s address byte = by (nat_le 0x80 address) _ _
-  where
-    by : (b : Bool) (registers : List ℕ) (waiting : ℕ)
-        → (if b then s else record s { registers = registers; hidden = record s.hidden { waiting = waiting } }).muted ≡ s.muted
-    by true registers waiting = refl
-    by false registers waiting = refl
-
 pub dsp_saves_lawfully : IsLawfulSaving dsp_chip dsp_saving
 dsp_saves_lawfully = record {
   loads_back = λ s k. refl;
@@ -83,12 +73,12 @@ dsp_saves_lawfully = record {
     registers = v.registers;
     hidden = v.hidden;
     table = table-register_write s address byte i;
-    muted = muted-register_write s address byte i;
+    muted = v.muted;
   };
   sample_keeps_fixed = λ k s memory v. λ i. record {
     registers = v.registers;
     hidden = v.hidden;
     table = table-sample k s memory i;
-    muted = muted-sample k s memory i;
+    muted = v.muted;
   };
 }

@@ -13,7 +13,7 @@ pub record IsSaved (s : Inside) : Type 0 where
 
 -- the clock is that of the number
 abbrev pub inside_of : SavedDsp → Inside
-inside_of s = record { registers = s.registers; hidden = s.hidden; clock = counter_after s.sample; number = s.sample }
+inside_of s = record { registers = s.registers; hidden = s.hidden; muted = s.muted; clock = counter_after s.sample; number = s.sample }
 
-pub inside_of-saved : (s : Inside) → IsSaved s → inside_of (record { registers = s.registers; hidden = s.hidden; sample = s.number }) ≡ s
+pub inside_of-saved : (s : Inside) → IsSaved s → inside_of (record { registers = s.registers; hidden = s.hidden; muted = s.muted; sample = s.number }) ≡ s
 inside_of-saved s is = λ i. record s { clock = sym is.clock i }

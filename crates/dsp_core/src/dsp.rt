@@ -349,26 +349,27 @@ impl Dsp {
         }
     }
 
-    /// Saves all but the table and the muted voices.
+    /// Saves all but the table.
     pub fn save(&self) -> DspState
         ensures { result ≡ saved_state self.now.state self.now.sample }
     {
         DspState {
             registers: self.state.registers,
             hidden: self.state.hidden,
+            muted: self.state.muted,
             clock: self.clock,
             number: self.number,
         }
     }
 
-    /// Puts back what was saved, of this chip or of another one. The table and the muted voices stay, and so do the numbers of
-    /// batches and samples made in all.
+    /// Puts back what was saved, of this chip or of another one. The table stays, and so do the numbers of batches and samples made in all.
     pub fn load(&mut self, saved: &DspState)
         ensures chip { self.new ≡ record self.old { state = loaded_state self.old.state saved.now; sample = saved.now.sample } }
         ensures is_valid { is_valid self.new.state ≡ true }
     {
         self.state.registers = saved.registers;
         self.state.hidden = saved.hidden;
+        self.state.muted = saved.muted;
         self.clock = saved.clock;
         self.number = saved.number;
         self.fresh = false;

@@ -16,6 +16,7 @@ use Rattle.lock_step.specs.SampleNumbers.{sample_number}
 use Rattle.lag_bus.specs.Ready.{is_before_sample}
 use Rattle.lag_bus.specs.Late.{Late}
 use Rattle.lag_bus.specs.declared.known.KnownReach.{KnownReach}
+use Rattle.lag_bus.specs.Book.{may_be_read}
 
 pub record Held (S : Type 0) : Type 0 where
   -- the chip's state, the number of its next sample, and the batches and samples that it made in all
@@ -86,6 +87,16 @@ pub record IsKnown (reach : ReachPages) (known : KnownReach) : Type 0 where
       → (known.entangled ≡ None) × AreMarks (λ page. page ≡ known.page) known.unwritten × AreMarks (λ page. ⊥) known.unread
   -- where nothing was kept there is no mark
   pub none : known.is_any ≡ false → (known.entangled ≡ None) × AreMarks (λ page. ⊥) known.unwritten × AreMarks (λ page. ⊥) known.unread
+
+-- what was asked of a reach is answered, and what is kept of it is so
+pub record IsAnswered {A : Type 0} (reach : ReachPages) (kept : KnownReach) (question : ReachPages → A) (result : A) : Type 0 where
+  pub answer : result ≡ question reach
+  pub known : IsKnown reach kept
+
+-- what is kept of a reach is so, and of any other reach too where samples may read the byte at an address: a write to it may change the reach
+pub record IsKeptThroughWrite (reach : ReachPages) (at : ℕ) (kept : KnownReach) : Type 0 where
+  pub known : IsKnown reach kept
+  pub any : may_be_read reach at ≡ true → (other : ReachPages) → IsKnown other kept
 
 -- memory alone is at an address
 abbrev pub IsMemoryAlone : (at : ℕ) → Type 0

@@ -3,7 +3,7 @@ ghost use Rattle.std.specs.Prelude.{◌≡◌, ◌/◌, true, false};
 ghost use Rattle.std.specs.FinSet as set;
 ghost use Rattle.chip_form.specs.declared.pages.ReachPages.{ReachPages};
 ghost use Rattle.lag_bus.specs.Book.{may_be_read, may_be_written};
-ghost use Rattle.lag_bus.specs.Held.{end_of_memory_alone, IsMemoryAlone, IsKnown};
+ghost use Rattle.lag_bus.specs.Held.{end_of_memory_alone, IsMemoryAlone, IsKnown, IsAnswered, IsKeptThroughWrite};
 
 use aram_core::{Aram, PAGE_COUNT, page_of};
 use chip_form::Chip;
@@ -114,8 +114,7 @@ impl KnownReach {
     /// Whether the reach of a chip is entangled. It is asked once.
     fn is_entangled<C: Chip>(&mut self, chip: &C, memory: &Aram) -> bool
         requires { IsKnown (C.meaning.reach (C.state chip.now) memory.now) self.old }
-        ensures answer { result ≡ (C.meaning.reach (C.state chip.now) memory.now).entangled }
-        ensures known { IsKnown (C.meaning.reach (C.state chip.now) memory.now) self.new }
+        ensures { IsAnswered (C.meaning.reach (C.state chip.now) memory.now) self.new (λ reach. reach.entangled) result }
     {
         match self.entangled {
             Some(entangled) => entangled,
@@ -132,8 +131,7 @@ impl KnownReach {
     /// Whether samples may read the byte at an address. A page that they don't read is marked.
     pub fn may_be_read<C: Chip>(&mut self, chip: &C, memory: &Aram, at: u16) -> bool
         requires { IsKnown (C.meaning.reach (C.state chip.now) memory.now) self.old }
-        ensures answer { result ≡ may_be_read (C.meaning.reach (C.state chip.now) memory.now) at }
-        ensures known { IsKnown (C.meaning.reach (C.state chip.now) memory.now) self.new }
+        ensures { IsAnswered (C.meaning.reach (C.state chip.now) memory.now) self.new (λ reach. may_be_read reach at) result }
     {
         if self.is_marked_unread(at) {
             return false;
@@ -150,8 +148,7 @@ impl KnownReach {
     /// Whether samples may write the byte at an address. A page that they don't write is marked.
     pub fn may_be_written<C: Chip>(&mut self, chip: &C, memory: &Aram, at: u16) -> bool
         requires { IsKnown (C.meaning.reach (C.state chip.now) memory.now) self.old }
-        ensures answer { result ≡ may_be_written (C.meaning.reach (C.state chip.now) memory.now) at }
-        ensures known { IsKnown (C.meaning.reach (C.state chip.now) memory.now) self.new }
+        ensures { IsAnswered (C.meaning.reach (C.state chip.now) memory.now) self.new (λ reach. may_be_written reach at) result }
     {
         self.ask_written(chip, memory, page_of(at))
     }
@@ -159,8 +156,7 @@ impl KnownReach {
     /// Whether samples may write bytes of a page. A page that they don't write is marked.
     fn ask_written<C: Chip>(&mut self, chip: &C, memory: &Aram, page: u8) -> bool
         requires { IsKnown (C.meaning.reach (C.state chip.now) memory.now) self.old }
-        ensures answer { result ≡ set.contains (C.meaning.reach (C.state chip.now) memory.now).write_pages page }
-        ensures known { IsKnown (C.meaning.reach (C.state chip.now) memory.now) self.new }
+        ensures { IsAnswered (C.meaning.reach (C.state chip.now) memory.now) self.new (λ reach. set.contains reach.write_pages page) result }
     {
         if chip.writes_page(memory, page) {
             return true;
@@ -177,8 +173,7 @@ impl KnownReach {
     #[inline]
     pub fn before_write<C: Chip>(&mut self, chip: &C, memory: &Aram, at: u16)
         requires { IsKnown (C.meaning.reach (C.state chip.now) memory.now) self.old }
-        ensures known { IsKnown (C.meaning.reach (C.state chip.now) memory.now) self.new }
-        ensures any { may_be_read (C.meaning.reach (C.state chip.now) memory.now) at ≡ true → (reach : ReachPages) → IsKnown reach self.new }
+        ensures { IsKeptThroughWrite (C.meaning.reach (C.state chip.now) memory.now) at self.new }
     {
         if self.is_single {
             self.forget();

@@ -229,11 +229,9 @@ pub(crate) fn take_steps<B: BehindBus>(bus: &mut B, cpu: &mut Cpu, samples: u32,
     ensures steps { AreStepsOf (lagging B.C.meaning) (lag_emits B.C.meaning) samples cpu.old (B.shows bus.old) cpu.new (B.shows bus.new) }
     ensures some { (B.shows bus.old).machine.clock < (B.shows bus.new).machine.clock }
 {
-    // The registers, too, are at hand: a copy, which no call of the bus can change.
-    let mut at_hand = *cpu;
+    // The registers stay in memory. In a copy a compiler would keep them in its own registers, and save and load these around each of 256 arms.
     let mut running = RunningBus::new(bus, samples);
-    let fillings_left = step_on(&mut at_hand, &mut running, fillings);
-    *cpu = at_hand;
+    let fillings_left = step_on(cpu, &mut running, fillings);
     let RunningBus {
         bus: behind,
         samples: _,

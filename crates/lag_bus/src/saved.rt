@@ -1,4 +1,6 @@
 // What is saved of a bus.
+ghost use Rattle.std.specs.Prelude.{◌≡◌};
+
 use ports_timers::Io;
 
 /// What `LagBus::save` alone makes: the ports and timers, the clock, and what is saved of the chip. Memory stands beside it.
@@ -7,4 +9,21 @@ pub struct BusState<S> {
     pub(crate) io: Io,
     pub(crate) clock: u64,
     pub(crate) chip: S,
+}
+
+impl<S: Copy> BusState<S> {
+    /// What is saved of the chip.
+    pub fn chip(&self) -> S
+        ensures { result ≡ self.now.chip }
+    {
+        self.chip
+    }
+
+    /// The same with another chip.
+    pub fn with_chip(self, chip: S) -> BusState<S>
+        ensures { result ≡ record self { chip = chip } }
+    {
+        let BusState { io, clock, chip: _ } = self;
+        BusState { io, clock, chip }
+    }
 }

@@ -1,10 +1,10 @@
 // The pool, and the pages that it hands out.
-ghost use Rattle.std.specs.Prelude.{◌≡◌, ◌+◌, ◌<◌, ◌≤◌, ◌↔◌, ◌++◌, ◌∷◌, [], length, replicate, vec_len, vec_capacity, IfOk, IfSome, IfNone, IsNone};
-ghost use Rattle.std.specs.Vec.{SameBlock};
+ghost use Rattle.std.specs.Prelude.{◌≡◌, ◌<◌, ◌≤◌, ◌↔◌, length, replicate, IfOk, IfSome, IfNone, IsNone};
 ghost use Rattle.page_pool.specs.Pool.{page_size, most_pages, most_owners, free_slot, slot_at, free_slots, after_take, after_share, after_give};
 
 use crate::OutOfMemory;
 use crate::slot::Slot;
+use crate::within::push_within_capacity;
 use std::alloc::Global;
 use std::marker::Model;
 
@@ -49,16 +49,6 @@ impl Model for PagePool {
     ghost invariant = { λ p. IsPooled p.slots.items p.unmade p.first p.free (vec_capacity p.slots) };
 }
 
-/// Adds a slot, for which there is room: the block of the list stays.
-fn add_slot(slots: &mut Vec<Slot>, slot: Slot)
-    requires { vec_len slots.old < vec_capacity slots.old }
-    ensures items { slots.new.items ≡ slots.old.items ++ slot ∷ [] }
-    ensures block { SameBlock slots.old slots.new }
-{
-    let end = slots.len();
-    let _ = slots.insert(end, slot);
-}
-
 impl PagePool {
     /// A pool of 1 to 65,536 slots, all free.
     pub fn new(alloc: Global, pages: u32) -> Result<PagePool, OutOfMemory>
@@ -97,7 +87,7 @@ impl PagePool {
         let page = Page {
             slot: self.slots.len() as u16,
         };
-        add_slot(&mut self.slots, Slot::held(bytes));
+        push_within_capacity(&mut self.slots, Slot::held(bytes));
         self.unmade -= 1;
         Some(page)
     }

@@ -3,6 +3,8 @@ use Rattle.std.proofs.Common.{◌≡◌, ◌∙◌, refl, sym, ap, ℕ, zero, su
 use Rattle.std.proofs.Math.Nat.{mod-add-div'}
 use Rattle.std.proofs.lemmas.Nat.{mod-mul-add}
 use Rattle.std.proofs.lemmas.Bool.Decides.{nat_tests}
+use Rattle.chip_form.specs.ChipMeaning.{ChipMeaning}
+use Rattle.chip_form.specs.ChipSaving.{ChipSaving}
 use Rattle.cut_form.specs.Checkpoints.{Checkpoint}
 use Rattle.cut_form.specs.Marks.{mark_at}
 use Rattle.player.specs.OwnMarks.{is_own_mark, with_own_mark, marks_after}
@@ -60,19 +62,20 @@ module _ (room : ℕ) (memory : ℕ → List (List ℕ)) (spacing : ℕ) where
   unfolding marks_after
   marks_none from marks = refl
 
--- the marks of a player that has played some frames, and plays some more
-pub marks_more : (first next : PlayerState) (done more : ℕ) (now : List Checkpoint) → KeepsPlayer first next → position_of next ≡ position_of first + done
-    → marks_of next ≡ marks_played first done → now ≡ marks_played next more → now ≡ marks_played first (done + more)
-marks_more first next done more now keeps there before is =
-    is
-    ∙ (λ i. marks_after (keeps.room i) (keeps.memory i) (keeps.spacing i) (there i) (before i) more)
-    ∙ marks_joined (room_of first) (memory_of first) first.spacing (position_of first) (marks_of first) done more
+module _ {S V : Type 0} (chip : ChipMeaning S) (saving : ChipSaving S V) where
+  -- the marks of a player that has played some frames, and plays some more
+  pub marks_more : (first next : PlayerState S V) (done more : ℕ) (now : List Checkpoint) → KeepsPlayer chip saving first next → position_of next ≡ position_of first + done
+      → marks_of next ≡ marks_played chip saving first done → now ≡ marks_played chip saving next more → now ≡ marks_played chip saving first (done + more)
+  marks_more first next done more now keeps there before is =
+      is
+      ∙ (λ i. marks_after (keeps.room i) (keeps.memory i) (keeps.spacing i) (there i) (before i) more)
+      ∙ marks_joined (room_of first) (memory_of chip saving first) first.spacing (position_of first) (marks_of first) done more
 
--- the marks of a player that has played a piece, and taken the mark that was due
-pub marks_piece : (first next : PlayerState) (count : ℕ) (now : List Checkpoint) → 0 < count → ((k : ℕ) → 0 < k → k < count → is_own_mark first.spacing (position_of first + k) ≡ false)
-    → room_of next ≡ room_of first → memory_of next ≡ memory_of first → next.spacing ≡ first.spacing → position_of next ≡ position_of first + count → marks_of next ≡ marks_of first
-    → now ≡ with_own_mark (room_of next) (memory_of next) next.spacing (position_of next) (marks_of next) → now ≡ marks_played first count
-marks_piece first next count now some quiet room memory spacing there marks is =
-    is
-    ∙ (λ i. with_own_mark (room i) (memory i) (spacing i) (there i) (marks i))
-    ∙ marks_of_piece (room_of first) (memory_of first) first.spacing (position_of first) (marks_of first) count some quiet
+  -- the marks of a player that has played a piece, and taken the mark that was due
+  pub marks_piece : (first next : PlayerState S V) (count : ℕ) (now : List Checkpoint) → 0 < count → ((k : ℕ) → 0 < k → k < count → is_own_mark first.spacing (position_of first + k) ≡ false)
+      → room_of next ≡ room_of first → memory_of chip saving next ≡ memory_of chip saving first → next.spacing ≡ first.spacing → position_of next ≡ position_of first + count → marks_of next ≡ marks_of first
+      → now ≡ with_own_mark (room_of next) (memory_of chip saving next) next.spacing (position_of next) (marks_of next) → now ≡ marks_played chip saving first count
+  marks_piece first next count now some quiet room memory spacing there marks is =
+      is
+      ∙ (λ i. with_own_mark (room i) (memory i) (spacing i) (there i) (marks i))
+      ∙ marks_of_piece (room_of first) (memory_of chip saving first) first.spacing (position_of first) (marks_of first) count some quiet

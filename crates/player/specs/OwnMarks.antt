@@ -1,7 +1,16 @@
 -- The marks that a player takes by itself while it plays (own): one wherever the position comes to a multiple of its spacing.
-use Rattle.std.specs.Prelude.{ℕ, zero, suc, ◌+◌, ◌%◌, Bool, not, ◌&&◌, ◌==◌, if◌then◌else◌, List}
+use Rattle.std.specs.Prelude.{ℕ, zero, suc, ◌+◌, ◌*◌, ◌%◌, Bool, not, ◌&&◌, ◌==◌, if◌then◌else◌, List}
+use Rattle.num_fix.specs.declared.TheConstants.{SAMPLE_RATE}
 use Rattle.cut_form.specs.Checkpoints.{Checkpoint}
 use Rattle.cut_form.specs.Marks.{mark_at}
+use Rattle.player.specs.declared.own_marks.TheConstants.{MOST_MARK_SECONDS}
+
+-- the most seconds between two of them: an hour; and the frames of so many seconds
+abbrev pub most_mark_seconds : ℕ
+most_mark_seconds = MOST_MARK_SECONDS
+
+abbrev pub spacing_of : (seconds : ℕ) → ℕ
+spacing_of seconds = SAMPLE_RATE * seconds
 
 -- whether a mark is taken at a sample; at spacing 0 none is
 abbrev pub is_own_mark : (spacing at : ℕ) → Bool

@@ -1,91 +1,117 @@
--- What contracts see of a player.
-use Rattle.std.specs.Prelude.{◌≡◌, ℕ, ◌-◌, ◌^◌, ◌<◌, ◌≤◌, true, List, take, drop}
+-- What contracts see of a player. S is the type of its chip's states, V of what is saved of one.
+use Rattle.std.specs.Prelude.{◌≡◌, ℕ, ◌+◌, ◌-◌, ◌≤◌, min, true, List, [], take, drop}
 use Rattle.num_fix.specs.declared.Frame.{Frame}
-use Rattle.num_fix.specs.Limits.{most_frames}
-use Rattle.dsp_state.specs.declared.state.ChipState.{ChipState}
-use Rattle.dsp_core.specs.Saved.{SavedDsp}
-use Rattle.dsp_core.specs.DspChip.{dsp_chip, dsp_saving}
+use Rattle.chip_form.specs.ChipMeaning.{ChipMeaning}
+use Rattle.chip_form.specs.ChipSaving.{ChipSaving}
+use Rattle.chip_form.specs.Samples.{count_after}
+use Rattle.lock_step.specs.Machine.{Machine}
 use Rattle.render_core.specs.Fade.{faded_frames}
+use Rattle.render_core.specs.MachineRun.{Whole}
+use Rattle.render_core.specs.Whole.{with_chip}
 use Rattle.spc_form.specs.Tags.{length_of}
-use Rattle.cut_form.specs.Checkpoints.{Checkpoint, stands_at}
+use Rattle.spc_form.specs.declared.tags.Length.{Length}
+use Rattle.cut_form.specs.Checkpoints.{Checkpoint, stands_at, with_checkpoint}
 use Rattle.cut_form.specs.CutBook.{runs_from}
-use Rattle.cut_form.specs.GrowingFrames.{AreOfRun}
 use Rattle.cut_form.specs.Marks.{MarkOutcome, mark_here}
-use Rattle.cut_server.specs.Server.{ChipServer, frames_to, pages_at, chip_at}
+use Rattle.cut_server.specs.Server.{ChipServer, opening, frames_to, pages_at, chip_at}
 use Rattle.cut_server.specs.ServerState.{book_of, slots_of}
 use Rattle.player.specs.OwnMarks.{marks_after}
 
--- the server of its cuts, the bytes of its file, and the frames between two marks that it takes by itself
-pub record PlayerState : Type 0 where
-  pub server : ChipServer ChipState SavedDsp
+-- the server of its cuts, the bytes of its file, the frames between two marks that it takes by itself, and the length at which its render ends
+pub record PlayerState (S V : Type 0) : Type 0 where
+  pub server : ChipServer S V
   pub file : List ℕ
   pub spacing : ℕ
+  pub end : Length
 
 -- the frames of the tune's run to so many samples
-abbrev pub frames_of : PlayerState → (samples : ℕ) → List Frame
-frames_of player = frames_to dsp_chip dsp_saving player.server
+abbrev pub frames_of : {S V : Type 0} → ChipMeaning S → ChipSaving S V → PlayerState S V → (samples : ℕ) → List Frame
+frames_of chip saving player = frames_to chip saving player.server
 
 -- the 256 pages of the memory that the run has once so many samples are made
-abbrev pub memory_of : PlayerState → (samples : ℕ) → List (List ℕ)
-memory_of player = pages_at dsp_chip dsp_saving player.server
+abbrev pub memory_of : {S V : Type 0} → ChipMeaning S → ChipSaving S V → PlayerState S V → (samples : ℕ) → List (List ℕ)
+memory_of chip saving player = pages_at chip saving player.server
 
--- the S-DSP of the run once so many samples are made, and the step of the processor is done that made the last of them
-abbrev pub chip_of : PlayerState → (samples : ℕ) → ChipState
-chip_of player = chip_at dsp_chip dsp_saving player.server
+-- the chip of the run once so many samples are made, and the step of the processor is done that made the last of them
+abbrev pub chip_of : {S V : Type 0} → ChipMeaning S → ChipSaving S V → PlayerState S V → (samples : ℕ) → S
+chip_of chip saving player = chip_at chip saving player.server
 
 -- the samples before the position
-abbrev pub position_of : PlayerState → ℕ
+abbrev pub position_of : {S V : Type 0} → PlayerState S V → ℕ
 position_of player = (book_of player.server).position
 
--- the S-DSP at the position
-abbrev pub chip_here : PlayerState → ChipState
-chip_here player = chip_of player (position_of player)
+-- the chip at the position
+abbrev pub chip_here : {S V : Type 0} → ChipMeaning S → ChipSaving S V → PlayerState S V → S
+chip_here chip saving player = chip_of chip saving player (position_of player)
 
 -- its marks in the order in which they were taken, first that of sample 0, and the pages that it has for all of them
-abbrev pub marks_of : PlayerState → List Checkpoint
+abbrev pub marks_of : {S V : Type 0} → PlayerState S V → List Checkpoint
 marks_of player = (book_of player.server).live
 
-abbrev pub room_of : PlayerState → ℕ
+abbrev pub room_of : {S V : Type 0} → PlayerState S V → ℕ
 room_of player = slots_of player.server
 
 -- a mark at the position: the marks that it leaves, and what it answers
-abbrev pub marking : PlayerState → MarkOutcome
-marking player = mark_here (room_of player) (memory_of player) (book_of player.server)
+abbrev pub marking : {S V : Type 0} → ChipMeaning S → ChipSaving S V → PlayerState S V → MarkOutcome
+marking chip saving player = mark_here (room_of player) (memory_of chip saving player) (book_of player.server)
 
 -- the marks once so many frames more are played
-abbrev pub marks_played : PlayerState → (count : ℕ) → List Checkpoint
-marks_played player count = marks_after (room_of player) (memory_of player) player.spacing (position_of player) (marks_of player) count
+abbrev pub marks_played : {S V : Type 0} → ChipMeaning S → ChipSaving S V → PlayerState S V → (count : ℕ) → List Checkpoint
+marks_played chip saving player count =
+    marks_after (room_of player) (memory_of chip saving player) player.spacing (position_of player) (marks_of player) count
 
 -- the frames that its seeks and plays made, and those that a seek would make: from the position, or from the last mark up to it
-abbrev pub made_of : PlayerState → ℕ
+abbrev pub made_of : {S V : Type 0} → PlayerState S V → ℕ
 made_of player = (book_of player.server).made
 
-abbrev pub frames_sought : PlayerState → (at : ℕ) → ℕ
+abbrev pub frames_sought : {S V : Type 0} → PlayerState S V → (at : ℕ) → ℕ
 frames_sought player at = at - runs_from (book_of player.server) at
 
+-- where a seek that makes at most so many comes to
+abbrev pub sought_some : {S V : Type 0} → PlayerState S V → (at most : ℕ) → ℕ
+sought_some player at most = min at (runs_from (book_of player.server) at + most)
+
 -- a seek makes no more frames than lie between its goal and any mark up to it
-abbrev pub SeekIsNear : PlayerState → (at : ℕ) → Type 0
+abbrev pub SeekIsNear : {S V : Type 0} → PlayerState S V → (at : ℕ) → Type 0
 SeekIsNear player at = (mark : ℕ) → stands_at (marks_of player) mark ≡ true → mark ≤ at → frames_sought player at ≤ at - mark
 
--- the frames of a render of the tune: as many as its tags tell, with their fade
-abbrev pub faded_run : PlayerState → List Frame
-faded_run player = let length = length_of player.file in faded_frames (frames_of player length.frames) length.fade
+-- the frames of a render of the tune, which is as long as the end tells and fades as it tells, and so many of them from the position on
+abbrev pub faded_run : {S V : Type 0} → ChipMeaning S → ChipSaving S V → PlayerState S V → List Frame
+faded_run chip saving player = faded_frames (frames_of chip saving player player.end.frames) player.end.fade
 
--- so many of them from the position on
-abbrev pub faded_frames_played : PlayerState → (count : ℕ) → List Frame
-faded_frames_played player count = take count (drop (position_of player) (faded_run player))
+abbrev pub faded_frames_played : {S V : Type 0} → ChipMeaning S → ChipSaving S V → PlayerState S V → (count : ℕ) → List Frame
+faded_frames_played chip saving player count = take count (drop (position_of player) (faded_run chip saving player))
 
--- What a player keeps. No contract that others see cites it.
-pub record IsPlaying (server : ChipServer ChipState SavedDsp) : Type 0 where
-  pub run : AreOfRun (frames_to dsp_chip dsp_saving server)
-  pub within : (book_of server).position ≤ most_frames
-  pub counted : (book_of server).made < 2 ^ 64
+-- the machine at the opening of the tune, of which all that it plays is the run
+abbrev pub opening_of : {S V : Type 0} → ChipMeaning S → ChipSaving S V → PlayerState S V → Whole (Machine S)
+opening_of chip saving player = opening chip saving player.server
 
--- what each call keeps of a player: its tune, its file, the pages that it has for marks, and their spacing
-pub record KeepsPlayer (old new : PlayerState) : Type 0 where
-  pub frames : frames_of new ≡ frames_of old
-  pub memory : memory_of new ≡ memory_of old
-  pub chip : chip_of new ≡ chip_of old
+-- a player over a server of a file's cuts, which takes a mark by itself each so many frames; its render ends as the tags tell
+pub record IsOver {S V : Type 0} (server : ChipServer S V) (file : List ℕ) (spacing : ℕ) (player : PlayerState S V) : Type 0 where
+  pub server_is : player.server ≡ server
+  pub file_is : player.file ≡ file
+  pub spacing_is : player.spacing ≡ spacing
+  pub end_is : player.end ≡ length_of file
+
+-- what each call keeps of a player: its tune, its file, the pages that it has for marks, their spacing, and its end
+pub record KeepsPlayer {S V : Type 0} (chip : ChipMeaning S) (saving : ChipSaving S V) (old new : PlayerState S V) : Type 0 where
+  pub start : opening_of chip saving new ≡ opening_of chip saving old
+  pub frames : frames_of chip saving new ≡ frames_of chip saving old
+  pub memory : memory_of chip saving new ≡ memory_of chip saving old
+  pub chips : chip_of chip saving new ≡ chip_of chip saving old
   pub file : new.file ≡ old.file
   pub room : room_of new ≡ room_of old
   pub spacing : new.spacing ≡ old.spacing
+  pub end : new.end ≡ old.end
+
+-- A player began its tune anew over another chip at the opening, of which this was saved: what is fixed of its chip stays, and all else of the
+-- opening. It stands where it stood, has the mark of frame 0 alone, and made the frames from there.
+pub record IsAnew {S V : Type 0} (chip : ChipMeaning S) (saving : ChipSaving S V) (saved : V) (old new : PlayerState S V) : Type 0 where
+  pub start : opening_of chip saving new ≡ (let before = opening_of chip saving old in with_chip before (saving.loaded before.1.chip saved))
+  pub position : position_of new ≡ position_of old
+  pub marks : marks_of new ≡ with_checkpoint [] 0 (memory_of chip saving new 0)
+  pub made : made_of new ≡ count_after (made_of old) (position_of old)
+  pub file : new.file ≡ old.file
+  pub room : room_of new ≡ room_of old
+  pub spacing : new.spacing ≡ old.spacing
+  pub end : new.end ≡ old.end

@@ -2,6 +2,9 @@
 ghost use Rattle.std.specs.Prelude.{◌≡◌, ℕ, ◌+◌, ◌<◌, ◌≤◌, false};
 ghost use Rattle.player.specs.OwnMarks.{is_own_mark};
 
+/// The most seconds between two marks: an hour.
+pub const MOST_MARK_SECONDS: u32 = 3600;
+
 /// The most frames that are played at once. Nothing is pending at their end, so that playing fewer would cut more batches short.
 pub(crate) const MOST_AT_ONCE: usize = 1024;
 

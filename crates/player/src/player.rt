@@ -1,5 +1,5 @@
 // A player.
-ghost use Rattle.std.specs.Prelude.{◌≡◌, ◌+◌, ◌-◌, ◌^◌, ◌≤◌, ◌<◌, ◌++◌, true, min, length, take, drop, map, IfOk, IfErr, ◌⊎◌};
+ghost use Rattle.std.specs.Prelude.{◌≡◌, ◌+◌, ◌-◌, ◌^◌, ◌≤◌, ◌<◌, ◌++◌, ◌==◌, min, length, take, drop, map, IfOk};
 ghost use Rattle.num_fix.specs.Limits.{most_frames};
 ghost use Rattle.chip_form.specs.Samples.{count_after};
 ghost use Rattle.cut_form.specs.Checkpoints.{slots_free};
@@ -8,56 +8,50 @@ ghost use Rattle.cut_form.specs.Slices.{slice_of};
 ghost use Rattle.cut_form.specs.GrowingFrames.{AreOfRun};
 ghost use Rattle.cut_server.specs.Server.{frames_to, KeepsTune};
 ghost use Rattle.cut_server.specs.ServerState.{book_of};
-ghost use Rattle.dsp_core.specs.DspChip.{dsp_chip, dsp_saving};
 ghost use Rattle.spc_form.specs.Tags.{length_of, text_of, has_tags, most_told_frames};
-ghost use Rattle.player.specs.Inputs.{inputs_of, IsOpened, IsAtOpening};
-ghost use Rattle.player.specs.Options.{are_in_range, spacing_of};
 ghost use Rattle.player.specs.Output.{stereo, with_text};
-ghost use Rattle.player.specs.OwnMarks.{with_own_mark};
-ghost use Rattle.player.specs.Voices.{shown_voice};
-ghost use Rattle.player.specs.declared.refusal.PlayerRefusal.TheVariants as refusals;
+ghost use Rattle.player.specs.OwnMarks.{most_mark_seconds, spacing_of, with_own_mark};
 ghost use Rattle.player.specs.Player.{frames_of, memory_of, position_of, chip_here, marks_of, room_of, marking, marks_played, made_of};
-ghost use Rattle.player.specs.Player.{frames_sought, SeekIsNear, faded_frames_played, KeepsPlayer};
+ghost use Rattle.player.specs.Player.{frames_sought, sought_some, SeekIsNear, faded_frames_played, opening_of, IsOver, IsAnew, KeepsPlayer};
 
+use crate::OutOfMemory;
 use crate::output::{StereoFrame, fade_frames, put_frames, put_text};
 use crate::own_marks::{MOST_AT_ONCE, frames_at_once, is_own_mark};
-use crate::voices::{ShownVoice, shown_voice};
-use crate::{OutOfMemory, PlayerOptions, PlayerRefusal};
+use chip_form::Chip;
 use cut_form::{MOST_FRAMES, Marked};
 use cut_server::CutServer;
-use dsp_core::Dsp;
-use dsp_state::registers::Registers;
-use gauss_table::GaussTable;
 use num_fix::{Frame, SAMPLE_RATE};
-use spc_form::{Length, SpcFile, Tag, read_spc};
+use spc_form::{Length, SpcFile, Tag};
 use std::alloc::Global;
 use std::marker::Model;
-use tune_opening::open_server;
 
-/// A player of a tune. Its frames are those of one run, whatever was played, sought or marked before. Only what opens it takes memory.
+/// A player of a tune over a chip. Its frames are those of one run, whatever was played, sought or marked before. Only what opens it takes
+/// memory.
 #[derive(Drop)]
-pub struct Player {
-    server: CutServer<Dsp>,
+pub struct Player<C: Chip> {
+    server: CutServer<C>,
     file: SpcFile,
     spacing: u32,
+    end: Length,
     frames: Vec<Frame>,
 }
 
-impl Model for Player {
-    ghost use Rattle.std.specs.Prelude.{◌≡◌, vec_len};
-    ghost use Rattle.player.specs.Player.{PlayerState, IsPlaying};
+impl<C: Chip> Model for Player<C> {
+    ghost use Rattle.std.specs.Prelude.{◌≡◌, ◌≤◌, vec_len};
+    ghost use Rattle.num_fix.specs.Limits.{most_frames};
+    ghost use Rattle.player.specs.Player.{PlayerState};
     ghost use Rattle.player.specs.declared.own_marks.TheConstants.{MOST_AT_ONCE};
 
-    ghost Value = { PlayerState };
+    ghost Value = { PlayerState C.State C.Saved };
 
-    ghost view = { λ p. record { server = p.server; file = p.file; spacing = p.spacing } };
+    ghost view = { λ p. record { server = p.server; file = p.file; spacing = p.spacing; end = p.end } };
 
-    ghost invariant = { λ p. IsPlaying p.server × (vec_len p.frames ≡ MOST_AT_ONCE) };
+    ghost invariant = { λ p. (vec_len p.frames ≡ MOST_AT_ONCE) × (p.end.frames ≤ most_frames) × (p.end.fade ≤ p.end.frames) };
 }
 
 /// Plays so many frames through a room, and puts them into others from a place on.
-fn play_through(
-    server: &mut CutServer<Dsp>,
+fn play_through<C: Chip>(
+    server: &mut CutServer<C>,
     room: &mut [Frame],
     count: usize,
     out: &mut [StereoFrame],
@@ -66,52 +60,36 @@ fn play_through(
     requires room { count ≤ length room.old }
     requires within { from + count ≤ length out.old }
     requires hour { (book_of server.old).position + count ≤ most_frames }
-    ensures frames { let played = slice_of (frames_to dsp_chip dsp_saving server.old) (book_of server.old).position count in
+    ensures frames { let played = slice_of (frames_to C.meaning C.saving server.old) (book_of server.old).position count in
         out.new ≡ take from out.old ++ map stereo played ++ drop (from + count) out.old }
     ensures book { book_of server.new ≡ counted_book (after_play (book_of server.old) count) }
-    ensures tune { KeepsTune dsp_chip dsp_saving server.old server.new }
+    ensures tune { KeepsTune C.meaning C.saving server.old server.new }
 {
     server.play_into(&mut room[..count]);
     put_frames(&room[..count], out, from);
 }
 
-impl Player {
-    /// A player of a file's tune over a table of weights, at its opening.
-    pub fn open(
+impl<C: Chip> Player<C> {
+    /// A player over a server of a file's cuts, where that stands, with its marks and over its chip. It takes a mark by itself each so many
+    /// seconds, at most 3,600; none at 0.
+    pub fn over(
         alloc: Global,
+        server: CutServer<C>,
         file: SpcFile,
-        table: GaussTable,
-        options: PlayerOptions,
-    ) -> Result<Player, OutOfMemory>
-        requires { are_in_range options ≡ true }
-        ensures opening { IfOk result (λ player. IsAtOpening (record { file = file; weights = table }) options player) }
+        mark_seconds: u32,
+    ) -> Result<Player<C>, OutOfMemory>
+        requires { mark_seconds ≤ most_mark_seconds }
+        ensures over { IfOk result (λ player. IsOver server file (spacing_of mark_seconds) player) }
     {
-        let spacing = SAMPLE_RATE * options.mark_seconds;
-        let server = open_server(alloc, &file, table, options.muted, options.pages)?;
         let frames = vec![in alloc; Frame::default(); MOST_AT_ONCE]?;
+        let end = file.length();
         Ok(Player {
             server,
             file,
-            spacing,
+            spacing: SAMPLE_RATE * mark_seconds,
+            end,
             frames,
         })
-    }
-
-    /// A player at the opening, from the bytes of an SPC file and those of a table: 512 numbers of 16 bits, low byte first.
-    pub fn open_bytes(
-        alloc: Global,
-        bytes: &[u8],
-        table: &[u8],
-        options: PlayerOptions,
-    ) -> Result<Player, PlayerRefusal>
-        requires { are_in_range options ≡ true }
-        ensures opened { IfOk result (λ player. IsOpened bytes.now table.now options player) }
-        ensures causes { IfErr result (λ refusal. (inputs_of bytes.now table.now ≡ Err refusal) ⊎ (refusal ≡ refusals.OutOfMemory)) }
-    {
-        let file = read_spc(alloc, bytes)?;
-        let weights = GaussTable::read(alloc, table)?;
-        let player = Player::open(alloc, file, weights, options)?;
-        Ok(player)
     }
 
     /// The length by the tags of the file, and how many of its last frames fade out, in frames, of which 32,000 are a second; three
@@ -122,6 +100,24 @@ impl Player {
         ensures fade_within { result.fade ≤ result.frames }
     {
         self.file.length()
+    }
+
+    /// The length to which `play_faded` plays, and how many of its last frames fade out: those of the tags, until `set_end` tells others.
+    pub fn end(&self) -> Length
+        ensures end { result ≡ self.now.end }
+        ensures hour { result.frames ≤ most_frames }
+        ensures fade_within { result.fade ≤ result.frames }
+    {
+        self.end
+    }
+
+    /// Has `play_faded` play to another length, at most an hour, and fade out so many of its last frames.
+    pub fn set_end(&mut self, end: Length)
+        requires hour { end.frames ≤ most_frames }
+        requires fade_within { end.fade ≤ end.frames }
+        ensures { self.new ≡ record self.old { end = end } }
+    {
+        self.end = end;
     }
 
     /// Whether the file says that it has tags.
@@ -145,9 +141,10 @@ impl Player {
     pub fn position(&self) -> u32
         ensures position { result ≡ position_of self.now }
         ensures within { result ≤ most_frames }
-        ensures run { AreOfRun (frames_of self.now) }
+        ensures run { AreOfRun (frames_of C.meaning C.saving self.now) }
         ensures counted { made_of self.now < 2 ^ 64 }
     {
+        let _made = self.server.work();
         self.server.at()
     }
 
@@ -165,29 +162,14 @@ impl Player {
         self.server.work()
     }
 
-    /// The S-DSP that plays. It made the frames that `made` tells, its next sample is that at the position, and its state is that of the
+    /// The chip that plays. It made the frames that `made` tells, its next sample is that at the position, and its state is that of the
     /// run's there.
-    pub fn chip(&self) -> &Dsp
-        ensures made { result.now.total ≡ made_of self.now }
-        ensures position { result.now.sample ≡ position_of self.now }
-        ensures state { result.now.state ≡ chip_here self.now }
+    pub fn chip(&self) -> &C
+        ensures made { C.total result.now ≡ made_of self.now }
+        ensures position { C.sample result.now ≡ position_of self.now }
+        ensures state { C.state result.now ≡ chip_here C.meaning C.saving self.now }
     {
         self.server.chip()
-    }
-
-    /// The 128 registers of the S-DSP at the position: those that the run's last step before it left.
-    pub fn registers(&self) -> &Registers
-        ensures { result.now ≡ (chip_here self.now).registers }
-    {
-        &self.chip().state().registers
-    }
-
-    /// What shows of a voice, 0 to 7, at the position.
-    pub fn voice(&self, number: u8) -> ShownVoice
-        requires { number < 8 }
-        ensures { result ≡ shown_voice (chip_here self.now) number }
-    {
-        shown_voice(self.chip().state(), number)
     }
 
     /// Goes to a frame, at most an hour: from the position, or from the last mark up to it. It makes at most the frames from any mark up
@@ -198,29 +180,64 @@ impl Player {
         ensures marks { marks_of self.new ≡ marks_of self.old }
         ensures made { made_of self.new ≡ count_after (made_of self.old) (frames_sought self.old at) }
         ensures near { SeekIsNear self.old at }
-        ensures tune { KeepsPlayer self.old self.new }
+        ensures tune { KeepsPlayer C.meaning C.saving self.old self.new }
     {
         self.server.seek(at);
+    }
+
+    /// Goes towards a frame, at most an hour, and makes at most so many frames for it; tells whether it is there. So many fewer are left then:
+    /// called again until it is there, it makes as many as one seek.
+    pub fn seek_some(&mut self, at: u32, most: u32) -> bool
+        requires { at ≤ most_frames }
+        ensures position { position_of self.new ≡ sought_some self.old at most }
+        ensures there { result ≡ (position_of self.new == at) }
+        ensures marks { marks_of self.new ≡ marks_of self.old }
+        ensures made { made_of self.new ≡ count_after (made_of self.old) (min most (frames_sought self.old at)) }
+        ensures left { frames_sought self.new at ≡ frames_sought self.old at - most }
+        ensures tune { KeepsPlayer C.meaning C.saving self.old self.new }
+    {
+        let goal = at.min(self.server.runs_from(at).saturating_add(most));
+        self.server.seek(goal);
+        goal == at
+    }
+
+    /// What is saved of the chip at the opening.
+    pub fn opening_chip(&self) -> C::Saved
+        ensures { result ≡ C.saving.saved (opening_of C.meaning C.saving self.now).1.chip 0 }
+    {
+        self.server.opening_chip()
+    }
+
+    /// Begins the tune anew over another chip at its opening, of which this was saved before its sample 0, and goes to where it stood. Only the
+    /// mark of frame 0 is left.
+    pub fn restart(&mut self, chip: C::Saved)
+        requires { C.saving.number chip ≡ 0 }
+        ensures { IsAnew C.meaning C.saving chip self.old self.new }
+    {
+        let here = self.server.at();
+        self.server.restart(chip);
+        self.server.seek(here);
     }
 
     /// Takes a mark at the position, unless one stands there: a later seek to it, or to a frame soon after it, runs from it. There are 64
     /// at most; as long as there is no room for it, that which was taken first is given up, but never that of frame 0.
     pub fn mark(&mut self) -> Marked
-        ensures marks { marks_of self.new ≡ (marking self.old).live }
-        ensures answer { result ≡ (marking self.old).marked }
+        ensures marks { marks_of self.new ≡ (marking C.meaning C.saving self.old).live }
+        ensures answer { result ≡ (marking C.meaning C.saving self.old).marked }
         ensures position { position_of self.new ≡ position_of self.old }
         ensures made { made_of self.new ≡ made_of self.old }
-        ensures tune { KeepsPlayer self.old self.new }
+        ensures tune { KeepsPlayer C.meaning C.saving self.old self.new }
     {
         self.server.mark()
     }
 
     /// Takes a mark by itself, where one is due at the position.
     fn take_own_mark(&mut self)
-        ensures marks { marks_of self.new ≡ with_own_mark (room_of self.old) (memory_of self.old) self.old.spacing (position_of self.old) (marks_of self.old) }
+        ensures marks { let pages = memory_of C.meaning C.saving self.old in
+            marks_of self.new ≡ with_own_mark (room_of self.old) pages self.old.spacing (position_of self.old) (marks_of self.old) }
         ensures position { position_of self.new ≡ position_of self.old }
         ensures made { made_of self.new ≡ made_of self.old }
-        ensures tune { KeepsPlayer self.old self.new }
+        ensures tune { KeepsPlayer C.meaning C.saving self.old self.new }
     {
         if is_own_mark(self.spacing, self.server.at()) {
             self.mark();
@@ -235,12 +252,12 @@ impl Player {
         requires hour { position_of self.old + (end - from) ≤ most_frames }
         ensures some { 0 < result }
         ensures within { result ≤ end - from }
-        ensures frames { let played = slice_of (frames_of self.old) (position_of self.old) result in
+        ensures frames { let played = slice_of (frames_of C.meaning C.saving self.old) (position_of self.old) result in
             out.new ≡ take from out.old ++ map stereo played ++ drop (from + result) out.old }
         ensures position { position_of self.new ≡ position_of self.old + result }
-        ensures marks { marks_of self.new ≡ marks_played self.old result }
+        ensures marks { marks_of self.new ≡ marks_played C.meaning C.saving self.old result }
         ensures made { made_of self.new ≡ count_after (made_of self.old) result }
-        ensures tune { KeepsPlayer self.old self.new }
+        ensures tune { KeepsPlayer C.meaning C.saving self.old self.new }
     {
         let most = (end - from).min(frames_at_once(self.spacing, self.server.at()));
         play_through(&mut self.server, &mut self.frames, most, out, from);
@@ -252,11 +269,11 @@ impl Player {
     /// of the seconds that it was opened with, it takes a mark.
     pub fn play(&mut self, out: &mut [StereoFrame]) -> usize
         ensures count { result ≡ min (length out.old) (most_frames - position_of self.old) }
-        ensures frames { out.new ≡ map stereo (slice_of (frames_of self.old) (position_of self.old) result) ++ drop result out.old }
+        ensures frames { out.new ≡ map stereo (slice_of (frames_of C.meaning C.saving self.old) (position_of self.old) result) ++ drop result out.old }
         ensures position { position_of self.new ≡ position_of self.old + result }
-        ensures marks { marks_of self.new ≡ marks_played self.old result }
+        ensures marks { marks_of self.new ≡ marks_played C.meaning C.saving self.old result }
         ensures made { made_of self.new ≡ count_after (made_of self.old) result }
-        ensures tune { KeepsPlayer self.old self.new }
+        ensures tune { KeepsPlayer C.meaning C.saving self.old self.new }
     {
         let count = out.len().min((MOST_FRAMES - self.position()) as usize);
         let mut done = 0;
@@ -266,20 +283,20 @@ impl Player {
         count
     }
 
-    /// Plays the next frames of a render, which is as long as the tags of the file tell and fades at its end as they tell; tells how many.
+    /// Plays the next frames of a render, which is as long as the end tells and fades as it tells; tells how many.
     pub fn play_faded(&mut self, out: &mut [StereoFrame]) -> usize
-        ensures count { result ≡ min (length out.old) ((length_of self.old.file).frames - position_of self.old) }
-        ensures frames { out.new ≡ map stereo (faded_frames_played self.old result) ++ drop result out.old }
+        ensures count { result ≡ min (length out.old) (self.old.end.frames - position_of self.old) }
+        ensures frames { out.new ≡ map stereo (faded_frames_played C.meaning C.saving self.old result) ++ drop result out.old }
         ensures position { position_of self.new ≡ position_of self.old + result }
-        ensures marks { marks_of self.new ≡ marks_played self.old result }
+        ensures marks { marks_of self.new ≡ marks_played C.meaning C.saving self.old result }
         ensures made { made_of self.new ≡ count_after (made_of self.old) result }
-        ensures tune { KeepsPlayer self.old self.new }
+        ensures tune { KeepsPlayer C.meaning C.saving self.old self.new }
     {
-        let length = self.length();
+        let whole = self.end();
         let at = self.position();
-        let count = out.len().min(length.frames.saturating_sub(at) as usize);
+        let count = out.len().min(whole.frames.saturating_sub(at) as usize);
         self.play(&mut out[..count]);
-        fade_frames(&mut out[..count], at, length);
+        fade_frames(&mut out[..count], at, whole);
         count
     }
 }

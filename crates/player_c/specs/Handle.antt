@@ -1,61 +1,59 @@
--- The handle, and what calls make of it.
-use Rattle.std.specs.Prelude.{◌≡◌, ◌+◌, ◌-◌, ℕ, List, [], Option, Some, None, is_some, min, map}
-use Rattle.num_fix.specs.Limits.{most_frames}
+-- The handle, and what calls make of the player that it has.
+use Rattle.std.specs.Prelude.{◌≡◌, ◌+◌, ◌-◌, ℕ, min, List, Option, Some, None, IsSome}
 use Rattle.chip_form.specs.Samples.{count_after}
 use Rattle.cut_form.specs.Checkpoints.{Checkpoint}
-use Rattle.cut_form.specs.Slices.{slice_of}
-use Rattle.player.specs.declared.output.StereoFrame.{StereoFrame}
-use Rattle.player.specs.Output.{stereo}
-use Rattle.spc_form.specs.Tags.{length_of}
-use Rattle.player.specs.declared.options.PlayerOptions.{PlayerOptions}
-use Rattle.player.specs.Player.{PlayerState, frames_of, position_of, marks_of, marks_played, made_of, faded_frames_played, KeepsPlayer}
-use Rattle.player.specs.Inputs.{IsOpened}
+use Rattle.spc_form.specs.declared.tags.Length.{Length}
+use Rattle.spc_player.specs.declared.options.PlayerOptions.{PlayerOptions}
+use Rattle.player.specs.Player.{position_of, marks_of, made_of, frames_sought, sought_some}
+use Rattle.spc_player.specs.Player.{SpcPlayer, marks_played, KeepsPlayer}
+use Rattle.spc_player.specs.Inputs.{IsOpened, IsMuted}
 use Rattle.player_c.specs.declared.handle.SpcwavePlayer.{SpcwavePlayer}
 
--- it says itself whether it has a player
-abbrev pub IsKept : SpcwavePlayer → Type 0
-IsKept handle = is_some handle.owned.playing ≡ handle.is_open
-
--- the player of a handle that has one
-abbrev pub playing : SpcwavePlayer → Option PlayerState
+-- the player of a handle, which has one from its opening to its end
+abbrev pub playing : SpcwavePlayer → Option SpcPlayer
 playing handle = handle.owned.playing
 
--- how many frames are given where there is room for so many
-abbrev pub frames_given : Option PlayerState → (room : ℕ) → ℕ
-frames_given None room = 0
-frames_given (Some player) room = min room (most_frames - position_of player)
+abbrev pub IsOpen : SpcwavePlayer → Type 0
+IsOpen handle = IsSome (playing handle)
 
--- and which they are
-abbrev pub frames_played : Option PlayerState → (count : ℕ) → List StereoFrame
-frames_played None count = []
-frames_played (Some player) count = map stereo (slice_of (frames_of player) (position_of player) count)
+-- a call makes one player of another
+abbrev pub Becomes : (SpcPlayer → SpcPlayer → Type 0) → (old new : Option SpcPlayer) → Type 0
+Becomes P None new = ⊥
+Becomes P (Some old) None = ⊥
+Becomes P (Some old) (Some new) = P old new
 
--- the same of a render, with its fade
-abbrev pub faded_frames_given : Option PlayerState → (room : ℕ) → ℕ
-faded_frames_given None room = 0
-faded_frames_given (Some player) room = min room ((length_of player.file).frames - position_of player)
-
-abbrev pub faded_frames_of : Option PlayerState → (count : ℕ) → List StereoFrame
-faded_frames_of None count = []
-faded_frames_of (Some player) count = map stereo (faded_frames_played player count)
-
--- A player has come to a position, has these marks and has made so many frames, and its tune, its file, its room and its spacing are the same; or there
--- was none, and is none.
-abbrev pub Moved : (at : PlayerState → ℕ) → (marks : PlayerState → List Checkpoint) → (made : PlayerState → ℕ) → (old new : Option PlayerState) → Type 0
-Moved at marks made None new = new ≡ None
-Moved at marks made (Some old) None = ⊥
-Moved at marks made (Some old) (Some new) = KeepsPlayer old new × (position_of new ≡ at old) × (marks_of new ≡ marks old) × (made_of new ≡ made old)
+-- It has come to a position, has these marks and has made so many frames; its tune, its file, its room, its spacing and its end are the same.
+abbrev pub Moved : (at : SpcPlayer → ℕ) → (marks : SpcPlayer → List Checkpoint) → (made : SpcPlayer → ℕ) → (old new : Option SpcPlayer) → Type 0
+Moved at marks made = Becomes (λ old new. KeepsPlayer old new × (position_of new ≡ at old) × (marks_of new ≡ marks old) × (made_of new ≡ made old))
 
 -- it has played so many frames
-abbrev pub PlayedOn : (count : ℕ) → (old new : Option PlayerState) → Type 0
+abbrev pub PlayedOn : (count : ℕ) → (old new : Option SpcPlayer) → Type 0
 PlayedOn count = Moved (λ p. position_of p + count) (λ p. marks_played p count) (λ p. count_after (made_of p) count)
 
+-- it has gone to a frame, or towards it by so many frames at most
+abbrev pub Sought : (frame : ℕ) → (old new : Option SpcPlayer) → Type 0
+Sought frame = Moved (λ _. frame) marks_of (λ p. count_after (made_of p) (frames_sought p frame))
+
+abbrev pub SoughtSome : (frame most : ℕ) → (old new : Option SpcPlayer) → Type 0
+SoughtSome frame most = Moved (λ p. sought_some p frame most) marks_of (λ p. count_after (made_of p) (min most (frames_sought p frame)))
+
+-- so many frames fewer are left to be made for a seek
+abbrev pub LeftToSeek : (frame most : ℕ) → (old new : Option SpcPlayer) → Type 0
+LeftToSeek frame most = Becomes (λ old new. frames_sought new frame ≡ frames_sought old frame - most)
+
+-- its muted voices are these, and its render ends here
+abbrev pub Muted : (voices : ℕ) → (old new : Option SpcPlayer) → Type 0
+Muted voices = Becomes (IsMuted voices)
+
+abbrev pub EndsAt : Length → (old new : Option SpcPlayer) → Type 0
+EndsAt end = Becomes (λ old new. new ≡ record old { end = end })
+
 -- a player stands at the opening of a tune
-abbrev pub IsOpening : (bytes table : List ℕ) → PlayerOptions → Option PlayerState → Type 0
+abbrev pub IsOpening : (bytes table : List ℕ) → PlayerOptions → Option SpcPlayer → Type 0
 IsOpening bytes table options None = ⊥
 IsOpening bytes table options (Some player) = IsOpened bytes table options player
 
 -- the same, of a handle that stands
 abbrev pub IsOpeningIn : (bytes table : List ℕ) → PlayerOptions → Option SpcwavePlayer → Type 0
 IsOpeningIn bytes table options None = ⊥
-IsOpeningIn bytes table options (Some handle) = IsKept handle × IsOpening bytes table options (playing handle)
+IsOpeningIn bytes table options (Some handle) = IsOpening bytes table options (playing handle)

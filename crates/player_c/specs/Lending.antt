@@ -1,15 +1,15 @@
 -- What a handle ends as, once its player was lent.
 use Rattle.std.specs.Prelude.{Some}
 use Rattle.std.specs.Borrow.{Lends, MutBor, Fml}
-use Rattle.player.specs.Player.{PlayerState}
-use Rattle.player.specs.contracts.player.Player.{the_row as player_row}
+use Rattle.spc_player.specs.Player.{SpcPlayer}
 use Rattle.player_c.specs.declared.owned_player.OwnedPlayer.{OwnedPlayer}
 use Rattle.player_c.specs.contracts.owned_player.OwnedPlayer.{the_row as owned_row}
+use Rattle.player_c.specs.Owned.{player_row}
 
 -- a handle whose player has become another
-abbrev pub with_player : OwnedPlayer → PlayerState → OwnedPlayer
+abbrev pub with_player : OwnedPlayer → SpcPlayer → OwnedPlayer
 with_player owned player = record owned { playing = Some player }
 
 -- the handle ends with the last value of the player
-abbrev pub LendsPlayer : MutBor OwnedPlayer → MutBor PlayerState → Fml
+abbrev pub LendsPlayer : MutBor OwnedPlayer → MutBor SpcPlayer → Fml
 LendsPlayer owned player = Lends owned_row player_row owned player (with_player owned.now)

@@ -1,9 +1,14 @@
 -- The numbers that calls answer: those of the program's statuses, and two more.
-use Rattle.std.specs.Prelude.{ℕ, Bool, if◌then◌else◌, List, Option, is_some, Result, Ok, Err}
-use Rattle.player.specs.declared.refusal.PlayerRefusal.{PlayerRefusal}
-use Rattle.player.specs.declared.refusal.PlayerRefusal.TheVariants.{SpcLength, SpcSignature, TableLength, OutOfMemory}
-use Rattle.player.specs.Inputs.{Inputs, inputs_of}
-use Rattle.player.specs.Player.{PlayerState}
+use Rattle.std.specs.Prelude.{ℕ, ◌==◌, ◌&&◌, Bool, if◌then◌else◌, nat_le, nat_lt, List, Result, Ok, Err}
+use Rattle.num_fix.specs.Limits.{most_frames}
+use Rattle.spc_form.specs.declared.reading.SpcRefusal.{SpcRefusal}
+use Rattle.spc_form.specs.Accepted.{spc_file}
+use Rattle.spc_player.specs.declared.refusal.PlayerRefusal.{PlayerRefusal}
+use Rattle.spc_player.specs.declared.refusal.PlayerRefusal.TheVariants.{SpcLength, SpcSignature, TableLength, OutOfMemory}
+use Rattle.spc_player.specs.Inputs.{Inputs, inputs_of}
+use Rattle.spc_player.specs.Player.{SpcPlayer}
+use Rattle.spc_player.specs.Refusals.{of_spc}
+use Rattle.player.specs.Player.{sought_some}
 
 abbrev pub ok : ℕ
 ok = 0
@@ -17,12 +22,12 @@ status_of OutOfMemory = 7
 abbrev pub out_of_memory : ℕ
 out_of_memory = 7
 
--- A handle has no player, which is so of none that C gets. A number is out of its range.
-abbrev pub not_open : ℕ
-not_open = 16
-
+-- A number is out of its range. A seek isn't at its frame yet.
 abbrev pub out_of_range : ℕ
 out_of_range = 17
+
+abbrev pub not_yet : ℕ
+not_yet = 18
 
 -- the status for inputs
 abbrev pub status_for : Result Inputs PlayerRefusal → ℕ
@@ -32,14 +37,26 @@ status_for (Err refusal) = status_of refusal
 abbrev pub inputs_status : (bytes table : List ℕ) → ℕ
 inputs_status bytes table = status_for (inputs_of bytes table)
 
--- the status of a call that needs a player
-abbrev pub open_status : Option PlayerState → ℕ
-open_status player = if is_some player then ok else not_open
+-- the status for a file alone
+abbrev pub spc_status_of : SpcRefusal → ℕ
+spc_status_of refusal = status_of (of_spc refusal)
 
--- and of one that needs a number within its range too
-abbrev pub range_status : (within : Bool) → Option PlayerState → ℕ
-range_status within player = if is_some player then (if within then ok else out_of_range) else not_open
+abbrev pub spc_status_for : Result (List ℕ) SpcRefusal → ℕ
+spc_status_for (Ok file) = ok
+spc_status_for (Err refusal) = spc_status_of refusal
 
--- the version of the library, 1.1.0: a byte for each of the last two numbers
+abbrev pub spc_status : (bytes : List ℕ) → ℕ
+spc_status bytes = spc_status_for (spc_file bytes)
+
+-- the status of a call that needs its numbers within their ranges
+abbrev pub range_status : (within : Bool) → ℕ
+range_status within = if within then ok else out_of_range
+
+-- the status of a seek towards a frame that makes at most so many
+abbrev pub seek_status : SpcPlayer → (frame most : ℕ) → ℕ
+seek_status player frame most =
+    if nat_le frame most_frames && nat_lt 0 most then (if sought_some player frame most == frame then ok else not_yet) else out_of_range
+
+-- the version of the library, 1.2.0: a byte for each of the last two numbers
 abbrev pub version : ℕ
-version = 0x010100
+version = 0x010200

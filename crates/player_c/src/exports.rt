@@ -1,19 +1,27 @@
 // What C calls. No call but `spcwave_open` takes memory.
-ghost use Rattle.std.specs.Prelude.{◌≡◌, ◌≢◌, ◌<◌, ◌++◌, ◌⊎◌, true, false, nat_le, None, IfErr, IfOk, IfSome, IsSome, length, drop};
+ghost use Rattle.std.specs.Prelude.{◌≡◌, ◌≢◌, ◌<◌, ◌+◌, ◌-◌, ◌++◌, ◌⊎◌, ◌&&◌, true, nat_le, min, map, None, Err, IfErr, IfOk, IfSome, length, drop};
 ghost use Rattle.num_fix.specs.Limits.{most_frames};
-ghost use Rattle.chip_form.specs.Samples.{count_after};
-ghost use Rattle.player.specs.Inputs.{inputs_of, IsOpened};
-ghost use Rattle.player.specs.Options.{are_in_range};
-ghost use Rattle.player.specs.Player.{position_of, marks_of, marking, made_of, frames_sought, SeekIsNear};
-ghost use Rattle.player.specs.declared.refusal.PlayerRefusal.TheVariants as refusals;
-ghost use Rattle.player_c.specs.Handle.{IsOpening, IsOpeningIn, IsKept, playing, frames_given, frames_played, faded_frames_given, faded_frames_of, Moved, PlayedOn};
-ghost use Rattle.player_c.specs.Status.{ok, out_of_memory, not_open, out_of_range, inputs_status, open_status, range_status};
+ghost use Rattle.cut_form.specs.Slices.{slice_of};
+ghost use Rattle.player.specs.Output.{stereo};
+ghost use Rattle.player.specs.Player.{position_of, made_of, SeekIsNear};
+ghost use Rattle.spc_player.specs.Inputs.{inputs_of, IsOpened};
+ghost use Rattle.spc_player.specs.Options.{are_in_range};
+ghost use Rattle.spc_player.specs.Player.{frames_of, faded_frames_played, marking};
+ghost use Rattle.spc_player.specs.declared.refusal.PlayerRefusal.TheVariants as refusals;
+ghost use Rattle.player_c.specs.Closing.{IsHandleOrNull, nothing_there};
+ghost use Rattle.player_c.specs.Handle.{playing, IsOpen, IsOpening, IsOpeningIn, Moved, PlayedOn, Sought, SoughtSome, LeftToSeek, Muted, EndsAt};
+ghost use Rattle.player_c.specs.Options.{options_of};
+ghost use Rattle.player_c.specs.Status.{ok, out_of_memory, out_of_range, inputs_status, range_status, seek_status};
 
 use crate::handle::SpcwavePlayer;
+use crate::options::SpcwaveOptions;
 use crate::pointer::SpcwavePointer;
-use crate::status::{NOT_OPEN, OK, OUT_OF_MEMORY, OUT_OF_RANGE, status_of};
+use crate::status::{NOT_YET, OK, OUT_OF_MEMORY, OUT_OF_RANGE, status_of};
 use cut_form::MOST_FRAMES;
-use player::{Player, PlayerOptions, PlayerRefusal, StereoFrame};
+use dsp_core::Dsp;
+use player::{Player, StereoFrame};
+use spc_form::Length;
+use spc_player::{PlayerOptions, PlayerRefusal, mute, open_bytes};
 use std::alloc::Global;
 
 /// Opens a player on the heap.
@@ -22,27 +30,15 @@ fn open_boxed(
     spc: &[u8],
     table: &[u8],
     options: PlayerOptions,
-) -> Result<Box<Player>, PlayerRefusal>
+) -> Result<Box<Player<Dsp>>, PlayerRefusal>
     requires { are_in_range options ≡ true }
     ensures opened { IfOk result (λ player. IsOpened spc.now table.now options player.value) }
     ensures causes { IfErr result (λ refusal. (inputs_of spc.now table.now ≡ Err refusal) ⊎ (refusal ≡ refusals.OutOfMemory)) }
 {
-    let player = Player::open_bytes(alloc, spc, table, options)?;
+    let player = open_bytes(alloc, spc, table, options)?;
     match Box::new(alloc, player) {
         Ok(opened) => Ok(opened),
         Err(_) => Err(PlayerRefusal::OutOfMemory),
-    }
-}
-
-/// Gives the memory of the player back, if one is open. Afterwards none is.
-fn close_in(alloc: Global, player: &mut SpcwavePlayer)
-    requires { IsKept player.old }
-    ensures kept { IsKept player.new }
-    ensures none { playing player.new ≡ None }
-{
-    if player.is_open {
-        let _player = player.owned.take(alloc);
-        player.is_open = false;
     }
 }
 
@@ -54,21 +50,45 @@ fn open_in(
     table: &[u8],
     options: PlayerOptions,
 ) -> u32
-    requires kept { IsKept player.old }
     requires none { playing player.old ≡ None }
     requires in_range { are_in_range options ≡ true }
-    ensures kept { IsKept player.new }
     ensures opened { result ≡ ok → IsOpening spc.now table.now options (playing player.new) }
     ensures causes { (result ≡ ok) ⊎ (result ≡ out_of_memory) ⊎ (inputs_status spc.now table.now ≡ result) }
-    ensures low { result < not_open }
+    ensures low { result < out_of_range }
 {
     match open_boxed(alloc, spc, table, options) {
         Ok(opened) => {
             player.owned.put(opened);
-            player.is_open = true;
             OK
         }
         Err(refusal) => status_of(refusal),
+    }
+}
+
+/// Opens a player in a handle on the heap, and writes the handle's address.
+fn open_handle(
+    alloc: Global,
+    player: &mut SpcwavePointer,
+    spc: &[u8],
+    table: &[u8],
+    options: PlayerOptions,
+) -> u32
+    requires none { player.old.handle ≡ None }
+    requires in_range { are_in_range options ≡ true }
+    ensures opened { result ≡ ok → IsOpeningIn spc.now table.now options player.new.handle }
+    ensures refused { result ≢ ok → player.new ≡ player.old }
+    ensures causes { (result ≡ ok) ⊎ (result ≡ out_of_memory) ⊎ (inputs_status spc.now table.now ≡ result) }
+    ensures low { result < out_of_range }
+{
+    match Box::new(alloc, SpcwavePlayer::none()) {
+        Ok(mut handle) => {
+            let status = open_in(alloc, &mut handle, spc, table, options);
+            if status == OK {
+                player.put(handle);
+            }
+            status
+        }
+        Err(_) => OUT_OF_MEMORY,
     }
 }
 
@@ -80,88 +100,84 @@ pub extern "C" fn spcwave_open(
     player: &mut SpcwavePointer,
     spc: &[u8],
     table: &[u8],
-    options: &PlayerOptions,
+    options: &SpcwaveOptions,
 ) -> u32
     requires { player.old.handle ≡ None }
-    ensures opened { result ≡ ok → IsOpeningIn spc.now table.now options.now player.new.handle }
+    ensures opened { result ≡ ok → IfSome (options_of options.now) (λ options. IsOpeningIn spc.now table.now options player.new.handle) }
     ensures refused { result ≢ ok → player.new ≡ player.old }
-    ensures out_of_range { result ≡ out_of_range → are_in_range options.now ≡ false }
-    ensures in_range { are_in_range options.now ≡ false → result ≡ out_of_range }
+    ensures out_of_range { result ≡ out_of_range → options_of options.now ≡ None }
+    ensures in_range { options_of options.now ≡ None → result ≡ out_of_range }
     ensures causes { (result ≡ ok) ⊎ (result ≡ out_of_memory) ⊎ (result ≡ out_of_range) ⊎ (inputs_status spc.now table.now ≡ result) }
 {
-    if !options.are_in_range() {
-        return OUT_OF_RANGE;
-    }
-    match Box::new(alloc, SpcwavePlayer::none()) {
-        Ok(mut handle) => {
-            let status = open_in(alloc, &mut handle, spc, table, *options);
-            if status != OK {
-                return status;
-            }
-            player.put(handle);
-            OK
-        }
-        Err(_) => OUT_OF_MEMORY,
+    match options.options() {
+        None => OUT_OF_RANGE,
+        Some(options) => open_handle(alloc, player, spc, table, options),
     }
 }
 
-/// Gives the memory of a player and of its handle back.
+/// Gives the memory of a player and of its handle back, and writes a null pointer. Where that stands already nothing happens.
 #[unsafe(no_mangle)]
 pub extern "C" fn spcwave_close(alloc: Global, player: &mut SpcwavePointer)
-    requires stands { IsSome player.old.handle }
-    requires kept { IfSome player.old.handle IsKept }
-    ensures none { player.new.handle ≡ None }
+    requires stands { IsHandleOrNull player.old }
+    requires open { IfSome player.old.handle IsOpen }
+    ensures { player.new ≡ nothing_there }
 {
-    let mut handle = player.take(alloc);
-    close_in(alloc, &mut handle);
+    if !player.is_nothing() {
+        let mut handle = player.take(alloc);
+        let _player = handle.owned.take(alloc);
+    }
+    *player = SpcwavePointer::nothing();
 }
 
-/// Plays the next frames, as many as there is room for, but not past an hour; tells how many: 0 where none is open.
+/// Plays the next frames, as many as there is room for, but not past an hour; tells how many.
 #[unsafe(no_mangle)]
 pub extern "C" fn spcwave_play(player: &mut SpcwavePlayer, frames: &mut [StereoFrame]) -> usize
-    requires { IsKept player.old }
-    ensures kept { IsKept player.new }
-    ensures count { result ≡ frames_given (playing player.old) (length frames.old) }
-    ensures frames { frames.new ≡ frames_played (playing player.old) result ++ drop result frames.old }
+    requires { IsOpen player.old }
+    ensures count { IfSome (playing player.old) (λ p. result ≡ min (length frames.old) (most_frames - position_of p)) }
+    ensures frames { IfSome (playing player.old) (λ p. frames.new ≡ map stereo (slice_of (frames_of p) (position_of p) result) ++ drop result frames.old) }
     ensures moved { PlayedOn result (playing player.old) (playing player.new) }
 {
-    if !player.is_open {
-        return 0;
-    }
     player.owned.player().play(frames)
 }
 
-/// Plays the next frames of a render, which is as long as the tags tell and fades as they tell; tells how many: 0 where none is open.
+/// Plays the next frames of a render, which is as long as the end tells and fades as it tells; tells how many.
 #[unsafe(no_mangle)]
 pub extern "C" fn spcwave_play_faded(
     player: &mut SpcwavePlayer,
     frames: &mut [StereoFrame],
 ) -> usize
-    requires { IsKept player.old }
-    ensures kept { IsKept player.new }
-    ensures count { result ≡ faded_frames_given (playing player.old) (length frames.old) }
-    ensures frames { frames.new ≡ faded_frames_of (playing player.old) result ++ drop result frames.old }
+    requires { IsOpen player.old }
+    ensures count { IfSome (playing player.old) (λ p. result ≡ min (length frames.old) (p.end.frames - position_of p)) }
+    ensures frames { IfSome (playing player.old) (λ p. frames.new ≡ map stereo (faded_frames_played p result) ++ drop result frames.old) }
     ensures moved { PlayedOn result (playing player.old) (playing player.new) }
 {
-    if !player.is_open {
-        return 0;
-    }
     player.owned.player().play_faded(frames)
+}
+
+/// Has `spcwave_play_faded` end at another length, 0 to 115,200,000 frames, and fade out so many of its last, at most as many.
+#[unsafe(no_mangle)]
+pub extern "C" fn spcwave_set_end(player: &mut SpcwavePlayer, frames: u32, fade: u32) -> u32
+    requires { IsOpen player.old }
+    ensures status { result ≡ range_status (nat_le frames most_frames && nat_le fade frames) }
+    ensures ends { result ≡ ok → EndsAt (record { frames = frames; fade = fade }) (playing player.old) (playing player.new) }
+    ensures otherwise { result ≢ ok → playing player.new ≡ playing player.old }
+{
+    if frames > MOST_FRAMES || fade > frames {
+        return OUT_OF_RANGE;
+    }
+    player.owned.player().set_end(Length { frames, fade });
+    OK
 }
 
 /// Goes to a frame, 0 to 115,200,000: 32,000 are a second. It makes at most the frames from any mark up to it.
 #[unsafe(no_mangle)]
 pub extern "C" fn spcwave_seek(player: &mut SpcwavePlayer, frame: u32) -> u32
-    requires { IsKept player.old }
-    ensures kept { IsKept player.new }
-    ensures status { result ≡ range_status (nat_le frame most_frames) (playing player.old) }
-    ensures moved { result ≡ ok → Moved (λ _. frame) marks_of (λ p. count_after (made_of p) (frames_sought p frame)) (playing player.old) (playing player.new) }
+    requires { IsOpen player.old }
+    ensures status { result ≡ range_status (nat_le frame most_frames) }
+    ensures moved { result ≡ ok → Sought frame (playing player.old) (playing player.new) }
     ensures near { result ≡ ok → IfSome (playing player.old) (λ p. SeekIsNear p frame) }
     ensures otherwise { result ≢ ok → playing player.new ≡ playing player.old }
 {
-    if !player.is_open {
-        return NOT_OPEN;
-    }
     if frame > MOST_FRAMES {
         return OUT_OF_RANGE;
     }
@@ -169,17 +185,41 @@ pub extern "C" fn spcwave_seek(player: &mut SpcwavePlayer, frame: u32) -> u32
     OK
 }
 
+/// Goes towards a frame, and makes at most so many frames for it, 1 or more; tells whether it is there. Called again until it is, it makes as
+/// many as one seek.
+#[unsafe(no_mangle)]
+pub extern "C" fn spcwave_seek_some(player: &mut SpcwavePlayer, frame: u32, most: u32) -> u32
+    requires { IsOpen player.old }
+    ensures status { IfSome (playing player.old) (λ p. result ≡ seek_status p frame most) }
+    ensures moved { result ≢ out_of_range → SoughtSome frame most (playing player.old) (playing player.new) }
+    ensures left { result ≢ out_of_range → LeftToSeek frame most (playing player.old) (playing player.new) }
+    ensures otherwise { result ≡ out_of_range → playing player.new ≡ playing player.old }
+{
+    if frame > MOST_FRAMES || most == 0 {
+        return OUT_OF_RANGE;
+    }
+    if player.owned.player().seek_some(frame, most) {
+        OK
+    } else {
+        NOT_YET
+    }
+}
+
+/// Mutes these voices from now on and no others, bit v is voice v: the player is as one that was opened with them and sought to its position. It
+/// makes the frames before that once more, and only the mark of frame 0 is left.
+#[unsafe(no_mangle)]
+pub extern "C" fn spcwave_mute(player: &mut SpcwavePlayer, voices: u8)
+    requires { IsOpen player.old }
+    ensures { Muted voices (playing player.old) (playing player.new) }
+{
+    mute(player.owned.player(), voices);
+}
+
 /// Takes a mark at the position, so that a later seek to it or behind it is quick. It may give up those taken first.
 #[unsafe(no_mangle)]
-pub extern "C" fn spcwave_mark(player: &mut SpcwavePlayer) -> u32
-    requires { IsKept player.old }
-    ensures kept { IsKept player.new }
-    ensures status { result ≡ open_status (playing player.old) }
-    ensures moved { Moved position_of (λ p. (marking p).live) made_of (playing player.old) (playing player.new) }
+pub extern "C" fn spcwave_mark(player: &mut SpcwavePlayer)
+    requires { IsOpen player.old }
+    ensures { Moved position_of (λ p. (marking p).live) made_of (playing player.old) (playing player.new) }
 {
-    if !player.is_open {
-        return NOT_OPEN;
-    }
     player.owned.player().mark();
-    OK
 }

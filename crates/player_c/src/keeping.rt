@@ -1,12 +1,38 @@
 // A pointer keeps a handle and gives it back.
-ghost use Rattle.std.specs.Prelude.{◌≡◌, Some, None, IsSome};
+ghost use Rattle.std.specs.Prelude.{◌≡◌, Some, None, IsSome, is_some, not};
+ghost use Rattle.player_c.specs.Closing.{IsHandleOrNull, nothing_there};
 
 use crate::handle::SpcwavePlayer;
 use crate::parts::Parts;
 use crate::pointer::SpcwavePointer;
 use std::alloc::Global;
+use std::ptr::null_mut;
 
 impl SpcwavePointer {
+    /// No handle, at any address.
+    fn at_nothing(at: *mut u8) -> SpcwavePointer
+        ensures { result ≡ record { at = at; handle = None } }
+    {
+        SpcwavePointer { at }
+    }
+
+    /// A null pointer.
+    pub fn nothing() -> SpcwavePointer
+        ensures { result ≡ nothing_there }
+    {
+        let at = null_mut();
+        SpcwavePointer::at_nothing(at)
+    }
+
+    /// Whether no handle stands.
+    pub fn is_nothing(&mut self) -> bool
+        requires { IsHandleOrNull self.old }
+        ensures answer { result ≡ not (is_some self.old.handle) }
+        ensures same { self.new ≡ self.old }
+    {
+        self.at.is_null()
+    }
+
     /// Keeps what a box owns.
     fn put_parts(&mut self, handle: Parts<SpcwavePlayer, Global>)
         requires { self.old.handle ≡ None }

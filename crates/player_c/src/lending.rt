@@ -5,6 +5,7 @@ ghost use Rattle.player_c.specs.Lending.{LendsPlayer};
 
 use crate::owned_player::OwnedPlayer;
 use crate::parts::Parts;
+use dsp_core::Dsp;
 use player::Player;
 use std::alloc::Global;
 use std::ptr::null_mut;
@@ -26,7 +27,7 @@ impl OwnedPlayer {
     }
 
     /// Keeps what a box owns.
-    fn put_parts(&mut self, player: Parts<Player, Global>)
+    fn put_parts(&mut self, player: Parts<Player<Dsp>, Global>)
         requires { self.old.playing ≡ None }
         ensures { self.new.playing ≡ Some player.value }
     {
@@ -35,17 +36,17 @@ impl OwnedPlayer {
     }
 
     /// Gives back what the box of the player owned.
-    fn take_parts(&mut self, alloc: Global) -> Parts<Player, Global>
+    fn take_parts(&mut self, alloc: Global) -> Parts<Player<Dsp>, Global>
         requires { IsSome self.old.playing }
         ensures player { Some result.value ≡ self.old.playing }
         ensures none { self.new.playing ≡ None }
     {
-        let ptr = self.at as *mut Player;
+        let ptr = self.at as *mut Player<Dsp>;
         Parts { ptr, alloc }
     }
 
     /// Keeps a player.
-    pub fn put(&mut self, player: Box<Player>)
+    pub fn put(&mut self, player: Box<Player<Dsp>>)
         requires { self.old.playing ≡ None }
         ensures { self.new.playing ≡ Some player.value }
     {
@@ -53,7 +54,7 @@ impl OwnedPlayer {
     }
 
     /// Takes the player back.
-    pub fn take(&mut self, alloc: Global) -> Box<Player>
+    pub fn take(&mut self, alloc: Global) -> Box<Player<Dsp>>
         requires { IsSome self.old.playing }
         ensures player { Some result.value ≡ self.old.playing }
         ensures none { self.new.playing ≡ None }
@@ -62,12 +63,12 @@ impl OwnedPlayer {
     }
 
     /// Lends the player.
-    pub fn player(&mut self) -> &mut Player
+    pub fn player(&mut self) -> &mut Player<Dsp>
         requires { IsSome self.old.playing }
         ensures* writes_back { sem 𝓛 (LendsPlayer self.entry result) }
         ensures player { Some result.now ≡ self.old.playing }
     {
-        let at = self.at as *mut Player;
+        let at = self.at as *mut Player<Dsp>;
         unsafe { &mut *at }
     }
 }

@@ -3,8 +3,10 @@
 
 mod exports;
 mod handle;
+mod info;
 mod keeping;
 mod lending;
+mod options;
 mod owned_player;
 mod parts;
 mod pointer;
@@ -14,9 +16,12 @@ mod telling;
 mod threads;
 
 pub use exports::{
-    spcwave_close, spcwave_mark, spcwave_open, spcwave_play, spcwave_play_faded, spcwave_seek,
+    spcwave_close, spcwave_mark, spcwave_mute, spcwave_open, spcwave_play, spcwave_play_faded,
+    spcwave_seek, spcwave_seek_some, spcwave_set_end,
 };
 pub use handle::SpcwavePlayer;
+pub use info::{SpcwaveInfo, spcwave_inspect};
+pub use options::SpcwaveOptions;
 pub use owned_player::OwnedPlayer;
 pub use pointer::SpcwavePointer;
 pub use telling::{

@@ -1,8 +1,8 @@
 // The part of a handle that keeps the player.
 ghost use Rattle.std.specs.Prelude.{Option};
 ghost use Rattle.std.specs.Coded.{coded_option};
-ghost use Rattle.player.specs.Player.{PlayerState};
-ghost use Rattle.player.specs.declared.player.Player.{the_code};
+ghost use Rattle.spc_player.specs.Player.{SpcPlayer};
+ghost use Rattle.player_c.specs.Owned.{player_row};
 
 use std::marker::Model;
 
@@ -11,7 +11,7 @@ use std::marker::Model;
 #[derive(Drop)]
 pub struct OwnedPlayer {
     pub(crate) at: *mut u8,
-    pub ghost playing: { Option PlayerState } by { coded_option the_code },
+    pub ghost playing: { Option SpcPlayer } by { coded_option player_row.coded },
 }
 
 impl Model for OwnedPlayer {

@@ -8,6 +8,7 @@ use std::marker::Model;
 
 /// The address of a handle on the heap, which is all that C knows of one, or any address where there is none.
 #[repr(C)]
+#[derive(Drop)]
 pub struct SpcwavePointer {
     pub(crate) at: *mut u8,
     pub ghost handle: { Option SpcwavePlayer } by { coded_option handle_code },

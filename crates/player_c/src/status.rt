@@ -1,8 +1,9 @@
 // The numbers that calls answer.
 ghost use Rattle.std.specs.Prelude.{◌≡◌, ◌<◌};
-ghost use Rattle.player_c.specs.Status.{status_of, not_open};
+ghost use Rattle.player_c.specs.Status.{status_of, spc_status_of, out_of_range};
 
-use player::PlayerRefusal;
+use spc_form::SpcRefusal;
+use spc_player::PlayerRefusal;
 
 /// All is well.
 pub(crate) const OK: u32 = 0;
@@ -10,22 +11,30 @@ pub(crate) const OK: u32 = 0;
 /// There is not enough memory.
 pub(crate) const OUT_OF_MEMORY: u32 = 7;
 
-/// A handle has no player. C never gets this answer, since each handle that `spcwave_open` gives has one.
-pub(crate) const NOT_OPEN: u32 = 16;
-
 /// A number is out of its range.
 pub(crate) const OUT_OF_RANGE: u32 = 17;
+
+/// A seek isn't at its frame yet.
+pub(crate) const NOT_YET: u32 = 18;
 
 /// The number of a refusal.
 pub(crate) fn status_of(refusal: PlayerRefusal) -> u32
     ensures status { result ≡ status_of refusal }
-    ensures low { result < not_open }
+    ensures low { result < out_of_range }
     ensures some { 0 < result }
 {
     match refusal {
         PlayerRefusal::SpcLength(_) => 4,
         PlayerRefusal::SpcSignature(_) => 5,
         PlayerRefusal::TableLength(_) => 6,
-        PlayerRefusal::OutOfMemory => 7,
+        PlayerRefusal::OutOfMemory => OUT_OF_MEMORY,
     }
+}
+
+/// The number of a refusal of a file alone.
+pub(crate) fn spc_status_of(refusal: SpcRefusal) -> u32
+    ensures status { result ≡ spc_status_of refusal }
+    ensures some { 0 < result }
+{
+    status_of(PlayerRefusal::from(refusal))
 }

@@ -1,7 +1,7 @@
 // Tags by the numbers that C knows them by.
 ghost use Rattle.std.specs.Prelude.{◌≡◌};
 ghost use Rattle.std.specs.List.{slice_get};
-ghost use Rattle.player_c.specs.Tags.{numbered_tags};
+ghost use Rattle.spc_form.specs.Tags.{all_tags};
 
 use spc_form::Tag;
 
@@ -19,7 +19,7 @@ const TAGS: [Tag; 8] = [
 
 /// The tag of a number.
 pub(crate) fn tag_of(number: u32) -> Option<Tag>
-    ensures { result ≡ slice_get numbered_tags number }
+    ensures { result ≡ slice_get all_tags number }
 {
     TAGS.get(number as usize).copied()
 }

@@ -1,130 +1,95 @@
 // What C is told of a player.
-ghost use Rattle.std.specs.Prelude.{◌≡◌, ◌≢◌, nat_lt, false, None, IfSome, length};
-ghost use Rattle.spc_form.specs.Tags.{length_of, has_tags};
+ghost use Rattle.std.specs.Prelude.{◌≡◌, ◌≢◌, nat_lt, IfSome, length};
 ghost use Rattle.cut_form.specs.Checkpoints.{slots_free};
+ghost use Rattle.spc_form.specs.Tags.{length_of, has_tags};
 ghost use Rattle.player.specs.Output.{with_text};
-ghost use Rattle.player.specs.Player.{position_of, marks_of, room_of, chip_here};
-ghost use Rattle.player.specs.Voices.{shown_voice};
-ghost use Rattle.player_c.specs.Handle.{IsKept, playing};
-ghost use Rattle.player_c.specs.Status.{ok, open_status, range_status, version};
+ghost use Rattle.player.specs.Player.{position_of, marks_of, room_of};
+ghost use Rattle.spc_player.specs.Player.{chip_here};
+ghost use Rattle.spc_player.specs.Voices.{shown_voice};
+ghost use Rattle.player_c.specs.Handle.{playing, IsOpen};
+ghost use Rattle.player_c.specs.Status.{ok, range_status, version};
 ghost use Rattle.player_c.specs.Tags.{tag_text};
 
 use crate::handle::SpcwavePlayer;
-use crate::status::{NOT_OPEN, OK, OUT_OF_RANGE};
+use crate::status::{OK, OUT_OF_RANGE};
 use crate::tags::tag_of;
-use player::{ShownVoice, put_text};
+use player::put_text;
+use spc_player::ShownVoice;
 
 /// The version of the library: 65,536 times the first of its three numbers, 256 times the second, and the third.
 #[unsafe(no_mangle)]
 pub extern "C" fn spcwave_version() -> u32
     ensures { result ≡ version }
 {
-    0x01_01_00
+    0x01_02_00
 }
 
-/// The position: how many frames stand before it; 0 where none is open.
+/// The position: how many frames stand before it.
 #[unsafe(no_mangle)]
 pub extern "C" fn spcwave_position(player: &mut SpcwavePlayer) -> u32
-    requires { IsKept player.old }
-    ensures kept { IsKept player.new }
+    requires { IsOpen player.old }
     ensures position { IfSome (playing player.old) (λ p. result ≡ position_of p) }
-    ensures none { playing player.old ≡ None → result ≡ 0 }
     ensures same { playing player.new ≡ playing player.old }
 {
-    if !player.is_open {
-        return 0;
-    }
     player.owned.player().position()
 }
 
-/// How many pages are free for marks; 0 where none is open.
+/// How many pages are free for marks.
 #[unsafe(no_mangle)]
 pub extern "C" fn spcwave_free_pages(player: &mut SpcwavePlayer) -> u32
-    requires { IsKept player.old }
-    ensures kept { IsKept player.new }
+    requires { IsOpen player.old }
     ensures free { IfSome (playing player.old) (λ p. result ≡ slots_free (room_of p) (marks_of p)) }
-    ensures none { playing player.old ≡ None → result ≡ 0 }
     ensures same { playing player.new ≡ playing player.old }
 {
-    if !player.is_open {
-        return 0;
-    }
     player.owned.player().free_pages()
 }
 
-/// The length by the tags of the file, and how many of its last frames fade out, in frames. Where none is open both stay as they were.
+/// The length by the tags of the file, and how many of its last frames fade out, in frames.
 #[unsafe(no_mangle)]
-pub extern "C" fn spcwave_length(
-    player: &mut SpcwavePlayer,
-    frames: &mut u32,
-    fade: &mut u32,
-) -> u32
-    requires { IsKept player.old }
-    ensures kept { IsKept player.new }
-    ensures status { result ≡ open_status (playing player.old) }
+pub extern "C" fn spcwave_length(player: &mut SpcwavePlayer, frames: &mut u32, fade: &mut u32)
+    requires { IsOpen player.old }
     ensures length { IfSome (playing player.old) (λ p. record { frames = frames.new; fade = fade.new } ≡ length_of p.file) }
-    ensures frames_left { playing player.old ≡ None → frames.new ≡ frames.old }
-    ensures fade_left { playing player.old ≡ None → fade.new ≡ fade.old }
     ensures same { playing player.new ≡ playing player.old }
 {
-    if !player.is_open {
-        return NOT_OPEN;
-    }
     let length = player.owned.player().length();
     *frames = length.frames;
     *fade = length.fade;
-    OK
 }
 
-/// Whether the file says that it has tags; false where none is open.
+/// Whether the file says that it has tags.
 #[unsafe(no_mangle)]
 pub extern "C" fn spcwave_tagged(player: &mut SpcwavePlayer) -> bool
-    requires { IsKept player.old }
-    ensures kept { IsKept player.new }
+    requires { IsOpen player.old }
     ensures tagged { IfSome (playing player.old) (λ p. result ≡ has_tags p.file) }
-    ensures none { playing player.old ≡ None → result ≡ false }
     ensures same { playing player.new ≡ playing player.old }
 {
-    if !player.is_open {
-        return false;
-    }
     player.owned.player().is_tagged()
 }
 
-/// Writes the text of a tag as `player::Player::tag` does, and tells its whole length. It is empty where none is open, or no tag has the
-/// number: 0 title, 1 game, 2 artist, 3 dumper, 4 comments, 5 date, 6 seconds, 7 fade.
+/// Writes the text of a tag as `player::Player::tag` does, and tells its whole length. It is empty where no tag has the number: 0 title, 1 game,
+/// 2 artist, 3 dumper, 4 comments, 5 date, 6 seconds, 7 fade.
 #[unsafe(no_mangle)]
 pub extern "C" fn spcwave_tag(player: &mut SpcwavePlayer, number: u32, text: &mut [u8]) -> usize
-    requires { IsKept player.old }
-    ensures kept { IsKept player.new }
-    ensures text { text.new ≡ with_text (tag_text (playing player.old) number) text.old }
-    ensures length { result ≡ length (tag_text (playing player.old) number) }
+    requires { IsOpen player.old }
+    ensures text { IfSome (playing player.old) (λ p. text.new ≡ with_text (tag_text p.file number) text.old) }
+    ensures length { IfSome (playing player.old) (λ p. result ≡ length (tag_text p.file number)) }
     ensures same { playing player.new ≡ playing player.old }
 {
-    if player.is_open {
-        if let Some(tag) = tag_of(number) {
-            return player.owned.player().tag(tag, text);
-        }
+    if let Some(tag) = tag_of(number) {
+        return player.owned.player().tag(tag, text);
     }
     put_text(&[], text);
     0
 }
 
-/// Copies the 128 registers of the S-DSP at the position. Where none is open they stay as they were.
+/// Copies the 128 registers of the S-DSP at the position.
 #[unsafe(no_mangle)]
-pub extern "C" fn spcwave_registers(player: &mut SpcwavePlayer, registers: &mut [u8; 128]) -> u32
-    requires { IsKept player.old }
-    ensures kept { IsKept player.new }
-    ensures status { result ≡ open_status (playing player.old) }
+pub extern "C" fn spcwave_registers(player: &mut SpcwavePlayer, registers: &mut [u8; 128])
+    requires { IsOpen player.old }
     ensures registers { IfSome (playing player.old) (λ p. registers.new ≡ (chip_here p).registers) }
-    ensures left { playing player.old ≡ None → registers.new ≡ registers.old }
     ensures same { playing player.new ≡ playing player.old }
 {
-    if !player.is_open {
-        return NOT_OPEN;
-    }
-    *registers = *player.owned.player().registers();
-    OK
+    *registers = *spc_player::registers(player.owned.player());
 }
 
 /// Tells what shows of voice 0 to 7 at the position. Where it isn't told it stays as it was.
@@ -134,19 +99,15 @@ pub extern "C" fn spcwave_voice(
     number: u32,
     voice: &mut ShownVoice,
 ) -> u32
-    requires { IsKept player.old }
-    ensures kept { IsKept player.new }
-    ensures status { result ≡ range_status (nat_lt number 8) (playing player.old) }
+    requires { IsOpen player.old }
+    ensures status { result ≡ range_status (nat_lt number 8) }
     ensures voice { result ≡ ok → IfSome (playing player.old) (λ p. voice.new ≡ shown_voice (chip_here p) number) }
     ensures left { result ≢ ok → voice.new ≡ voice.old }
     ensures same { playing player.new ≡ playing player.old }
 {
-    if !player.is_open {
-        return NOT_OPEN;
-    }
     if number >= 8 {
         return OUT_OF_RANGE;
     }
-    *voice = player.owned.player().voice(number as u8);
+    *voice = spc_player::voice(player.owned.player(), number as u8);
     OK
 }

@@ -13,6 +13,10 @@ use Rattle.render_core.specs.RenderState.{RenderState}
 abbrev pub saved_whole : {S V : Type 0} → ChipSaving S V → Whole (Machine S) → PlayState V
 saved_whole saving w = record { cpu = w.0; bus = saved_bus saving w.1 }
 
+-- the same with another chip saved
+abbrev pub with_saved_chip : {V : Type 0} → PlayState V → (chip : V) → PlayState V
+with_saved_chip saved chip = record saved { bus = record saved.bus { chip = chip } }
+
 -- what can be loaded, as all that is saved: a render may be as long as the samples made by then
 pub record CanBePlayed {S V : Type 0} (saving : ChipSaving S V) (saved : PlayState V) : Type 0 where
   pub bus : CanBeLoaded saving saved.bus

@@ -21,6 +21,10 @@ due_in w = samples_due w.1
 abbrev pub with_lists_of : {S : Type 0} → Machine S → Whole (Machine S) → Whole (Machine S)
 with_lists_of m w = (w.0, record w.1 { frames = m.frames; records = m.records; calls = m.calls })
 
+-- a whole machine with its chip in another state
+abbrev pub with_chip : {S : Type 0} → Whole (Machine S) → (chip : S) → Whole (Machine S)
+with_chip w chip = (w.0, record w.1 { chip = chip })
+
 -- the machine once what was saved is loaded over a memory
 abbrev pub loaded_whole : {S V : Type 0} → ChipSaving S V → Whole (Machine S) → PlayState V → (memory : List ℕ) → Whole (Machine S)
 loaded_whole saving w saved memory = with_lists_of w.1 (saved.cpu, loaded_machine saving w.1 saved.bus memory)

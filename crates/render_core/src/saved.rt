@@ -1,4 +1,7 @@
 // What is saved of a render.
+ghost use Rattle.std.specs.Prelude.{◌≡◌};
+ghost use Rattle.render_core.specs.Saved.{with_saved_chip};
+
 use lag_bus::BusState;
 use spc700_exec::Cpu;
 
@@ -8,4 +11,24 @@ use spc700_exec::Cpu;
 pub struct PlayState<S> {
     pub(crate) cpu: Cpu,
     pub(crate) bus: BusState<S>,
+}
+
+impl<S: Copy> PlayState<S> {
+    /// What is saved of the chip.
+    pub fn chip(&self) -> S
+        ensures { result ≡ self.now.bus.chip }
+    {
+        self.bus.chip()
+    }
+
+    /// The same with another chip.
+    pub fn with_chip(self, chip: S) -> PlayState<S>
+        ensures { result ≡ with_saved_chip self chip }
+    {
+        let PlayState { cpu, bus } = self;
+        PlayState {
+            cpu,
+            bus: bus.with_chip(chip),
+        }
+    }
 }

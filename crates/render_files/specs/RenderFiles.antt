@@ -1,5 +1,5 @@
 -- What contracts see of a render that is turned into the bytes of a sound file and of a trace, piece by piece, over any chip.
-use Rattle.std.specs.Prelude.{◌≡◌, ℕ, ◌+◌, ◌-◌, ◌*◌, ◌≤◌, Bool, true, List, [], length, if◌then◌else◌}
+use Rattle.std.specs.Prelude.{◌≡◌, ℕ, ◌+◌, ◌-◌, ◌*◌, ◌≤◌, ◌++◌, Bool, true, List, [], length, if◌then◌else◌}
 use Rattle.std.specs.List.{flat_map}
 use Rattle.num_fix.specs.declared.Frame.{Frame}
 use Rattle.num_fix.specs.Limits.{most_frames}
@@ -57,6 +57,13 @@ to_come_of chip files = record {
   wave = wave_of files files.made (frames_to_come chip files.render);
   trace = trace_of files.is_traced (records_to_come chip files.render);
 }
+
+-- the bytes of the sound file from the piece on, and those of the trace
+abbrev pub wave_from_piece : {S : Type 0} → ChipMeaning S → FilesState S → List ℕ
+wave_from_piece chip files = files.wave ++ (to_come_of chip files).wave
+
+abbrev pub trace_from_piece : {S : Type 0} → ChipMeaning S → FilesState S → List ℕ
+trace_from_piece chip files = files.trace ++ (to_come_of chip files).trace
 
 -- the report on all of it
 abbrev pub report_of : {S : Type 0} → ChipMeaning S → FilesState S → List ℕ

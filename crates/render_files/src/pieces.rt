@@ -8,7 +8,7 @@ ghost use Rattle.render_core.specs.Fade.{faded_from, faded_frames};
 ghost use Rattle.render_core.specs.RenderState.{frames_to_come, records_to_come, counts_to_come};
 ghost use Rattle.render_files.specs.RenderReport.{sound_report};
 ghost use Rattle.num_fix.specs.Limits.{most_frames};
-ghost use Rattle.render_files.specs.RenderFiles.{stereo_size, most_bytes_of_frames, most_bytes_of_lines, trace_of, to_come_of, held_of, report_of, work_of, IsUnmade};
+ghost use Rattle.render_files.specs.RenderFiles.{stereo_size, most_bytes_of_frames, most_bytes_of_lines, trace_of, to_come_of, wave_from_piece, trace_from_piece, held_of, report_of, work_of, IsUnmade};
 ghost use Rattle.report_text.specs.Room.{room_size};
 
 use crate::rows::{STEREO_SIZE, put_frames};
@@ -153,8 +153,8 @@ impl<C: Chip> RenderFiles<C> {
     fn add_piece(&mut self) -> bool
         requires wave_room { length self.old.wave + most_bytes_of_frames ≤ room_size }
         requires trace_room { length self.old.trace + most_bytes_of_lines ≤ room_size }
-        ensures wave_to_come { self.old.wave ++ (to_come_of C.meaning self.old).wave ≡ self.new.wave ++ (to_come_of C.meaning self.new).wave }
-        ensures trace_to_come { self.old.trace ++ (to_come_of C.meaning self.old).trace ≡ self.new.trace ++ (to_come_of C.meaning self.new).trace }
+        ensures wave_to_come { wave_from_piece C.meaning self.old ≡ wave_from_piece C.meaning self.new }
+        ensures trace_to_come { trace_from_piece C.meaning self.old ≡ trace_from_piece C.meaning self.new }
         ensures wave_done { result ≡ true → (to_come_of C.meaning self.new).wave ≡ [] }
         ensures trace_done { result ≡ true → (to_come_of C.meaning self.new).trace ≡ [] }
         ensures less_work { result ≡ false → work_of self.new < work_of self.old }
@@ -190,8 +190,8 @@ impl<C: Chip> RenderFiles<C> {
     fn add_pieces(&mut self) -> bool
         requires wave { self.old.wave ≡ [] }
         requires trace { self.old.trace ≡ [] }
-        ensures wave_to_come { (to_come_of C.meaning self.old).wave ≡ self.new.wave ++ (to_come_of C.meaning self.new).wave }
-        ensures trace_to_come { (to_come_of C.meaning self.old).trace ≡ self.new.trace ++ (to_come_of C.meaning self.new).trace }
+        ensures wave_to_come { (to_come_of C.meaning self.old).wave ≡ wave_from_piece C.meaning self.new }
+        ensures trace_to_come { (to_come_of C.meaning self.old).trace ≡ trace_from_piece C.meaning self.new }
         ensures wave_done { result ≡ true → (to_come_of C.meaning self.new).wave ≡ [] }
         ensures trace_done { result ≡ true → (to_come_of C.meaning self.new).trace ≡ [] }
         ensures less_work { result ≡ false → work_of self.new < work_of self.old }

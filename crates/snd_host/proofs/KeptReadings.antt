@@ -3,7 +3,7 @@ use Rattle.std.proofs.Common.{◌≡◌, ℕ, ◌+◌, ◌≤◌, List, [], ◌�
 use Rattle.std.specs.Prelude.{IsSomeAnd, string_bytes}
 use Rattle.std.specs.Option.{option_map, option_map_or}
 use Rattle.std.specs.Str.{bytes_eq}
-use Rattle.std.proofs.lemmas.List.{append-nil, map-append, length-map}
+use Rattle.std.proofs.lemmas.List.{map-append, length-map}
 use Rattle.std.proofs.lemmas.List.Quantifiers.{position-Some}
 use Rattle.std.proofs.lemmas.Option.{slice_get-get_or}
 use Rattle.std.proofs.lemmas.Slice.Eq.{bytes_eq-Decides}
@@ -60,10 +60,6 @@ module _ (files : List File) (past taken later : Option Readings) (current took 
     added = λ after is. let was = opened_next inputs kept more after (sym b_tells ∙ is) in (was.0, a_tells ∙ was.1, was.2);
     told = λ before is few. subst (λ (o : Option (List OpenedInput)). IsSome o) (sym b_tells) (told_next told before (sym a_tells ∙ is) (omega arith));
   }
-
--- no reading comes next
-pub none_next : (files : List File) (next : Option Reading) → next ≡ None → (readings : List Reading) → map (opened_input files) (readings_of readings next) ≡ map (opened_input files) readings ++ []
-none_next files next is readings = ap (λ o. map (opened_input files) (readings_of readings o)) is ∙ sym (append-nil (map (opened_input files) readings))
 
 -- a reading comes next
 pub one_next : (files : List File) (reading : Reading) (input : OpenedInput) → opened_input files reading ≡ input → (readings : List Reading) →

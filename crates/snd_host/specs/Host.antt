@@ -34,7 +34,7 @@ pub record Faults : Type 0 where
 -- A host at one moment. An implementation tells `holds`, `left`, `opened`, `given` and `steady`, or it doesn't.
 pub record HostState : Type 0 where
   pub holds : Option Files
-  -- what is left of the current input
+  -- what is left of the input that was opened last
   pub left : Option (List ℕ)
   -- the inputs that were opened, in the order of the calls; a failed `open_in` opens none
   pub opened : Option (List OpenedInput)

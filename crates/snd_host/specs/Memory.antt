@@ -11,9 +11,14 @@ use Rattle.snd_host.specs.Readings.{opened_of}
 use Rattle.snd_host.specs.declared.readings.Reading.{Reading}
 use Rattle.snd_host.specs.declared.memory.Slot.{Slot}
 
+-- what is left of a reading
 abbrev pub left_of : List File → Option Reading → List ℕ
 left_of files None = []
 left_of files (Some reading) = drop reading.at (bytes_at files reading.index)
+
+-- the input that can be read: the last one that was opened, where no call of `open_in` has failed since
+abbrev pub current_of : MemHost → Option Reading
+current_of host = if host.is_open then host.last else None
 
 abbrev pub output_of : Slot → Output
 output_of slot = record { name = string_bytes slot.name; bytes = slot.sink.bytes.items }
@@ -29,10 +34,10 @@ rooms_of host = host.report.room ∷ host.complaint.room ∷ (map (λ slot. slot
 abbrev pub memory_state : MemHost → HostState
 memory_state host = record {
   holds = Some (content_of host.files.items);
-  left = Some (left_of host.files.items host.current);
-  opened = opened_of host.files.items host.past host.current;
+  left = Some (left_of host.files.items host.last);
+  opened = opened_of host.files.items host.past host.last;
   given = Some (record { report = host.report.bytes.items; complaint = host.complaint.bytes.items; created = map output_of host.created.items });
-  current = option_map (λ _. host.newest) host.current;
+  current = option_map (λ _. host.newest) (current_of host);
   ended = map (λ slot. slot.ended) host.created.items;
   faults = record { inputs = host.in_faults; notes = host.note_faults; outputs = host.out_faults };
   failed_last = host.failed_last;

@@ -10,11 +10,11 @@ use Rattle.snd_host.specs.declared.readings.Readings.{Readings}
 abbrev pub opened_input : List File → Reading → OpenedInput
 opened_input files reading = record { name = name_at files reading.index; read = reading.at }
 
--- the readings, the current one last
+-- the readings before the last one, and then that
 abbrev pub readings_of : List Reading → Option Reading → List Reading
 readings_of past None = past
 readings_of past (Some reading) = past ++ reading ∷ []
 
 -- the inputs that were opened, where there was memory to keep them all
 abbrev pub opened_of : List File → Option Readings → Option Reading → Option (List OpenedInput)
-opened_of files past current = option_map (λ readings. map (opened_input files) (readings_of readings.list.items current)) past
+opened_of files past last = option_map (λ readings. map (opened_input files) (readings_of readings.list.items last)) past

@@ -48,6 +48,7 @@ impl Host for DripHost {
         ensures none_current { OnErr result ((drip_state self.new).current ≡ None) }
         ensures there { OnOk result (IfTold (drip_state self.old).holds (λ files. IsSome (files name.now))) }
         ensures left { OnOk result (IfTold (drip_state self.old).holds (λ files. (drip_state self.new).left ≡ files name.now)) }
+        ensures unread { OnErr result ((drip_state self.new).left ≡ (drip_state self.old).left) }
         ensures opened { OnOk result (Opens (record { name = name.now; read = 0 } ∷ []) (drip_state self.old) (drip_state self.new)) }
         ensures not_opened { OnErr result (Opens [] (drip_state self.old) (drip_state self.new)) }
         ensures others { ChangesInputs (drip_state self.old) (drip_state self.new) }

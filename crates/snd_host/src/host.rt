@@ -21,9 +21,8 @@ pub const LONGEST_OUTPUT_NAME: usize = 200;
 /// Where a program reads its inputs and writes its outputs.
 ///
 /// A call that answers `Failed` is counted once, among those of its kind, and no other is; and a host tells whether its last
-/// call failed, of all but the writes to the complaint. After a failed `open_in` no input is current, and what is left to be
-/// read is not told. Every other failed call changes, of what is told, these two alone; what a failed `read` leaves in the
-/// buffer is not told.
+/// call failed, of all but the writes to the complaint. A failed call changes, of what is told, these two alone, but that no
+/// input is current after a failed `open_in`; what a failed `read` leaves in the buffer is not told.
 pub trait Host {
     /// What contracts see of a host at one moment.
     ghost state: { Self → HostState };
@@ -36,6 +35,7 @@ pub trait Host {
         ensures none_current { OnErr result ((state self.new).current ≡ None) }
         ensures there { OnOk result (IfTold (state self.old).holds (λ files. IsSome (files name.now))) }
         ensures left { OnOk result (IfTold (state self.old).holds (λ files. (state self.new).left ≡ files name.now)) }
+        ensures unread { OnErr result ((state self.new).left ≡ (state self.old).left) }
         ensures opened { OnOk result (Opens (record { name = name.now; read = 0 } ∷ []) (state self.old) (state self.new)) }
         ensures not_opened { OnErr result (Opens [] (state self.old) (state self.new)) }
         ensures others { ChangesInputs (state self.old) (state self.new) }

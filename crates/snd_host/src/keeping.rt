@@ -6,14 +6,14 @@ ghost use Rattle.snd_host.specs.Readings.{readings_of};
 
 use crate::readings::{Reading, Readings};
 
-/// The readings with the current one, if there is one; nothing where there is no memory to keep them all.
-pub(crate) fn with_reading(past: Option<Readings>, current: Option<Reading>) -> Option<Readings>
-    ensures kept { IfTold result (λ after. IsSomeAnd past (λ before. after.list.items ≡ readings_of before.list.items current)) }
+/// The readings with the last one, if there is one; nothing where there is no memory to keep them all.
+pub(crate) fn with_reading(past: Option<Readings>, last: Option<Reading>) -> Option<Readings>
+    ensures kept { IfTold result (λ after. IsSomeAnd past (λ before. after.list.items ≡ readings_of before.list.items last)) }
     // While they are few they are kept.
-    ensures told { IfTold past (λ before. length (readings_of before.list.items current) ≤ most_told → IsSome result) }
+    ensures told { IfTold past (λ before. length (readings_of before.list.items last) ≤ most_told → IsSome result) }
 {
     let Readings { mut list } = past?;
-    if let Some(reading) = current {
+    if let Some(reading) = last {
         if list.push(reading).is_err() {
             return None;
         }

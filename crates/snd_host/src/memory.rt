@@ -57,7 +57,8 @@ pub struct MemHost {
     calls: u32,
     newest: u32,
     past: Option<Readings>,
-    current: Option<Reading>,
+    last: Option<Reading>,
+    is_open: bool,
     report: Sink,
     complaint: Sink,
     created: Vec<Slot>,
@@ -202,7 +203,8 @@ impl MemHost {
             calls: 0,
             newest: 0,
             past: Some(past),
-            current: None,
+            last: None,
+            is_open: false,
             report,
             complaint,
             created,
@@ -270,6 +272,7 @@ impl Host for MemHost {
         ensures there { OnOk result (IfTold (memory_state self.old).holds (λ files. IsSome (files name.now))) }
         ensures left { OnOk result (
             IfTold (memory_state self.old).holds (λ files. (memory_state self.new).left ≡ files name.now)) }
+        ensures unread { OnErr result ((memory_state self.new).left ≡ (memory_state self.old).left) }
         ensures opened { OnOk result (Opens (record { name = name.now; read = 0 } ∷ []) (memory_state self.old) (memory_state self.new)) }
         ensures not_opened { OnErr result (Opens [] (memory_state self.old) (memory_state self.new)) }
         ensures others { ChangesInputs (memory_state self.old) (memory_state self.new) }
@@ -284,7 +287,7 @@ impl Host for MemHost {
     {
         let fails = count_call(&mut self.calls, self.failing.as_slice());
         let found = find_file(self.files.as_slice(), name);
-        self.past = with_reading(self.past.take(), self.current.take());
+        self.is_open = false;
         if fails {
             self.in_faults = self.in_faults.saturating_add(1);
             self.failed_last = true;
@@ -295,8 +298,10 @@ impl Host for MemHost {
             self.failed_last = true;
             return Err(Failed);
         };
+        self.past = with_reading(self.past.take(), self.last.take());
         self.newest = self.newest.wrapping_add(1);
-        self.current = Some(Reading { index, at: 0 });
+        self.last = Some(Reading { index, at: 0 });
+        self.is_open = true;
         self.failed_last = false;
         Ok(InFile(self.newest))
     }
@@ -325,7 +330,7 @@ impl Host for MemHost {
         ensures rooms_kept { rooms_of self.new ≡ rooms_of self.old }
     {
         let fails = count_call(&mut self.calls, self.failing.as_slice());
-        let Some(reading) = self.current else {
+        let Some(reading) = self.last else {
             unreachable!()
         };
         self.failed_last = fails;
@@ -336,7 +341,7 @@ impl Host for MemHost {
         let bytes = bytes_of(self.files.as_slice(), reading.index);
         let at = reading.at.min(bytes.len());
         let count = copy_front(&bytes[at..], buf);
-        self.current = Some(Reading {
+        self.last = Some(Reading {
             index: reading.index,
             at: reading.at + count,
         });

@@ -15,7 +15,7 @@ pub(crate) struct Reading {
     pub(crate) at: usize,
 }
 
-/// The readings before the current one, in a list that has room for as many as a host is sure to tell.
+/// The readings before the last one, in a list that has room for as many as a host is sure to tell.
 #[derive(Drop)]
 pub(crate) struct Readings {
     pub(crate) list: Vec<Reading>,

@@ -1,5 +1,5 @@
 -- The ID666 tags in their text form (fields: SPC file format text v0.30; the rule of the length is own).
-use Rattle.std.specs.Prelude.{ℕ, ◌+◌, ◌*◌, ◌==◌, List, take, drop, Bool, ◌&&◌, nat_lt, if◌then◌else◌, Option, Some, None, unwrap_or}
+use Rattle.std.specs.Prelude.{ℕ, ◌+◌, ◌*◌, ◌==◌, List, [], ◌∷◌, take, drop, Bool, false, not, ◌&&◌, nat_lt, if◌then◌else◌, Option, Some, None, unwrap_or}
 use Rattle.std.specs.List.{before_first, list_all, prefix_len}
 use Rattle.std.specs.Char.{is_ascii_digit}
 use Rattle.text_form.specs.Decimals.{decimal_value}
@@ -66,8 +66,22 @@ abbrev pub length_of_numbers : (seconds fade : Option ℕ) → Length
 length_of_numbers None fade = default_length
 length_of_numbers (Some seconds) fade = if seconds == 0 then default_length else length_of_times seconds (unwrap_or fade 0)
 
+-- the seconds that the tags tell: none where the file has no tags, or no number there
+unfoldable pub seconds_told : (file : List ℕ) → Option ℕ
+seconds_told file = if has_tags file then number_in (text_of file Seconds) else None
+
 -- the length that a file asks for
 unfoldable pub length_of : (file : List ℕ) → Length
-length_of file =
-    if has_tags file then length_of_numbers (number_in (text_of file Seconds)) (number_in (text_of file Fade))
-    else default_length
+length_of file = length_of_numbers (seconds_told file) (number_in (text_of file Fade))
+
+-- whether it is the tags that tell it: by a number of seconds above 0
+abbrev pub is_some_time : Option ℕ → Bool
+is_some_time None = false
+is_some_time (Some seconds) = not (seconds == 0)
+
+abbrev pub is_length_told : (file : List ℕ) → Bool
+is_length_told file = is_some_time (seconds_told file)
+
+-- all tags, in the order in which they are numbered for callers
+abbrev pub all_tags : List Tag
+all_tags = Title ∷ Game ∷ Artist ∷ Dumper ∷ Comments ∷ Date ∷ Seconds ∷ Fade ∷ []

@@ -1,6 +1,5 @@
 // A file and its fields.
 ghost use Rattle.std.specs.Prelude.{◌≡◌, None, length};
-ghost use Rattle.spc_form.specs.Tags.{has_tags};
 ghost use Rattle.spc_form.specs.Layout.{tag_mark_of, minor_of, pc_of, a_of, x_of, y_of, psw_of, sp_of, memory_of, dsp_of, extra_of, dsp_size, rom_size};
 ghost use Rattle.spc_form.specs.Tags.{text_of};
 ghost use Rattle.spc_form.specs.Accepted.{signature, first_difference, kept_length};
@@ -94,13 +93,6 @@ impl SpcFile {
         ensures { result ≡ tag_mark_of self.now }
     {
         self.as_slice()[TAG_MARK_PLACE]
-    }
-
-    /// Whether the file says that it has tags.
-    pub fn is_tagged(&self) -> bool
-        ensures { result ≡ has_tags self.now }
-    {
-        self.tag_mark() == 0x1A
     }
 
     /// The memory, 65,536 bytes.

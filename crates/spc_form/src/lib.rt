@@ -3,12 +3,14 @@
 #![tactic(auto)]
 
 mod file;
+mod inspection;
 mod parts;
 mod reading;
 mod state;
 mod tags;
 
 pub use file::SpcFile;
+pub use inspection::{SpcInfo, TextPlace, inspect};
 pub use parts::{DSP_PLACE, KEPT_LENGTH, MEMORY_PLACE};
 pub use reading::{GREATEST_LENGTH, SpcRefusal, read_spc, write_spc};
 pub use state::{OpenState, opening};

@@ -5,6 +5,9 @@ ghost use Rattle.spc_form.specs.Layout.{part_of};
 /// The bytes of a file: what is kept of one, and what is written.
 pub const KEPT_LENGTH: usize = 66048;
 
+/// How many bytes stand before the memory: the signature, the processor's registers and the tags.
+pub const HEAD_SIZE: usize = MEMORY_PLACE;
+
 /// Where the byte stands that says whether there are tags.
 pub const TAG_MARK_PLACE: usize = 0x23;
 

@@ -1,6 +1,6 @@
 // Reading and writing.
-ghost use Rattle.std.specs.Prelude.{◌≡◌, ◌≤◌, ◌⊎◌, length, vec_len, IfOk, IfErr};
-ghost use Rattle.spc_form.specs.Accepted.{signature, first_difference, padded_to, kept_length, spc_file};
+ghost use Rattle.std.specs.Prelude.{◌≡◌, ◌≤◌, ◌⊎◌, length, vec_len, None, Ok, Err, IfOk, IfErr, IfSome};
+ghost use Rattle.spc_form.specs.Accepted.{least_length, signature, first_difference, padded_to, padded_bytes, kept_length, spc_file};
 ghost use Rattle.spc_form.specs.declared.reading.SpcRefusal.TheVariants.{OutOfMemory as MemoryRefusal};
 
 use crate::parts::KEPT_LENGTH;
@@ -63,19 +63,33 @@ fn padded_to(alloc: Global, bytes: &[u8], size: usize) -> Result<Vec<u8>, OutOfM
     Ok(copy)
 }
 
+/// Why bytes are no file; none where they are one.
+#[tactic(auto, unfolding(crate::specs::Accepted::spc_file))]
+pub(crate) fn refusal_of(bytes: &[u8]) -> Option<SpcRefusal>
+    ensures refused { IfSome result (λ refusal. spc_file bytes.now ≡ Err refusal) }
+    ensures accepted { result ≡ None → spc_file bytes.now ≡ Ok (padded_bytes bytes.now) }
+    ensures long { result ≡ None → least_length ≤ length bytes.now }
+    ensures signed { result ≡ None → first_difference signature bytes.now ≡ None }
+{
+    if bytes.len() < LEAST_LENGTH || bytes.len() > GREATEST_LENGTH {
+        return Some(SpcRefusal::Length(bytes.len()));
+    }
+    match first_difference(bytes) {
+        Some(at) => Some(SpcRefusal::Signature(at)),
+        None => None,
+    }
+}
+
 /// Reads a file (SPC file format text v0.30). Nothing but its length and its signature is looked at: the version may be any.
 /// Bytes missing before 66,048 count as 0, and bytes from there on are dropped. No memory is taken for bytes that are refused.
-#[tactic(auto, unfolding(crate::specs::Accepted::spc_file, crate::specs::Accepted::padded_bytes))]
+#[tactic(auto, unfolding(crate::specs::Accepted::padded_bytes))]
 pub fn read_spc(alloc: Global, bytes: &[u8]) -> Result<SpcFile, SpcRefusal>
     ensures file { IfOk result (λ file. spc_file bytes.now ≡ Ok file) }
     ensures refused { IfErr (spc_file bytes.now) (λ refusal. result ≡ Err refusal) }
     ensures causes { IfErr result (λ refusal. (spc_file bytes.now ≡ Err refusal) ⊎ (refusal ≡ SpcRefusal.OutOfMemory)) }
 {
-    if bytes.len() < LEAST_LENGTH || bytes.len() > GREATEST_LENGTH {
-        return Err(SpcRefusal::Length(bytes.len()));
-    }
-    if let Some(at) = first_difference(bytes) {
-        return Err(SpcRefusal::Signature(at));
+    if let Some(refusal) = refusal_of(bytes) {
+        return Err(refusal);
     }
     let bytes = padded_to(alloc, bytes, KEPT_LENGTH)?;
     Ok(SpcFile { bytes })

@@ -1,12 +1,12 @@
 // Tags, and the length that they give.
-ghost use Rattle.std.specs.Prelude.{◌≡◌, ◌+◌, ◌*◌, ◌-◌, ◌^◌, ◌<◌, ◌≤◌, ◌==◌, All, length, slice_range, IfSome};
+ghost use Rattle.std.specs.Prelude.{◌≡◌, true, false, ◌+◌, ◌*◌, ◌-◌, ◌^◌, ◌<◌, ◌≤◌, ◌==◌, All, length, slice_range, IfSome};
 ghost use Rattle.std.specs.List.{before_first, list_all, prefix_len};
 ghost use Rattle.std.specs.Option.{ForSome};
 ghost use Rattle.std.specs.Char.{IsAsciiDigit, is_ascii_digit};
-ghost use Rattle.spc_form.specs.Tags.{most_told_frames, field_start, field_size, text_of, number_in, length_of, length_of_numbers};
+ghost use Rattle.spc_form.specs.Tags.{most_told_frames, field_start, field_size, text_of, number_in, has_tags, seconds_told, is_length_told, default_length, length_of, length_of_numbers};
 
 use crate::SpcFile;
-use crate::parts::part;
+use crate::parts::{HEAD_SIZE, TAG_MARK_PLACE, part};
 use num_fix::SAMPLE_RATE;
 use text_form::{decimal_value, place_of};
 
@@ -47,7 +47,7 @@ pub struct Length {
 }
 
 /// Where the field of a tag begins.
-fn field_start(tag: Tag) -> usize
+pub(crate) fn field_start(tag: Tag) -> usize
     ensures start { result ≡ field_start tag }
     ensures bound { result ≤ 0xB1 }
 {
@@ -142,29 +142,86 @@ fn length_of_numbers(seconds: Option<u32>, fade: Option<u32>) -> Length
     }
 }
 
+/// Whether bytes say that there are tags.
+pub(crate) fn is_tagged_in(bytes: &[u8]) -> bool
+    requires { HEAD_SIZE ≤ length bytes.now }
+    ensures { result ≡ has_tags bytes.now }
+{
+    bytes[TAG_MARK_PLACE] == 0x1A
+}
+
+/// The text of a tag in the bytes of a file.
+#[tactic(auto, unfolding(crate::specs::Tags::text_of))]
+pub(crate) fn text_in(bytes: &[u8], tag: Tag) -> &[u8]
+    requires { HEAD_SIZE ≤ length bytes.now }
+    ensures text { result.now ≡ text_of bytes.now tag }
+    ensures len { length result.now ≤ field_size tag }
+{
+    before_zero(part(bytes, field_start(tag), field_size(tag)))
+}
+
+/// The seconds that the tags tell.
+#[tactic(auto, unfolding(crate::specs::Tags::seconds_told))]
+fn seconds_told_in(bytes: &[u8]) -> Option<u32>
+    requires { HEAD_SIZE ≤ length bytes.now }
+    ensures seconds { result ≡ seconds_told bytes.now }
+    ensures three { IfSome result (λ seconds. seconds < 1000) }
+{
+    if is_tagged_in(bytes) {
+        number_in(text_in(bytes, Tag::Seconds))
+    } else {
+        None
+    }
+}
+
+/// The length and the fade that the bytes of a file ask for.
+#[tactic(auto, unfolding(crate::specs::Tags::length_of))]
+pub(crate) fn length_in(bytes: &[u8]) -> Length
+    requires { HEAD_SIZE ≤ length bytes.now }
+    ensures length { result ≡ length_of bytes.now }
+    ensures most { result.frames ≤ most_told_frames }
+    ensures fade_within { result.fade ≤ result.frames }
+{
+    length_of_numbers(seconds_told_in(bytes), number_in(text_in(bytes, Tag::Fade)))
+}
+
+/// Whether it is the tags that tell the length. Where they don't it is three minutes; where they do, a second at least comes before the fade.
+#[tactic(auto, unfolding(crate::specs::Tags::length_of))]
+pub(crate) fn is_length_told_in(bytes: &[u8]) -> bool
+    requires { HEAD_SIZE ≤ length bytes.now }
+    ensures told { result ≡ is_length_told bytes.now }
+    ensures untold { result ≡ false → length_of bytes.now ≡ default_length }
+    ensures second { result ≡ true → (length_of bytes.now).fade + SAMPLE_RATE ≤ (length_of bytes.now).frames }
+{
+    match seconds_told_in(bytes) {
+        Some(seconds) => seconds != 0,
+        None => false,
+    }
+}
+
 impl SpcFile {
+    /// Whether the file says that it has tags.
+    pub fn is_tagged(&self) -> bool
+        ensures { result ≡ has_tags self.now }
+    {
+        is_tagged_in(self.as_slice())
+    }
+
     /// The length and the fade by the tags, in frames, of which there are 32,000 a second;
     /// three minutes without a fade where the tags give no length.
-    #[tactic(auto, unfolding(crate::specs::Tags::length_of))]
     pub fn length(&self) -> Length
         ensures length { result ≡ length_of self.now }
         ensures most { result.frames ≤ most_told_frames }
         ensures fade_within { result.fade ≤ result.frames }
     {
-        let seconds = if self.is_tagged() {
-            number_in(self.text(Tag::Seconds))
-        } else {
-            None
-        };
-        length_of_numbers(seconds, number_in(self.text(Tag::Fade)))
+        length_in(self.as_slice())
     }
 
     /// The bytes of a tag's field before its first zero byte, whatever they are, and whether the file has tags or not.
-    #[tactic(auto, unfolding(crate::specs::Tags::text_of))]
     pub fn text(&self, tag: Tag) -> &[u8]
         ensures text { result.now ≡ text_of self.now tag }
         ensures len { length result.now ≤ field_size tag }
     {
-        before_zero(part(self.as_slice(), field_start(tag), field_size(tag)))
+        text_in(self.as_slice(), tag)
     }
 }

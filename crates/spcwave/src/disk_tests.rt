@@ -4,7 +4,7 @@ ghost use Rattle.snd_host.specs.Memory.{memory_state};
 
 use crate::run::run;
 use crate::runs::list_words;
-use disk_host::DiskHost;
+use disk_host::{DiskHost, RealDisk};
 use exit_status::Status;
 use snd_host::MemHost;
 use std::alloc::Global;
@@ -106,7 +106,7 @@ fn run_on_disk<R: Files>(
 ) -> Result<Status, Fail> {
     let report = fs::create(files, report)?;
     let complaint = fs::create(files, complaint)?;
-    let mut host = DiskHost::new(alloc, files, report, complaint);
+    let mut host = DiskHost::new(alloc, RealDisk::new(files, report, complaint));
     Ok(run(alloc, words, &mut host))
 }
 

@@ -17,7 +17,7 @@ mod runs;
 mod tests;
 
 use crate::given::{given_of, run_given};
-use disk_host::DiskHost;
+use disk_host::{DiskHost, RealDisk};
 use std::alloc::Global;
 use std::process::ExitCode;
 use std::{env, fs, io};
@@ -41,7 +41,8 @@ fn main(rt: HostRuntime) -> ExitCode {
         fs::open(&rt, NOTHING),
         fs::open(&rt, NOTHING),
     );
-    let mut host = DiskHost::new(rt.alloc(), &rt, rt.stdout(), rt.stderr());
+    let disk = RealDisk::new(&rt, rt.stdout(), rt.stderr());
+    let mut host = DiskHost::new(rt.alloc(), disk);
     let given = given_of(words_of(rt.alloc(), &rt));
     ExitCode::from(run_given(rt.alloc(), &given, &mut host))
 }

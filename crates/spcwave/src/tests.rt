@@ -150,8 +150,8 @@ fn other_words_of_code_cuts_and_rips_are_not_understood(rt: HostRuntime) -> Resu
 
 /// Words of commands on one block, and how each ends with its report.
 const COMMANDS: &[(&[&str], Status, &str)] = &[
-    (&["version"], Status::Ok, "spcwave 1.1.0\n"),
-    (&["--version"], Status::Ok, "spcwave 1.1.0\n"),
+    (&["version"], Status::Ok, "spcwave 1.2.0\n"),
+    (&["--version"], Status::Ok, "spcwave 1.2.0\n"),
     (&["brr", "IN", "OUT"], Status::Ok, "blocks 1 samples 16\n"),
     (&["brr", "IN", "IN"], Status::Ok, "blocks 1 samples 16\n"),
     (&["info", "IN"], Status::SpcLength, ""),

@@ -69,7 +69,7 @@ fn the_commands_are_told(rt: HostRuntime) -> Result<(), Fail> {
 #[test]
 fn the_version_is_told(rt: HostRuntime) -> Result<(), Fail> {
     let outcome = ask_for_version(rt.alloc(), &[])?;
-    assert!(rt; outcome.is_done(&[], "spcwave 1.1.0\n") && outcome.calls() == 1);
+    assert!(rt; outcome.is_done(&[], "spcwave 1.2.0\n") && outcome.calls() == 1);
     let failed = ask_for_version(rt.alloc(), &[0])?;
     assert!(rt; failed.is_cut_off(0, &[], &[], ""));
     Ok(())

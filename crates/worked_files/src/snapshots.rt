@@ -1,4 +1,6 @@
-use spc_form::{KEPT_LENGTH, Length, SpcFile, SpcRefusal, Tag, opening, read_spc, write_spc};
+use spc_form::{
+    KEPT_LENGTH, Length, SpcFile, SpcRefusal, Tag, TextPlace, inspect, opening, read_spc, write_spc,
+};
 use std::alloc::Global;
 use std::test::Fail;
 
@@ -137,17 +139,18 @@ fn fields_and_texts(rt: HostRuntime) -> Result<(), Fail> {
 #[test]
 fn lengths_by_the_tags(rt: HostRuntime) -> Result<(), Fail> {
     let alloc = rt.alloc();
-    for (mark, seconds, fade, frames, faded) in [
-        (0x1A, b"abc", b"00001", 5_760_000, 0),
-        (0x1A, b"000", b"00001", 5_760_000, 0),
-        (0x1B, b"001", b"00001", 5_760_000, 0),
-        (0x1A, b"120", b"10000", 4_160_000, 320_000),
-        (0x1A, b"30 ", b"\0\0\0\0\0", 960_000, 0),
-        (0x1A, b"001", b"00001", 32_032, 32),
-        (0x1A, b" 30", b"1 000", 5_760_000, 0),
-        (0x1A, b"30x", b"00001", 5_760_000, 0),
-        (0x1A, b"001", b"1 000", 32_000, 0),
-        (0x1A, b"999", b"99999", 35_167_968, 3_199_968),
+    for (mark, seconds, fade, frames, faded, told) in [
+        (0x1A, b"abc", b"00001", 5_760_000, 0, false),
+        (0x1A, b"000", b"00001", 5_760_000, 0, false),
+        (0x1B, b"001", b"00001", 5_760_000, 0, false),
+        (0x1A, b"120", b"10000", 4_160_000, 320_000, true),
+        (0x1A, b"30 ", b"\0\0\0\0\0", 960_000, 0, true),
+        (0x1A, b"001", b"00001", 32_032, 32, true),
+        (0x1A, b" 30", b"1 000", 5_760_000, 0, false),
+        (0x1A, b"30x", b"00001", 5_760_000, 0, false),
+        (0x1A, b"001", b"1 000", 32_000, 0, true),
+        (0x1A, b"999", b"99999", 35_167_968, 3_199_968, true),
+        (0x1A, b"180", b"\0\0\0\0\0", 5_760_000, 0, true),
     ] {
         let mut bytes = [(0x23, mark); 9];
         for (i, byte) in seconds.iter().enumerate() {
@@ -156,12 +159,39 @@ fn lengths_by_the_tags(rt: HostRuntime) -> Result<(), Fail> {
         for (i, byte) in fade.iter().enumerate() {
             bytes[i + 3] = (0xAC + i, *byte);
         }
+        let wanted = Length {
+            frames,
+            fade: faded,
+        };
+        let info = inspect(&image(alloc, KEPT_LENGTH, &bytes)?)?;
+        assert!(rt; file(alloc, &bytes)?.length() == wanted);
+        assert!(rt; (info.length, info.is_length_told) == (wanted, told));
+    }
+    Ok(())
+}
+
+/// Where texts stand in the shortest file, in the order in which tags are numbered, and what of it is refused.
+#[test]
+fn texts_are_found_in_the_bytes(rt: HostRuntime) -> Result<(), Fail> {
+    let shortest = image(rt.alloc(), 65920, &[(0x4E, b'G'), (0xB1, b'A')])?;
+    let info = inspect(&shortest)?;
+    let wanted = [
+        (0x2E, 4),
+        (0x4E, 1),
+        (0xB1, 1),
+        (0x6E, 0),
+        (0x7E, 0),
+        (0x9E, 0),
+        (0xA9, 0),
+        (0xAC, 0),
+    ]
+    .map(|(offset, length)| TextPlace { offset, length });
+    assert!(rt; !info.is_tagged && info.texts == wanted);
+    for length in [65919, 27] {
+        let shorter = image(rt.alloc(), length, &[])?;
         assert!(rt;
-            file(alloc, &bytes)?.length()
-                == Length {
-                    frames,
-                    fade: faded
-                }
+            inspect(&shorter) == Err(SpcRefusal::Length(length)),
+            "{length}"
         );
     }
     Ok(())

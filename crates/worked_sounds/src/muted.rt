@@ -185,17 +185,22 @@ fn muted_voices_do_all_else(rt: HostRuntime) -> Result<(), Fail> {
     Ok(())
 }
 
-// What was saved of a chip that is heard is put back into one whose voices are muted.
+// A load also puts back the voices that were muted when it was saved; with_muted takes others in their place.
 #[test]
-fn a_load_leaves_the_muted_voices(rt: HostRuntime) -> Result<(), Fail> {
+fn a_load_brings_the_muted_voices_of_the_save(rt: HostRuntime) -> Result<(), Fail> {
     let mut heard = modulated_pair(rt.alloc(), 0x00)?;
-    let mut muted = modulated_pair(rt.alloc(), 0xff)?;
+    let mut loaded = modulated_pair(rt.alloc(), 0xff)?;
+    let mut muted = modulated_pair(rt.alloc(), 0x00)?;
     heard.play(1, 0);
-    muted.dsp.load(&heard.dsp.save());
+    let saved = heard.dsp.save();
+    loaded.dsp.load(&saved);
+    muted.dsp.load(&saved.with_muted(0xff));
     heard.play(63, 0);
+    loaded.play(63, 0);
     muted.play(63, 0);
-    assert!(rt; !begin_in_silence(heard.frames.as_slice(), 63));
+    assert!(rt; !begin_in_silence(loaded.frames.as_slice(), 63));
     assert!(rt; begin_in_silence(muted.frames.as_slice(), 63));
+    assert!(rt; have_same_registers(&heard.dsp, &loaded.dsp));
     assert!(rt; have_same_registers(&heard.dsp, &muted.dsp));
     Ok(())
 }

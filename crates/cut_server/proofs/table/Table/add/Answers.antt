@@ -22,20 +22,20 @@ pub invariant_of-self : goal.invariant_of-self
 invariant_of-self g c =
     let few = rw (← c.self.view_is) at c.requires.few in
     let placed = rw (c.newest_pages.ensures, c.deref.ensures.value) at c.place_all-pages.ensures.placed in (
-      omega (arith, c.push_checkpoint.ensures.block.1.0, c.self.invariant.0),
-      rw c.push_checkpoint.ensures.items (kept_added c.self.invariant.1 _ c.args.memory.now _ placed c.place_all-pages.ensures.whole (omega (arith, few, length-map c.self.inside.checkpoints.items (λ checkpoint. checkpoint.sample)))),
+      omega (arith, c.push_within_capacity.ensures.block.1.0, c.self.invariant.0),
+      rw c.push_within_capacity.ensures.items (kept_added c.self.invariant.1 _ c.args.memory.now _ placed c.place_all-pages.ensures.whole (omega (arith, few, length-map c.self.inside.checkpoints.items (λ checkpoint. checkpoint.sample)))),
     )
 
 pub returns-clause-saved : goal.returns-clause-saved
 returns-clause-saved g c =
     let placed = c.place_all-pages.ensures.placed in
     let held = memory_added _ _ _ c.args.memory.now _ placed c.place_all-pages.ensures.whole c.place_all-pages.ensures.memory in
-    rw (← c.self.view_is, c.push_checkpoint.ensures.items) (saved_added c.self.invariant.1 _ _ c.args.memory.now _ placed held)
+    rw (← c.self.view_is, c.push_within_capacity.ensures.items) (saved_added c.self.invariant.1 _ _ c.args.memory.now _ placed held)
 
 pub returns-clause-live : goal.returns-clause-live
 returns-clause-live g c =
     let placed = rw (c.newest_pages.ensures, c.deref.ensures.value) at c.place_all-pages.ensures.placed in
-    rw (← c.self.view_is, c.push_checkpoint.ensures.items) (live_added c.self.invariant.1 _ c.args.memory.now _ placed c.place_all-pages.ensures.whole)
+    rw (← c.self.view_is, c.push_within_capacity.ensures.items) (live_added c.self.invariant.1 _ c.args.memory.now _ placed c.place_all-pages.ensures.whole)
 
 pub returns-clause-free : goal.returns-clause-free
 returns-clause-free g c =

@@ -7,25 +7,25 @@ use Rattle.player.proofs.Putting.{played_none, played_more}
 use Rattle.player.proofs.player.Player.play.Goals as goal
 
 pub pieces-init : goal.pieces-init
-pieces-init c = let player = c.args.self.now in record {
+pieces-init g c = let player = c.args.self.now in record {
   few = omega arith;
-  put = played_none stereo (frames_of player) (position_of player) c.args.out.now c.position.ensures.run;
+  put = played_none stereo (frames_of g.C.Chip.meaning g.C.Chip.saving player) (position_of player) c.args.out.now c.position.ensures.run;
   there = omega arith;
-  marks = marks_none (room_of player) (memory_of player) player.spacing (position_of player) (marks_of player);
+  marks = marks_none (room_of player) (memory_of g.C.Chip.meaning g.C.Chip.saving player) player.spacing (position_of player) (marks_of player);
   made = omega (arith, c.position.ensures.counted);
-  tune = keeps_none player;
+  tune = keeps_none g.C.Chip.meaning g.C.Chip.saving player;
 }
 
 pub pieces-preserved : goal.pieces-preserved
-pieces-preserved c =
+pieces-preserved g c =
     let first = c.args.self.now in let next = c.pieces.self in
     let more = c.play_some-done.result in
     record {
       few = omega (arith, c.play_some-done.ensures.within, c.pieces.invariant.few);
-      put = played_more stereo (frames_of first) (frames_of next) (position_of first) (position_of next) c.pieces.done more c.pieces.out c.args.out.now c.play_some-done.new.out
+      put = played_more stereo (frames_of g.C.Chip.meaning g.C.Chip.saving first) (frames_of g.C.Chip.meaning g.C.Chip.saving next) (position_of first) (position_of next) c.pieces.done more c.pieces.out c.args.out.now c.play_some-done.new.out
           c.position.ensures.run c.pieces.invariant.tune.frames c.pieces.invariant.there c.pieces.invariant.put c.play_some-done.ensures.frames;
       there = omega (arith, c.play_some-done.ensures.position, c.pieces.invariant.there);
-      marks = marks_more first next c.pieces.done more _ c.pieces.invariant.tune c.pieces.invariant.there c.pieces.invariant.marks c.play_some-done.ensures.marks;
+      marks = marks_more g.C.Chip.meaning g.C.Chip.saving first next c.pieces.done more _ c.pieces.invariant.tune c.pieces.invariant.there c.pieces.invariant.marks c.play_some-done.ensures.marks;
       made = omega (arith, c.play_some-done.ensures.made, c.pieces.invariant.made);
-      tune = keeps_both first next c.play_some-done.new.self c.pieces.invariant.tune c.play_some-done.ensures.tune;
+      tune = keeps_both g.C.Chip.meaning g.C.Chip.saving first next c.play_some-done.new.self c.pieces.invariant.tune c.play_some-done.ensures.tune;
     }

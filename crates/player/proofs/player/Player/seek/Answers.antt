@@ -3,4 +3,4 @@ use Rattle.player.proofs.Nearness.{seek_near}
 use Rattle.player.proofs.player.Player.seek.Goals as goal
 
 pub returns-clause-near : goal.returns-clause-near
-returns-clause-near c = λ mark stands before. seek_near (book_of c.args.self.now.server) c.args.at mark stands before
+returns-clause-near g c = λ mark stands before. seek_near (book_of c.args.self.now.server) c.args.at mark stands before

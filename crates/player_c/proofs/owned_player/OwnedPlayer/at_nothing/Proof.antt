@@ -1,5 +1,5 @@
 -- No player that is owned: a walk of the MIR by hand.
-use Rattle.std.proofs.Common.{◌≡◌, refl, List, [], ◌∷◌, None}
+use Rattle.std.proofs.Common.{refl, List, [], ◌∷◌, None}
 use Rattle.std.proofs.raw_atomic.Walks.{proved}
 use mathlib.Core.Bool.{true, ◌&&◌}
 use lib.Dec.{T, lit<}
@@ -7,9 +7,9 @@ use base.Fml.{ftrue}
 use mir.Val.{Val, vstruct, vcons, vnil, has_ty, WT}
 use mir.Syntax.{ty_ptr}
 use contract.Running.{tables}
-use types.Kit.{‵, raw, ◌⊛◌, ◌$◌, ◌∵◌, !, qed, done, drop, join, fjoin, feq_i, fpack, suffices}
+use types.Kit.{‵, raw, ◌$◌, ◌∵◌, !, qed, done, drop, join, fjoin, feq_i, fpack, suffices}
 use types.Part.{agg}
-use types.Run.{enter, of_opd, and_then, no_more, returns}
+use types.Run.{enter, and_then, no_more, returns}
 use types.ByLocal.{alloc_all, pass_all, free_all, look_at, get, sets}
 use denote.Exit.{yes}
 use denote.RattleType.{Valss}

@@ -30,8 +30,8 @@ use Rattle.std_alloc.specs.Box.Ownership.{box_owns}
 use Rattle.std_alloc.proofs.VecSteps.Shapes.{after}
 use Rattle.player_c.specs.declared.owned_player.OwnedPlayer.{OwnedPlayer}
 use Rattle.player_c.specs.contracts.owned_player.OwnedPlayer.{the_row as R, the_type}
-use Rattle.player.specs.contracts.player.Player.{the_row as I}
-use Rattle.player.specs.Player.{PlayerState}
+use Rattle.player_c.specs.Owned.{player_row as I}
+use Rattle.spc_player.specs.Player.{SpcPlayer}
 use Rattle.player_c.specs.Owned.{chunk, owns_playing}
 use Rattle.player_c.specs.Lending.{with_player}
 use Rattle.player_c.proofs.owned_player.OwnedPlayer.TheLaws.{lowers}
@@ -48,7 +48,7 @@ module _ {M : Type 1} {𝓤 : Ura M} (𝓛 : Logic 𝓤) (h : OwnedPlayer) (us :
   abbrev Rest : Fml
   Rest = fsep (chunk (bare (lone I.mir)) (block_ptr b o)) (fsep ((Struct (shape the_type)).own_val (to the_type h) us) (cell_at full_share R.mir us rb ro))
 
-  back : h.at ≡ block_ptr b o → (w : PlayerState) → ent 𝓤 (sep 𝓤 (sem 𝓛 ((mem I).own_at w b o)) (sem 𝓛 Rest)) (sem 𝓛 ((mem R).own_at (with_player h w) rb ro))
+  back : h.at ≡ block_ptr b o → (w : SpcPlayer) → ent 𝓤 (sep 𝓤 (sem 𝓛 ((mem I).own_at w b o)) (sem 𝓛 Rest)) (sem 𝓛 ((mem R).own_at (with_player h w) rb ro))
   unfolding part_of
   back e w =
       qed 𝓛 (‵ (part_at I full_share w b o) ∷ ‵ Rest ∷ []) ∵ move ! (1 ∷ []) $ fsplit ! $ move ! (2 ∷ 0 ∷ []) $ fjoin ! $
@@ -73,7 +73,7 @@ player_spec 𝓤 𝓛 𝓜 𝓡 wired =
     let En = env (code.function).locals l in
     fsplit3 ! $ move ! (1 ∷ 2 ∷ 3 ∷ []) $ opens ! tt R rb ro (λ us.
     move ! (1 ∷ []) $ peeks ! R _ (shows 𝓛 R) h us (λ is. fsplit ! $ move ! (1 ∷ []) $
-    rewrite ! 0 (λ (it : Option PlayerState). ‵ (owns_playing h.at it)) found.1 refl $
+    rewrite ! 0 (λ (it : Option SpcPlayer). ‵ (owns_playing h.at it)) found.1 refl $
     in_a_block ! h.at (λ p. box_owns chunk I p x) (fst∗ 𝓤 (never 𝓤) (sem 𝓛 (chunk (bare (lone I.mir)) null_ptr))) (λ b o e.
     let word = lowers.val_is h us is ∙ ap (λ (p : Ptr). lowers.lowered (record h { at = p }) ∷ []) e in
     let Cell = λ (ws : List Val). ‵ (cell_at full_share R.mir ws rb ro) in

@@ -30,8 +30,8 @@ use Rattle.std_heap.proofs.Global.TheLaws.{the_row_laws as LZ}
 use Rattle.std_heap.proofs.Handle.{heap_val, heap_Tells}
 use Rattle.player_c.specs.contracts.owned_player.OwnedPlayer.{the_row as R}
 use Rattle.player_c.specs.declared.owned_player.OwnedPlayer.{OwnedPlayer}
-use Rattle.player.specs.contracts.player.Player.{the_row as I}
-use Rattle.player.specs.Player.{PlayerState}
+use Rattle.player_c.specs.Owned.{player_row as I}
+use Rattle.spc_player.specs.Player.{SpcPlayer}
 use Rattle.player_c.specs.Owned.{chunk, owns_playing}
 use Rattle.player_c.proofs.Open.{some_of}
 use Rattle.player_c.proofs.owned_player.OwnedPlayer.TheLaws.{lowers}
@@ -58,7 +58,7 @@ take_parts_spec 𝓤 𝓛 𝓜 𝓡 wired =
     enter ! _ _ _ _ _ $ alloc_all ! (λ l. pass_all ! refl ((tt, tt), (fits, tt)) $
     fsplit3 ! $ move ! (1 ∷ 2 ∷ 3 ∷ []) $ opens ! tt R rb ro (λ ws.
     move ! (1 ∷ []) $ peeks ! R _ (shows 𝓛 R) h ws (λ is. fsplit ! $ move ! (1 ∷ []) $
-    rewrite ! 0 (λ (it : Option PlayerState). ‵ (owns_playing h.at it)) found.1 refl $
+    rewrite ! 0 (λ (it : Option SpcPlayer). ‵ (owns_playing h.at it)) found.1 refl $
     in_a_block ! h.at (λ p. box_owns chunk I p x) (fst∗ 𝓤 (never 𝓤) (sem 𝓛 (chunk (bare (lone I.mir)) null_ptr))) (λ b o e.
     let word = lowers.val_is h ws is ∙ ap (λ (p : Ptr). lowers.lowered (record h { at = p }) ∷ []) e in
     let Cell = λ (us : List Val). ‵ (cell_at full_share R.mir us rb ro) in

@@ -4,7 +4,8 @@ use Rattle.std.specs.List.{list_any}
 use Rattle.snd_host.specs.Memory.{memory_state, rooms_of}
 use Rattle.snd_host.proofs.Steady.{steady_of-same, no_failure_some}
 use Rattle.snd_host.specs.Files.{File, place_of}
-use Rattle.snd_host.proofs.KeptReadings.{opens_next, none_next, one_next, name_at-place_of}
+use Rattle.snd_host.proofs.KeptReadings.{opens_next, one_next, name_at-place_of}
+use Rattle.snd_host.proofs.OpenedInputs.{opens_nothing, opens_same}
 use Rattle.snd_host.proofs.memory.MemHostHost.open_in.Goals as goal
 
 pub returns-then-fails-clause-others : goal.returns-then-fails-clause-others
@@ -20,19 +21,15 @@ pub returns-then-fails-clause-steady : goal.returns-then-fails-clause-steady
 returns-then-fails-clause-steady c = λ steady files told there. absurd (no_failure_some c.args.self.now.failing.items c.args.self.now.calls (rooms_of c.args.self.now) c.count_call-fails.result steady (c.count_call-fails.ensures.fails ∙ ap (λ (l : List ℕ). list_any (λ number. number == c.args.self.now.calls) l) c.as_slice.ensures.value) c.if-fails.true)
 
 pub returns-then-fails-clause-not_opened : goal.returns-then-fails-clause-not_opened
-returns-then-fails-clause-not_opened c =
-    opens_next c.args.self.now.files.items c.args.self.now.past c.take.result c.with_reading.result c.args.self.now.current c.take-2.result c.take-2.new.self c.take.ensures.value c.take-2.ensures.value
-    [] (memory_state c.args.self.now) _ refl refl c.with_reading.ensures.kept c.with_reading.ensures.told (none_next c.args.self.now.files.items c.take-2.new.self c.take-2.ensures.after)
+returns-then-fails-clause-not_opened c = opens_same [] (memory_state c.args.self.now) (memory_state c.args.self.now) _ (opens_nothing (memory_state c.args.self.now)) refl
 
 pub returns-in_default-clause-not_opened : goal.returns-in_default-clause-not_opened
-returns-in_default-clause-not_opened c =
-    opens_next c.args.self.now.files.items c.args.self.now.past c.take.result c.with_reading.result c.args.self.now.current c.take-2.result c.take-2.new.self c.take.ensures.value c.take-2.ensures.value
-    [] (memory_state c.args.self.now) _ refl refl c.with_reading.ensures.kept c.with_reading.ensures.told (none_next c.args.self.now.files.items c.take-2.new.self c.take-2.ensures.after)
+returns-in_default-clause-not_opened c = opens_same [] (memory_state c.args.self.now) (memory_state c.args.self.now) _ (opens_nothing (memory_state c.args.self.now)) refl
 
 pub returns-clause-opened : goal.returns-clause-opened
 returns-clause-opened c =
     let named = name_at-place_of c.args.self.now.files.items c.args.name.now c.in-Some.index
     (sym (ap (λ (l : List File). place_of l c.args.name.now) c.as_slice-2.ensures.value) ∙ sym c.find_file-found.ensures ∙ c.in-Some.is) in
-    opens_next c.args.self.now.files.items c.args.self.now.past c.take.result c.with_reading.result c.args.self.now.current c.take-2.result (Some (record { index = c.in-Some.index; at = 0 })) c.take.ensures.value c.take-2.ensures.value
+    opens_next c.args.self.now.files.items c.args.self.now.past c.take.result c.with_reading.result c.args.self.now.last c.take-2.result (Some (record { index = c.in-Some.index; at = 0 })) c.take.ensures.value c.take-2.ensures.value
     (record { name = c.args.name.now; read = 0 } ∷ []) (memory_state c.args.self.now) _ refl refl c.with_reading.ensures.kept c.with_reading.ensures.told
     (one_next c.args.self.now.files.items (record { index = c.in-Some.index; at = 0 }) (record { name = c.args.name.now; read = 0 }) (ap (λ (n : List ℕ). record { name = n; read = 0 }) named))

@@ -1,0 +1,7 @@
+use Rattle.cut_server.proofs.Restarting.{first_read}
+use Rattle.cut_server.proofs.table.Table.first.Goals as goal
+
+pub returns : goal.returns
+returns g c =
+    let some = rw (← c.self.view_is) at c.requires in
+    rw (← c.self.view_is) (first_read _ _ _ some c.index.ensures)

@@ -1,0 +1,282 @@
+// The host of real files: it tells no contents, and passes on what a file knows of its bytes.
+ghost use Rattle.std.specs.Prelude.{◌≡◌, ◌≢◌, ◌⊎◌, ◌<◌, ℕ, ◌≤◌, ◌∷◌, ◌++◌, length, IfOk, drop, None, Some, [], false, is_ok, slice_get, slice_set};
+ghost use Rattle.disk_host.specs.Untold.{untold_state};
+ghost use Rattle.disk_host.specs.Created.{flags_of};
+ghost use Rattle.disk_host.specs.Asked.{AsksOnce};
+ghost use Rattle.disk_host.specs.Held.{told_at, held_by};
+ghost use Rattle.std.specs.Io.KnownBytes.{Keeps, WriteAppends};
+
+use crate::Disk;
+use snd_host::{Failed, Host, InFile, OutFile};
+use std::alloc::Global;
+
+/// An output that was created.
+#[derive(Drop)]
+struct Created<F> {
+    file: F,
+    ended: bool,
+}
+
+/// A host over a disk. It asks the disk once in each call, and fails where the disk does.
+#[derive(Drop)]
+pub struct DiskHost<D: Disk + Drop> {
+    disk: D,
+    input: Option<D::File>,
+    newest: u32,
+    created: Vec<Created<D::File>>,
+    in_faults: u64,
+    note_faults: u64,
+    out_faults: u64,
+    failed_last: bool,
+}
+
+impl<D: Disk + Drop> DiskHost<D> {
+    ghost use Rattle.disk_host.specs.Held.{disk_of};
+
+    /// A host without inputs, outputs or faults, which has asked the disk of nothing.
+    pub fn new(alloc: Global, disk: D) -> Self
+        ensures state { ⟦<DiskHost<D> as Host>⟧.state result ≡ untold_state None [] 0 0 0 false }
+        ensures disk { disk_of result ≡ disk }
+        ensures report { held_by D.held D.texts result 0 ≡ (D.texts disk).report }
+        ensures complaint { held_by D.held D.texts result 1 ≡ (D.texts disk).complaint }
+    {
+        DiskHost {
+            disk,
+            input: None,
+            newest: 0,
+            created: Vec::new(alloc),
+            in_faults: 0,
+            note_faults: 0,
+            out_faults: 0,
+            failed_last: false,
+        }
+    }
+}
+
+/// One write to a created output.
+fn write_created<D: Disk>(
+    disk: &mut D,
+    created: &mut Vec<Created<D::File>>,
+    place: usize,
+    piece: &[u8],
+) -> Result<usize, Failed>
+    requires { slice_get (flags_of created.old.items) place ≡ Some false }
+    ensures within { IfOk result (λ count. count ≤ length piece.now) }
+    ensures progress { IfOk result (λ count. 0 < length piece.now → 0 < count) }
+    ensures flags { flags_of created.new.items ≡ flags_of created.old.items }
+    ensures bytes { WriteAppends (told_at D.held created.old.items place) (told_at D.held created.new.items place) result piece.now }
+    ensures others { (other : ℕ) → other ≢ place → told_at D.held created.new.items other ≡ told_at D.held created.old.items other }
+    ensures asked { AsksOnce (D.asked disk.old) (D.asked disk.new) result }
+    ensures texts { D.texts disk.new ≡ D.texts disk.old }
+{
+    let Some(output) = created.get_mut(place) else {
+        unreachable!()
+    };
+    disk.write(&mut output.file, piece)
+}
+
+/// Ends a created output.
+fn end_created<D: Disk>(
+    disk: &mut D,
+    created: &mut Vec<Created<D::File>>,
+    place: usize,
+) -> Result<(), Failed>
+    requires { slice_get (flags_of created.old.items) place ≡ Some false }
+    ensures flags { flags_of created.new.items ≡ slice_set (flags_of created.old.items) place (is_ok result) }
+    ensures bytes { (other : ℕ) → Keeps (told_at D.held created.old.items other) (told_at D.held created.new.items other) }
+    ensures asked { AsksOnce (D.asked disk.old) (D.asked disk.new) result }
+    ensures texts { D.texts disk.new ≡ D.texts disk.old }
+{
+    let Some(output) = created.get_mut(place) else {
+        unreachable!()
+    };
+    let outcome = disk.flush(&mut output.file);
+    output.ended = outcome.is_ok();
+    outcome
+}
+
+impl<D: Disk + Drop> Host for DiskHost<D> {
+    ghost use Rattle.std.specs.Prelude.{◌+◌, ◌-◌, ◌++◌, ◌∷◌, Some, IsSome, IsOk, OnOk, OnErr, true, is_err, take, slice_get, slice_index};
+    ghost use Rattle.snd_host.specs.OpenedInputs.{Opens, ReadsMore};
+    ghost use Rattle.snd_host.specs.Host.{IfTold, HasCause, CountsWrite, EndsByWrite, IsOpen, ChangesInputs, ChangesOutputs, KeepsRooms, Writes, most_outputs, longest_output_name};
+    ghost use Rattle.disk_host.specs.Held.{disk_state, AsksDisk, HasNoRoom, ReadsOn, WritesOn, HoldsStay, InputStays};
+
+    ghost state = { disk_state };
+
+    ghost tells_each = { λ host given told. absurd (Prim.cc) };
+
+    fn open_in(&mut self, name: &str) -> Result<InFile, Failed>
+        ensures current { IfOk result (λ file. (disk_state self.new).current ≡ Some file.0) }
+        ensures fresh { IfOk result (λ file. (disk_state self.old).current ≢ Some file.0) }
+        ensures none_current { OnErr result ((disk_state self.new).current ≡ None) }
+        ensures there { OnOk result (IfTold (disk_state self.old).holds (λ files. IsSome (files name.now))) }
+        ensures left { OnOk result (IfTold (disk_state self.old).holds (λ files. (disk_state self.new).left ≡ files name.now)) }
+        ensures unread { OnErr result ((disk_state self.new).left ≡ (disk_state self.old).left) }
+        ensures opened { OnOk result (Opens (record { name = name.now; read = 0 } ∷ []) (disk_state self.old) (disk_state self.new)) }
+        ensures not_opened { OnErr result (Opens [] (disk_state self.old) (disk_state self.new)) }
+        ensures others { ChangesInputs (disk_state self.old) (disk_state self.new) }
+        ensures cause { HasCause (disk_state self.old).faults.inputs (disk_state self.new).faults.inputs result }
+        ensures last { (disk_state self.new).failed_last ≡ is_err result }
+        // A steady host fails only at a name that is not there.
+        ensures steady { IsSome (disk_state self.old).steady →
+            IfTold (disk_state self.old).holds (λ files. IsSome (files name.now) → IsOk result) }
+        // No output changes.
+        ensures held { HoldsStay D.held D.texts self.old self.new }
+        // It asks the disk once, and fails where the disk does and only there.
+        ensures asked { AsksDisk D.asked self.old self.new result }
+    {
+        self.input = None;
+        let Ok(file) = self.disk.open(name) else {
+            self.in_faults = self.in_faults.saturating_add(1);
+            self.failed_last = true;
+            return Err(Failed);
+        };
+        self.newest = self.newest.wrapping_add(1);
+        self.input = Some(file);
+        self.failed_last = false;
+        Ok(InFile(self.newest))
+    }
+
+    fn read(&mut self, _file: InFile, buf: &mut [u8]) -> Result<usize, Failed>
+        requires { (disk_state self.old).current ≡ Some _file.0 }
+        ensures within { IfOk result (λ count. count ≤ length buf.old) }
+        ensures after { IfOk result (λ count. drop count buf.new ≡ drop count buf.old) }
+        ensures front { IfOk result (λ count.
+            IfTold (disk_state self.old).left (λ rest. take count buf.new ≡ take count rest)) }
+        ensures left { IfOk result (λ count.
+            IfTold (disk_state self.old).left (λ rest. (disk_state self.new).left ≡ Some (drop count rest))) }
+        ensures available { IfOk result (λ count. IfTold (disk_state self.old).left (λ rest. count ≤ length rest)) }
+        ensures end { result ≡ Ok 0 → 0 < length buf.old → IfTold (disk_state self.old).left (λ rest. rest ≡ []) }
+        ensures unread { OnErr result ((disk_state self.new).left ≡ (disk_state self.old).left) }
+        ensures counted_bytes { IfOk result (λ count. ReadsMore count (disk_state self.old) (disk_state self.new)) }
+        ensures no_bytes { OnErr result ((disk_state self.new).opened ≡ (disk_state self.old).opened) }
+        ensures current { (disk_state self.new).current ≡ (disk_state self.old).current }
+        ensures others { ChangesInputs (disk_state self.old) (disk_state self.new) }
+        ensures cause { HasCause (disk_state self.old).faults.inputs (disk_state self.new).faults.inputs result }
+        ensures last { (disk_state self.new).failed_last ≡ is_err result }
+        ensures steady { IsSome (disk_state self.old).steady → IsOk result }
+        // Where the file knows its bytes, these are the next ones, and none come only at its end.
+        ensures bytes { ReadsOn D.left buf.new self.old self.new result }
+        ensures held { HoldsStay D.held D.texts self.old self.new }
+        // It asks the disk once, and fails where the disk does and only there.
+        ensures asked { AsksDisk D.asked self.old self.new result }
+    {
+        let Some(file) = &mut self.input else {
+            unreachable!()
+        };
+        if let Ok(count) = self.disk.read(file, buf) {
+            self.failed_last = false;
+            return Ok(count);
+        }
+        self.in_faults = self.in_faults.saturating_add(1);
+        self.failed_last = true;
+        Err(Failed)
+    }
+
+    fn create(&mut self, name: &str) -> Result<OutFile, Failed>
+        requires { length (disk_state self.old).ended < most_outputs }
+        ensures number { IfOk result (λ file. file.0 ≡ length (disk_state self.old).ended + 2) }
+        ensures ended { OnOk result ((disk_state self.new).ended ≡ (disk_state self.old).ended ++ false ∷ []) }
+        ensures created { OnOk result (IfTold (disk_state self.old).given (λ given. (disk_state self.new).given ≡
+            Some (record given { created = given.created ++ record { name = name.now; bytes = [] } ∷ [] }))) }
+        ensures not_ended { OnErr result ((disk_state self.new).ended ≡ (disk_state self.old).ended) }
+        ensures not_created { OnErr result ((disk_state self.new).given ≡ (disk_state self.old).given) }
+        ensures others { ChangesOutputs (disk_state self.old) (disk_state self.new) }
+        ensures notes { (disk_state self.new).faults.notes ≡ (disk_state self.old).faults.notes }
+        ensures cause { HasCause (disk_state self.old).faults.outputs (disk_state self.new).faults.outputs result }
+        ensures last { (disk_state self.new).failed_last ≡ is_err result }
+        // A steady host fails only past its rooms or at a name that is longer than the longest.
+        ensures steady { IfTold (disk_state self.old).steady (λ rooms.
+            length (disk_state self.old).ended + 2 < length rooms → length name.now ≤ longest_output_name → IsOk result) }
+        ensures rooms { KeepsRooms (disk_state self.old) (disk_state self.new) }
+        // No output changes.
+        ensures held { HoldsStay D.held D.texts self.old self.new }
+        // Nothing of the current input is eaten.
+        ensures input { InputStays D.left self.old self.new }
+        // It asks the disk once, and fails where the disk does; without asking it only for want of memory for one more output.
+        ensures asked { AsksDisk D.asked self.old self.new result ⊎ HasNoRoom D.asked self.old self.new result }
+    {
+        let number = self.created.len() as u32 + 2;
+        // The room for an output is taken first: where there is none, no file is made.
+        if self.created.reserve(1).is_ok() {
+            if let Ok(file) = self.disk.create(name) {
+                self.created.push(Created { file, ended: false }).unwrap();
+                self.failed_last = false;
+                return Ok(OutFile(number));
+            }
+        }
+        self.out_faults = self.out_faults.saturating_add(1);
+        self.failed_last = true;
+        Err(Failed)
+    }
+
+    fn write(&mut self, file: OutFile, piece: &[u8]) -> Result<usize, Failed>
+        requires { IsOpen (disk_state self.old).ended file.0 }
+        ensures within { IfOk result (λ count. count ≤ length piece.now) }
+        ensures progress { IfOk result (λ count. 0 < length piece.now → 0 < count) }
+        ensures wrote { IfOk result (λ count. Writes file.0 (take count piece.now) (disk_state self.old) (disk_state self.new)) }
+        ensures unwritten { OnErr result (Writes file.0 [] (disk_state self.old) (disk_state self.new)) }
+        ensures cause { CountsWrite file.0 (disk_state self.old).faults (disk_state self.new).faults result }
+        ensures last { EndsByWrite file.0 (disk_state self.old) (disk_state self.new) result }
+        ensures steady { IfTold (disk_state self.old).steady (λ rooms. length piece.now ≤ slice_index rooms file.0 → IsOk result) }
+        // Where the output knows its bytes, those taken come after them, and no other output changes.
+        ensures bytes { WritesOn D.held D.texts file.0 piece.now self.old self.new result }
+        // Nothing of the current input is eaten.
+        ensures input { InputStays D.left self.old self.new }
+        // It asks the disk once, and fails where the disk does and only there.
+        ensures asked { AsksDisk D.asked self.old self.new result }
+    {
+        if file.0 == 1 {
+            if let Ok(count) = self.disk.complain(piece) {
+                return Ok(count);
+            }
+            self.note_faults = self.note_faults.saturating_add(1);
+            return Err(Failed);
+        }
+        if file.0 == 0 {
+            if let Ok(count) = self.disk.report(piece) {
+                self.failed_last = false;
+                return Ok(count);
+            }
+        } else if let Ok(count) = write_created(
+            &mut self.disk,
+            &mut self.created,
+            (file.0 - 2) as usize,
+            piece,
+        ) {
+            self.failed_last = false;
+            return Ok(count);
+        }
+        self.out_faults = self.out_faults.saturating_add(1);
+        self.failed_last = true;
+        Err(Failed)
+    }
+
+    fn finish(&mut self, file: OutFile) -> Result<(), Failed>
+        requires created { 2 ≤ file.0 }
+        requires open_yet { slice_get (disk_state self.old).ended (file.0 - 2) ≡ Some false }
+        ensures ended { OnOk result ((disk_state self.new).ended ≡ slice_set (disk_state self.old).ended (file.0 - 2) true) }
+        ensures not_ended { OnErr result ((disk_state self.new).ended ≡ (disk_state self.old).ended) }
+        ensures given { (disk_state self.new).given ≡ (disk_state self.old).given }
+        ensures others { ChangesOutputs (disk_state self.old) (disk_state self.new) }
+        ensures notes { (disk_state self.new).faults.notes ≡ (disk_state self.old).faults.notes }
+        ensures cause { HasCause (disk_state self.old).faults.outputs (disk_state self.new).faults.outputs result }
+        ensures last { (disk_state self.new).failed_last ≡ is_err result }
+        ensures steady { IsSome (disk_state self.old).steady → IsOk result }
+        ensures rooms { KeepsRooms (disk_state self.old) (disk_state self.new) }
+        // No output changes.
+        ensures held { HoldsStay D.held D.texts self.old self.new }
+        // Nothing of the current input is eaten.
+        ensures input { InputStays D.left self.old self.new }
+        // It asks the disk once, and fails where the disk does and only there.
+        ensures asked { AsksDisk D.asked self.old self.new result }
+    {
+        if end_created(&mut self.disk, &mut self.created, (file.0 - 2) as usize).is_ok() {
+            self.failed_last = false;
+            return Ok(());
+        }
+        self.out_faults = self.out_faults.saturating_add(1);
+        self.failed_last = true;
+        Err(Failed)
+    }
+}

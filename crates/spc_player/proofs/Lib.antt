@@ -1,0 +1,2 @@
+-- MutedTunes: a tune over other muted voices.
+mod MutedTunes
