@@ -1,5 +1,7 @@
 """Runs of the built program that the scripts beside this file share: its commands, what a run leaves, and one refused call."""
 import argparse
+import ctypes
+import ctypes.util
 import os
 import subprocess
 
@@ -29,6 +31,18 @@ def program_of(description):
     parser = argparse.ArgumentParser(description=description, formatter_class=argparse.RawDescriptionHelpFormatter)
     parser.add_argument('program', nargs='?', default=os.path.join(TOP, 'crates', 'spcwave', 'out', 'spcwave'))
     return os.path.abspath(parser.parse_args().program)
+
+
+# Where Debian has libgme, which another one over libspcwave may be found before (extras/libgme).
+DEBIANS_LIBGME = '/usr/lib/x86_64-linux-gnu/libgme.so.0'
+
+
+def system_libgme():
+    """The system's own libgme; None where there is none."""
+    found = ctypes.util.find_library('gme')
+    if found and hasattr(ctypes.CDLL(found), 'spcwave_drop_in'):
+        return DEBIANS_LIBGME if os.path.exists(DEBIANS_LIBGME) else None
+    return found
 
 
 def read(path):

@@ -242,7 +242,14 @@ SLIPS = [
     Slip('the fade one byte later', ['spc_form'], ['worked_files', 'worked_commands'], [
         (TAGS, 'field_start Fade = 0xAC', 'field_start Fade = 0xAD'), (TAGS_CODE, 'Tag::Fade => 0xAC', 'Tag::Fade => 0xAD')]),
     Slip('1Bh for the mark of tags', ['spc_form'], ['worked_files', 'worked_commands'], [
-        (TAGS, 'tag_mark_of file == 0x1A', 'tag_mark_of file == 0x1B'), ('spc_form/src/file.rt', 'self.tag_mark() == 0x1A', 'self.tag_mark() == 0x1B')]),
+        (TAGS, 'tag_mark_of file == 0x1A', 'tag_mark_of file == 0x1B'), (TAGS_CODE, 'bytes[TAG_MARK_PLACE] == 0x1A', 'bytes[TAG_MARK_PLACE] == 0x1B')]),
+    Slip('a length of no seconds is told by the tags', ['spc_form'], ['worked_files'], [
+        (TAGS, 'is_some_time (Some seconds) = not (seconds == 0)', 'is_some_time (Some seconds) = not (seconds == 70000)'),
+        (TAGS_CODE, 'Some(seconds) => seconds != 0,', 'Some(_seconds) => true,')]),
+    Slip('the artist before the game for callers', ['spc_form'], ['worked_files'], [
+        (TAGS, 'Title ∷ Game ∷ Artist', 'Title ∷ Artist ∷ Game'),
+        ('spc_form/src/inspection.rt', 'text_place(bytes, Tag::Game)', 'text_place(bytes, Tag::Artist)'),
+        ('spc_form/src/inspection.rt', '{2}text_place(bytes, Tag::Artist)', 'text_place(bytes, Tag::Game)')]),
     Slip('bit 6 shows the ROM at the opening', ['spc_form'], ['worked_files'], [
         (STATE, '(memory_of file) 0xF1) 7', '(memory_of file) 0xF1) 6'), (STATE_CODE, 'has_bit(image[0xF1], 7)', 'has_bit(image[0xF1], 6)')]),
     Slip('31 frames a millisecond of a fade', ['spc_form'], ['worked_files'], [
@@ -257,7 +264,7 @@ SLIPS = [
     Slip('missing bytes of a file count as FFh', ['spc_form', 'demo_gen'], ['worked_files'], [
         (ACCEPTED, 'replicate (n - length bytes) 0', 'replicate (n - length bytes) 0xFF'), (READING, 'copy.resize(size, 0)', 'copy.resize(size, 0xff)')]),
     Slip('what stands after the digits of a number in a tag', ['spc_form'], ['worked_files'], [
-        (TAGS, 'nat_lt 0 count && list_all', 'nat_lt 0 count || list_all'), (TAGS, 'Bool, ◌&&◌, nat_lt', 'Bool, ◌||◌, nat_lt'),
+        (TAGS, 'nat_lt 0 count && list_all', 'nat_lt 0 count || list_all'), (TAGS, 'not, ◌&&◌, nat_lt', 'not, ◌||◌, nat_lt'),
         (TAGS_CODE, 'count > 0 && is_blank(', 'count > 0 || is_blank(')]),
     Slip('A shown for X and X for A', ['command_info'], ['worked_commands'], [
         (INFO, 'register_text (codes "a") (a_of file) ++ register_text (codes "x") (x_of file)',
@@ -749,8 +756,8 @@ SLIPS = [
     Slip('no loop at the sample 116,480', ['command_line'], ['spcwave'], [
         (ENCODE_WORDS, 'nat_le (decimal_value word) most_samples', 'not (nat_le most_samples (decimal_value word))'), (ENCODE_WORDS, 'nat_le, if', 'nat_le, not, if'),
         (ENCODE_WORDS_CODE, 'sample <= MOST_SAMPLES', 'sample < MOST_SAMPLES')]),
-    Slip('fewer seconds between marks than an hour has', ['player'], ['player'], [
-        ('player/src/options.rt', 'MOST_MARK_SECONDS: u32 = 3600', 'MOST_MARK_SECONDS: u32 = 3599')]),
+    Slip('fewer seconds between marks than an hour has', ['player'], ['spc_player'], [
+        ('player/src/own_marks.rt', 'MOST_MARK_SECONDS: u32 = 3600', 'MOST_MARK_SECONDS: u32 = 3599')]),
 
     # demo files, encodings, cuts and sessions
     Slip('another factor of the draws', ['demo_gen'], ['worked_files'], [
@@ -829,4 +836,8 @@ SLIPS = [
          'file_answer wave muted held_table held_list file = answer_from (cuts_in held_list) (λ cuts. answer_from (table_in held_table) (λ table. list_answer wave muted file table cuts))'),
         ('command_cuts/src/command.rt', '    let table = read_table(alloc, host, names.table)?;\n    prepare_list(alloc, host, file, table, names, muted)',
          '    let cuts = read_list(alloc, host, names.list)?;\n    let table = read_table(alloc, host, names.table)?;\n    plan(alloc, file, table, cuts, names.wave, muted)')]),
+    Slip('one sample more is numbered', ['num_fix'], [], [
+        ('num_fix/specs/Limits.antt', 'greatest_sample_number = 4000000000', 'greatest_sample_number = 4000000001')]),
+    Slip('plays of 128 samples into a list', ['cut_form'], [], [
+        ('cut_form/src/cut.rt', 'MOST_PLAYED: u32 = 64;', 'MOST_PLAYED: u32 = 128;')]),
 ]

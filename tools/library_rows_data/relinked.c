@@ -25,7 +25,9 @@ int main(int argc, char **argv) {
     told(spc_load_spc(spc, file, size));
     spc_clear_echo(spc);
     spc_filter_clear(filter);
+    spc_mute_voices(spc, 0xFF);
     told(spc_skip(spc, 2 * spc_sample_rate * atoi(argv[2])));
+    spc_mute_voices(spc, 0);
     for (left = 2L * spc_sample_rate * atoi(argv[3]); left > 0; left -= 2048) {
         int count = left < 2048 ? (int)left : 2048;
         told(spc_play(spc, count, samples));

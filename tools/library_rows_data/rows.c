@@ -32,7 +32,7 @@ static uint32_t below(uint32_t n) { seed = seed * 6364136223846793005u + 1442695
 struct second { const uint8_t *spc, *table; size_t spc_length; const spcwave_frame *wanted; uint32_t count; int same; };
 static void *play_second(void *given) {
     struct second *it = given;
-    const spcwave_options options = { 256, 0, 0 };
+    const spcwave_options options = { sizeof options, 256, 0, 0 };
     spcwave_player *player = NULL;
     spcwave_frame *got = malloc(sizeof *got * it->count);
     it->same = spcwave_open(&player, it->spc, it->spc_length, it->table, 1024, &options) == SPCWAVE_OK
@@ -53,6 +53,44 @@ static void *play_handed(void *given) {
     return NULL;
 }
 
+/* Each status has a text of its own, and other numbers have one for all of them. */
+static void try_texts(void) {
+    static const uint32_t statuses[] = {0, 4, 5, 6, 7, 17, 18}, others[] = {1, 3, 8, 16, 19, UINT32_MAX};
+    size_t i, j;
+    for (i = 0; i < sizeof statuses / sizeof *statuses; i++) {
+        const char *text = spcwave_status_text(statuses[i]);
+        row(text[0] != 0 && strcmp(text, "unknown status") != 0, "a status has a text");
+        for (j = 0; j < i; j++) row(strcmp(text, spcwave_status_text(statuses[j])) != 0, "of its own");
+    }
+    for (i = 0; i < sizeof others / sizeof *others; i++) row(strcmp(spcwave_status_text(others[i]), "unknown status") == 0, "another number has none");
+}
+
+/* Files with these tags: byte 23h, the seconds and the milliseconds of the fade; and the length and the fade that they tell, in frames. */
+static const struct told { uint8_t mark; const char *seconds, *fade; uint32_t frames, fade_frames; bool timed; } lengths[] = {
+    {0x1A, "2", "500", 80000, 16000, true}, {0x1A, "2", "", 64000, 0, true}, {0x1A, "", "500", 5760000, 0, false},
+    {0x1A, "0", "500", 5760000, 0, false}, {0x1A, "2s", "500", 5760000, 0, false}, {0x1B, "2", "500", 5760000, 0, false},
+};
+
+/* Whether a tune with such tags tells their length, before it is opened and afterwards. */
+static int tells(const struct told *it, uint8_t *spc, size_t spc_length, const uint8_t *table) {
+    const spcwave_options options = { sizeof options, 256, 0, 0 };
+    spcwave_player *player = NULL;
+    spcwave_info info = SPCWAVE_INFO;
+    uint32_t frames, fade;
+    int same;
+    spc[0x23] = it->mark;
+    memset(spc + 0xA9, 0, 8);
+    memcpy(spc + 0xA9, it->seconds, strlen(it->seconds));
+    memcpy(spc + 0xAC, it->fade, strlen(it->fade));
+    same = spcwave_inspect(spc, spc_length, &info) == SPCWAVE_OK && info.frames == it->frames && info.fade == it->fade_frames
+        && info.timed == it->timed && info.tagged == (it->mark == 0x1A);
+    if (spcwave_open(&player, spc, spc_length, table, 1024, &options) != SPCWAVE_OK) return 0;
+    spcwave_length(player, &frames, &fade);
+    same = same && frames == it->frames && fade == it->fade_frames && spcwave_tagged(player) == (it->mark == 0x1A);
+    spcwave_close(&player);
+    return same;
+}
+
 int main(int argc, char **argv) {
     size_t spc_length, table_length, wave_length, i;
     uint8_t *spc = whole(argv[1], &spc_length), *table = whole(argv[2], &table_length), *wave = whole(argv[3], &wave_length);
@@ -62,12 +100,15 @@ int main(int argc, char **argv) {
     char text[SPCWAVE_TAG_SIZE];
     spcwave_player *player = NULL, *other = NULL;
     spcwave_frame *got = malloc(sizeof *got * (count + 8));
-    spcwave_options options = SPCWAVE_OPTIONS, few = { 255, 0, 0 }, many = { 65537, 0, 0 }, seldom = { 4096, 3601, 0 };
+    spcwave_options options = SPCWAVE_OPTIONS, few = { sizeof few, 255, 0, 0 }, many = { sizeof many, 65537, 0, 0 };
+    spcwave_options seldom = { sizeof seldom, 4096, 3601, 0 }, small = { sizeof small - 4, 4096, 0, 0 }, large = { sizeof large + 4, 4096, 0, 0 };
+    spcwave_info info = SPCWAVE_INFO, kept;
     uint8_t registers[128];
     unsigned char bits[sizeof player];
     spcwave_voice_shown voice;
 
     row(spcwave_version() == SPCWAVE_VERSION, "the header is that of the library");
+    try_texts();
     /* refusals */
     row(spcwave_open(&player, spc, 65919, table, 1024, &options) == SPCWAVE_SPC_LENGTH, "too short");
     row(spcwave_open(&player, spc, 0, table, 1024, &options) == SPCWAVE_SPC_LENGTH, "empty");
@@ -76,7 +117,27 @@ int main(int argc, char **argv) {
     row(spcwave_open(&player, spc, spc_length, table, 1024, &few) == SPCWAVE_OUT_OF_RANGE, "few pages");
     row(spcwave_open(&player, spc, spc_length, table, 1024, &many) == SPCWAVE_OUT_OF_RANGE, "many pages");
     row(spcwave_open(&player, spc, spc_length, table, 1024, &seldom) == SPCWAVE_OUT_OF_RANGE, "marks too seldom");
-    row(player == NULL, "refusals give no handle");
+    row(spcwave_open(&player, spc, spc_length, table, 1024, &small) == SPCWAVE_OUT_OF_RANGE, "options of a smaller size");
+    row(spcwave_open(&player, spc, spc_length, table, 1024, &large) == SPCWAVE_OUT_OF_RANGE, "options of a larger size");
+    row(spcwave_open(&player, NULL, 0, table, 1024, &options) == SPCWAVE_SPC_LENGTH, "no bytes at all");
+    row(spcwave_open(&player, spc, spc_length, NULL, 0, &options) == SPCWAVE_TABLE_LENGTH, "no table at all");
+    row(player == NULL, "refusals give no player");
+    spcwave_close(&player);
+    row(player == NULL, "and closing none does nothing");
+    /* what the bytes tell */
+    memset(&info, 0x55, sizeof info);
+    kept = info;
+    row(spcwave_inspect(spc, spc_length, &info) == SPCWAVE_OUT_OF_RANGE && memcmp(&info, &kept, sizeof info) == 0, "an inspection without a size");
+    info.size = sizeof info;
+    kept = info;
+    row(spcwave_inspect(spc, 65919, &info) == SPCWAVE_SPC_LENGTH && memcmp(&info, &kept, sizeof info) == 0, "of a file that is too short");
+    row(spcwave_inspect(NULL, 0, &info) == SPCWAVE_SPC_LENGTH && memcmp(&info, &kept, sizeof info) == 0, "of no bytes at all");
+    row(spcwave_inspect(wave, 65920, &info) == SPCWAVE_SPC_SIGNATURE && memcmp(&info, &kept, sizeof info) == 0, "of another file");
+    row(spcwave_inspect(spc, spc_length, &info) == SPCWAVE_OK && info.frames == count && info.tagged && info.timed && info.size == sizeof info, "of the tune");
+    uint8_t *other_tags = malloc(spc_length);
+    memcpy(other_tags, spc, spc_length);
+    for (i = 0; i < sizeof lengths / sizeof *lengths; i++) row(tells(&lengths[i], other_tags, spc_length, table), "of the tune with other tags");
+    free(other_tags);
     /* bits that are no handle: spcwave_open leaves them where it is refused, and else writes over them; no other call may be given them */
     memset(&other, 0xA5, sizeof other);
     memset(bits, 0xA5, sizeof bits);
@@ -86,13 +147,15 @@ int main(int argc, char **argv) {
     row(spcwave_open(&other, spc, spc_length, table, 1024, &options) == SPCWAVE_OK && spcwave_position(other) == 0, "opens over bits");
     row(spcwave_play(other, got, count / 8) == count / 8 && memcmp(got, ref, count / 8 * sizeof *got) == 0, "and plays");
     spcwave_close(&other);
+    row(other == NULL, "a closed player is NULL");
     memcpy(bits, &other, sizeof bits);
     row(spcwave_open(&other, wave, 65920, table, 1024, &options) == SPCWAVE_SPC_SIGNATURE && memcmp(&other, bits, sizeof bits) == 0, "a wrong file over a closed one");
     row(spcwave_open(&other, spc, spc_length, table, 1024, &options) == SPCWAVE_OK && spcwave_position(other) == 0, "opens over a closed one");
     spcwave_close(&other);
     /* the whole tune */
     row(spcwave_open(&player, spc, spc_length, table, table_length, &options) == SPCWAVE_OK, "opens");
-    row(spcwave_length(player, &length, &fade) == SPCWAVE_OK && length == count, "its length is that of the sound file");
+    spcwave_length(player, &length, &fade);
+    row(length == count && fade == info.fade, "its length is that of the sound file");
     steady = length - fade;
     /* its tags, which stand in the file's bytes from 2Eh on, and byte 23h says whether there are any */
     row(spcwave_tagged(player) == (spc[0x23] == 0x1A), "whether it has tags");
@@ -104,6 +167,11 @@ int main(int argc, char **argv) {
     n = (int)spcwave_tag(player, SPCWAVE_TITLE, text, 4);
     row(n < 3 || (memcmp(text, spc + 0x2E, 3) == 0 && text[3] == 0 && text[4] == 0x55), "cut off with a zero byte");
     row(spcwave_tag(player, SPCWAVE_TITLE, text, 0) == (size_t)n && (n < 1 || text[0] == (char)spc[0x2E]), "no room, and nothing written");
+    for (n = 0; n < SPCWAVE_TAGS; n++) {
+        row(spcwave_tag(player, (uint32_t)n, text, sizeof text) == info.tags[n].length && memcmp(text, spc + info.tags[n].offset, info.tags[n].length) == 0,
+            "a text stands where it was told");
+    }
+    row(spcwave_tag(player, SPCWAVE_TITLE, NULL, 0) == info.tags[0].length, "no room at all");
     row(spcwave_tag(player, 8, text, sizeof text) == 0 && text[0] == 0, "no tag has number 8");
     row(spcwave_free_pages(player) == 4096 - 256, "the mark of frame 0 has 256 pages");
     row(spcwave_position(player) == 0, "stands at 0");
@@ -156,7 +224,7 @@ int main(int argc, char **argv) {
     }
     row(same, "wherever it begins");
     /* what shows */
-    row(spcwave_registers(player, registers) == SPCWAVE_OK, "registers");
+    spcwave_registers(player, registers);
     for (n = 0, same = 1; n < 8; n++) {
         row(spcwave_voice(player, (uint32_t)n, &voice) == SPCWAVE_OK, "a voice");
         same &= voice.source == registers[16 * n + 4] && voice.pitch == (registers[16 * n + 2] + 256 * registers[16 * n + 3]) % 0x4000;
@@ -168,9 +236,18 @@ int main(int argc, char **argv) {
     spcwave_seek(player, 10);
     memset(got, 0x55, sizeof *got * 8);
     row(spcwave_play(player, got, 3) == 3 && memcmp(got, mine + 10, 12) == 0 && ((uint8_t *)got)[12] == 0x55, "frames behind are left");
-    row(spcwave_play(player, got, 0) == 0 && spcwave_position(player) == 13, "none are none");
+    row(spcwave_play(player, NULL, 0) == 0 && spcwave_play_faded(player, NULL, 0) == 0 && spcwave_position(player) == 13, "none are none");
     /* past the hour's end */
-    row(spcwave_seek(player, SPCWAVE_MOST + 1) == SPCWAVE_OUT_OF_RANGE && spcwave_position(player) == 13, "past the hour");
+    row(spcwave_seek(player, SPCWAVE_MAX_FRAMES + 1) == SPCWAVE_OUT_OF_RANGE && spcwave_position(player) == 13, "past the hour");
+    row(spcwave_seek_some(player, SPCWAVE_MAX_FRAMES + 1, 1) == SPCWAVE_OUT_OF_RANGE && spcwave_seek_some(player, 9, 0) == SPCWAVE_OUT_OF_RANGE
+        && spcwave_position(player) == 13, "in parts too, and in parts of none");
+    row(spcwave_set_end(player, SPCWAVE_MAX_FRAMES + 1, 0) == SPCWAVE_OUT_OF_RANGE && spcwave_set_end(player, 9, 10) == SPCWAVE_OUT_OF_RANGE, "an end past the hour, a fade past it");
+    spcwave_seek(player, count - 8);
+    row(spcwave_play_faded(player, got, 16) == 8, "and the end is that of the tags still");
+    row(spcwave_set_end(player, SPCWAVE_MAX_FRAMES, SPCWAVE_MAX_FRAMES) == SPCWAVE_OK && spcwave_play_faded(player, got, 16) == 16, "an end at the hour");
+    row(spcwave_set_end(player, 0, 0) == SPCWAVE_OK && spcwave_play_faded(player, got, 16) == 0, "an end at the start");
+    spcwave_length(player, &length, &fade);
+    row(length == count && fade == info.fade && spcwave_set_end(player, length, fade) == SPCWAVE_OK, "the tags' length is still told, and set again");
     /* seeks */
     for (marks = 0; marks < 3; marks++) {
         static const char *how[] = {"without marks", "with marks", "with marks each second"};
@@ -195,7 +272,7 @@ int main(int argc, char **argv) {
             t = now();
             for (i = 1; i < 64; i++) {
                 spcwave_seek(player, (uint32_t)(count * i / 64));
-                row(spcwave_mark(player) == SPCWAVE_OK, "marks");
+                spcwave_mark(player);
             }
             printf("63 marks in %.3f s\n", now() - t);
         }

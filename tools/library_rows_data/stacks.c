@@ -1,4 +1,4 @@
-/* spcwave_open in a thread with a stack of 512 KB, and each other call in one of 32 KB: stacks TUNE.spc TABLE. Status 0 where all hold. */
+/* spcwave_open in a thread with a stack of 128 KB, and each other call in one of 32 KB: stacks TUNE.spc TABLE. Status 0 where all hold. */
 #include <pthread.h>
 #include <stdio.h>
 #include "spcwave.h"
@@ -11,7 +11,7 @@ static spcwave_player *player;
 static int failed;
 
 static void *opens(void *unused) {
-    const spcwave_options options = {4096, 1, 0};
+    const spcwave_options options = {sizeof options, 4096, 1, 0};
     failed |= spcwave_open(&player, spc, spc_length, table, sizeof table, &options) != SPCWAVE_OK;
     return unused;
 }
@@ -20,12 +20,19 @@ static void *others(void *unused) {
     spcwave_voice_shown voice;
     uint32_t length, fade, n;
     char text[SPCWAVE_TAG_SIZE];
-    failed |= spcwave_version() != SPCWAVE_VERSION || spcwave_length(player, &length, &fade) != SPCWAVE_OK;
+    spcwave_info info = SPCWAVE_INFO;
+    failed |= spcwave_version() != SPCWAVE_VERSION || spcwave_inspect(spc, spc_length, &info) != SPCWAVE_OK;
+    spcwave_length(player, &length, &fade);
+    failed |= length != info.frames || spcwave_set_end(player, length, fade) != SPCWAVE_OK;
     for (n = 0; n < 40; n++) failed |= spcwave_play(player, frames, AT_ONCE) != AT_ONCE;
-    failed |= spcwave_play_faded(player, frames, AT_ONCE) != AT_ONCE || spcwave_mark(player) != SPCWAVE_OK;
+    failed |= spcwave_play_faded(player, frames, AT_ONCE) != AT_ONCE;
+    spcwave_mark(player);
     failed |= spcwave_seek(player, 500) != SPCWAVE_OK || spcwave_position(player) != 500;
     failed |= spcwave_seek(player, 41500) != SPCWAVE_OK || spcwave_play(player, frames, AT_ONCE) != AT_ONCE;
-    failed |= spcwave_free_pages(player) == 0 || spcwave_registers(player, registers) != SPCWAVE_OK;
+    failed |= spcwave_free_pages(player) == 0;
+    spcwave_registers(player, registers);
+    spcwave_mute(player, 0x55);
+    failed |= spcwave_position(player) != 42500 || spcwave_seek_some(player, 45000, 2499) != SPCWAVE_NOT_YET || spcwave_seek_some(player, 45000, 2499) != SPCWAVE_OK;
     failed |= !spcwave_tagged(player);
     for (n = 0; n < 8; n++) failed |= spcwave_voice(player, n, &voice) != SPCWAVE_OK || spcwave_tag(player, n, text, sizeof text) >= sizeof text;
     spcwave_close(&player);
@@ -47,5 +54,5 @@ int main(int argc, char **argv) {
     in = fopen(argv[argc - 1], "rb");
     if (fread(table, 1, sizeof table, in) != sizeof table) return 2;
     fclose(in);
-    return !(run(opens, 512 * 1024) && run(others, 32 * 1024));
+    return !(run(opens, 128 * 1024) && run(others, 32 * 1024));
 }
