@@ -8,7 +8,16 @@ import wave
 
 
 class Options(ctypes.Structure):
-    _fields_ = [('pages', ctypes.c_uint32), ('mark_seconds', ctypes.c_uint32), ('muted', ctypes.c_uint8)]
+    _fields_ = [('size', ctypes.c_uint32), ('pages', ctypes.c_uint32), ('mark_seconds', ctypes.c_uint32), ('muted', ctypes.c_uint8)]
+
+
+class Text(ctypes.Structure):
+    _fields_ = [('offset', ctypes.c_uint32), ('length', ctypes.c_uint32)]
+
+
+class Info(ctypes.Structure):
+    _fields_ = [('size', ctypes.c_uint32), ('frames', ctypes.c_uint32), ('fade', ctypes.c_uint32), ('tagged', ctypes.c_bool), ('timed', ctypes.c_bool),
+                ('tags', Text * 8)]
 
 
 class Voice(ctypes.Structure):
@@ -18,6 +27,7 @@ class Voice(ctypes.Structure):
 class Player:
     """A player of the tune of some bytes; `play` gives frames of 4 bytes, as they stand in a WAV file."""
 
+    NOT_YET = 18
     NAMES = {4: 'no SPC length', 5: 'no SPC signature', 6: 'no table', 7: 'out of memory', 17: 'out of range'}
 
     def __init__(self, library, spc, table, pages=4096, mark_seconds=0, muted=0):
@@ -27,23 +37,33 @@ class Player:
         self.lib.spcwave_open.argtypes = [ctypes.POINTER(handle), ctypes.c_char_p, size, ctypes.c_char_p, size, ctypes.POINTER(Options)]
         for play in self.lib.spcwave_play, self.lib.spcwave_play_faded:
             play.argtypes, play.restype = [handle, ctypes.c_void_p, size], size
+        self.lib.spcwave_inspect.argtypes = [ctypes.c_char_p, size, ctypes.POINTER(Info)]
         self.lib.spcwave_seek.argtypes = [handle, number]
-        for call in self.lib.spcwave_mark, self.lib.spcwave_position, self.lib.spcwave_free_pages:
+        self.lib.spcwave_seek_some.argtypes = self.lib.spcwave_set_end.argtypes = [handle, number, number]
+        self.lib.spcwave_mute.argtypes, self.lib.spcwave_mute.restype = [handle, ctypes.c_uint8], None
+        self.lib.spcwave_mark.argtypes, self.lib.spcwave_mark.restype = [handle], None
+        for call in self.lib.spcwave_position, self.lib.spcwave_free_pages:
             call.argtypes = [handle]
-        self.lib.spcwave_length.argtypes = [handle, ctypes.POINTER(number), ctypes.POINTER(number)]
+        self.lib.spcwave_length.argtypes, self.lib.spcwave_length.restype = [handle, ctypes.POINTER(number), ctypes.POINTER(number)], None
         self.lib.spcwave_tag.argtypes, self.lib.spcwave_tag.restype = [handle, number, ctypes.c_char_p, size], size
         self.lib.spcwave_tagged.argtypes, self.lib.spcwave_tagged.restype = [handle], ctypes.c_bool
-        self.lib.spcwave_registers.argtypes = [handle, ctypes.c_char_p]
+        self.lib.spcwave_registers.argtypes, self.lib.spcwave_registers.restype = [handle, ctypes.c_char_p], None
         self.lib.spcwave_voice.argtypes = [handle, number, ctypes.POINTER(Voice)]
-        self.told(self.lib.spcwave_open(self.handle, spc, len(spc), table, len(table), Options(pages, mark_seconds, muted)))
+        self.told(self.lib.spcwave_open(self.handle, spc, len(spc), table, len(table), Options(ctypes.sizeof(Options), pages, mark_seconds, muted)))
 
     def told(self, status):
         if status:
             raise ValueError(self.NAMES.get(status, status))
 
+    def inspect(self, spc):
+        """What the bytes of any SPC file tell: `frames`, `fade`, `tagged`, `timed`, and in `tags` where the texts of the tags stand."""
+        info = Info(ctypes.sizeof(Info))
+        self.told(self.lib.spcwave_inspect(spc, len(spc), info))
+        return info
+
     def length(self):
         frames, fade = ctypes.c_uint32(), ctypes.c_uint32()
-        self.told(self.lib.spcwave_length(self.handle, frames, fade))
+        self.lib.spcwave_length(self.handle, frames, fade)
         return frames.value, fade.value
 
     def is_tagged(self):
@@ -65,8 +85,23 @@ class Player:
     def seek(self, frame):
         self.told(self.lib.spcwave_seek(self.handle, frame))
 
+    def seek_some(self, frame, most):
+        """Goes towards a frame, and makes so many frames for it at most; tells whether it is there."""
+        status = self.lib.spcwave_seek_some(self.handle, frame, most)
+        if status != self.NOT_YET:
+            self.told(status)
+        return status != self.NOT_YET
+
     def mark(self):
-        self.told(self.lib.spcwave_mark(self.handle))
+        self.lib.spcwave_mark(self.handle)
+
+    def mute(self, voices):
+        """Mutes these voices from now on and no others, bit v is voice v."""
+        self.lib.spcwave_mute(self.handle, voices)
+
+    def set_end(self, frames, fade):
+        """The length to which `play` plays with the fade, and its last frames that fade out."""
+        self.told(self.lib.spcwave_set_end(self.handle, frames, fade))
 
     def play(self, count, faded=False):
         room = ctypes.create_string_buffer(4 * count)
@@ -76,7 +111,7 @@ class Player:
     def registers(self):
         """The 128 registers of the S-DSP at the position."""
         room = ctypes.create_string_buffer(128)
-        self.told(self.lib.spcwave_registers(self.handle, room))
+        self.lib.spcwave_registers(self.handle, room)
         return room.raw
 
     def voice(self, number):

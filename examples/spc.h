@@ -1,15 +1,15 @@
 /* spc.h: the function names of blargg's snes_spc over libspcwave, so that a player written for that library can be built with this one:
- *     cc player.c -I examples -lspcwave -lm
+ *     cc player.c -I examples -lspcwave
  * A frame is two samples, left first, and counts are of samples, as there. What differs:
  *  - spc_load_spc takes the memory, not spc_new, and plays each file as it is: spc_clear_echo does nothing, and silence at the head stays;
  *  - spc_skip is exact, and takes as long as playing; with marks in between (spcwave_mark) it would be quick;
+ *  - spc_mute_voices plays from the start to the position again, since a muted voice is missing in the echo too; a loaded file begins with all voices;
  *  - an hour is the most that is played: behind it spc_play gives zeros and an error, and spc_skip an error, and stays;
  *  - the filter (spc_filter_*) leaves samples as they are, which are those that the console's chip hands on.
  * Without an equal, and left out, so that a player which uses them doesn't compile:
  *  - emulator use: spc_init_rom, spc_rom_size, spc_set_output, spc_sample_count, spc_reset, spc_soft_reset, spc_time_t, spc_port_count, spc_read_port,
  *    spc_write_port, spc_end_frame;
- *  - sound control: spc_mute_voices and spc_voice_count (voices are muted where a player is opened: the options' `muted`), spc_disable_surround,
- *    spc_set_tempo, spc_tempo_unit;
+ *  - sound control: spc_disable_surround, spc_set_tempo, spc_tempo_unit;
  *  - saved states: spc_copy_state, spc_state_size, spc_copy_func_t, spc_init_header, spc_save_spc, spc_check_kon.
  */
 #ifndef SPC_H
@@ -19,7 +19,7 @@
 #include "spcwave.h"
 #include "spcwave_table.h"
 
-enum { spc_sample_rate = 32000, spc_clock_rate = 1024000, spc_clocks_per_sample = 32, spc_file_size = 0x10200 };
+enum { spc_sample_rate = 32000, spc_clock_rate = 1024000, spc_clocks_per_sample = 32, spc_file_size = 0x10200, spc_voice_count = 8 };
 enum { spc_filter_gain_unit = 0x100, spc_filter_bass_none = 0, spc_filter_bass_norm = 8, spc_filter_bass_max = 31 };
 
 typedef short spc_sample_t;
@@ -37,8 +37,7 @@ static inline SNES_SPC *spc_new(void) {
 }
 
 static inline void spc_unload(SNES_SPC *spc) {
-    if (spc->player) spcwave_close(&spc->player);
-    spc->player = NULL;
+    spcwave_close(&spc->player);
 }
 
 static inline void spc_delete(SNES_SPC *spc) {
@@ -63,6 +62,10 @@ static inline spc_err_t spc_load_spc(SNES_SPC *spc, const void *data, long size)
 }
 
 static inline void spc_clear_echo(SNES_SPC *spc) { (void)spc; }
+
+static inline void spc_mute_voices(SNES_SPC *spc, int mask) {
+    if (spc->player) spcwave_mute(spc->player, (uint8_t)mask);
+}
 
 /* Skips `count` samples, an even number. */
 static inline spc_err_t spc_skip(SNES_SPC *spc, int count) {

@@ -1,22 +1,33 @@
 /* spcwave.h: plays SPC music files of the Super Nintendo's sound unit, 16-bit stereo at 32,000 frames a second.
  *
- * The sound: the frames that spcwave_play gives are, whatever was sought, marked or played before, frames [position, position + given)
- * of the run of the machine that the file opens over the table, with the muted voices of its options, its processor and S-DSP in lock
- * step. The contracts of its functions are proved, and say what each comment below says of what a call answers, writes and changes, where its
- * caller keeps the following. Time and memory are measured; that this header declares what the library exports, and spcwave_table.h, are
- * tested. Of what a caller owes nothing is checked; an option, a frame or a voice out of its range is answered with OUT_OF_RANGE.
+ *     uint8_t table[1024];
+ *     spcwave_player *player = NULL;
+ *     spcwave_options options = SPCWAVE_OPTIONS;
+ *     spcwave_console_table(table);                                    (spcwave_table.h)
+ *     if (spcwave_open(&player, spc, spc_length, table, sizeof table, &options) == SPCWAVE_OK) {
+ *         while ((count = spcwave_play_faded(player, frames, 1024)) > 0) ..
+ *     }
+ *     spcwave_close(&player);
  *
- * You owe:
- *  - to each call that takes a player, a handle that spcwave_open gave and spcwave_close hasn't taken back. No two calls may use one at once. It
- *    may go to another thread, by a lock, a thread's start or its end, or a sequentially consistent atomic;
- *  - to spcwave_open, a `*player` that holds no open handle: it is overwritten, and may hold anything else;
- *  - to every call, pointers that aren't null, also where the length is 0, to memory that nobody else reads or writes during the call, and of
- *    which no two overlap;
- *  - malloc, realloc and free of one allocator; 512 KB of stack for spcwave_open, 32 KB for the others; no call from a signal handler.
- * Nothing is global: any number of handles may be used side by side.
- * Only spcwave_open takes memory: 561 KB, and 260 bytes a page. Only spcwave_close gives it back.
- * Measured of the example tune, on a processor of 2.5 GHz: a frame takes 336 instructions and 73 to 110 ns, spcwave_open 396,000 and 36 to 66
- * microseconds, whatever its pages are, and a seek back to a mark 79,000 instructions and 4 to 7 microseconds. A seek behind a mark takes the frames between as well.
+ * What you hear is the run of the console's machine from the state in the file: its processor and S-DSP in lock step, with the voices that are
+ * muted left out. Frame n is the same whatever was played, sought, marked or muted before: it depends on the file, on the table and on the voices
+ * that are muted now. The contract of every exported call is proved: as long as you keep the rules, what it answers, what it writes and what it
+ * leaves as it was are what stands below. What a null pointer does is only tested, and so is spcwave_status_text.
+ *
+ * The rules. None of them is checked:
+ *  - A player that is passed to a call was opened by spcwave_open and isn't closed yet.
+ *  - One call at a time uses a player; this holds for the calls that take a const player too. A player may go from one thread to another by a lock,
+ *    by the start or the end of a thread, or by a sequentially consistent atomic. Two players have nothing in common: each may be used in a
+ *    thread of its own.
+ *  - A pointer leads to as many bytes as the call says. During the call no other thread writes them, or reads those that the call writes; so two
+ *    threads may open players from the same file and table. Two pointers of one call lead to different bytes. A null pointer is fine where its
+ *    length, count or size is 0, and only there.
+ *  - malloc, realloc and free are of one allocator, and malloc and realloc align a block to each power of two up to 16 that divides its size.
+ *  - No call is made from a signal handler, or from a forked child of a process with threads.
+ *  - The stack has room for 128 KB in spcwave_open, for 32 KB in every other call.
+ *
+ * Memory. Only spcwave_open takes any: 562 KB, and 260 bytes a page. spcwave_close gives all of it back, and so does spcwave_open itself where it
+ * doesn't answer OK. How much is taken and given back is tested, not proved.
  */
 #ifndef SPCWAVE_H
 #define SPCWAVE_H
@@ -29,22 +40,34 @@
 extern "C" {
 #endif
 
-#define SPCWAVE_RATE 32000          /* frames a second */
-#define SPCWAVE_MOST 115200000u     /* the last position: an hour */
-#define SPCWAVE_PAGES 4096u         /* a good number of pages for marks: 1 MB */
-#define SPCWAVE_TAG_SIZE 33         /* bytes that the text of any tag fits in, with its zero byte */
+/* What the library exports. Define it before the header is included to give the declarations another attribute. */
+#ifndef SPCWAVE_API
+#if defined(__GNUC__)
+#define SPCWAVE_API __attribute__((visibility("default")))
+#else
+#define SPCWAVE_API
+#endif
+#endif
 
-/* What calls answer. 0 to 15 are the statuses of the program spcwave. */
+#define SPCWAVE_VERSION 0x010200u       /* of this header: 1.2.0, a byte for each of its numbers */
+#define SPCWAVE_RATE 32000              /* frames a second */
+#define SPCWAVE_MAX_FRAMES 115200000u   /* the last position: an hour */
+#define SPCWAVE_PAGES 4096u             /* a good number of pages for marks: 1 MB */
+#define SPCWAVE_TAG_SIZE 33             /* bytes that the text of any tag fits in, with its zero byte */
+#define SPCWAVE_TAGS 8                  /* the number of tags */
+
+/* What calls answer. */
 enum spcwave_status {
     SPCWAVE_OK = 0,
-    SPCWAVE_SPC_LENGTH = 4,     /* the length is not that of an SPC file: 65,920 to 1,048,576 bytes */
+    SPCWAVE_SPC_LENGTH = 4,     /* the file hasn't 65,920 to 1,048,576 bytes */
     SPCWAVE_SPC_SIGNATURE = 5,  /* it doesn't begin with "SNES-SPC700 Sound File Data" */
     SPCWAVE_TABLE_LENGTH = 6,   /* the table hasn't 1,024 bytes */
     SPCWAVE_OUT_OF_MEMORY = 7,
-    SPCWAVE_OUT_OF_RANGE = 17   /* a number is out of its range */
+    SPCWAVE_OUT_OF_RANGE = 17,  /* a number is out of its range */
+    SPCWAVE_NOT_YET = 18        /* spcwave_seek_some isn't at its frame yet: call it again */
 };
 
-/* The tags of a file, whose texts spcwave_tag gives. */
+/* The tags of a file. */
 enum spcwave_tags {
     SPCWAVE_TITLE,
     SPCWAVE_GAME,
@@ -56,90 +79,138 @@ enum spcwave_tags {
     SPCWAVE_FADE        /* the length of the fade in milliseconds, in digits */
 };
 
-/* What a player is opened with beside its tune. */
-typedef struct spcwave_options {
-    uint32_t pages;         /* of 256 bytes for marks, 256 to 65,536. The mark of frame 0 takes 256, each other those that changed */
-    uint32_t mark_seconds;  /* while it plays a mark is taken each so many seconds, 1 to 3,600; 0 for none. The last 63 stay, fewer where pages are short */
-    uint8_t muted;          /* voices that are left out of the sound and of its echo: bit v is voice v, 0 for none. A tune that reads,
-                               runs or decodes in the echo's buffer may go another way without them */
-} spcwave_options;
-
-/* 4,096 pages, no marks but those that are asked for, and all voices. */
-#define SPCWAVE_OPTIONS { SPCWAVE_PAGES, 0, 0 }
-
-/* A player. Its address is the handle that calls take. */
+/* A player. */
 typedef struct spcwave_player spcwave_player;
 
-/* One stereo sample. An array of n of them is an int16_t[2 * n], left first. */
+/* One stereo frame. An array of n of them is an int16_t[2 * n], left first. */
 typedef struct spcwave_frame {
     int16_t left, right;
 } spcwave_frame;
 
-/* What shows of a voice once a sample is made. */
+/* What a player is opened with beside its file: begin with SPCWAVE_OPTIONS and change what you want. */
+typedef struct spcwave_options {
+    uint32_t size;          /* sizeof(spcwave_options) */
+    uint32_t pages;         /* 256 to 65,536 pages of 256 bytes for marks. The mark of frame 0 takes 256, each other as many as changed since
+                               the mark before */
+    uint32_t mark_seconds;  /* spcwave_play and spcwave_play_faded take a mark each so many seconds, 1 to 3,600; 0 for none */
+    uint8_t muted;          /* voices that aren't heard: bit v is voice v */
+} spcwave_options;
+
+#define SPCWAVE_OPTIONS { sizeof(spcwave_options), SPCWAVE_PAGES, 0, 0 }
+
+/* A text in the bytes of a file: `length` bytes from spc[offset] on. It need not end in a zero byte. */
+typedef struct spcwave_text {
+    uint32_t offset, length;
+} spcwave_text;
+
+/* What a file tells of itself: begin with SPCWAVE_INFO. */
+typedef struct spcwave_info {
+    uint32_t size;                      /* sizeof(spcwave_info) */
+    uint32_t frames, fade;              /* as spcwave_length tells them */
+    bool tagged;                        /* as spcwave_tagged tells it */
+    bool timed;                         /* whether the tags tell a length; else three minutes stand in for it */
+    spcwave_text tags[SPCWAVE_TAGS];    /* by enum spcwave_tags */
+} spcwave_info;
+
+#define SPCWAVE_INFO { sizeof(spcwave_info), 0, 0, false, false, { { 0, 0 } } }
+
+/* What shows of a voice at the position. */
 typedef struct spcwave_voice_shown {
     uint16_t level;   /* of its envelope, 0 to 2,047: that at which its next sample sounds; but right after the sample in which it was keyed
-                         on, still that of before */
+                         on, the level from before the key-on */
     uint16_t pitch;   /* of its registers, 0 to 16,383: at 4,096 it plays 32,000 numbers of its sample a second */
     int16_t output;   /* the high byte of its output, -128 to 127, as the register OUTX has it */
     uint16_t source;  /* the number of its sample in the directory, 0 to 255 */
 } spcwave_voice_shown;
 
-/* The version of this header, and of the library: a byte for each of the last two of its three numbers. */
-#define SPCWAVE_VERSION 0x010100u
-uint32_t spcwave_version(void);
+/* Answers the version of the library, as SPCWAVE_VERSION tells that of the header. */
+SPCWAVE_API uint32_t spcwave_version(void);
 
-/* Opens a player at the opening of a tune. `table` is the table of weights by which voices interpolate, 512 numbers of 16 bits,
- * low byte first: spcwave_table.h makes the console's. Answers OK, and then `*player` is the handle; or OUT_OF_RANGE exactly where one
- * of the options is; or SPC_LENGTH or SPC_SIGNATURE, or else TABLE_LENGTH; or OUT_OF_MEMORY. Where it isn't OK, `*player` stays as it was.
- * Neither the file, the table nor the options are needed afterwards. */
-uint32_t spcwave_open(spcwave_player **player, const uint8_t *spc, size_t spc_length, const uint8_t *table, size_t table_length,
-                      const spcwave_options *options);
+/* Looks at the bytes of a file without opening it, and takes no memory. Answers OK, and writes `*info`; OUT_OF_RANGE where info->size isn't
+ * sizeof(spcwave_info); or SPC_LENGTH or SPC_SIGNATURE, as spcwave_open does. Unless it is OK `*info` stays as it was. */
+SPCWAVE_API uint32_t spcwave_inspect(const uint8_t *spc, size_t spc_length, spcwave_info *info);
 
-/* Gives the memory of the player and of its handle back. Afterwards `*player` is no handle, and may hold anything. */
-void spcwave_close(spcwave_player **player);
+/* Opens a player at frame 0 of a tune. `table` is the table of 512 weights by which voices interpolate, 16 bits each, low byte first:
+ * spcwave_table.h has the console's. Answers OK, and writes the player to `*player`; OUT_OF_RANGE where an option is out of its range, or
+ * options->size isn't sizeof(spcwave_options); SPC_LENGTH or SPC_SIGNATURE where the bytes are no SPC file; TABLE_LENGTH; or OUT_OF_MEMORY.
+ * Unless it is OK `*player` stays as it was. Before the call `*player` may hold anything but an open player: close that one first. Afterwards the
+ * file, the table and the options aren't needed any more. */
+SPCWAVE_API uint32_t spcwave_open(spcwave_player **player, const uint8_t *spc, size_t spc_length, const uint8_t *table, size_t table_length,
+                                  const spcwave_options *options);
 
-/* Plays: writes min(count, MOST - position) frames, moves the position behind them, and tells how many. Frames of the
- * array behind those stay as they were. Where the position comes to a multiple of the options' mark_seconds, a mark is asked
- * for, as by spcwave_mark. */
-size_t spcwave_play(spcwave_player *player, spcwave_frame *frames, size_t count);
+/* Gives back the memory of a player, and sets `*player` to NULL. Where `*player` is NULL already it stays NULL. */
+SPCWAVE_API void spcwave_close(spcwave_player **player);
 
-/* The same, of the frames that the program renders: they end at the length that the tags tell, and the last of them fade out. So it writes
- * min(count, length - position) frames, and 0 from the length on. */
-size_t spcwave_play_faded(spcwave_player *player, spcwave_frame *frames, size_t count);
+/* Plays: writes the next frames to `frames`, as many as `count`, but none after SPCWAVE_MAX_FRAMES, and answers how many. The position moves on by
+ * as many. The rest of `frames` stays as it was. At each multiple of the options' mark_seconds that the position comes to, it takes a mark. It
+ * goes on past the length of the tune, and fades nothing. */
+SPCWAVE_API size_t spcwave_play(spcwave_player *player, spcwave_frame *frames, size_t count);
 
-/* Goes to a frame, 0 to MOST. The machine starts from the position or from the last mark, whichever lies nearer before the frame or at it,
- * and makes the frames from there, as fast as if they were played. Answers OK; or OUT_OF_RANGE, and then nothing has changed. */
-uint32_t spcwave_seek(spcwave_player *player, uint32_t frame);
+/* Plays as spcwave_play does, but to the end of the tune, over the last frames of which the sound fades out. Answers 0 from the end on. The end and
+ * the fade are those that spcwave_length tells, until spcwave_set_end sets others. */
+SPCWAVE_API size_t spcwave_play_faded(spcwave_player *player, spcwave_frame *frames, size_t count);
 
-/* Keeps the state at the position, so that a later seek to it or soon behind it is quick. There are 64 marks at most, that of frame 0
- * among them, which always stays; the oldest others are given up where pages or places are short. Where there isn't room
- * even then, none is kept, and the others are gone all the same. Answers OK. */
-uint32_t spcwave_mark(spcwave_player *player);
+/* Sets the end of the tune for spcwave_play_faded: `frames` is its length from frame 0 on, 0 to SPCWAVE_MAX_FRAMES, and its last `fade` frames fade
+ * out, at most `frames` of them. Answers OK; or OUT_OF_RANGE, and nothing has changed. The position stays where it is. */
+SPCWAVE_API uint32_t spcwave_set_end(spcwave_player *player, uint32_t frames, uint32_t fade);
 
-/* The position: how many frames stand before it. */
-uint32_t spcwave_position(spcwave_player *player);
+/* Goes to a frame, 0 to SPCWAVE_MAX_FRAMES. It runs the machine from the position or from a mark, whichever is the nearest at or before the frame:
+ * that takes as long as to play the frames between. Answers OK; or OUT_OF_RANGE, and nothing has changed. */
+SPCWAVE_API uint32_t spcwave_seek(spcwave_player *player, uint32_t frame);
 
-/* How many of the pages are free for marks. */
-uint32_t spcwave_free_pages(spcwave_player *player);
+/* Goes towards a frame by running at most `max` frames, 1 or more. Answers OK when it is there; NOT_YET when more are left: then the position is
+ * where it has come, and the same call goes on from there. All calls together run as many frames as one spcwave_seek would. Answers
+ * OUT_OF_RANGE where `frame` is above SPCWAVE_MAX_FRAMES or `max` is 0, and nothing has changed. */
+SPCWAVE_API uint32_t spcwave_seek_some(spcwave_player *player, uint32_t frame, uint32_t max);
 
-/* The length by the file's tags, and how many of its last frames fade out, in frames; three minutes without a fade where the tags
- * tell none. Frames can be played behind it. Answers OK. */
-uint32_t spcwave_length(spcwave_player *player, uint32_t *frames, uint32_t *fade);
+/* Mutes these voices and no others from now on: bit v is voice v. The player becomes as one that was opened with them and sought to its
+ * position, since a muted voice is missing in the echo too; only the end that spcwave_set_end set stays. So it runs the frames up to the position
+ * again, and all marks but that of frame 0 are gone. At frame 0 it runs none: where no call may take long, seek to frame 0 first, mute, and
+ * come back by spcwave_seek_some. A tune that reads, runs or decodes in the echo's buffer may go another way with other voices. */
+SPCWAVE_API void spcwave_mute(spcwave_player *player, uint8_t voices);
 
-/* Whether the file says that it has tags; their texts are told either way. */
-bool spcwave_tagged(spcwave_player *player);
+/* Takes a mark at the position, so that seeks to it or a little after it are quick. There are at most 64 marks, that of frame 0 among them, which
+ * always stays; where pages or places run short the oldest others go. If there is no room even then, none is taken. */
+SPCWAVE_API void spcwave_mark(spcwave_player *player);
 
-/* Writes the text of a tag: as many of its bytes as `size` has room for with a zero byte behind them, whatever bytes the file has there, up
- * to its first zero byte; nothing where `size` is 0. Tells the whole text's length. The text is empty where no tag has the
- * number. */
-size_t spcwave_tag(spcwave_player *player, uint32_t tag, char *text, size_t size);
+/* Answers the position: how many frames stand before it. */
+SPCWAVE_API uint32_t spcwave_position(const spcwave_player *player);
 
-/* Copies the S-DSP's 128 registers at the position: as they stand once the step of the processor is done in which the frame before it was
- * made; at 0 those of the file. Answers OK. */
-uint32_t spcwave_registers(spcwave_player *player, uint8_t registers[128]);
+/* Answers how many pages are free for marks. */
+SPCWAVE_API uint32_t spcwave_free_pages(const spcwave_player *player);
 
-/* Tells what shows of voice 0 to 7 at the position. Answers OK; or OUT_OF_RANGE for another number, and then it stays as it was. */
-uint32_t spcwave_voice(spcwave_player *player, uint32_t number, spcwave_voice_shown *voice);
+/* Writes the length of the tune by its tags, and how many of its last frames fade out, in frames; 180 seconds and no fade where the tags tell no
+ * length. spcwave_set_end changes neither. */
+SPCWAVE_API void spcwave_length(const spcwave_player *player, uint32_t *frames, uint32_t *fade);
+
+/* Answers whether the file says that it has tags. Their texts are told either way. */
+SPCWAVE_API bool spcwave_tagged(const spcwave_player *player);
+
+/* Writes the text of a tag and a zero byte to `text`, which has `size` bytes: the text is cut off where they are too few, and nothing is written
+ * where there are none. Answers the length of the whole text, without the zero byte. The text is whatever bytes the file has there, up to the
+ * first zero byte; it is empty where `tag` is none of enum spcwave_tags. */
+SPCWAVE_API size_t spcwave_tag(const spcwave_player *player, uint32_t tag, char *text, size_t size);
+
+/* Copies the 128 registers of the S-DSP at the position: as they stand after the processor's step in which the frame before the position was made;
+ * at frame 0 those of the file. */
+SPCWAVE_API void spcwave_registers(const spcwave_player *player, uint8_t registers[128]);
+
+/* Writes what shows of voice 0 to 7. Answers OK; or OUT_OF_RANGE for another number, and `*voice` stays as it was. */
+SPCWAVE_API uint32_t spcwave_voice(const spcwave_player *player, uint32_t number, spcwave_voice_shown *voice);
+
+/* Answers a short English text for a status, in static memory; "unknown status" for any other number. */
+static inline const char *spcwave_status_text(uint32_t status) {
+    switch (status) {
+    case SPCWAVE_OK: return "no error";
+    case SPCWAVE_SPC_LENGTH: return "not the length of an SPC file";
+    case SPCWAVE_SPC_SIGNATURE: return "not an SPC file";
+    case SPCWAVE_TABLE_LENGTH: return "not the length of a table of weights";
+    case SPCWAVE_OUT_OF_MEMORY: return "out of memory";
+    case SPCWAVE_OUT_OF_RANGE: return "number out of range";
+    case SPCWAVE_NOT_YET: return "seek not finished yet";
+    default: return "unknown status";
+    }
+}
 
 #ifdef __cplusplus
 }
