@@ -1,43 +1,41 @@
-// The page: a list of tunes, one of which plays.
-import { load, MOST_BYTES, MOST_FRAMES, PIECE, Player, RATE, Refused, Tag } from './library.js';
-import { drawPeaks, drawVoices, drawWave, makeVoices } from './pictures.js';
+// The page: a list of tunes, one of which plays, with some of its voices or all.
+import { clock } from './clock.js';
+import { Library, load, MAX_BYTES, MAX_FRAMES, RATE, Refused, VOICES } from './library.js';
+import { aboutOf, lineOf, playable, refusalsOf, titleOf } from './list.js';
+import { drawChart, drawWave, VoiceRows } from './pictures.js';
+import { Sound } from './sound.js';
+import { downloadName, onePressAway, PLAIN, pressMute, pressSolo, silentOf } from './voices.js';
 
-const STEP = 5 * RATE; // an arrow key
-const MOST_WAITING = 64; // pieces that are kept to be shown: a page that is hidden shows none
+const ARROW = 5 * RATE; // frames that an arrow key goes
+const SETTLED = 400; // milliseconds without a press on a voice after which the tune is rendered anew
 const id = (name) => document.getElementById(name);
 
-const tunes = []; // { name, spc, title, game, artist, frames }, or { name, refusal }
-let current = -1;
-let inputs; // the module and the table
-let reader; // tells of files what their tags say
-let sound = null; // { context, output, engine, gain }, made when something first plays
-let opening = null;
-let resuming = false;
-let renderer = null;
-let loudness = { peaks: [], part: 0 }; // of the current tune, as far as it is rendered
-let plays = false;
-let turn = 0; // of the last order
-let shown = []; // what shows of pieces that are not yet heard
-let begun = []; // when pieces began to sound
-let heard = 0; // the frame that is heard
-
-const clock = (frames) => {
-  const seconds = Math.floor(frames / RATE);
-  return `${Math.floor(seconds / 60)}:${String(seconds % 60).padStart(2, '0')}`;
+const state = {
+  inputs: null, // the module and the table
+  library: null, // tells what files tell of themselves
+  rows: null, // of the voices
+  sound: null, // a promise, once something first plays
+  tunes: [], // see list.js
+  current: -1, // the index of the tune that plays
+  plays: false,
+  mix: PLAIN, // which voices are muted or solo
+  renderer: null, // the worker that renders the whole tune
+  settling: 0, // the timer of the next one
+  lines: null, // what is drawn of the tune, as far as it is rendered
 };
 
-const wait = (milliseconds) => new Promise((go) => setTimeout(go, milliseconds));
-
-function tell(text) {
+const tell = (text) => {
   id('status').textContent = text;
-}
+};
+
+const tuneNow = () => state.tunes[state.current];
 
 // The list
 
 /** A file as a tune of the list, or why it is refused. */
 async function read(file) {
   const { name, size } = file;
-  if (size > MOST_BYTES) return { name, refusal: new Refused(4).message };
+  if (size > MAX_BYTES) return { name, refusal: new Refused(4).message };
   let spc;
   try {
     spc = new Uint8Array(await file.arrayBuffer());
@@ -45,249 +43,237 @@ async function read(file) {
     return { name, refusal: 'it could not be read' }; // a folder, or a file that is gone
   }
   try {
-    reader.open(spc, inputs.table);
+    return { name, spc, ...state.library.inspect(spc) };
   } catch (error) {
     if (error instanceof Refused) return { name, refusal: error.message };
     throw error;
   }
-  return { name, spc, frames: reader.length, title: reader.tag(Tag.TITLE), game: reader.tag(Tag.GAME), artist: reader.tag(Tag.ARTIST) };
 }
 
 /** Adds files to the list. The first of them that isn't refused plays, unless one plays already. */
 async function add(files) {
   const added = await Promise.all(files.map(read));
-  const first = tunes.length;
-  tunes.push(...added);
-  added.forEach((tune, place) => showTune(tune, first + place));
-  id('list').hidden = tunes.length === 0;
-  tell(added.filter((tune) => tune.refusal).map((tune) => `${tune.name} was refused: ${tune.refusal}.`).join(' '));
-  const next = tunes.findIndex((tune, place) => place >= first && !tune.refusal);
-  if (next >= 0 && !plays) await start(next);
+  const first = state.tunes.length;
+  state.tunes.push(...added);
+  added.forEach((tune, offset) => showTune(tune, first + offset));
+  id('list').hidden = state.tunes.length === 0;
+  tell(refusalsOf(added));
+  const next = playable(state.tunes, first, 1);
+  if (next >= 0 && !state.plays) await start(next);
 }
 
 /** A line of the list. */
-function showTune(tune, place) {
+function showTune(tune, index) {
   const item = document.createElement('li');
   const button = document.createElement('button');
   button.type = 'button';
-  button.textContent = tune.refusal ? `${tune.name}: refused, ${tune.refusal}` : `${tune.title || tune.name}, ${clock(tune.frames)}`;
+  button.textContent = lineOf(tune);
   button.disabled = Boolean(tune.refusal);
-  button.onclick = () => start(place);
+  button.onclick = () => start(index);
   item.append(button);
   id('tunes').append(item);
 }
 
-function showCurrent() {
-  [...id('tunes').querySelectorAll('button')].forEach((button, place) => {
-    if (place === current) button.setAttribute('aria-current', 'true');
-    else button.removeAttribute('aria-current');
-  });
-}
-
-// Sound
-
-/** The sound card, the thread that makes frames and the one that hands them over. */
-async function makeSound() {
-  const context = new AudioContext({ sampleRate: RATE, latencyHint: 'playback' });
-  await context.audioWorklet.addModule('worklet.js');
-  const output = new AudioWorkletNode(context, 'spcwave-output', { numberOfInputs: 0, outputChannelCount: [2] });
-  const gain = context.createGain();
-  output.connect(gain).connect(context.destination);
-  const engine = new Worker('engine.js', { type: 'module' });
-  const { port1, port2 } = new MessageChannel();
-  output.port.postMessage({ engine: port1 }, [port1]);
-  engine.postMessage({ inputs, output: port2 }, [port2]);
-  output.port.onmessage = ({ data }) => fromOutput(data);
-  engine.onmessage = ({ data }) => fromEngine(data);
-  engine.onerror = () => tell('The tune can’t be played: there is not enough memory.');
-  context.onstatechange = () => {
-    if (context.state !== 'running' && plays && !resuming) setPlays(false); // something else took the sound
-  };
-  sound = { context, output, engine, gain };
-  setVolume();
-}
-
-function openSound() {
-  opening ??= makeSound().catch((error) => {
-    opening = null;
-    throw error;
-  });
-  return opening;
-}
-
-/** Has the engine go on at a frame, of another tune where one is given: what was ordered before is forgotten. */
-function order(words) {
-  turn++;
-  [shown, begun] = [[], []];
-  heard = words.seek;
-  sound.engine.postMessage({ ...words, endless: id('endless').checked, turn });
-}
-
-function keep(list, item) {
-  if (list.push(item) > MOST_WAITING) list.shift();
-}
-
-function fromOutput(data) {
-  if (data.turn !== turn) return;
-  if (data.ended) goOn();
-  else keep(begun, data);
-}
-
-function fromEngine(data) {
-  if (data.turn !== turn) return;
-  if (data.shown) keep(shown, data.shown);
-  else id('going').textContent = data.seeking ? 'Going there…' : '';
-}
-
-function setVolume() {
-  if (sound) sound.gain.gain.value = (id('volume').value / 100) ** 2;
-}
-
-async function setPlays(wanted) {
-  await openSound();
-  plays = wanted;
-  id('play').textContent = plays ? 'Pause' : 'Play';
-  sound.output.port.postMessage({ runs: plays });
-  if (!plays) return sound.context.suspend();
-  resuming = true;
-  // A browser may hold back sound until something is pressed: then it doesn't answer.
-  const pressed = navigator.userActivation?.hasBeenActive;
-  const answered = sound.context.resume().then(() => true);
-  const sounds = await (pressed ? answered : Promise.race([answered, wait(500).then(() => false)]));
-  resuming = false;
-  if (sounds || !plays) return undefined;
-  tell('Press Play: this browser wants a press before a page may sound.');
-  return setPlays(false);
-}
-
 // The tune that plays
 
+function openSound() {
+  state.sound ??= Sound.open(state.inputs, {
+    onEnded,
+    onComes: (comes) => id('coming').classList.toggle('comes', comes),
+    onStopped: () => setPlays(false),
+    onFailed: () => tell('The tune can’t be played: there is not enough memory.'),
+  }).catch((error) => {
+    state.sound = null;
+    throw error;
+  });
+  return state.sound;
+}
+
+/** What the engine is to know beside where to go. */
+const words = () => ({
+  muted: silentOf(state.mix),
+  likely: document.hidden ? [] : onePressAway(state.mix),
+  endless: id('endless').checked,
+});
+
 /** Plays a tune of the list from its beginning. */
-async function start(place) {
-  await openSound();
-  current = place;
-  const tune = tunes[place];
-  id('title').textContent = tune.title || tune.name;
-  id('tune').textContent = [tune.game, tune.artist, clock(tune.frames)].filter(Boolean).join(' · ');
-  document.title = `${tune.title || tune.name} – spcwave`;
+async function start(index) {
+  const sound = await openSound();
+  state.current = index;
+  const tune = tuneNow();
+  id('title').textContent = titleOf(tune);
+  id('about').textContent = aboutOf(tune);
+  document.title = `${titleOf(tune)} – spcwave`;
+  document.body.classList.add('playing');
   id('player').hidden = false;
-  id('place').max = tune.frames;
-  showCurrent();
-  renderAll(tune);
-  order({ spc: tune.spc, seek: 0 });
+  id('position').max = tune.frames;
+  [...id('tunes').querySelectorAll('button')].forEach((button, other) => {
+    if (other === index) button.setAttribute('aria-current', 'true');
+    else button.removeAttribute('aria-current');
+  });
+  state.lines = null;
+  renderAll();
+  setVolume();
+  sound.go(0, { ...words(), spc: tune.spc });
   await setPlays(true);
 }
 
-/** The place of the tune before or behind the current one that isn't refused, or -1. */
-function neighbour(step) {
-  let place = current + step;
-  while (tunes[place]?.refusal) place += step;
-  return tunes[place] ? place : -1;
+async function setPlays(plays) {
+  const sound = await openSound();
+  state.plays = plays;
+  id('play').setAttribute('aria-label', plays ? 'Pause' : 'Play');
+  id('play-sign').setAttribute('href', plays ? '#sign-pause' : '#sign-play');
+  if (await sound.run(plays)) return;
+  tell('Press Play: this browser wants a press before a page may sound.');
+  await setPlays(false);
 }
 
-/** At a tune's end: on to the next one, or stop once the last frame was heard. One that goes on for ever comes to its end after an hour, and begins again. */
-async function goOn() {
-  const its = turn;
-  const place = neighbour(1);
-  await wait(1000 * (sound.context.outputLatency || 0));
-  if (turn !== its) return;
+async function setVolume() {
+  if (state.sound) (await state.sound).volume = (id('volume').value / 100) ** 2;
+}
+
+async function seek(frame) {
+  if (state.current < 0) return;
+  const last = id('endless').checked ? MAX_FRAMES : tuneNow().frames;
+  (await state.sound).go(Math.max(0, Math.min(last, Math.round(frame))), words());
+}
+
+/** Goes so many frames back or on from what is heard. */
+async function move(frames) {
+  if (state.current >= 0) seek((await state.sound).now().position + frames);
+}
+
+/** At a tune's end: on to the next one, or stop. An endless one comes to its end after an hour, and begins again. */
+async function onEnded() {
+  const next = playable(state.tunes, state.current + 1, 1);
   if (id('endless').checked) seek(0);
-  else if (place >= 0) await start(place);
+  else if (next >= 0) await start(next);
   else {
     await setPlays(false);
     seek(0);
   }
 }
 
+/** To the tune before or behind. Where there is none before, the first one begins again. */
 function skip(step) {
-  const place = neighbour(step);
-  if (place >= 0) start(place);
+  const index = playable(state.tunes, state.current + step, step);
+  if (index >= 0) start(index);
   else if (step < 0) seek(0);
 }
 
-function seek(frame) {
-  const last = id('endless').checked ? MOST_FRAMES : Number(id('place').max);
-  if (sound && current >= 0) order({ seek: Math.max(0, Math.min(last, Math.round(frame))) });
+// The voices
+
+/** Has other voices be heard, where the tune is. */
+async function setMix(mix) {
+  state.mix = mix;
+  state.rows.showMix(mix, silentOf(mix));
+  drawAll();
+  if (state.current < 0) return;
+  (await state.sound).change(words());
+  clearTimeout(state.settling);
+  state.settling = setTimeout(renderAll, SETTLED);
+  showRendering(0);
 }
 
-/** Renders the whole tune in the background, for the bar and for the download. */
-function renderAll(tune) {
-  renderer?.terminate();
-  renderer = new Worker('render.js', { type: 'module' });
+/** Renders the whole tune in the background as it is heard, for the chart and for the download. */
+function renderAll() {
+  clearTimeout(state.settling);
+  state.renderer?.terminate();
+  state.renderer = new Worker('render_worker.js', { type: 'module' });
+  showRendering(0);
+  const { name, spc } = tuneNow();
+  const silent = silentOf(state.mix);
+  state.renderer.onerror = () => {
+    id('download-text').textContent = 'Too long to download';
+  };
+  state.renderer.onmessage = ({ data: { lines, file } }) => {
+    state.lines = lines;
+    drawAll();
+    if (file) showDownload(file, downloadName(name, silent));
+    else showRendering(lines.rendered / lines.frames);
+  };
+  state.renderer.postMessage({ inputs: state.inputs, spc, muted: silent });
+}
+
+/** There is nothing to download yet. */
+function showRendering(part) {
   const link = id('download');
   if (link.href) URL.revokeObjectURL(link.href);
   link.removeAttribute('href');
+  link.removeAttribute('title');
   link.setAttribute('aria-disabled', 'true');
-  loudness = { peaks: [], part: 0 };
-  drawBar();
-  renderer.onerror = () => {
-    link.textContent = 'Too long to download';
-  };
-  renderer.onmessage = ({ data }) => {
-    if (data.peaks) {
-      loudness = data;
-      drawBar();
-      link.textContent = `Rendering, ${Math.floor(100 * data.part)} %`;
-    } else {
-      link.textContent = 'Download as WAV';
-      link.href = URL.createObjectURL(new Blob([data.file], { type: 'audio/wav' }));
-      link.download = `${tune.name.replace(/\.spc$/i, '')}.wav`;
-      link.removeAttribute('aria-disabled');
-    }
-  };
-  renderer.postMessage({ module: inputs.module, table: inputs.table, spc: tune.spc });
+  id('download-text').textContent = `Rendering, ${Math.floor(100 * part)} %`;
+}
+
+function showDownload(file, name) {
+  const link = id('download');
+  link.href = URL.createObjectURL(new Blob([file], { type: 'audio/wav' }));
+  link.download = name;
+  link.title = name;
+  link.removeAttribute('aria-disabled');
+  id('download-text').textContent = silentOf(state.mix) ? 'Download these voices' : 'Download as WAV';
 }
 
 // What is shown
 
-/** The frame that is heard now: pieces are made and handed over before that. */
-function place() {
-  if (!sound || !plays) return heard;
-  const now = sound.context.getOutputTimestamp().contextTime || sound.context.currentTime;
-  while (begun.length > 1 && begun[1].time <= now) begun.shift();
-  if (begun[0] && begun[0].time <= now) heard = begun[0].at + Math.min(PIECE, Math.floor((now - begun[0].time) * RATE));
-  return heard;
-}
-
 function showTime(frame) {
-  const time = `${clock(frame)} / ${clock(tunes[current].frames)}`;
+  const time = `${clock(frame)} / ${clock(tuneNow().frames)}`;
   if (id('time').textContent === time) return;
   id('time').textContent = time;
-  id('place').setAttribute('aria-valuetext', time);
+  id('position').setAttribute('aria-valuetext', time);
 }
 
-function drawBar() {
-  drawPeaks(id('peaks'), loudness.peaks, loudness.part);
+/** What is drawn of the whole tune. */
+function drawAll() {
+  if (!id('player').hidden) drawChart(id('chart'), state.lines, silentOf(state.mix), state.rows.height);
 }
 
-function draw() {
-  const at = place();
-  while (shown.length > 1 && shown[1].at <= at) shown.shift();
-  if (shown[0]) {
-    drawWave(id('wave'), shown[0].frames);
-    drawVoices(shown[0].voices);
+/** What changes from picture to picture. */
+function drawNow(sound) {
+  const { position, shown } = sound.now();
+  if (shown) {
+    drawWave(id('wave'), shown.frames);
+    state.rows.show(shown.voices);
   }
-  if (current >= 0 && !id('place').matches(':active')) {
-    id('place').value = at;
-    showTime(at);
-  }
+  if (id('position').matches(':active')) return;
+  id('position').value = position;
+  showTime(position);
+}
+
+async function draw() {
+  if (state.current >= 0) drawNow(await state.sound);
   requestAnimationFrame(draw);
 }
 
 // What is done
 
 const KEYS = {
-  ' ': () => current >= 0 && setPlays(!plays),
-  ArrowLeft: () => seek(place() - STEP),
-  ArrowRight: () => seek(place() + STEP),
+  ' ': () => state.current >= 0 && setPlays(!state.plays),
+  ArrowLeft: () => move(-ARROW),
+  ArrowRight: () => move(ARROW),
+  '?': () => id('explanation').showModal(),
 };
 
-/** Keys belong to the page, unless something that takes them itself has the focus: space where something is pressed by it, arrows at the volume. */
+/** What a key of digits does, by its place on the keyboard: with shift it gives another sign. */
+function onDigit(digit, shift) {
+  if (digit === 0) setMix(PLAIN);
+  else if (digit <= VOICES) setMix((shift ? pressSolo : pressMute)(state.mix, digit - 1));
+}
+
+/** Whether a key belongs to what has the focus: space to what is pressed by it, arrows to the volume. */
+const isOwnKey = ({ key, target }) =>
+  key === ' ' ? target.closest('button, a, input[type=checkbox], input[type=file]') : key.startsWith('Arrow') && target === id('volume');
+
+/** Keys belong to the page, unless something that takes them itself has the focus. */
 function onKey(event) {
-  const own = event.key === ' ' ? event.target.closest('button, a, label, input[type=checkbox], input[type=file]') : event.target === id('volume');
-  if (!KEYS[event.key] || event.ctrlKey || event.altKey || event.metaKey || own) return;
+  if (event.ctrlKey || event.altKey || event.metaKey || id('explanation').open || isOwnKey(event)) return;
+  const [, digit] = /^(?:Digit|Numpad)(\d)$/.exec(event.code) ?? [];
+  if (digit === undefined && !KEYS[event.key]) return;
   event.preventDefault();
-  if (event.key !== ' ' || !event.repeat) KEYS[event.key]();
+  const held = event.repeat && !event.key.startsWith('Arrow');
+  if (held) return;
+  if (digit === undefined) KEYS[event.key]();
+  else onDigit(Number(digit), event.shiftKey);
 }
 
 async function playExample() {
@@ -295,20 +281,12 @@ async function playExample() {
   await add([new File([await answer.arrayBuffer()], 'tune.spc')]);
 }
 
-function listen() {
+function listenToFiles() {
   id('files').onchange = ({ target }) => {
     add([...target.files]);
     target.value = '';
   };
   id('example').onclick = playExample;
-  id('play').onclick = () => setPlays(!plays);
-  id('previous').onclick = () => skip(-1);
-  id('next').onclick = () => skip(1);
-  id('volume').oninput = setVolume;
-  id('endless').onchange = () => seek(place());
-  id('place').oninput = ({ target }) => showTime(Number(target.value));
-  id('place').onchange = ({ target }) => seek(Number(target.value));
-  document.addEventListener('keydown', onKey);
   document.addEventListener('dragover', (event) => {
     event.preventDefault();
     document.body.classList.add('over');
@@ -321,20 +299,47 @@ function listen() {
     document.body.classList.remove('over');
     add([...event.dataTransfer.files]);
   });
-  window.addEventListener('resize', drawBar);
-  window.matchMedia('(prefers-color-scheme: dark)').addEventListener('change', drawBar);
+}
+
+function listen() {
+  listenToFiles();
+  id('help').onclick = () => id('explanation').showModal();
+  id('play').onclick = () => setPlays(!state.plays);
+  id('previous').onclick = () => skip(-1);
+  id('next').onclick = () => skip(1);
+  id('volume').oninput = setVolume;
+  id('endless').onchange = () => move(0);
+  id('position').oninput = ({ target }) => showTime(Number(target.value));
+  id('position').onchange = ({ target }) => seek(Number(target.value));
+  document.addEventListener('keydown', onKey);
+  document.addEventListener('visibilitychange', async () => state.current >= 0 && (await state.sound).change(words()));
+  new ResizeObserver(drawAll).observe(id('chart'));
+  window.matchMedia('(prefers-color-scheme: dark)').addEventListener('change', drawAll);
   window.addEventListener('unhandledrejection', ({ reason }) => tell(`Something went wrong: ${reason.message ?? reason}.`));
+}
+
+/** Keeps the page for use without a network. At localhost another page may have this address tomorrow, so there only where `?offline` asks for it. */
+async function keepOffline() {
+  const wanted = window.location.protocol === 'https:' || window.location.search === '?offline';
+  if (!wanted || !navigator.serviceWorker) return;
+  await navigator.serviceWorker.register('offline.js');
+  await navigator.serviceWorker.ready;
+  id('kept').textContent = 'This page is kept in the browser: it also works without a network.';
 }
 
 try {
   if (!window.isSecureContext) throw new Error('a browser gives it sound only over https, or at localhost');
-  inputs = await load();
-  reader = new Player(inputs.module);
-  makeVoices(id('voices'));
+  state.inputs = await load();
+  state.library = new Library(state.inputs.module);
+  state.rows = new VoiceRows(id('voices'), {
+    onMute: (voice) => setMix(pressMute(state.mix, voice)),
+    onSolo: (voice) => setMix(pressSolo(state.mix, voice)),
+  });
   listen();
   tell('');
   requestAnimationFrame(draw);
   document.body.dataset.ready = 'yes';
+  keepOffline();
 } catch (error) {
   tell(`The page can’t be made ready: ${error.message}.`);
 }

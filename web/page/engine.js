@@ -1,82 +1,80 @@
-// Makes the frames that are heard, a quarter of a second ahead, away from the page and from the sound card's thread. The page orders: a tune, a place
-// in it, or both. Of several orders the last is carried out, and what was sent for one before is known by its turn.
-import { PIECE, Player, RATE } from './library.js';
+// Makes the frames that are heard, a quarter of a second ahead. The page orders a tune, a frame to go to, or the voices that are muted. Those are exact at
+// once: while one run is heard another comes to the same place with the new voices muted, and then its frames take the place of those that wait.
+import { Runs } from './runs.js';
 
-const AHEAD = 8192;
-const MARK_SECONDS = 5;
-const PAGES = 16384; // of 256 bytes, for marks: 4 MB
+export const PIECE = 512; // frames that are sent at once: 16 milliseconds
+const AHEAD = 8192; // frames that wait to be heard, at most
+const LEAD = 1536; // frames between what is handed over and where another run is heard from
+const SLICE = 8000; // frames that are run at once: a millisecond or a few
+const BEHIND = 32000; // frames by which a run that may be wanted stays behind, at most
 
-let inputs; // the module and the table
-let output; // the worklet
-let player;
-let wanted = null; // an order that isn't yet carried out
-let turn = 0;
-let endless = false;
-let waiting = 0; // frames that were sent and not yet heard
-let done = true; // nothing more is to be sent
-let furthest = 0; // the machine was here, so that marks stand before it
+export class Engine {
+  /** `open` gives players, as Runs wants it; `send` takes what goes to the output, and `tell` what goes to the page. */
+  constructor(open, send, tell) {
+    [this.send, this.tell] = [send, tell];
+    this.runs = new Runs(open);
+    this.turn = 0; // of the last order to go somewhere: what was sent for one before is known by its turn
+    this.endless = false;
+    this.muted = 0;
+    this.likely = []; // voices that may be muted next
+    this.heard = null; // the run that is heard
+    this.coming = null; // the run that is heard next: { run, frame }, without a frame where it follows the one that is heard
+    this.next = 0; // the frame that the output hands over next
+    this.ended = false; // the end is sent
+  }
 
-/** Sends pieces until there are enough ahead. */
-function fill() {
-  while (!done && waiting < AHEAD) {
-    const at = player.position;
-    const frames = (endless ? player.play(PIECE) : player.playFaded(PIECE)).slice();
-    done = frames.length === 0;
-    if (done) output.postMessage({ turn, ends: true });
-    else send(at, frames);
+  /** An order: { turn, spc, seek, muted, endless, likely }, of which any but the turn may be missing. */
+  order({ turn, spc, seek, ...words }) {
+    Object.assign(this, words);
+    if (spc) this.runs.begin(spc);
+    if (seek !== undefined) {
+      Object.assign(this, { turn, heard: null, coming: null, next: seek, ended: false });
+      this.send({ turn });
+    }
+    const run = this.runs.of(this.muted, this.heard);
+    this.coming = run === this.heard ? null : { run, frame: seek ?? this.coming?.frame };
+    this.tell({ turn: this.turn, comes: this.coming !== null });
+  }
+
+  /** The output tells which frame it hands over next. */
+  handsOver({ turn, next }) {
+    if (turn === this.turn) this.next = next;
+  }
+
+  /** Does what presses most, a millisecond's work or a few. Tells whether there was anything to do. */
+  work() {
+    if (this.heard && !this.ended && this.heard.position - this.next < AHEAD) this.sendPiece();
+    else if (this.coming) this.approach();
+    else return this.rehearse();
+    return true;
+  }
+
+  sendPiece() {
+    const { heard, turn } = this;
+    const at = heard.position;
+    const frames = heard.play(PIECE, this.endless);
+    this.ended = frames.length === 0;
+    this.send({ turn, at, frames });
+    if (!this.ended) this.tell({ turn, shown: { at: heard.position, voices: heard.player.voices(), frames } });
+  }
+
+  /** The frame at which another run takes over: one that isn't handed over yet, and that those sent lead up to. */
+  get takeover() {
+    return Math.min(this.next + LEAD, this.heard.position);
+  }
+
+  approach() {
+    const { run, frame } = this.coming;
+    if (!run.step(frame ?? this.takeover, SLICE)) return;
+    Object.assign(this, { heard: run, coming: null, ended: false });
+    this.tell({ turn: this.turn, comes: false });
+  }
+
+  /** Has one of the runs that may be wanted next keep up with what is heard. */
+  rehearse() {
+    if (!this.heard) return false;
+    const late = this.likely.map((muted) => this.runs.of(muted, this.heard)).find((run) => Math.abs(run.position - this.takeover) > BEHIND);
+    late?.step(this.takeover, SLICE);
+    return late !== undefined;
   }
 }
-
-function send(at, frames) {
-  const count = frames.length / 2;
-  postMessage({ turn, shown: { at: at + count, voices: player.voices(), frames } });
-  output.postMessage({ turn, at, frames });
-  waiting += count;
-  furthest = Math.max(furthest, at + count);
-}
-
-/** Goes to a frame, and tells whether it came there: where nothing was heard yet it goes by the second, so that a newer order ends it. */
-async function goTo(frame) {
-  const its = turn;
-  if (frame > furthest) player.seek(furthest);
-  for (let next = (Math.floor(furthest / RATE) + 1) * RATE; next < frame; next += RATE) {
-    await new Promise((go) => setTimeout(go));
-    if (wanted || turn !== its) return false;
-    player.seek(next);
-    furthest = next;
-    if (next % (MARK_SECONDS * RATE) === 0) player.mark();
-  }
-  player.seek(frame);
-  furthest = Math.max(furthest, frame);
-  return true;
-}
-
-async function carryOut() {
-  const order = wanted;
-  [wanted, turn, endless, waiting, done] = [null, order.turn, order.endless, 0, true];
-  output.postMessage({ turn, empty: true });
-  postMessage({ turn, seeking: true });
-  if (order.spc) {
-    player.open(order.spc, inputs.table, { pages: PAGES, markSeconds: MARK_SECONDS });
-    furthest = 0;
-  }
-  if (!(await goTo(order.seek))) return;
-  postMessage({ turn, seeking: false });
-  done = false;
-  fill();
-}
-
-onmessage = ({ data }) => {
-  if (data.inputs) {
-    ({ inputs, output } = data);
-    player = new Player(inputs.module);
-    output.onmessage = ({ data: told }) => {
-      if (told.turn !== turn) return;
-      waiting -= told.heard;
-      fill();
-    };
-  } else {
-    if (!wanted) setTimeout(carryOut);
-    wanted = { ...wanted, ...data }; // a tune that was ordered stays ordered
-  }
-};

@@ -1,0 +1,51 @@
+// What is drawn of a whole tune: in each of its columns how loud it is, and the level and the pitch of each voice.
+import { VOICES } from './library.js';
+import { noteOf } from './notes.js';
+
+export const COLUMNS = 1024;
+const LEAST_SPAN = 12; // notes that a voice's part of the chart has room for, at least
+
+/** Lines of a tune of so many frames, of which none is rendered yet. Of voice v the numbers stand from v * COLUMNS on. */
+export function emptyLines(frames) {
+  return { frames, rendered: 0, loudness: new Float32Array(COLUMNS), levels: new Uint16Array(VOICES * COLUMNS), pitches: new Uint16Array(VOICES * COLUMNS) };
+}
+
+/** The column of a frame. */
+export const columnOf = (lines, frame) => Math.floor((frame / lines.frames) * COLUMNS);
+
+/** How many columns are rendered to their end. */
+export const columnsDone = (lines) => (lines.frames === 0 ? 0 : columnOf(lines, lines.rendered));
+
+/** Adds the frames that come next, left and right by turns, and what shows of the voices behind them. A column has its greatest value, and of each voice its
+ * greatest level with the pitch at that moment. */
+export function addPiece(lines, frames, voices) {
+  frames.forEach((value, index) => {
+    const column = columnOf(lines, lines.rendered + (index >> 1));
+    lines.loudness[column] = Math.max(lines.loudness[column], Math.abs(value) / 32768);
+  });
+  const last = columnOf(lines, lines.rendered + frames.length / 2 - 1);
+  for (let voice = 0; voice < VOICES; voice++) {
+    const [level, pitch] = [voices[4 * voice], voices[4 * voice + 1]];
+    const index = voice * COLUMNS + last;
+    if (level > lines.levels[index]) [lines.levels[index], lines.pitches[index]] = [level, pitch];
+  }
+  lines.rendered += frames.length / 2;
+}
+
+/** The note of a voice in a column, or null where it is silent there. */
+export function noteAt(lines, voice, column) {
+  const index = voice * COLUMNS + column;
+  return lines.levels[index] > 0 && lines.pitches[index] > 0 ? noteOf(lines.pitches[index]) : null;
+}
+
+/** The least and the greatest note of a voice, moved apart where they are less than an octave apart; null where it is silent throughout. */
+export function notesOf(lines, voice) {
+  let [least, greatest] = [Infinity, -Infinity];
+  for (let column = 0; column < COLUMNS; column++) {
+    const note = noteAt(lines, voice, column);
+    if (note !== null) [least, greatest] = [Math.min(least, note), Math.max(greatest, note)];
+  }
+  if (least > greatest) return null;
+  const missing = Math.max(0, LEAST_SPAN - (greatest - least)) / 2;
+  return { least: least - missing, greatest: greatest + missing };
+}
