@@ -10,8 +10,10 @@ use Rattle.render_core.specs.MachineRun.{Whole}
 use Rattle.render_core.specs.Saved.{saved_whole}
 use Rattle.render_core.specs.Whole.{loaded_whole, whole_after_run, frames_of_run}
 use Rattle.render_core.specs.RenderState.{RenderState, is_at_length}
+use Rattle.cut_form.specs.CutBook.{CutBook, needed_here, with_one_here}
+use Rattle.cut_form.specs.Marks.{MarkOutcome, mark_here}
 use Rattle.cut_server.specs.Machines.{Machines}
-use Rattle.cut_server.specs.ServerState.{Standing, ServerState, machine_at_start, pages_after, frames_after, KeepsStart}
+use Rattle.cut_server.specs.ServerState.{Standing, ServerState, book_of, slots_of, machine_at_start, pages_after, frames_after, KeepsStart}
 
 -- Its machines are those of a processor over the machine in lock step with its chip.
 unfoldable pub lock_step_machines : {S V : Type 0} → ChipMeaning S → ChipSaving S V → Machines (Whole (Machine S)) (PlayState V)
@@ -53,6 +55,16 @@ frames_to chip saving server = frames_after (lock_step_machines chip saving) (op
 
 abbrev pub chip_at : {S V : Type 0} → ChipMeaning S → ChipSaving S V → ChipServer S V → (samples : ℕ) → S
 chip_at chip saving server = chip_after chip (opening chip saving server)
+
+-- Of a checkpoint at its position: the slots that it needs, the book with it, and what becomes of a mark there.
+abbrev pub slots_needed_at : {S V : Type 0} → ChipMeaning S → ChipSaving S V → ChipServer S V → ℕ
+slots_needed_at chip saving server = needed_here (pages_at chip saving server) (book_of server)
+
+abbrev pub book_with_one_at : {S V : Type 0} → ChipMeaning S → ChipSaving S V → ChipServer S V → CutBook
+book_with_one_at chip saving server = with_one_here (pages_at chip saving server) (book_of server)
+
+abbrev pub marking_at : {S V : Type 0} → ChipMeaning S → ChipSaving S V → ChipServer S V → MarkOutcome
+marking_at chip saving server = mark_here (slots_of server) (pages_at chip saving server) (book_of server)
 
 abbrev pub KeepsTune : {S V : Type 0} → ChipMeaning S → ChipSaving S V → (old new : ChipServer S V) → Type 0
 KeepsTune chip saving old new = KeepsStart (lock_step_machines chip saving) old new

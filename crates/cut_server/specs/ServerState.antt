@@ -1,7 +1,7 @@
 -- A server of cuts over any whole machines: what its render holds at its length, and its table of checkpoints.
 use Rattle.std.specs.Prelude.{◌≡◌, ℕ, List, [], ◌∷◌, Bool, length}
 use Rattle.num_fix.specs.declared.Frame.{Frame}
-use Rattle.cut_form.specs.Checkpoints.{pages_of}
+use Rattle.cut_form.specs.Checkpoints.{pages_of, slots_free}
 use Rattle.cut_form.specs.CutBook.{CutBook}
 use Rattle.cut_server.specs.Machines.{Machines}
 use Rattle.cut_server.specs.Table.{TableState, Saved, saved_of, live_checkpoints}
@@ -30,6 +30,10 @@ book_of server = record {
 -- the slots of its pool
 abbrev pub slots_of : {W V : Type 0} → ServerState W V → ℕ
 slots_of server = length server.table.pool
+
+-- the slots that its live checkpoints leave free
+abbrev pub slots_left : {W V : Type 0} → ServerState W V → ℕ
+slots_left server = slots_free (slots_of server) (book_of server).live
 
 -- the machine that was saved first, over what no run changes of a machine
 unfoldable pub first_machine : {W V : Type 0} → Machines W V → W → List (Saved V) → W

@@ -7,15 +7,15 @@ ghost use Rattle.lock_step.specs.LockStepEmits.{lock_step_emits};
 ghost use Rattle.render_core.specs.Items.{run_frames};
 ghost use Rattle.render_core.specs.Opening.{opened_whole};
 ghost use Rattle.render_core.specs.Whole.{with_chip};
-ghost use Rattle.cut_form.specs.Checkpoints.{most_checkpoints, fewest_pages, slots_free, stands_at};
-ghost use Rattle.cut_form.specs.CutBook.{opened_book, runs_from, after_seek, most_played, after_play, counted_book, needed_here, with_live, with_one_here, without_one};
-ghost use Rattle.cut_form.specs.Marks.{room_made, mark_here};
+ghost use Rattle.cut_form.specs.Checkpoints.{most_checkpoints, fewest_pages, stands_at};
+ghost use Rattle.cut_form.specs.CutBook.{opened_book, runs_from, after_seek, most_played, after_play, counted_book, with_live, without_one};
+ghost use Rattle.cut_form.specs.Marks.{room_made};
 ghost use Rattle.cut_form.specs.Slices.{slice_of};
 ghost use Rattle.cut_form.specs.GrowingFrames.{AreOfRun};
 ghost use Rattle.cut_server.specs.Server.{lock_step_machines};
 ghost use Rattle.cut_server.specs.Table.{samples_of, AreOwnersCounted};
-ghost use Rattle.cut_server.specs.ServerState.{book_of, slots_of};
-ghost use Rattle.cut_server.specs.Server.{opening, pages_at, frames_to, chip_at, KeepsTune};
+ghost use Rattle.cut_server.specs.ServerState.{book_of, slots_of, slots_left};
+ghost use Rattle.cut_server.specs.Server.{opening, pages_at, frames_to, chip_at, slots_needed_at, book_with_one_at, marking_at, KeepsTune};
 ghost use Rattle.cut_server.specs.IsServed.{GoesOn, GoesBack};
 
 use crate::OutOfMemory;
@@ -111,7 +111,7 @@ impl<C: Chip> CutServer<C> {
     /// How many pages of the pool are free: those that live checkpoints leave. A page has as many owners as there are live checkpoints that name it.
     pub fn free(&self) -> u32
         ensures pool { result ≡ free_slots self.now.table.pool }
-        ensures free { result ≡ slots_free (slots_of self.now) (book_of self.now).live }
+        ensures free { result ≡ slots_left self.now }
         ensures owners { AreOwnersCounted self.now.table }
     {
         self.table.free()
@@ -240,12 +240,11 @@ impl<C: Chip> CutServer<C> {
     pub fn checkpoint(&mut self) -> Result<(), NoPages>
         requires none_here { stands_at (book_of self.old).live (book_of self.old).position ≡ false }
         requires few { length (book_of self.old).live < most_checkpoints }
-        ensures taken { OnOk result (book_of self.new ≡ with_one_here (pages_at C.meaning C.saving self.old) (book_of self.old)) }
-        ensures need { IfErr result (λ e. e.need ≡ needed_here (pages_at C.meaning C.saving self.old) (book_of self.old)) }
-        ensures free { IfErr result (λ e. e.free ≡ slots_free (slots_of self.old) (book_of self.old).live) }
+        ensures taken { OnOk result (book_of self.new ≡ book_with_one_at C.meaning C.saving self.old) }
+        ensures need { IfErr result (λ e. e.need ≡ slots_needed_at C.meaning C.saving self.old) }
+        ensures free { IfErr result (λ e. e.free ≡ slots_left self.old) }
         ensures unchanged { IfErr result (λ e. self.new ≡ self.old) }
-        ensures exactly { let need = needed_here (pages_at C.meaning C.saving self.old) (book_of self.old) in
-            IsOk result ↔ (need ≤ slots_free (slots_of self.old) (book_of self.old).live) }
+        ensures exactly { IsOk result ↔ (slots_needed_at C.meaning C.saving self.old ≤ slots_left self.old) }
         ensures tune { KeepsTune C.meaning C.saving self.old self.new }
     {
         // Each page is compared with that of the newest once, for what is needed and for what is shared alike.
@@ -289,9 +288,8 @@ impl<C: Chip> CutServer<C> {
     /// Takes a checkpoint at the position, unless one stands there. It gives up others for it as long as there is no room,
     /// first those taken first; but never that of sample 0.
     pub fn mark(&mut self) -> Marked
-        ensures book { let outcome = mark_here (slots_of self.old) (pages_at C.meaning C.saving self.old) (book_of self.old) in
-            book_of self.new ≡ with_live (book_of self.old) outcome.live }
-        ensures answer { result ≡ (mark_here (slots_of self.old) (pages_at C.meaning C.saving self.old) (book_of self.old)).marked }
+        ensures book { book_of self.new ≡ with_live (book_of self.old) (marking_at C.meaning C.saving self.old).live }
+        ensures answer { result ≡ (marking_at C.meaning C.saving self.old).marked }
         ensures tune { KeepsTune C.meaning C.saving self.old self.new }
     {
         if self.has(self.position) {

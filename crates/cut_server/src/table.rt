@@ -13,7 +13,8 @@ use crate::OutOfMemory;
 use crate::pages::{give_all, own_slots, place_all};
 use aram_core::Aram;
 use cut_form::{MOST_CHECKPOINTS, PAGE_COUNT};
-use page_pool::{Page, PagePool, push_within_capacity};
+use fixed_vec::FixedVec;
+use page_pool::{Page, PagePool};
 use std::alloc::Global;
 use std::marker::Model;
 
@@ -29,19 +30,20 @@ pub(crate) struct LiveCheckpoint<S: Copy> {
 #[derive(Drop)]
 pub(crate) struct Table<S: Copy> {
     pool: PagePool,
-    checkpoints: Vec<LiveCheckpoint<S>>,
+    checkpoints: FixedVec<LiveCheckpoint<S>>,
 }
 
 impl<S: Copy> Model for Table<S> {
-    ghost use Rattle.std.specs.Prelude.{◌≤◌, vec_capacity};
+    ghost use Rattle.std.specs.Prelude.{◌≤◌};
+    ghost use Rattle.fixed_vec.specs.FixedVec.{elements_of, capacity_of};
     ghost use Rattle.cut_form.specs.Checkpoints.{most_checkpoints};
     ghost use Rattle.cut_server.specs.Table.{TableState, AreKeptIn};
 
     ghost Value = { TableState S };
 
-    ghost view = { λ t. record { pool = t.pool; checkpoints = t.checkpoints.items } };
+    ghost view = { λ t. record { pool = t.pool; checkpoints = elements_of t.checkpoints } };
 
-    ghost invariant = { λ t. (most_checkpoints ≤ vec_capacity t.checkpoints) × AreKeptIn t.pool t.checkpoints.items };
+    ghost invariant = { λ t. (most_checkpoints ≤ capacity_of t.checkpoints) × AreKeptIn t.pool (elements_of t.checkpoints) };
 }
 
 /// The pages of the newest checkpoint, if there is one.
@@ -88,7 +90,7 @@ impl<S: Copy> Table<S> {
         ensures size { IfOk result (λ table. length table.pool ≡ pages) }
     {
         let pool = PagePool::new(alloc, pages)?;
-        let checkpoints = Vec::with_capacity(alloc, MOST_CHECKPOINTS as usize)?;
+        let checkpoints = FixedVec::with_capacity(alloc, MOST_CHECKPOINTS as usize)?;
         let mut table = Table { pool, checkpoints };
         let shared = table.shared_pages(memory);
         table.add(0, state, memory, &shared);
@@ -205,14 +207,11 @@ impl<S: Copy> Table<S> {
             memory,
             shared,
         );
-        push_within_capacity(
-            &mut self.checkpoints,
-            LiveCheckpoint {
-                sample,
-                state,
-                pages,
-            },
-        );
+        self.checkpoints.push(LiveCheckpoint {
+            sample,
+            state,
+            pages,
+        });
     }
 
     /// Drops the one at a place. Those after it move up in their list, about 1 KB each; no memory of the machine is copied.

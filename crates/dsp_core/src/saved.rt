@@ -6,8 +6,8 @@ use dsp_state::registers::Registers;
 use rate_clock::RateClock;
 use std::marker::Model;
 
-/// What `Dsp::save` alone makes: the registers, what the chip keeps beside them, the muted voices, and the number of its next sample. The
-/// table is none of it.
+/// What `Dsp::save` makes, or `with_muted` of such a value: the registers, what the chip keeps beside them, the muted voices, and the number of
+/// its next sample. The table is none of it.
 #[derive(Clone, Copy, Debug)]
 pub struct DspState {
     pub(crate) registers: Registers,

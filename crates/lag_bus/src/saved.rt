@@ -3,7 +3,7 @@ ghost use Rattle.std.specs.Prelude.{◌≡◌};
 
 use ports_timers::Io;
 
-/// What `LagBus::save` alone makes: the ports and timers, the clock, and what is saved of the chip. Memory stands beside it.
+/// What `LagBus::save` makes, or `with_chip` of such a value: the ports and timers, the clock, and what is saved of the chip. Memory stands beside it.
 #[derive(Clone, Copy)]
 pub struct BusState<S> {
     pub(crate) io: Io,

@@ -1,7 +1,9 @@
 -- A sample with other voices muted.
-use Rattle.std.proofs.Common.{◌≡◌, ℕ, ◌%◌, ◌==◌, List, Bool, true, false, if◌then◌else◌, refl, ap}
+use Rattle.std.proofs.Common.{◌≡◌, ℕ, ◌%◌, ◌==◌, nat_le, List, Bool, true, false, slice_set, if◌then◌else◌, refl, ap}
 use Rattle.rate_clock.specs.Counter.{counter_at}
 use Rattle.dsp_state.specs.Results.{without_bits}
+use Rattle.dsp_state.specs.Outside.{register_write}
+use Rattle.dsp_state.specs.declared.registers.TheConstants.{KON, ENDX}
 use Rattle.dsp_state.specs.Sample.{after_poll, after_noise, before_voices, rest_of_sample, sample}
 use Rattle.dsp_state.specs.declared.state.ChipState.{ChipState}
 use Rattle.mute_laws.specs.Muting.{with_muted}
@@ -34,3 +36,19 @@ state_goes_on k s muted memory = ap (λ (t : ChipState). (rest_of_sample k t mem
 pub records_go_on : (k : ℕ) (s : ChipState) (muted : ℕ) (memory : List ℕ) → (sample k (with_muted s muted) memory).records ≡ (sample k s memory).records
 unfolding sample
 records_go_on k s muted memory = ap (λ (t : ChipState). (rest_of_sample k t memory).records) (before_voices_with s k muted)
+
+-- a write of a register
+pub writes_leave_muted : (s : ChipState) (muted address byte : ℕ) → register_write (with_muted s muted) address byte ≡ with_muted (register_write s address byte) muted
+unfolding register_write
+writes_leave_muted s muted address byte = by (nat_le 0x80 address)
+  where
+    registers : List ℕ
+    registers = slice_set s.registers address (if address == ENDX then 0 else byte)
+
+    waiting : ℕ
+    waiting = if address == KON then byte else s.hidden.waiting
+
+    by : (b : Bool) → (if b then with_muted s muted else record (with_muted s muted) { registers = registers; hidden = record s.hidden { waiting = waiting } })
+        ≡ with_muted (if b then s else record s { registers = registers; hidden = record s.hidden { waiting = waiting } }) muted
+    by true = refl
+    by false = refl

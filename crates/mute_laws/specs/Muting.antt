@@ -5,6 +5,7 @@ use Rattle.echo_unit.specs.Echo.{silent_frame}
 use Rattle.chip_form.specs.Samples.{samples}
 use Rattle.dsp_state.specs.Sample.{sample}
 use Rattle.dsp_state.specs.Volumes.{voice_volumes, all_volumes}
+use Rattle.dsp_state.specs.Outside.{register_write}
 use Rattle.dsp_state.specs.declared.registers.TheConstants.{EVOLL, EVOLR}
 use Rattle.dsp_state.specs.declared.state.ChipState.{ChipState}
 
@@ -22,6 +23,11 @@ MutedVoicesGoOn =
     (k : ℕ) (s : ChipState) (muted : ℕ) (memory : List ℕ)
     → ((sample k (with_muted s muted) memory).state ≡ with_muted (sample k s memory).state muted)
     × ((sample k (with_muted s muted) memory).records ≡ (sample k s memory).records)
+
+-- a write of a register does the same to both, and mutes no voice
+abbrev pub WritesLeaveMuted : Type 0
+WritesLeaveMuted =
+    (s : ChipState) (muted address byte : ℕ) → register_write (with_muted s muted) address byte ≡ with_muted (register_write s address byte) muted
 
 -- with all voices muted and the echo's volumes 0, frames are silent
 abbrev pub AllMutedIsSilent : Type 0

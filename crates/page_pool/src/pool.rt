@@ -4,7 +4,7 @@ ghost use Rattle.page_pool.specs.Pool.{page_size, most_pages, most_owners, free_
 
 use crate::OutOfMemory;
 use crate::slot::Slot;
-use crate::within::push_within_capacity;
+use fixed_vec::FixedVec;
 use std::alloc::Global;
 use std::marker::Model;
 
@@ -27,26 +27,27 @@ impl Model for Page {
     ghost inverse = { λ n. record { slot = n } };
 }
 
-/// A pool of slots of 256 bytes, each with a number of owners. Only `new` takes memory: room for all slots, each of which is
-/// made when it is first taken. A call never changes the bytes of a slot that keeps an owner.
+/// A pool of slots of 256 bytes, each with a number of owners. Only `new` takes memory: its slots lie in a vector of a fixed
+/// capacity, and each is made when it is first taken. A call never changes the bytes of a slot that keeps an owner.
 #[derive(Drop)]
 pub struct PagePool {
-    slots: Vec<Slot>,
+    slots: FixedVec<Slot>,
     unmade: u32,
     first: u16,
     free: u32,
 }
 
 impl Model for PagePool {
-    ghost use Rattle.std.specs.Prelude.{List, vec_capacity};
+    ghost use Rattle.std.specs.Prelude.{List};
+    ghost use Rattle.fixed_vec.specs.FixedVec.{elements_of, capacity_of};
     ghost use Rattle.page_pool.specs.declared.slot.Slot.{Slot};
     ghost use Rattle.page_pool.specs.Free.{seen_pool, IsPooled};
 
     ghost Value = { List Slot };
 
-    ghost view = { λ p. seen_pool p.slots.items p.unmade };
+    ghost view = { λ p. seen_pool (elements_of p.slots) p.unmade };
 
-    ghost invariant = { λ p. IsPooled p.slots.items p.unmade p.first p.free (vec_capacity p.slots) };
+    ghost invariant = { λ p. IsPooled (elements_of p.slots) p.unmade p.first p.free (capacity_of p.slots) };
 }
 
 impl PagePool {
@@ -56,7 +57,7 @@ impl PagePool {
         requires few { pages ≤ most_pages }
         ensures { IfOk result (λ pool. pool ≡ replicate pages free_slot) }
     {
-        let slots = Vec::with_capacity(alloc, pages as usize)?;
+        let slots = FixedVec::with_capacity(alloc, pages as usize)?;
         Ok(PagePool {
             slots,
             unmade: pages,
@@ -75,7 +76,7 @@ impl PagePool {
     {
         if self.free > 0 {
             let page = Page { slot: self.first };
-            let slot = &mut self.slots[usize::from(self.first)];
+            let slot = self.slots.element_mut(usize::from(self.first));
             self.first = slot.next();
             slot.hold(bytes);
             self.free -= 1;
@@ -87,7 +88,7 @@ impl PagePool {
         let page = Page {
             slot: self.slots.len() as u16,
         };
-        push_within_capacity(&mut self.slots, Slot::held(bytes));
+        self.slots.push(Slot::held(bytes));
         self.unmade -= 1;
         Some(page)
     }
@@ -98,7 +99,7 @@ impl PagePool {
         requires few { (slot_at self.old page).owners ≤ most_owners }
         ensures { self.new ≡ after_share self.old page }
     {
-        let slot = &mut self.slots[usize::from(page.slot)];
+        let slot = self.slots.element_mut(usize::from(page.slot));
         slot.owners += 1;
     }
 
@@ -107,7 +108,7 @@ impl PagePool {
         requires { 0 < (slot_at self.old page).owners }
         ensures { self.new ≡ after_give self.old page }
     {
-        let slot = &mut self.slots[usize::from(page.slot)];
+        let slot = self.slots.element_mut(usize::from(page.slot));
         if slot.owners > 1 {
             slot.owners -= 1;
         } else {

@@ -14,7 +14,6 @@ ghost use Rattle.player.specs.OwnMarks.{most_mark_seconds, spacing_of, with_own_
 ghost use Rattle.player.specs.Player.{frames_of, memory_of, position_of, chip_here, marks_of, room_of, marking, marks_played, made_of};
 ghost use Rattle.player.specs.Player.{frames_sought, sought_some, SeekIsNear, faded_frames_played, opening_of, IsOver, IsAnew, KeepsPlayer};
 
-use crate::OutOfMemory;
 use crate::output::{StereoFrame, fade_frames, put_frames, put_text};
 use crate::own_marks::{MOST_AT_ONCE, frames_at_once, is_own_mark};
 use chip_form::Chip;
@@ -22,22 +21,21 @@ use cut_form::{MOST_FRAMES, Marked};
 use cut_server::CutServer;
 use num_fix::{Frame, SAMPLE_RATE};
 use spc_form::{Length, SpcFile, Tag};
-use std::alloc::Global;
 use std::marker::Model;
 
-/// A player of a tune over a chip. Its frames are those of one run, whatever was played, sought or marked before. Only what opens it takes
-/// memory.
+/// A player of a tune over a chip. Its frames are those of one run until `restart` begins another, whatever was played, sought or marked
+/// before. It takes no memory: its server and its file have theirs.
 #[derive(Drop)]
 pub struct Player<C: Chip> {
     server: CutServer<C>,
     file: SpcFile,
     spacing: u32,
     end: Length,
-    frames: Vec<Frame>,
+    frames: [Frame; MOST_AT_ONCE],
 }
 
 impl<C: Chip> Model for Player<C> {
-    ghost use Rattle.std.specs.Prelude.{◌≡◌, ◌≤◌, vec_len};
+    ghost use Rattle.std.specs.Prelude.{◌≡◌, ◌≤◌, length};
     ghost use Rattle.num_fix.specs.Limits.{most_frames};
     ghost use Rattle.player.specs.Player.{PlayerState};
     ghost use Rattle.player.specs.declared.own_marks.TheConstants.{MOST_AT_ONCE};
@@ -46,7 +44,7 @@ impl<C: Chip> Model for Player<C> {
 
     ghost view = { λ p. record { server = p.server; file = p.file; spacing = p.spacing; end = p.end } };
 
-    ghost invariant = { λ p. (vec_len p.frames ≡ MOST_AT_ONCE) × (p.end.frames ≤ most_frames) × (p.end.fade ≤ p.end.frames) };
+    ghost invariant = { λ p. (length p.frames ≡ MOST_AT_ONCE) × (p.end.frames ≤ most_frames) × (p.end.fade ≤ p.end.frames) };
 }
 
 /// Plays so many frames through a room, and puts them into others from a place on.
@@ -73,23 +71,21 @@ impl<C: Chip> Player<C> {
     /// A player over a server of a file's cuts, where that stands, with its marks and over its chip. It takes a mark by itself each so many
     /// seconds, at most 3,600; none at 0.
     pub fn over(
-        alloc: Global,
         server: CutServer<C>,
         file: SpcFile,
         mark_seconds: u32,
-    ) -> Result<Player<C>, OutOfMemory>
+    ) -> Player<C>
         requires { mark_seconds ≤ most_mark_seconds }
-        ensures over { IfOk result (λ player. IsOver server file (spacing_of mark_seconds) player) }
+        ensures over { IsOver server file (spacing_of mark_seconds) result }
     {
-        let frames = vec![in alloc; Frame::default(); MOST_AT_ONCE]?;
         let end = file.length();
-        Ok(Player {
+        Player {
             server,
             file,
             spacing: SAMPLE_RATE * mark_seconds,
             end,
-            frames,
-        })
+            frames: [Frame::default(); MOST_AT_ONCE],
+        }
     }
 
     /// The length by the tags of the file, and how many of its last frames fade out, in frames, of which 32,000 are a second; three

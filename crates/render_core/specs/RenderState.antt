@@ -44,6 +44,14 @@ is_at_length render = nat_le render.samples (samples_due render.bus.machine)
 abbrev pub whole_at_length : {S : Type 0} → ChipMeaning S → RenderState S → Whole (Machine S)
 whole_at_length chip render = end_of_run (lock_step chip) lock_step_emits render.samples (render.cpu, render.bus.machine)
 
+-- A render at its length: it gave all its frames, no sample is pending, its chip's next sample is the first one after it, and it holds the
+-- machine there.
+pub record HasArrived {S : Type 0} (chip : ChipMeaning S) (render : RenderState S) : Type 0 where
+  pub given : frames_to_come chip render ≡ []
+  pub settled : render.bus.book.pending ≡ 0
+  pub sample : render.bus.chip_sample ≡ render.samples
+  pub whole : (render.cpu, render.bus.machine) ≡ whole_at_length chip render
+
 -- A render of so many samples as it is opened: it has this whole machine, over a chip that made so many samples in all, and all of the
 -- machine's run is to come.
 pub record IsOpenedOver {S : Type 0} (chip : ChipMeaning S) (machine : Whole (Machine S)) (made wanted : ℕ) (render : RenderState S) : Type 0 where

@@ -7,7 +7,7 @@ ghost use Rattle.num_fix.specs.Limits.{most_frames};
 ghost use Rattle.lock_step.specs.LockStep.{samples_due};
 ghost use Rattle.lag_bus.specs.Lagging.{MatchesBook};
 ghost use Rattle.render_core.specs.Opening.{opened_whole, opened_cpu};
-ghost use Rattle.render_core.specs.RenderState.{frames_to_come, is_at_length, whole_at_length, IsOpenedOver, IsNextPiece};
+ghost use Rattle.render_core.specs.RenderState.{frames_to_come, is_at_length, HasArrived, IsOpenedOver, IsNextPiece};
 ghost use Rattle.render_core.specs.Saved.{saved_whole, CanBePlayed, loaded_render};
 ghost use Rattle.render_core.specs.contracts.render.Render.{the_row};
 
@@ -145,10 +145,7 @@ impl<C: Chip> Render<C> {
     /// the first one after it.
     pub fn is_done(&self) -> bool
         ensures done { result ≡ is_at_length self.now }
-        ensures given { result ≡ true → frames_to_come C.meaning self.now ≡ [] }
-        ensures settled { result ≡ true → self.now.bus.book.pending ≡ 0 }
-        ensures sample { result ≡ true → self.now.bus.chip_sample ≡ self.now.samples }
-        ensures whole { result ≡ true → (self.now.cpu, self.now.bus.machine) ≡ whole_at_length C.meaning self.now }
+        ensures arrived { result ≡ true → HasArrived C.meaning self.now }
     {
         self.bus.due() >= self.samples
     }

@@ -5,8 +5,8 @@ ghost use Rattle.render_core.specs.Saved.{with_saved_chip};
 use lag_bus::BusState;
 use spc700_exec::Cpu;
 
-/// What `Render::save` alone makes: the processor's registers and whether it is halted, and what is saved of the bus. Memory
-/// stands beside it.
+/// What `Render::save` makes, or `with_chip` of such a value: the processor's registers and whether it is halted, and what is saved of
+/// the bus. Memory stands beside it.
 #[derive(Clone, Copy)]
 pub struct PlayState<S> {
     pub(crate) cpu: Cpu,

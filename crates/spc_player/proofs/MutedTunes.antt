@@ -16,8 +16,8 @@ use Rattle.tune_opening.proofs.Served.{frames_served, pages_served, chip_served}
 use Rattle.player.specs.OwnMarks.{spacing_of}
 use Rattle.player.specs.Player.{IsOver, IsAnew}
 use Rattle.spc_player.specs.declared.options.PlayerOptions.{PlayerOptions}
-use Rattle.spc_player.specs.Inputs.{Inputs, IsOfTune, IsAtOpening, IsMuted}
-use Rattle.spc_player.specs.Player.{SpcPlayer, opening_of}
+use Rattle.spc_player.specs.Inputs.{Inputs, IsOfTune, IsAtOpening, IsMuted, with_voices_muted}
+use Rattle.spc_player.specs.Player.{SpcPlayer, opening_of, KeepsPlayer}
 
 pub of_tune : (inputs : Inputs) (muted : ℕ) (player : SpcPlayer) → player.file ≡ inputs.file → opening_of player ≡ opened_tune inputs.file inputs.weights muted 0 → IsOfTune inputs muted player
 of_tune inputs muted player file start = record {
@@ -26,6 +26,15 @@ of_tune inputs muted player file start = record {
   frames = frames_served inputs.file inputs.weights muted (opening_of player) start;
   memory = pages_served inputs.file inputs.weights muted (opening_of player) start;
   chip = chip_served inputs.file inputs.weights muted (opening_of player) start;
+}
+
+pub tune_stays : (inputs : Inputs) (muted : ℕ) (old new : SpcPlayer) → KeepsPlayer old new → IsOfTune inputs muted old → IsOfTune inputs muted new
+tune_stays inputs muted old new keeps of = record {
+  file = keeps.file ∙ of.file;
+  start = keeps.start ∙ of.start;
+  frames = keeps.frames ∙ of.frames;
+  memory = keeps.memory ∙ of.memory;
+  chip = keeps.chips ∙ of.chip;
 }
 
 -- a player over the server of a tune at its opening
@@ -50,24 +59,25 @@ at_opening inputs options server player over start book slots =
 abbrev pub muted_chip : Whole (Machine ChipState) → (muted : ℕ) → SavedDsp
 muted_chip w muted = record (saved_state w.1.chip 0) { muted = muted }
 
--- the opening over that is the opening with these voices muted
-opening_muted : (file : List ℕ) (table : List ℤ) (before muted : ℕ)
-    → (let w = opened_tune file table before 0 in with_chip w (dsp_saving.loaded w.1.chip (muted_chip w muted))) ≡ opened_tune file table muted 0
+-- a tune's opening with other voices muted is its opening with these
+opening_muted : (file : List ℕ) (table : List ℤ) (before muted : ℕ) → with_voices_muted (opened_tune file table before 0) muted ≡ opened_tune file table muted 0
 unfolding opened_state
 opening_muted file table before muted = refl
 
 pub is_muted : (muted : ℕ) (saved : SavedDsp) (old new : SpcPlayer) → saved ≡ muted_chip (opening_of old) muted → IsAnew dsp_chip dsp_saving saved old new → IsMuted muted old new
-is_muted muted saved old new is anew = record {
-  tune = λ inputs before of.
-      of_tune inputs muted new (anew.file ∙ of.file)
-      (anew.start
-      ∙ ap (λ s. with_chip (opening_of old) (dsp_saving.loaded (opening_of old).1.chip s)) is
-      ∙ ap (λ (w : Whole (Machine ChipState)). with_chip w (dsp_saving.loaded w.1.chip (muted_chip w muted))) of.start
-      ∙ opening_muted inputs.file inputs.weights before muted);
-  position = anew.position;
-  marks = anew.marks;
-  made = anew.made;
-  room = anew.room;
-  spacing = anew.spacing;
-  end = anew.end;
-}
+is_muted muted saved old new is anew =
+    let start : opening_of new ≡ with_voices_muted (opening_of old) muted =
+    anew.start ∙ ap (λ s. with_chip (opening_of old) (dsp_saving.loaded (opening_of old).1.chip s)) is in
+    record {
+      start = start;
+      file = anew.file;
+      tune = λ inputs before of.
+          of_tune inputs muted new (anew.file ∙ of.file)
+          (start ∙ ap (λ (w : Whole (Machine ChipState)). with_voices_muted w muted) of.start ∙ opening_muted inputs.file inputs.weights before muted);
+      position = anew.position;
+      marks = anew.marks;
+      made = anew.made;
+      room = anew.room;
+      spacing = anew.spacing;
+      end = anew.end;
+    }

@@ -1,8 +1,12 @@
 -- What a player is opened with: a file and a table of weights, or why the bytes are none.
 use Rattle.std.specs.Prelude.{◌≡◌, ℕ, ℤ, List, [], Result, Ok, Err}
 use Rattle.chip_form.specs.Samples.{count_after}
+use Rattle.dsp_state.specs.declared.state.ChipState.{ChipState}
 use Rattle.gauss_table.specs.declared.refusal.TableRefusal.{TableRefusal}
 use Rattle.gauss_table.specs.Weights.{weights_in}
+use Rattle.lock_step.specs.Machine.{Machine}
+use Rattle.render_core.specs.MachineRun.{Whole}
+use Rattle.render_core.specs.Whole.{with_chip}
 use Rattle.spc_form.specs.declared.reading.SpcRefusal.{SpcRefusal}
 use Rattle.spc_form.specs.Accepted.{spc_file}
 use Rattle.spc_form.specs.Tags.{length_of}
@@ -13,7 +17,7 @@ use Rattle.spc_player.specs.declared.options.PlayerOptions.{PlayerOptions}
 use Rattle.player.specs.OwnMarks.{spacing_of}
 use Rattle.spc_player.specs.Refusals.{of_spc, of_table}
 use Rattle.player.specs.Player.{position_of, marks_of, room_of, made_of}
-use Rattle.spc_player.specs.Player.{SpcPlayer, opening_of, frames_of, memory_of, chip_of}
+use Rattle.spc_player.specs.Player.{SpcPlayer, opening_of, frames_of, memory_of, chip_of, KeepsPlayer}
 
 pub record Inputs : Type 0 where
   -- the padded bytes of the file, and the 512 weights
@@ -38,6 +42,10 @@ pub record IsOfTune (inputs : Inputs) (muted : ℕ) (player : SpcPlayer) : Type 
   pub memory : memory_of player ≡ tune_pages inputs.file inputs.weights muted
   pub chip : chip_of player ≡ tune_chip inputs.file inputs.weights muted
 
+-- what keeps a player keeps its tune
+abbrev pub TuneStays : Type 0
+TuneStays = (inputs : Inputs) (muted : ℕ) (old new : SpcPlayer) → KeepsPlayer old new → IsOfTune inputs muted old → IsOfTune inputs muted new
+
 -- A player stands at the opening of a tune, with the voices of its options muted, where its one mark is, and has made no frame.
 pub record IsAtOpening (inputs : Inputs) (options : PlayerOptions) (player : SpcPlayer) : Type 0 where
   pub tune : IsOfTune inputs options.muted player
@@ -52,9 +60,15 @@ pub record IsAtOpening (inputs : Inputs) (options : PlayerOptions) (player : Spc
 abbrev pub IsOpened : (bytes table : List ℕ) → PlayerOptions → SpcPlayer → Type 0
 IsOpened bytes table options player = (inputs : Inputs) × (inputs_of bytes table ≡ Ok inputs) × IsAtOpening inputs options player
 
--- These voices are muted now, and no others, from frame 0 on: whatever tune it was of, with whatever voices muted, it is of that tune with these.
--- It stands where it stood, has the mark of frame 0 alone, and made the frames from there.
+-- a machine whose S-DSP has these voices muted and no others
+abbrev pub with_voices_muted : Whole (Machine ChipState) → (muted : ℕ) → Whole (Machine ChipState)
+with_voices_muted w muted = with_chip w (record w.1.chip { muted = muted })
+
+-- These voices are muted now, and no others, from the opening on: so whatever tune it was of, with whatever voices muted, it is of that tune with
+-- these. It stands where it stood, has the mark of frame 0 alone, and made the frames from there.
 pub record IsMuted (muted : ℕ) (old new : SpcPlayer) : Type 0 where
+  pub start : opening_of new ≡ with_voices_muted (opening_of old) muted
+  pub file : new.file ≡ old.file
   pub tune : (inputs : Inputs) (before : ℕ) → IsOfTune inputs before old → IsOfTune inputs muted new
   pub position : position_of new ≡ position_of old
   pub marks : marks_of new ≡ with_checkpoint [] 0 (memory_of new 0)

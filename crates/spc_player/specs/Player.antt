@@ -31,7 +31,7 @@ chip_of player = any.chip_of dsp_chip dsp_saving player
 abbrev pub chip_here : SpcPlayer → ChipState
 chip_here player = any.chip_here dsp_chip dsp_saving player
 
--- a mark at the position, the marks once so many frames more are played, and those frames with the fade of the tags
+-- a mark at the position, the marks once so many frames more are played, and those frames with the fade of its end
 abbrev pub marking : SpcPlayer → MarkOutcome
 marking player = any.marking dsp_chip dsp_saving player
 

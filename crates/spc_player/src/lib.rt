@@ -2,6 +2,7 @@
 //! what opens it takes memory, and makes a chip.
 #![tactic(auto)]
 
+mod laws;
 mod muting;
 mod opening;
 mod options;
@@ -11,6 +12,7 @@ mod tests;
 mod threads;
 mod voices;
 
+pub use laws::what_keeps_a_player_keeps_its_tune;
 pub use muting::mute;
 pub use opening::{open_bytes, open_player};
 pub use options::PlayerOptions;

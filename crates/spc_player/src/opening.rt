@@ -23,8 +23,7 @@ pub fn open_player(
     ensures opening { IfOk result (λ player. IsAtOpening (record { file = file; weights = table }) options player) }
 {
     let server = open_server(alloc, &file, table, options.muted, options.pages)?;
-    let player = Player::over(alloc, server, file, options.mark_seconds)?;
-    Ok(player)
+    Ok(Player::over(server, file, options.mark_seconds))
 }
 
 /// A player at the opening, from the bytes of an SPC file and those of a table: 512 numbers of 16 bits, low byte first.
