@@ -1,0 +1,680 @@
+"""SPC files that read timers, ports and the registers of voices, and play what they read; examples/registers.asm is their driver.
+
+What is to be heard is worked out here, apart from the program: `Machine` has the rules of timers and voices as docs/CONFORMANCE.md
+names their sources, and obeys the driver's script with the cycles that each command takes. It does so in many ways: other phases of
+the timers' ticks, of samples, of key polling and of the counter of rates, accesses earlier within their instruction, and a sound
+chip that takes writes and shows its registers some samples later. A byte that isn't the same in all of these is no test.
+"""
+import os
+import random
+import struct
+import subprocess
+import tempfile
+
+import runs
+
+DRIVER, DIRECTORY, SCRIPT, LONG = 0x0400, 0x0200, 0x1000, 0xE000
+COMMANDS = ('write', 'write_dsp', 'read', 'read_two', 'read_dsp', 'reached_dsp', 'wait', 'await_count', 'await_change', 'play', 'end')
+FETCH = 57                      # cycles until a command begins
+# Of a command: the cycles from its begin to its access and to its end. `wait` and `await_` take what they are told.
+CYCLES = {'write': (7, 10), 'write_dsp': (11, 14), 'read': (6, 21), 'read_two': (5, 22), 'read_dsp': (10, 28), 'reached_dsp': (10, 35)}
+SAMPLE = 32
+PAIR = 974                      # cycles that a pair of volumes lasts, and the mark before them and the silence behind them
+MARK_PAIR = 962                 # and one of the marks at the beginning and at the end
+TICK = (128, 128, 16)           # of each timer, in cycles
+CONTROL, DSP_ADDRESS, PORTS, TARGETS, COUNTERS = 0xF1, 0xF2, 0xF4, 0xFA, 0xFD
+KON, KOFF, FLG, ENDX = 0x4C, 0x5C, 0x6C, 0x7C
+GIVEN_PORTS = (0xA5, 0x5A, 0xC3, 0x3C)
+PERIODS = (0, 2048, 1536, 1280, 1024, 768, 640, 512, 384, 320, 256, 192, 160, 128, 96, 80,
+           64, 48, 40, 32, 24, 20, 16, 12, 10, 8, 6, 5, 4, 3, 2, 1)
+BLOCKS = 64                     # of the long wave
+HEIGHT = 14336                  # of all waves
+
+# The waves: of each its first block, the block of its loop, and its blocks' headers from the first on. All digits of a wave are alike.
+STILL, LATE_LOOP, ONCE, FLIPPED = range(4)
+LONG_HEADERS = {LONG + 9 * number: 0xB0 for number in range(BLOCKS - 1)} | {LONG + 9 * (BLOCKS - 1): 0xB3}
+ONCE_AT = LONG + 9 * BLOCKS
+ONCE_HEADERS = {ONCE_AT + 9 * number: 0xB0 for number in range(7)} | {ONCE_AT + 63: 0xB1}
+HEADERS = {0x0240: 0xB3, 0x0250: 0xB3} | LONG_HEADERS | ONCE_HEADERS
+ENTRIES = {STILL: (0x0240, 0x0240), LATE_LOOP: (LONG + 9 * (BLOCKS - 8), LONG), ONCE: (ONCE_AT, LONG), FLIPPED: (0x0250, 0x0250)}
+
+
+def pairs(read):
+    """How many pairs are played of what a test read."""
+    return (len(read) + 1) // 2
+
+
+class Timer:
+    def __init__(self):
+        self.on, self.target, self.inner, self.counter = False, 0, 0, 0
+
+    def ticks(self, count):
+        """So many ticks; where the inner counter then equals the target, 0 meaning 256, it begins anew and the counter rises."""
+        while self.on and count:
+            left = (self.target - self.inner - 1) % 256 + 1
+            passed = min(left, count)
+            self.inner, count = (self.inner + passed) % 256, count - passed
+            if passed == left:
+                self.inner, self.counter = 0, (self.counter + 1) % 16
+
+    def read(self):
+        counter, self.counter = self.counter, 0
+        return counter
+
+    def switch(self, on):
+        if on and not self.on:
+            self.inner, self.counter = 0, 0
+        self.on = on
+
+
+class Voice:
+    """What a voice shows of itself: the level of its envelope, its output, and when it comes to its wave's end."""
+
+    def __init__(self):
+        self.mode, self.level, self.hidden, self.delay = 'release', 0, 0, 0
+        self.block, self.offset, self.position = 0, 1, 0
+
+    def envelope(self, registers, fires):
+        adsr1, adsr2, gain = registers[5], registers[6], registers[7]
+        if self.mode == 'release':
+            self.level = max(self.level - 8, 0)
+            return
+        last = self.level - 1
+        sustain = adsr2 >> 5
+        if adsr1 & 0x80:
+            if self.mode == 'attack':
+                rate = 2 * (adsr1 & 15) + 1
+                new = self.level + (0x400 if rate == 31 else 0x20)
+            else:
+                rate = 2 * (adsr1 >> 4 & 7) + 16 if self.mode == 'decay' else adsr2 & 31
+                new = last - (last >> 8)
+        else:
+            sustain = gain >> 5
+            rate, how = (31, 0) if gain < 0x80 else (gain & 31, gain >> 5)
+            bent = 8 if self.hidden >= 0x600 else 0x20
+            new = {0: gain * 16, 4: self.level - 0x20, 5: last - (last >> 8), 6: self.level + 0x20, 7: self.level + bent}[how]
+        if self.mode == 'decay' and new >> 8 == sustain:
+            self.mode = 'sustain'
+        self.hidden = new
+        if not 0 <= new <= 0x7FF:
+            new = min(max(new, 0), 0x7FF)
+            self.mode = 'decay' if self.mode == 'attack' else self.mode
+        if fires(rate):
+            self.level = new
+
+    def sample(self, registers, flags, fires):
+        """A sample, given its registers and whether it is reset, polled, keyed off and keyed on: ENVX, OUTX and whether it came to an end."""
+        reset, poll, off, on = flags
+        source, pitch = registers[4], (registers[2] | registers[3] << 8) & 0x3FFF
+        header = HEADERS.get(self.block, 0)
+        if self.delay:
+            if self.delay == 5:
+                self.block, self.offset, header = ENTRIES[source][0], 1, 0
+            self.level = self.hidden = 0
+            self.delay -= 1
+            self.position, pitch = (0x4000 if self.delay % 4 else 0), 0
+        out = ((-HEIGHT if source == FLIPPED else HEIGHT) * self.level >> 11) & ~1
+        shown = self.level >> 4, out >> 8 & 0xFF
+        if reset or header & 3 == 1:
+            self.mode, self.level = 'release', 0
+        if poll and off:
+            self.mode = 'release'
+        if poll and on:
+            self.delay, self.mode = 5, 'attack'
+        if not self.delay:
+            self.envelope(registers, fires)
+        ended = False
+        if self.position >= 0x4000:
+            self.offset += 2
+            if self.offset == 9:
+                self.offset, ended = 1, header & 1
+                self.block = ENTRIES[source][1] if ended else self.block + 9
+        self.position = min((self.position & 0x3FFF) + pitch, 0x7FFF)
+        return (*shown, bool(ended))
+
+
+class Chip:
+    """The S-DSP as the driver sees it. Voice 0, which plays, shows nothing of itself here: its pitch is 0."""
+
+    def __init__(self, way):
+        self.registers, self.history, self.queue = bytearray(128), [], []
+        self.voices = {1: Voice(), 2: Voice()}
+        self.waiting, self.taken, self.keyed = 0, 0, 0        # KON as written; what was taken of it at the last poll, and ever
+        self.made, self.counter = way.parity, way.counter
+        self.reads_late, self.writes_late = way.reads_late, way.writes_late
+
+    def write(self, address, value):
+        if address < 128:
+            self.queue.append((self.made + self.writes_late, address, value))
+
+    def do_writes(self):
+        while self.queue and self.queue[0][0] <= self.made:
+            _, address, value = self.queue.pop(0)
+            self.registers[address] = 0 if address == ENDX else value
+            if address == KON:
+                self.waiting = value
+
+    def read(self, address):
+        """Own registers of a voice and ENDX are seen late; what the driver wrote is there at once."""
+        address &= 127
+        if address == ENDX or address & 15 in (8, 9):
+            self.do_writes()
+            late = self.history[-self.reads_late - 1] if len(self.history) > self.reads_late else self.registers
+            return late[address] if self.reads_late else self.registers[address]
+        written = [value for _, at, value in self.queue if at == address]
+        return written[-1] if written else self.registers[address]
+
+    def sample(self):
+        self.do_writes()
+        registers, poll = self.registers, self.made % 2 == 0
+        if poll:
+            self.waiting &= ~self.taken
+            self.taken = self.waiting
+            self.keyed |= self.taken
+        self.counter = (self.counter - 1) % 30720
+        ends = keyed = 0
+        for number, voice in self.voices.items():
+            at, bit = 16 * number, 1 << number
+            if not self.keyed & bit:
+                continue
+            flags = registers[FLG] & 0x80, poll, registers[KOFF] & bit, self.taken & bit
+            shown = voice.sample(registers[at:at + 10], flags, lambda rate: rate and self.counter % PERIODS[rate] == 0)
+            registers[at + 8], registers[at + 9] = shown[:2]
+            ends |= bit * shown[2]
+            keyed |= bit * bool(poll and self.taken & bit)
+        registers[ENDX] = (registers[ENDX] | ends) & ~keyed
+        self.history = self.history[-self.reads_late - 1:] + [bytes(registers)]
+        self.made += 1
+
+
+class Way:
+    """What an engine may have otherwise."""
+
+    def __init__(self, number):
+        picked = random.Random(number)
+        self.phase = 9 * number % 128                   # of the cycles behind a tick of all timers
+        self.parity, self.counter = number & 1, picked.randrange(30720)
+        self.store_early = (0, 2)[number >> 1 & 1]      # by how many cycles a store comes before its instruction's end
+        self.reads_late, self.writes_late = ((0, 0), (3, 0), (0, 3), (2, 2))[number >> 2 & 3]
+
+
+WAYS = [Way(number) for number in range(16)]
+
+
+class Machine:
+    """Obeys a script; what it reads, test by test."""
+
+    def __init__(self, way):
+        self.way, self.clock = way, way.phase
+        self.timers, self.chip = [Timer() for _ in range(3)], Chip(way)
+        self.cells, self.ports, self.address = {}, list(GIVEN_PORTS), 0
+        self.read_bytes, self.told = [], []
+
+    def passes(self, cycles):
+        before, self.clock = self.clock, self.clock + cycles
+        for timer, tick in zip(self.timers, TICK):
+            timer.ticks(self.clock // tick - before // tick)
+        for _ in range(self.clock // SAMPLE - before // SAMPLE):
+            self.chip.sample()
+
+    def write(self, address, value):
+        self.cells[address] = value
+        if address == CONTROL:
+            for number, timer in enumerate(self.timers):
+                timer.switch(bool(value >> number & 1))
+            for bit, pair in ((0x10, (0, 1)), (0x20, (2, 3))):
+                for port in pair if value & bit else ():
+                    self.ports[port] = 0
+        elif address == DSP_ADDRESS:
+            self.address = value
+        elif TARGETS <= address < COUNTERS:
+            self.timers[address - TARGETS].target = value
+
+    def read(self, address):
+        if address >= COUNTERS:
+            return self.timers[address - COUNTERS].read()
+        if PORTS <= address < PORTS + 4:
+            return self.ports[address - PORTS]
+        if address == DSP_ADDRESS:
+            return self.address
+        return self.cells.get(address, 0) if address in (0xF8, 0xF9) else 0
+
+    def polls(self, cycles, ask):
+        """Reads until it is answered, with these cycles between one read and the next, in turn."""
+        for number in range(20000):
+            if ask():
+                break
+            self.passes(cycles[number % len(cycles)])
+        self.passes(7)
+
+    def obey(self, name, first, second):
+        self.passes(FETCH)
+        if name in CYCLES:
+            access, end = CYCLES[name]
+            access -= self.way.store_early if name.startswith('write') else 0
+            self.passes(access)
+            if name.endswith('_dsp'):
+                self.address = first
+            if name == 'write':
+                self.write(first, second)
+            elif name == 'write_dsp':
+                self.chip.write(first, second)
+            elif name == 'read_two':
+                self.read_bytes += [self.read(COUNTERS), self.read(COUNTERS + 1)]
+            else:
+                byte = self.read(first) if name == 'read' else self.chip.read(first)
+                self.read_bytes.append(int(byte >= second) if name == 'reached_dsp' else byte)
+            self.passes(end - access)
+        elif name == 'wait':
+            self.passes(16 * (first | second << 8) + 1)
+        elif name == 'await_count':
+            self.passes(6)
+            self.read(first)
+            self.passes(5)
+            self.polls((5, 5, 5, 11), lambda: self.read(first))
+        elif name == 'await_change':
+            self.passes(14)
+            self.polls((11,), lambda: self.chip.read(first) != second)
+        elif name == 'play':
+            self.passes(PAIR * (pairs(self.read_bytes) + 2))
+            self.told.append(self.read_bytes)
+            self.read_bytes = []
+
+
+class Test:
+    """Commands of the script. It knows at which cycle each access happens, counted from `begin` or from what it awaited."""
+
+    def __init__(self, name):
+        self.name, self.commands, self.now, self.wanted = name, [], 0, []
+
+    def command(self, name, first=0, second=0):
+        """The cycle of its access."""
+        access, end = CYCLES.get(name, (0, 0))
+        at = self.now + FETCH + access
+        self.now += FETCH + (16 * (first | second << 8) + 1 if name == 'wait' else end)
+        self.commands.append((name, first, second))
+        return at
+
+    def until(self, cycle, name):
+        """Passes time so that the access of the command that comes next happens at a cycle, or one or two beside it."""
+        left = cycle - self.now - FETCH - CYCLES[name][0]
+        ways = [(abs(left - 67 * writes), writes, 0) for writes in range(16)]
+        for writes in range(16):
+            times = (left - 67 * writes - FETCH - 1 + 8) // 16
+            ways += [(abs(left - 67 * writes - FETCH - 1 - 16 * times), writes, times)] if times > 0 else []
+        beside, writes, times = min(ways)
+        assert beside <= 2, (self.name, cycle, self.now, beside)
+        for _ in range(writes):
+            self.command('write', 0xF9, 0)
+        while times:
+            some = min(times, 0xFFFF)
+            self.command('wait', some & 0xFF, some >> 8)
+            times -= some
+
+    def write(self, address, value, at=None):
+        return self.do('write', address, value, at)
+
+    def dsp(self, address, value, at=None):
+        return self.do('write_dsp', address, value, at)
+
+    def read(self, address, wanted, at=None):
+        self.wanted.append(wanted)
+        return self.do('read', address, 0, at)
+
+    def look(self, address, wanted=None, at=None):
+        """Reads a register of the S-DSP; None leaves what is wanted to the rules."""
+        self.wanted.append(wanted)
+        return self.do('read_dsp', address, 0, at)
+
+    def reached(self, address, least, wanted, at=None):
+        self.wanted.append(wanted)
+        return self.do('reached_dsp', address, least, at)
+
+    def do(self, name, first, second, at):
+        if at is not None:
+            self.until(at, name)
+        return self.command(name, first, second)
+
+    # --- timers
+
+    def behind_a_tick(self, timer):
+        """Cycles are counted from a tick of a timer from here on, which goes on as it was before."""
+        self.write(CONTROL, 0)
+        self.write(TARGETS + timer, 1)
+        self.write(CONTROL, 1 << timer)
+        self.command('await_count', COUNTERS + timer)
+        self.now = 9 if timer == 2 else 12
+
+    def start(self, timer, target):
+        """Starts it anew, in the middle between two ticks; the cycle. After n times its tick it has ticked n times."""
+        self.behind_a_tick(timer)
+        self.write(CONTROL, 0)
+        self.write(TARGETS + timer, target)
+        tick = TICK[timer]
+        return self.write(CONTROL, 1 << timer, (self.now + 400) // tick * tick + tick // 2)
+
+    # --- voices
+
+    def key_on(self, voice, source=STILL, pitch=0x1000, gain=0x7F, adsr=(0, 0)):
+        """Keys a voice on, and counts cycles from there."""
+        for register, value in ((2, pitch & 0xFF), (3, pitch >> 8), (4, source), (5, adsr[0]), (6, adsr[1]), (7, gain)):
+            self.dsp(16 * voice + register, value)
+        self.dsp(KON, 1 << voice)
+        self.now = CYCLES['write_dsp'][1] - CYCLES['write_dsp'][0]
+
+
+def timer_tests():
+    tests = []
+
+    def test(name):
+        tests.append(Test(name))
+        return tests[-1]
+
+    for timer, tick in enumerate(TICK):
+        title, counter = 'timer %d, ' % timer, COUNTERS + timer
+        for target, count in ((1, 21), (2, 21), (7, 19), (255, 1), (0, 1)):
+            period = target or 256
+            new = test(title + 'target %d: counts' % period)
+            begin = new.start(timer, target)
+            new.read(counter, count % 16, begin + tick * (count * period + period // 2))
+            # a tick before it counts, and when it has counted
+            for ticks, wanted in ((period - 1, 0), (period, 1)) if period > 100 else ():
+                begin = new.start(timer, target)
+                new.read(counter, wanted, begin + tick * ticks)
+        new = test(title + 'its counter has 4 bits')
+        for count in (15, 16, 17):
+            begin = new.start(timer, 16)
+            new.read(counter, count % 16, begin + tick * (16 * count + 8))
+        new = test(title + 'a read clears its counter, and leaves the count towards the target')
+        begin = new.start(timer, 64)
+        new.read(counter, 3, begin + tick * (3 * 64 + 32))
+        new.read(counter, 0)
+        new.read(counter, 1, begin + tick * (4 * 64 + 16))
+        new = test(title + 'stopped it keeps its counter, and counts no more')
+        begin = new.start(timer, 16)
+        new.write(CONTROL, 0, begin + tick * 56)
+        new.read(counter, 3, begin + tick * 120)
+        new.read(counter, 0)
+        new = test(title + 'started anew it begins from nothing: its counter, and the count towards the target')
+        begin = new.start(timer, 64)
+        new.write(CONTROL, 0, begin + tick * (64 + 48))
+        begin = new.write(CONTROL, 1 << timer, begin + tick * (64 + 90))
+        new.read(counter, 0, begin + tick * 48)
+        new.read(counter, 1, begin + tick * 80)
+        new = test(title + 'control written again with its bit set changes nothing')
+        begin = new.start(timer, 64)
+        new.write(CONTROL, 1 << timer, begin + tick * (3 * 64 + 32))
+        new.read(counter, 4, begin + tick * (4 * 64 + 16))
+        for name, target, ticks in (('a greater target than its count: it counts there', 80, 80),
+                                    ('a target below its count: it counts when it has gone round by 256', 20, 276),
+                                    ('a target that equals its count: it counts when it has gone round by 256', 50, 306)):
+            new = test(title + name)
+            for behind in (-1, 0):
+                begin = new.start(timer, 100)
+                new.write(TARGETS + timer, target, begin + tick * 50)
+                new.read(counter, behind + 1, begin + tick * (ticks + behind))
+        new = test(title + 'stopped, the others go on')
+        new.start(timer, 16)
+        for other in range(3):
+            new.write(TARGETS + other, 16)
+        new.write(CONTROL, 0)
+        new.behind_a_tick(timer)
+        new.write(TARGETS + timer, 16)
+        new.write(CONTROL, 0)
+        begin = new.write(CONTROL, 7, 128 * 8 + 64)
+        new.write(CONTROL, 7 & ~(1 << timer), begin + 128 * 44)
+        counts = [44 // 16, 44 // 16, 8 * 44 // 16]
+        more = [72 // 16, 72 // 16, 8 * 72 // 16]
+        for other in range(3):
+            new.read(COUNTERS + other, (counts if other == timer else more)[other] % 16, None if other else begin + 128 * 72)
+    new = test('timers 0 and 1, one MOVW reads and clears both')
+    new.behind_a_tick(0)
+    new.write(TARGETS, 16)
+    new.write(TARGETS + 1, 32)
+    new.write(CONTROL, 0)
+    begin = new.write(CONTROL, 3, 128 * 8 + 64)
+    new.wanted += [7, 3, 0, 0]
+    new.do('read_two', 0, 0, begin + 128 * 120)
+    new.do('read_two', 0, 0, None)
+    new.write(CONTROL, 0)
+    return tests
+
+
+def port_tests(*clears):
+    """`clears` are the bytes of control that are written, one after another."""
+    tests = []
+
+    def read_all(test, wanted):
+        for port in range(4):
+            test.read(PORTS + port, wanted[port])
+
+    tests.append(Test('ports, as the file gives them'))
+    read_all(tests[-1], GIVEN_PORTS)
+    tests.append(Test('ports, a write goes to the other side'))
+    for port in range(4):
+        tests[-1].write(PORTS + port, 0x11 * (port + 1))
+    read_all(tests[-1], GIVEN_PORTS)
+    tests.append(Test('ports, control without bits 4 and 5 leaves them'))
+    tests[-1].write(CONTROL, 0x07)
+    tests[-1].write(CONTROL, 0x00)
+    read_all(tests[-1], GIVEN_PORTS)
+    left = list(GIVEN_PORTS)
+    for clear in clears:
+        left = [0 if clear & (0x10, 0x10, 0x20, 0x20)[port] else byte for port, byte in enumerate(left)]
+        tests.append(Test('ports, control %02x clears %s' % (clear, {0x10: '0 and 1', 0x20: '2 and 3', 0x30: 'all'}[clear])))
+        tests[-1].write(CONTROL, clear)
+        tests[-1].write(CONTROL, 0)
+        read_all(tests[-1], left)
+    return tests
+
+
+def register_tests():
+    """What else stands between F0 and FF."""
+    memory = Test('memory at F8 and F9')
+    for at, value in ((0xF8, 0x96), (0xF9, 0x69)):
+        memory.write(at, value)
+    for at, value in ((0xF8, 0x96), (0xF9, 0x69)):
+        memory.read(at, value)
+    written = Test('F0, F1 and the targets are read as 0')
+    for at, value in ((CONTROL, 0x00), (0xFA, 0x21), (0xFB, 0x43), (0xFC, 0x65)):
+        written.write(at, value)
+    for at in (0xF0, CONTROL, 0xFA, 0xFB, 0xFC):
+        written.read(at, 0)
+    address = Test('F2 is read as it was written, bit 7 too')
+    for value in (0x5D, 0xDD, 0x00):
+        address.write(DSP_ADDRESS, value)
+        address.read(DSP_ADDRESS, value)
+    high = Test("the S-DSP's registers from 80 on are those from 00 on where they are read, and aren't written")
+    high.dsp(0x10, 0x5A)
+    high.look(0x10, 0x5A)
+    high.look(0x90, 0x5A)
+    high.dsp(0x90, 0xA5)
+    high.look(0x10, 0x5A)
+    high.dsp(0x10, 0x00)
+    return [memory, written, address, high]
+
+
+def end_tests():
+    """ENDX, by voices whose wave ends 8 blocks after it begins, and then each 64 blocks. At a key on 12 samples are decoded ahead."""
+    tests = []
+
+    def test(name):
+        tests.append(Test('ENDX, ' + name))
+        tests[-1].dsp(ENDX, 0)
+        return tests[-1]
+
+    for pitch, name in ((0x1000, 'an end block sets it'), (0x2000, 'at twice the pitch in half the time'), (0x0800, 'at half the pitch in twice the time')):
+        new = test(name)
+        new.key_on(1, LATE_LOOP, pitch)
+        end = 5 + 116 * 0x1000 // pitch
+        new.look(ENDX, 0, SAMPLE * (end - 12))
+        new.look(ENDX, 2, SAMPLE * (end + 12))
+    new = test('a write clears it, whatever is written')
+    new.key_on(1, LATE_LOOP)
+    new.look(ENDX, 2, SAMPLE * 160)
+    new.dsp(ENDX, 0xFF)
+    new.look(ENDX, 0, SAMPLE * 180)
+    new.look(ENDX, 0, SAMPLE * (5 + 116 + 1024 - 12))
+    new.look(ENDX, 2, SAMPLE * (5 + 116 + 1024 + 12))
+    new = test('key on clears the bit of its voice, and leaves the others')
+    new.key_on(2, LATE_LOOP)
+    new.key_on(1, LATE_LOOP)
+    new.look(ENDX, 6, SAMPLE * 200)
+    new.dsp(KON, 2)
+    new.look(ENDX, 4, SAMPLE * 220)
+    new.dsp(0x23, 0)                                    # voice 2 stands still from here on
+    new = test('key off leaves it')
+    new.key_on(1, LATE_LOOP)
+    new.dsp(KOFF, 2, SAMPLE * 160)
+    new.look(ENDX, 2, SAMPLE * 180)
+    new.dsp(KOFF, 0)
+    new = test('a voice that is silent comes to its end as any other: after a key off')
+    new.key_on(1, LATE_LOOP, 0x0400)
+    new.dsp(KOFF, 2, SAMPLE * 20)
+    new.dsp(KOFF, 0, SAMPLE * 40)
+    new.look(0x18, 0, SAMPLE * 350)
+    new.look(ENDX, 0, SAMPLE * (5 + 4 * 116 - 12))
+    new.look(ENDX, 2, SAMPLE * (5 + 4 * 116 + 12))
+    new = test('a voice that is silent comes to its end as any other: in a block that ends without a loop')
+    new.key_on(1, ONCE)
+    new.look(ENDX, 0, SAMPLE * 100)
+    new.look(ENDX, 2, SAMPLE * 140)
+    return tests
+
+
+def envelope_tests():
+    tests = []
+
+    def test(name):
+        tests.append(Test(name))
+        return tests[-1]
+
+    for gain in (0x7F, 0x48, 0x01, 0x00):
+        new = test('ENVX and OUTX, GAIN %02x sets the level' % gain)
+        for source in (STILL, FLIPPED):
+            new.key_on(1, source, gain=gain)
+            new.look(0x18, gain, SAMPLE * 30)
+            new.look(0x19)
+    new = test('ENVX and OUTX, what is written there is soon gone')
+    new.key_on(1)
+    new.dsp(0x18, 0x11, SAMPLE * 30)
+    new.dsp(0x19, 0x11)
+    new.look(0x18, 0x7F, SAMPLE * 50)
+    new.look(0x19, 0x37)
+    new = test('ENVX, a key on while KOFF has the bit stays silent')
+    new.dsp(KOFF, 2)
+    new.key_on(1)
+    new.look(0x18, 0, SAMPLE * 40)
+    new.dsp(KOFF, 0)
+    new = test('ENVX, a release falls by 8 a sample')
+    new.key_on(1)
+    begin = new.dsp(KOFF, 2, SAMPLE * 40)
+    for level in (0x60, 0x20, 0x01):
+        samples = (0x7F0 - 16 * level) // 8
+        new.reached(0x18, level, 1, begin + SAMPLE * (samples - 10))
+        new.reached(0x18, level, 0, begin + SAMPLE * (samples + 10))
+    new.dsp(KOFF, 0)
+    new = test('ENVX, a block that ends without a loop silences at once')
+    new.key_on(1, ONCE)
+    new.look(0x18, 0x7F, SAMPLE * 85)
+    new.look(0x18, 0, SAMPLE * 140)
+    new = test('ENVX, a soft reset silences at once')
+    new.key_on(1)
+    new.look(0x18, 0x7F, SAMPLE * 30)
+    new.dsp(FLG, 0xE0)
+    new.look(0x18, 0, SAMPLE * 60)
+    new.dsp(FLG, 0x20)
+    new.look(0x18, 0, SAMPLE * 90)
+    new.dsp(KON, 1)                                     # the voice that plays, too
+    new.until(SAMPLE * 120, 'read')
+    for sustain in range(8):
+        new = test('ENVX, a decay ends at sustain level %d and stays there' % sustain)
+        new.key_on(1, adsr=(0xFF, sustain << 5))
+        new.look(0x18, None, SAMPLE * 1100)
+    for rate in range(16, 32):
+        new = test('ENVX, GAIN rises at rate %d' % rate)
+        steps = 64 if rate > 28 else 16
+        rise(new, 0xC0 + rate, steps * PERIODS[rate], steps)
+    for rate in range(1, 16):
+        new = test('ENVX, GAIN rises at rate %d' % rate)
+        new.key_on(1, gain=0)
+        new.until(SAMPLE * 20, 'write_dsp')
+        new.dsp(0x17, 0xC0 + rate)
+        new.command('await_change', 0x18)
+        new.now = 3
+        new.look(0x18, 2 * 4, SAMPLE * PERIODS[rate] * 7 // 2)
+    for name, gain, before, steps in (('falls in line', 0x80, 0x7F, 8), ('falls in a curve', 0xA0, 0x7F, 20), ('rises bent', 0xE0, 0x58, 14)):
+        new = test('ENVX, GAIN %s' % name)
+        # voice 2 rises at the same rate, so a change of its ENVX tells when that rate comes
+        new.key_on(1, gain=before)
+        new.key_on(2, gain=0)
+        new.dsp(0x27, 0xC0 + 15, SAMPLE * 30)
+        new.command('await_change', 0x28)
+        new.now = 3
+        new.dsp(0x17, gain + 15)
+        new.look(0x18, None, SAMPLE * PERIODS[15] * steps + SAMPLE * PERIODS[15] // 2)
+    return tests
+
+
+def rise(new, gain, samples, steps):
+    """From level 0 so many steps of 20h last so many samples, or up to a period less."""
+    level = 2 * steps if steps < 64 else 0x7F
+    period = samples // steps
+    for at, wanted in ((samples - period - 12, 0), (samples + 12, 1)):
+        new.key_on(1, gain=0)
+        begin = new.dsp(0x17, gain, SAMPLE * 30)
+        new.reached(0x18, level, wanted, begin + SAMPLE * at)
+
+
+FILES = {
+    'timers': lambda: port_tests(0x30) + timer_tests(),
+    'ports': lambda: port_tests(0x10, 0x20) + register_tests(),
+    'voices': lambda: port_tests(0x20, 0x10) + end_tests() + envelope_tests(),
+}
+
+
+def expected(tests):
+    """What each test reads, in all ways the same; and how many seconds it lasts at most."""
+    found, longest = None, 0
+    for way in WAYS:
+        machine = Machine(way)
+        for test in tests:
+            for command in (*test.commands, ('play', 0, 0)):
+                machine.obey(*command)
+        for test, one, other in zip(tests, machine.told, found or machine.told):
+            known = [byte if byte is not None else read for byte, read in zip(test.wanted, one, strict=True)]
+            assert one == other == known, (test.name, vars(way), one, other, test.wanted)
+        found, longest = machine.told, max(longest, machine.clock)
+    return found, longest // (32000 * SAMPLE) + 1
+
+
+def spc_file(driver, tests):
+    head, memory, registers = bytearray(0x100), bytearray(0x10000), bytearray(128)
+    head[:35] = b'SNES-SPC700 Sound File Data v0.30\x1a\x1a'
+    head[0x23:0x25] = b'\x1b\x1e'                       # no tags; minor version 30
+    head[0x25:0x2c] = struct.pack('<HBBBBB', DRIVER, 0, 0, 0, 0, 0xCF)
+    memory[2:4] = struct.pack('<H', SCRIPT)
+    memory[PORTS:PORTS + 4] = bytes(GIVEN_PORTS)
+    for source, entry in ENTRIES.items():
+        memory[DIRECTORY + 4 * source:DIRECTORY + 4 * source + 4] = struct.pack('<HH', *entry)
+    for block, header in HEADERS.items():
+        memory[block:block + 9] = bytes([header] + 8 * [0x99 if block == ENTRIES[FLIPPED][0] else 0x77])
+    memory[DRIVER:DRIVER + len(driver)] = driver
+    script = [command for test in tests for command in (*test.commands, ('play', 0, 0))] + [('end', 0, 0)]
+    code = bytes(byte for name, first, second in script for byte in (2 * COMMANDS.index(name), first, second))
+    assert DRIVER + len(driver) <= SCRIPT and SCRIPT + len(code) <= LONG
+    memory[SCRIPT:SCRIPT + len(code)] = code
+    for register, value in {0x07: 0x7F, 0x0C: 0x7F, 0x1C: 0x7F, 0x5D: DIRECTORY >> 8, FLG: 0x20}.items():
+        registers[register] = value
+    return bytes(head + memory + registers + bytes(64) + memory[0xFFC0:])
+
+
+def make(program, name, path):
+    """Writes a file; what is told of it. The program only assembles the driver."""
+    tests = FILES[name]()
+    values, seconds = expected(tests)
+    with tempfile.TemporaryDirectory() as folder:
+        code = os.path.join(folder, 'code')
+        subprocess.run([program, 'asm', os.path.join(runs.EXAMPLES, 'registers.asm'), '%04x' % DRIVER, code], check=True, stdout=subprocess.DEVNULL)
+        runs.write(path, spc_file(runs.read(code), tests))
+    return {'seconds': seconds, 'names': [test.name for test in tests], 'expected': values}
