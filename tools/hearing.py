@@ -6,7 +6,7 @@ import typing
 import wave
 
 import processor
-import registers
+import register_rules
 
 RATE = 32000
 CYCLES_PER_SAMPLE = 32          # of the processor
@@ -169,11 +169,11 @@ class Reads:
         if greatest < 1000:
             raise SystemExit('%s: nothing is heard' % path)
         self.place = next(at for at, level in enumerate(self.left) if abs(level) > LOUD * greatest)
-        self.units = [sum(self.level(side, (at + 0.5) * registers.MARK_PAIR) * (1, -1)[at % 2] for at in range(8)) / 8 / 127
+        self.units = [sum(self.level(side, (at + 0.5) * register_rules.MARK_PAIR) * (1, -1)[at % 2] for at in range(8)) / 8 / 127
                       for side in (self.left, self.right)]
         if min(map(abs, self.units)) < 1:
             raise SystemExit('%s: the mark at its beginning is not heard on both sides' % path)
-        self.place += round(9 * registers.MARK_PAIR * self.frames)
+        self.place += round(9 * register_rules.MARK_PAIR * self.frames)
 
     def level(self, side, cycles):
         """The level about three samples round so many cycles from the place."""
@@ -187,9 +187,9 @@ class Reads:
         self.place = next((at for at in range(self.place, len(self.left)) if abs(self.left[at]) > loud), None)
         if self.place is None:
             return None
-        heard = [round(self.level(side, (pair + 1.5) * registers.PAIR) / unit) & 0xFF
-                 for pair in range(registers.pairs(range(count))) for side, unit in zip((self.left, self.right), self.units)]
-        self.place += round((registers.pairs(range(count)) + 1.5) * registers.PAIR * self.frames)
+        heard = [round(self.level(side, (pair + 1.5) * register_rules.PAIR) / unit) & 0xFF
+                 for pair in range(register_rules.pairs(range(count))) for side, unit in zip((self.left, self.right), self.units)]
+        self.place += round((register_rules.pairs(range(count)) + 1.5) * register_rules.PAIR * self.frames)
         return heard[:count]
 
 
