@@ -17,13 +17,14 @@ DRIVER, DIRECTORY, SCRIPT = 0x0400, 0x0200, 0x1000
 
 
 class Test:
-    """Commands of the script. It knows at which cycle each access happens, counted from `begin` or from what it awaited."""
+    """Commands of the script, and the bytes that they are to read. It knows at which cycle each access happens, counted from
+    what it awaited last or from a key on; where `at` is given, the access is to happen at that cycle."""
 
     def __init__(self, name):
         self.name, self.commands, self.now, self.wanted = name, [], 0, []
 
     def command(self, name, first=0, second=0):
-        """The cycle of its access."""
+        """Adds a command; the cycle of its access."""
         access, end = rules.CYCLES.get(name, (0, 0))
         at = self.now + rules.FETCH + access
         self.now += rules.FETCH + (16 * (first | second << 8) + 1 if name == 'wait' else end)
@@ -31,20 +32,22 @@ class Test:
         return at
 
     def until(self, cycle, name):
-        """Passes time so that the access of the command that comes next happens at a cycle, or one or two beside it."""
+        """Passes time so that the access of the command that comes next happens at a cycle, or one or two beside it: by stores that
+        do nothing else, 67 cycles each, and by a wait of 58 cycles and 16 more for each of its times."""
         left = cycle - self.now - rules.FETCH - rules.CYCLES[name][0]
-        ways = [(abs(left - 67 * writes), writes, 0) for writes in range(16)]
-        for writes in range(16):
-            times = (left - 67 * writes - rules.FETCH - 1 + 8) // 16
-            ways += [(abs(left - 67 * writes - rules.FETCH - 1 - 16 * times), writes, times)] if times > 0 else []
-        beside, writes, times = min(ways)
-        assert beside <= 2, (self.name, cycle, self.now, beside)
-        for _ in range(writes):
+        stores_and_times = []
+        for stores in range(16):
+            rest = left - 67 * stores
+            stores_and_times.append((abs(rest), stores, 0))
+            times = (rest - 58 + 8) // 16
+            if times > 0:
+                stores_and_times.append((abs(rest - 58 - 16 * times), stores, times))
+        beside, stores, times = min(stores_and_times)
+        assert beside <= 2 and times <= 0xFFFF, (self.name, cycle, self.now, beside)
+        for _ in range(stores):
             self.command('write', 0xF9, 0)
-        while times:
-            some = min(times, 0xFFFF)
-            self.command('wait', some & 0xFF, some >> 8)
-            times -= some
+        if times:
+            self.command('wait', times & 0xFF, times >> 8)
 
     def write(self, address, value, at=None):
         return self.do('write', address, value, at)
@@ -62,6 +65,7 @@ class Test:
         return self.do('read_dsp', address, 0, at)
 
     def reached(self, address, least, wanted, at=None):
+        """Whether a register of the S-DSP is at least so much."""
         self.wanted.append(wanted)
         return self.do('reached_dsp', address, least, at)
 
