@@ -5,6 +5,7 @@ leave something open, and obeys the script of examples/registers.asm with the cy
 many ways: other phases of the timers' ticks, of samples, of key polling and of the counter of rates, accesses earlier within
 their instruction, and a sound chip that takes writes and shows its registers some samples later.
 """
+import collections
 import random
 
 COMMANDS = ('write', 'write_dsp', 'read', 'read_two', 'read_dsp', 'reached_dsp', 'wait', 'await_count', 'await_change', 'play', 'end')
@@ -131,7 +132,8 @@ class Chip:
     """The S-DSP as the driver sees it. Voice 0, which plays, shows nothing of itself here: its pitch is 0."""
 
     def __init__(self, way):
-        self.registers, self.history, self.queue = bytearray(128), [], []
+        self.registers, self.queue = bytearray(128), []
+        self.history = collections.deque(maxlen=way.reads_late + 1)         # of the registers, the last one that of now
         self.voices = {1: Voice(), 2: Voice()}
         self.waiting, self.taken, self.keyed = 0, 0, 0        # KON as written; what was taken of it at the last poll, and ever
         self.made, self.counter = way.parity, way.counter
@@ -153,8 +155,8 @@ class Chip:
         address &= 127
         if address == ENDX or address & 15 in (8, 9):
             self.do_writes()
-            late = self.history[-self.reads_late - 1] if len(self.history) > self.reads_late else self.registers
-            return late[address] if self.reads_late else self.registers[address]
+            shown = self.history[0] if self.history else self.registers
+            return shown[address]
         written = [value for _, at, value in self.queue if at == address]
         return written[-1] if written else self.registers[address]
 
@@ -177,7 +179,8 @@ class Chip:
             ends |= bit * shown[2]
             keyed |= bit * bool(poll and self.taken & bit)
         registers[ENDX] = (registers[ENDX] | ends) & ~keyed
-        self.history = self.history[-self.reads_late - 1:] + [bytes(registers)]
+        if self.reads_late:
+            self.history.append(bytes(registers))
         self.made += 1
 
 

@@ -2,7 +2,7 @@
 
 A program is made, on a copy of the crates, that makes each step and tells what it leaves and what it asks of the bus, call by
 call (`rt try`: the code of the proved crate, built without its proofs and with checks as it runs). It is built once, and gets the
-steps in parts; it has one memory, whose bytes are put back after each step.
+steps in parts; it has one memory, and puts back after each step what that has changed.
 """
 import os
 import re
@@ -60,13 +60,15 @@ def is_step(line):
     return line.count('|') == 2
 
 
-def run(lines):
-    """Makes the program, and runs it on the lines; the lines that it tells. Ends with what `rt` said where it doesn't tell all."""
+def run(lines, memory=0):
+    """Makes the program, and runs it on the lines; the lines that it tells. Ends with what `rt` said where it doesn't tell all.
+
+    Bytes that a line doesn't give are those of a memory that is drawn by a number; by 0 they are 0."""
     with tempfile.TemporaryDirectory() as folder:
         crate, parts = write_crates(folder), os.path.join(folder, 'parts')
         os.makedirs(parts)
         for at in range(0, len(lines), PART):
-            runs.write(os.path.join(parts, '%06d' % (at // PART)), '\n'.join(lines[at:at + PART]).encode() + b'\n')
+            runs.write(os.path.join(parts, '%06d' % (at // PART)), '\n'.join([str(memory)] + lines[at:at + PART]).encode() + b'\n')
         told, progress = [], Progress(len(lines))
         # One step of the interpreter: only what is built with checks answers.
         words = ['rt', 'try', '--steps', '1', '--seconds', str(SECONDS), '--cases', parts]
