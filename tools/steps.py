@@ -50,7 +50,7 @@ class Progress:
         now = time.monotonic()
         if self.start is None:          # the first part is there: the program is built
             self.start = now, made
-        elif made < self.count and now - self.shown > 5 and made > self.start[1]:
+        elif made < self.count and now - self.shown > 10 and made > self.start[1]:
             left = (self.count - made) * (now - self.start[0]) / (made - self.start[1])
             print('%d of %d steps, about %s more' % (made, self.count, minutes(left)), file=sys.stderr, flush=True)
             self.shown = now
