@@ -1,4 +1,4 @@
-"""Reads recordings of the files that tools/processor.py makes, at any rate and level, with silence before them."""
+"""Reads recordings of the files that tools/processor.py and tools/registers.py make, at any rate and level, with silence before them."""
 import array
 import collections
 import sys
@@ -6,6 +6,7 @@ import typing
 import wave
 
 import processor
+import register_rules
 
 RATE = 32000
 CYCLES_PER_SAMPLE = 32          # of the processor
@@ -156,3 +157,61 @@ def compare(path, file):
         print('  the whole lasts %.1f %% %s: an instruction of the driver does, or the recording has another rate than it tells'
               % (100 * abs(stretch), 'longer' if stretch > 0 else 'shorter'))
     return Found(found, longer, stretch, heard_tests(recording, file['tests'], file['slots']) == len(file['tests']))
+
+
+class Reads:
+    """A recording of a file of tools/registers.py: a mark tells where it begins, and one more where the bytes of each test begin."""
+
+    def __init__(self, path):
+        self.left, self.right, rate = read(path)
+        self.frames = rate / RATE / CYCLES_PER_SAMPLE       # of a cycle
+        greatest = max(map(abs, self.left), default=0)
+        if greatest < 1000:
+            raise SystemExit('%s: nothing is heard' % path)
+        self.place = next(at for at, level in enumerate(self.left) if abs(level) > LOUD * greatest)
+        self.units = [sum(self.level(side, (at + 0.5) * register_rules.MARK_PAIR) * (1, -1)[at % 2] for at in range(8)) / 8 / 127
+                      for side in (self.left, self.right)]
+        if min(map(abs, self.units)) < 1:
+            raise SystemExit('%s: the mark at its beginning is not heard on both sides' % path)
+        self.place += round(9 * register_rules.MARK_PAIR * self.frames)
+
+    def level(self, side, cycles):
+        """The level about three samples round so many cycles from the place."""
+        middle, reach = self.place + cycles * self.frames, 3 * CYCLES_PER_SAMPLE * self.frames
+        heard = side[round(middle - reach):round(middle + reach) + 1]
+        return sum(heard) / len(heard) if heard else 0
+
+    def test(self, count):
+        """So many bytes of the test that comes next; None where no more is heard."""
+        loud = 0.5 * 127 * abs(self.units[0])
+        self.place = next((at for at in range(self.place, len(self.left)) if abs(self.left[at]) > loud), None)
+        if self.place is None:
+            return None
+        heard = [round(self.level(side, (pair + 1.5) * register_rules.PAIR) / unit) & 0xFF
+                 for pair in range(register_rules.pairs(range(count))) for side, unit in zip((self.left, self.right), self.units)]
+        self.place += round((register_rules.pairs(range(count)) + 1.5) * register_rules.PAIR * self.frames)
+        return heard[:count]
+
+
+class Heard(typing.NamedTuple):
+    """What a recording of a file of tools/registers.py has otherwise."""
+    values: dict                # by the names of the tests that differ: the bytes that were expected, and those that were heard
+    all_heard: bool
+
+
+def compare_reads(path, file):
+    """Prints what differs, test by test."""
+    recording, values, count = Reads(path), {}, 0
+    for name, expected in zip(file['names'], file['expected']):
+        heard = recording.test(len(expected))
+        if heard is None:
+            break
+        count += 1
+        if heard != expected:
+            values[name] = expected, heard
+    print('%s: %d of %d tests are heard, and %d differ' % (path, count, len(file['names']), len(values)))
+    for name, both in values.items():
+        print('  %s: expected %s, heard %s' % (name, *(' '.join('%02x' % byte for byte in some) for some in both)))
+    if count < len(file['names']):
+        print('  from here on nothing is heard: %s' % file['names'][count])
+    return Heard(values, count == len(file['names']))
