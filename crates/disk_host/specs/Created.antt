@@ -1,7 +1,26 @@
--- The created outputs of a host of real files.
-use Rattle.std.specs.Prelude.{Bool, List, map}
+-- The created outputs of a host of real files. Each stands at a place.
+use Rattle.std.specs.Prelude.{ℕ, Bool, true, List, Option, Some, None, map, slice_get}
+use Rattle.disk_host.specs.declared.host.TheConstants.{MOST_CREATED}
 use Rattle.disk_host.specs.declared.host.Created.{Created}
 
--- for each output, whether it was ended
-abbrev pub flags_of : {F : Type 0} → List (Created F) → List Bool
-flags_of created = map (λ output. output.ended) created
+-- how many outputs a host of real files can create
+abbrev pub most_created : ℕ
+most_created = MOST_CREATED
+
+-- An output was ended; where there is none, none can be written.
+abbrev pub is_ended : {F : Type 0} → Option (Created F) → Bool
+is_ended None = true
+is_ended (Some output) = output.ended
+
+-- for each place, whether its output was ended
+abbrev pub flags_of : {F : Type 0} → List (Option (Created F)) → List Bool
+flags_of places = map is_ended places
+
+-- what is told of a file: something else where there is none
+abbrev pub told_or : {F T : Type 0} → (tells : F → T) → (otherwise : T) → Option F → T
+told_or tells otherwise None = otherwise
+told_or tells otherwise (Some file) = tells file
+
+-- what is told of the output at a place
+abbrev pub told_at : {F T : Type 0} → (tells : F → T) → (otherwise : T) → List (Option (Created F)) → (place : ℕ) → T
+told_at tells otherwise places place = told_or (told_or (λ output. tells output.file) otherwise) otherwise (slice_get places place)

@@ -1,12 +1,13 @@
--- What a host of real files is at a moment, what it asked of its disk, and which bytes its files are known to hold. A file that doesn't know its bytes has None.
-use Rattle.std.specs.Prelude.{◌≡◌, ◌≢◌, ◌≤◌, ◌⊎◌, ℕ, zero, suc, List, Option, None, Some, Result, IsErr, slice_get, vec_len, vec_capacity}
+-- What a host of real files is at a moment, which of its disk's files it has in hand, what it asked of its disk, and which bytes its files are known to
+-- hold. A file that doesn't know its bytes has None.
+use Rattle.std.specs.Prelude.{◌≡◌, ◌≢◌, ℕ, zero, suc, List, ◌∷◌, Option, None, Result, IsErr}
 use Rattle.std.specs.Option.{option_map}
 use Rattle.std.specs.Io.KnownBytes.{Keeps, ReadConsumes, WriteAppends}
 use Rattle.snd_host.specs.Host.{HostState}
-use Rattle.disk_host.specs.Asked.{Tally, AsksOnce, Texts}
+use Rattle.snd_host.specs.Calls.{Call}
+use Rattle.disk_host.specs.Texts.{Texts}
 use Rattle.disk_host.specs.Untold.{untold_state}
-use Rattle.disk_host.specs.Created.{flags_of}
-use Rattle.disk_host.specs.declared.host.Created.{Created}
+use Rattle.disk_host.specs.Created.{flags_of, told_or, told_at}
 use Rattle.disk_host.specs.declared.host.DiskHost.{DiskHost}
 
 -- the host at a moment: its current input, which created outputs have ended, its counts of faults, and whether its last call failed; it tells no
@@ -19,28 +20,50 @@ disk_state host =
 abbrev pub disk_of : {D F : Type 0} → DiskHost D F → D
 disk_of host = host.disk
 
+-- the number of the file that is the current input; 0 where there is none
+abbrev pub input_number : {D F : Type 0} → (number : F → ℕ) → DiskHost D F → ℕ
+input_number number host = told_or number 0 host.input
+
+-- The number of the file that is the output of a number of the host's. Report and complaint have the same number for both; where there is none, it is 0.
+abbrev pub output_number : {D F : Type 0} → (number : F → ℕ) → DiskHost D F → (output : ℕ) → ℕ
+output_number number host zero = 0
+output_number number host (suc zero) = 1
+output_number number host (suc (suc place)) = told_at number 0 host.created.items place
+
+-- The output of each number is the file that it was, but for that of this one.
+abbrev pub KeepsOutputsBut : {D F : Type 0} → (but : ℕ) → (number : F → ℕ) → (old new : DiskHost D F) → Type 0
+KeepsOutputsBut but number old new = (output : ℕ) → output ≢ but → output_number number new output ≡ output_number number old output
+
+-- The output of each number is the file that it was.
+abbrev pub KeepsOutputs : {D F : Type 0} → (number : F → ℕ) → (old new : DiskHost D F) → Type 0
+KeepsOutputs number old new = (output : ℕ) → output_number number new output ≡ output_number number old output
+
+-- The current input is the file that it was.
+abbrev pub KeepsInput : {D F : Type 0} → (number : F → ℕ) → (old new : DiskHost D F) → Type 0
+KeepsInput number old new = input_number number new ≡ input_number number old
+
+-- The disk was asked for this call, and for no other.
+abbrev pub AsksOnce : {D F : Type 0} → (calls : D → List Call) → Call → (old new : DiskHost D F) → Type 0
+AsksOnce calls call old new = calls new.disk ≡ call ∷ calls old.disk
+
+-- It failed without asking the disk.
+pub record FailsUnasked {D F T E : Type 0} (calls : D → List Call) (old new : DiskHost D F) (result : Result T E) : Type 0 where
+  pub failed : IsErr result
+  pub unasked : calls new.disk ≡ calls old.disk
+
 -- how a file tells the bytes that it holds, or those that it has left, where it knows them
 abbrev pub Tells : Type 0 → Type 0
 Tells F = F → Option (List ℕ)
-
--- what is told of a file: nothing where there is none
-abbrev pub told_of : {F : Type 0} → Tells F → Option F → Option (List ℕ)
-told_of tells None = None
-told_of tells (Some file) = tells file
-
--- what is told of the created output of a place
-abbrev pub told_at : {F : Type 0} → Tells F → List (Created F) → (place : ℕ) → Option (List ℕ)
-told_at tells created place = told_of (λ output. tells output.file) (slice_get created place)
 
 -- what is told of the output of a number: 0 is the report, 1 the complaint
 abbrev pub held_by : {D F : Type 0} → Tells F → (D → Texts) → DiskHost D F → (number : ℕ) → Option (List ℕ)
 held_by files texts host zero = (texts host.disk).report
 held_by files texts host (suc zero) = (texts host.disk).complaint
-held_by files texts host (suc (suc place)) = told_at files host.created.items place
+held_by files texts host (suc (suc place)) = told_at files None host.created.items place
 
 -- The bytes that were read are the next ones of the current input, and none come only at its end.
 abbrev pub ReadsOn : {D F X : Type 0} → Tells F → (buf : List ℕ) → (old new : DiskHost D F) → Result ℕ X → Type 0
-ReadsOn left buf old new result = ReadConsumes (told_of left old.input) (told_of left new.input) result buf
+ReadsOn left buf old new result = ReadConsumes (told_or left None old.input) (told_or left None new.input) result buf
 
 -- The bytes that were taken of a piece come after those that the output of a number held, and every other output holds what it held.
 pub record WritesOn {D F X : Type 0} (files : Tells F) (texts : D → Texts) (number : ℕ) (piece : List ℕ)
@@ -55,14 +78,4 @@ HoldsStay files texts old new =
 
 -- What is left of the current input stays: none of its bytes is eaten.
 abbrev pub InputStays : {D F : Type 0} → Tells F → (old new : DiskHost D F) → Type 0
-InputStays left old new = Keeps (told_of left old.input) (told_of left new.input)
-
--- The call asked the disk once, and failed where the disk did and only there.
-abbrev pub AsksDisk : {D F T E : Type 0} → (asked : D → Tally) → (old new : DiskHost D F) → Result T E → Type 0
-AsksDisk asked old new result = AsksOnce (asked old.disk) (asked new.disk) result
-
--- The list of created outputs was full and there was no memory for a longer one, so that the call failed without asking the disk.
-pub record HasNoRoom {D F T E : Type 0} (asked : D → Tally) (old new : DiskHost D F) (result : Result T E) : Type 0 where
-  pub full : vec_capacity old.created ≤ vec_len old.created
-  pub failed : IsErr result
-  pub unasked : asked new.disk ≡ asked old.disk
+InputStays left old new = Keeps (told_or left None old.input) (told_or left None new.input)

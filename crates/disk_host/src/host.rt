@@ -1,14 +1,17 @@
 // The host of real files: it tells no contents, and passes on what a file knows of its bytes.
-ghost use Rattle.std.specs.Prelude.{◌≡◌, ◌≢◌, ◌⊎◌, ◌<◌, ℕ, ◌≤◌, ◌∷◌, ◌++◌, length, IfOk, drop, None, Some, [], false, is_ok, slice_get, slice_set};
+ghost use Rattle.std.specs.Prelude.{◌≡◌, ◌≢◌, ◌<◌, ℕ, ◌≤◌, ◌∷◌, ◌++◌, length, IfOk, drop, None, Some, [], false, is_ok, slice_get, slice_set};
+ghost use Rattle.snd_host.specs.Calls.{open_call, read_call, create_call, write_call, finish_call};
 ghost use Rattle.disk_host.specs.Untold.{untold_state};
-ghost use Rattle.disk_host.specs.Created.{flags_of};
-ghost use Rattle.disk_host.specs.Asked.{AsksOnce};
-ghost use Rattle.disk_host.specs.Held.{told_at, held_by};
+ghost use Rattle.disk_host.specs.Created.{flags_of, told_at};
+ghost use Rattle.disk_host.specs.Held.{held_by};
 ghost use Rattle.std.specs.Io.KnownBytes.{Keeps, WriteAppends};
 
 use crate::Disk;
+use arrayvec::ArrayVec;
 use snd_host::{Failed, Host, InFile, OutFile};
-use std::alloc::Global;
+
+/// How many outputs a host of real files can create: a tune has 256 samples at most, and a rip makes a file of each.
+const MOST_CREATED: usize = 256;
 
 /// An output that was created.
 #[derive(Drop)]
@@ -17,13 +20,16 @@ struct Created<F> {
     ended: bool,
 }
 
+/// The created outputs, each at its place.
+type Places<F> = ArrayVec<Option<Created<F>>, MOST_CREATED>;
+
 /// A host over a disk. It asks the disk once in each call, and fails where the disk does.
 #[derive(Drop)]
 pub struct DiskHost<D: Disk + Drop> {
     disk: D,
     input: Option<D::File>,
     newest: u32,
-    created: Vec<Created<D::File>>,
+    created: Places<D::File>,
     in_faults: u64,
     note_faults: u64,
     out_faults: u64,
@@ -34,7 +40,7 @@ impl<D: Disk + Drop> DiskHost<D> {
     ghost use Rattle.disk_host.specs.Held.{disk_of};
 
     /// A host without inputs, outputs or faults, which has asked the disk of nothing.
-    pub fn new(alloc: Global, disk: D) -> Self
+    pub fn new(disk: D) -> Self
         ensures state { ⟦<DiskHost<D> as Host>⟧.state result ≡ untold_state None [] 0 0 0 false }
         ensures disk { disk_of result ≡ disk }
         ensures report { held_by D.held D.texts result 0 ≡ (D.texts disk).report }
@@ -44,7 +50,7 @@ impl<D: Disk + Drop> DiskHost<D> {
             disk,
             input: None,
             newest: 0,
-            created: Vec::new(alloc),
+            created: ArrayVec::new(),
             in_faults: 0,
             note_faults: 0,
             out_faults: 0,
@@ -56,7 +62,7 @@ impl<D: Disk + Drop> DiskHost<D> {
 /// One write to a created output.
 fn write_created<D: Disk>(
     disk: &mut D,
-    created: &mut Vec<Created<D::File>>,
+    created: &mut Places<D::File>,
     place: usize,
     piece: &[u8],
 ) -> Result<usize, Failed>
@@ -64,34 +70,45 @@ fn write_created<D: Disk>(
     ensures within { IfOk result (λ count. count ≤ length piece.now) }
     ensures progress { IfOk result (λ count. 0 < length piece.now → 0 < count) }
     ensures flags { flags_of created.new.items ≡ flags_of created.old.items }
-    ensures bytes { WriteAppends (told_at D.held created.old.items place) (told_at D.held created.new.items place) result piece.now }
-    ensures others { (other : ℕ) → other ≢ place → told_at D.held created.new.items other ≡ told_at D.held created.old.items other }
-    ensures asked { AsksOnce (D.asked disk.old) (D.asked disk.new) result }
+    ensures bytes { WriteAppends (told_at D.held None created.old.items place) (told_at D.held None created.new.items place) result piece.now }
+    ensures others { (other : ℕ) → other ≢ place → told_at D.held None created.new.items other ≡ told_at D.held None created.old.items other }
+    ensures files { (other : ℕ) → told_at D.number 0 created.new.items other ≡ told_at D.number 0 created.old.items other }
+    ensures asked { D.calls disk.new ≡ write_call (told_at D.number 0 created.old.items place) piece.now result ∷ D.calls disk.old }
     ensures texts { D.texts disk.new ≡ D.texts disk.old }
 {
-    let Some(output) = created.get_mut(place) else {
+    let Some(slot) = created.get_mut(place) else {
         unreachable!()
     };
-    disk.write(&mut output.file, piece)
+    let Some(mut output) = slot.take() else {
+        unreachable!()
+    };
+    let outcome = disk.write(&mut output.file, piece);
+    *slot = Some(output);
+    outcome
 }
 
 /// Ends a created output.
 fn end_created<D: Disk>(
     disk: &mut D,
-    created: &mut Vec<Created<D::File>>,
+    created: &mut Places<D::File>,
     place: usize,
 ) -> Result<(), Failed>
     requires { slice_get (flags_of created.old.items) place ≡ Some false }
     ensures flags { flags_of created.new.items ≡ slice_set (flags_of created.old.items) place (is_ok result) }
-    ensures bytes { (other : ℕ) → Keeps (told_at D.held created.old.items other) (told_at D.held created.new.items other) }
-    ensures asked { AsksOnce (D.asked disk.old) (D.asked disk.new) result }
+    ensures bytes { (other : ℕ) → Keeps (told_at D.held None created.old.items other) (told_at D.held None created.new.items other) }
+    ensures files { (other : ℕ) → told_at D.number 0 created.new.items other ≡ told_at D.number 0 created.old.items other }
+    ensures asked { D.calls disk.new ≡ finish_call (told_at D.number 0 created.old.items place) result ∷ D.calls disk.old }
     ensures texts { D.texts disk.new ≡ D.texts disk.old }
 {
-    let Some(output) = created.get_mut(place) else {
+    let Some(slot) = created.get_mut(place) else {
+        unreachable!()
+    };
+    let Some(mut output) = slot.take() else {
         unreachable!()
     };
     let outcome = disk.flush(&mut output.file);
     output.ended = outcome.is_ok();
+    *slot = Some(output);
     outcome
 }
 
@@ -99,7 +116,8 @@ impl<D: Disk + Drop> Host for DiskHost<D> {
     ghost use Rattle.std.specs.Prelude.{◌+◌, ◌-◌, ◌++◌, ◌∷◌, Some, IsSome, IsOk, OnOk, OnErr, true, is_err, take, slice_get, slice_index};
     ghost use Rattle.snd_host.specs.OpenedInputs.{Opens, ReadsMore};
     ghost use Rattle.snd_host.specs.Host.{IfTold, HasCause, CountsWrite, EndsByWrite, IsOpen, ChangesInputs, ChangesOutputs, KeepsRooms, Writes, most_outputs, longest_output_name};
-    ghost use Rattle.disk_host.specs.Held.{disk_state, AsksDisk, HasNoRoom, ReadsOn, WritesOn, HoldsStay, InputStays};
+    ghost use Rattle.disk_host.specs.Created.{most_created};
+    ghost use Rattle.disk_host.specs.Held.{disk_state, input_number, output_number, KeepsInput, KeepsOutputs, KeepsOutputsBut, AsksOnce, FailsUnasked, ReadsOn, WritesOn, HoldsStay, InputStays};
 
     ghost state = { disk_state };
 
@@ -113,7 +131,7 @@ impl<D: Disk + Drop> Host for DiskHost<D> {
         ensures left { OnOk result (IfTold (disk_state self.old).holds (λ files. (disk_state self.new).left ≡ files name.now)) }
         ensures unread { OnErr result ((disk_state self.new).left ≡ (disk_state self.old).left) }
         ensures opened { OnOk result (Opens (record { name = name.now; read = 0 } ∷ []) (disk_state self.old) (disk_state self.new)) }
-        ensures not_opened { OnErr result (Opens [] (disk_state self.old) (disk_state self.new)) }
+        ensures not_opened { OnErr result ((disk_state self.new).opened ≡ (disk_state self.old).opened) }
         ensures others { ChangesInputs (disk_state self.old) (disk_state self.new) }
         ensures cause { HasCause (disk_state self.old).faults.inputs (disk_state self.new).faults.inputs result }
         ensures last { (disk_state self.new).failed_last ≡ is_err result }
@@ -122,8 +140,9 @@ impl<D: Disk + Drop> Host for DiskHost<D> {
             IfTold (disk_state self.old).holds (λ files. IsSome (files name.now) → IsOk result) }
         // No output changes.
         ensures held { HoldsStay D.held D.texts self.old self.new }
-        // It asks the disk once, and fails where the disk does and only there.
-        ensures asked { AsksDisk D.asked self.old self.new result }
+        // It opens the file of this name, and the current input is then the file that this call of the disk made.
+        ensures asked { AsksOnce D.calls (open_call (λ _. input_number D.number self.new) name.now result) self.old self.new }
+        ensures outputs { KeepsOutputs D.number self.old self.new }
     {
         self.input = None;
         let Ok(file) = self.disk.open(name) else {
@@ -158,8 +177,10 @@ impl<D: Disk + Drop> Host for DiskHost<D> {
         // Where the file knows its bytes, these are the next ones, and none come only at its end.
         ensures bytes { ReadsOn D.left buf.new self.old self.new result }
         ensures held { HoldsStay D.held D.texts self.old self.new }
-        // It asks the disk once, and fails where the disk does and only there.
-        ensures asked { AsksDisk D.asked self.old self.new result }
+        // It reads from the file that is the current input, which stays that one.
+        ensures asked { AsksOnce D.calls (read_call (input_number D.number self.old) (length buf.old) buf.new result) self.old self.new }
+        ensures same_input { KeepsInput D.number self.old self.new }
+        ensures outputs { KeepsOutputs D.number self.old self.new }
     {
         let Some(file) = &mut self.input else {
             unreachable!()
@@ -193,21 +214,28 @@ impl<D: Disk + Drop> Host for DiskHost<D> {
         ensures held { HoldsStay D.held D.texts self.old self.new }
         // Nothing of the current input is eaten.
         ensures input { InputStays D.left self.old self.new }
-        // It asks the disk once, and fails where the disk does; without asking it only for want of memory for one more output.
-        ensures asked { AsksDisk D.asked self.old self.new result ⊎ HasNoRoom D.asked self.old self.new result }
+        // It creates the file of this name, and the output of the new number is then the file that this call of the disk made.
+        ensures asked { length (disk_state self.old).ended < most_created → AsksOnce D.calls
+            (create_call (λ file. output_number D.number self.new file.0) name.now result) self.old self.new }
+        // Once so many outputs were created, it fails without asking the disk.
+        ensures no_place { most_created ≤ length (disk_state self.old).ended → FailsUnasked D.calls self.old self.new result }
+        ensures same_input { KeepsInput D.number self.old self.new }
+        ensures outputs { KeepsOutputsBut (length (disk_state self.old).ended + 2) D.number self.old self.new }
     {
         let number = self.created.len() as u32 + 2;
-        // The room for an output is taken first: where there is none, no file is made.
-        if self.created.reserve(1).is_ok() {
-            if let Ok(file) = self.disk.create(name) {
-                self.created.push(Created { file, ended: false }).unwrap();
-                self.failed_last = false;
-                return Ok(OutFile(number));
-            }
+        if self.created.is_full() {
+            self.out_faults = self.out_faults.saturating_add(1);
+            self.failed_last = true;
+            return Err(Failed);
         }
-        self.out_faults = self.out_faults.saturating_add(1);
-        self.failed_last = true;
-        Err(Failed)
+        let Ok(file) = self.disk.create(name) else {
+            self.out_faults = self.out_faults.saturating_add(1);
+            self.failed_last = true;
+            return Err(Failed);
+        };
+        self.created.push(Some(Created { file, ended: false }));
+        self.failed_last = false;
+        Ok(OutFile(number))
     }
 
     fn write(&mut self, file: OutFile, piece: &[u8]) -> Result<usize, Failed>
@@ -223,8 +251,10 @@ impl<D: Disk + Drop> Host for DiskHost<D> {
         ensures bytes { WritesOn D.held D.texts file.0 piece.now self.old self.new result }
         // Nothing of the current input is eaten.
         ensures input { InputStays D.left self.old self.new }
-        // It asks the disk once, and fails where the disk does and only there.
-        ensures asked { AsksDisk D.asked self.old self.new result }
+        // It writes this piece to the file that is the output of this number, and each number keeps its file.
+        ensures asked { AsksOnce D.calls (write_call (output_number D.number self.old file.0) piece.now result) self.old self.new }
+        ensures same_input { KeepsInput D.number self.old self.new }
+        ensures outputs { KeepsOutputs D.number self.old self.new }
     {
         if file.0 == 1 {
             if let Ok(count) = self.disk.complain(piece) {
@@ -234,22 +264,22 @@ impl<D: Disk + Drop> Host for DiskHost<D> {
             return Err(Failed);
         }
         if file.0 == 0 {
-            if let Ok(count) = self.disk.report(piece) {
-                self.failed_last = false;
-                return Ok(count);
-            }
-        } else if let Ok(count) = write_created(
-            &mut self.disk,
-            &mut self.created,
-            (file.0 - 2) as usize,
-            piece,
-        ) {
+            let Ok(count) = self.disk.report(piece) else {
+                self.out_faults = self.out_faults.saturating_add(1);
+                self.failed_last = true;
+                return Err(Failed);
+            };
             self.failed_last = false;
             return Ok(count);
         }
-        self.out_faults = self.out_faults.saturating_add(1);
-        self.failed_last = true;
-        Err(Failed)
+        let place = (file.0 - 2) as usize;
+        let Ok(count) = write_created(&mut self.disk, &mut self.created, place, piece) else {
+            self.out_faults = self.out_faults.saturating_add(1);
+            self.failed_last = true;
+            return Err(Failed);
+        };
+        self.failed_last = false;
+        Ok(count)
     }
 
     fn finish(&mut self, file: OutFile) -> Result<(), Failed>
@@ -268,8 +298,10 @@ impl<D: Disk + Drop> Host for DiskHost<D> {
         ensures held { HoldsStay D.held D.texts self.old self.new }
         // Nothing of the current input is eaten.
         ensures input { InputStays D.left self.old self.new }
-        // It asks the disk once, and fails where the disk does and only there.
-        ensures asked { AsksDisk D.asked self.old self.new result }
+        // It flushes the file that is the output of this number, and each number keeps its file.
+        ensures asked { AsksOnce D.calls (finish_call (output_number D.number self.old file.0) result) self.old self.new }
+        ensures same_input { KeepsInput D.number self.old self.new }
+        ensures outputs { KeepsOutputs D.number self.old self.new }
     {
         if end_created(&mut self.disk, &mut self.created, (file.0 - 2) as usize).is_ok() {
             self.failed_last = false;

@@ -1,4 +1,4 @@
-//! The host of real files: it tells no contents, and asks a disk that counts its calls.
+//! The host of real files: it tells no contents, and asks a disk that tells its calls.
 #![tactic(auto)]
 
 mod asked;
@@ -7,4 +7,4 @@ mod real;
 
 pub use asked::Disk;
 pub use host::DiskHost;
-pub use real::RealDisk;
+pub use real::{RealDisk, RealFile};

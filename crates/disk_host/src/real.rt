@@ -1,39 +1,13 @@
-// The disk of the standard library. It is the trusted edge: that it asks the library what it is asked, and gives its answer, is seen by reading it.
-ghost use Rattle.std.specs.Prelude.{◌≡◌, ◌<◌, ◌≤◌, length, drop, IfOk, is_err};
+// The disk of the standard library. It is the trusted edge: that it asks the library what it notes, and gives its answer, is seen by reading it.
+ghost use Rattle.std.specs.Prelude.{◌≡◌, ◌<◌, ◌≤◌, ◌∷◌, [], length, drop, IfOk};
 ghost use Rattle.std.specs.Io.KnownBytes.{Keeps, ReadConsumes, WriteAppends};
-ghost use Rattle.disk_host.specs.Asked.{AsksOnce};
-ghost use Rattle.disk_host.specs.Real.{tally_of, no_calls};
+ghost use Rattle.snd_host.specs.Calls.{write_call};
 
 use crate::Disk;
-use snd_host::{Failed, MOST_READ_AT_ONCE};
+use snd_host::{Failed, Log, MOST_READ_AT_ONCE, Noted};
 use std::fs;
 use std::io::{Read, Write};
 use std::rt::Files;
-
-/// How many calls were made, and how many of them failed.
-#[derive(Drop)]
-struct Counts {
-    calls: u64,
-    errors: u64,
-}
-
-impl Counts {
-    /// Counts a call with this answer, which it hands on.
-    fn note<T, E: Drop>(&mut self, answer: Result<T, E>) -> Result<T, Failed>
-        ensures ok { IfOk answer (λ value. result ≡ Ok value) }
-        ensures failed { is_err result ≡ is_err answer }
-        ensures asked { AsksOnce (tally_of self.old) (tally_of self.new) result }
-    {
-        self.calls = self.calls.saturating_add(1);
-        match answer {
-            Ok(value) => Ok(value),
-            Err(_) => {
-                self.errors = self.errors.saturating_add(1);
-                Err(Failed)
-            }
-        }
-    }
-}
 
 /// One write, of at least one byte where there is one.
 fn write_some<W: Write>(writer: &mut W, piece: &[u8]) -> Result<usize, Failed>
@@ -68,71 +42,120 @@ fn read_some<F: Read>(file: &mut F, buf: &mut [u8]) -> Result<usize, Failed>
     Ok(count)
 }
 
-/// Real files, with one writer as report and one as complaint.
+/// Notes a write of this piece to the file of this number, with its outcome.
+fn note_write(log: &mut Log, number: u64, piece: &[u8], outcome: Result<usize, Failed>)
+    requires { IfOk outcome (λ count. count ≤ length piece.now) }
+    ensures { log.new.calls ≡ write_call number piece.now outcome ∷ log.old.calls }
+{
+    match outcome {
+        Ok(count) => log.note(Noted::Wrote(number, &piece[..count])),
+        Err(_) => log.note(Noted::NotWritten(number, piece)),
+    }
+}
+
+/// A file of the standard library, with its number: the first one that was opened or created has 2, the next one 3.
+#[derive(Drop)]
+pub struct RealFile<F> {
+    file: F,
+    number: u64,
+}
+
+/// Real files, with one writer as report and one as complaint. Each call is noted.
 #[derive(Drop)]
 pub struct RealDisk<'r, R: Files, O: Write + Drop, E: Write + Drop> {
     files: &'r R,
     report: O,
     complaint: E,
-    counts: Counts,
+    newest: u64,
+    log: Log,
 }
 
 impl<'r, R: Files, O: Write + Drop, E: Write + Drop> RealDisk<'r, R, O, E> {
     /// A disk that was asked of nothing yet.
     pub fn new(files: &'r R, report: O, complaint: E) -> Self
-        ensures asked { ⟦<RealDisk<'r, R, O, E> as Disk>⟧.asked result ≡ no_calls }
+        ensures calls { ⟦<RealDisk<'r, R, O, E> as Disk>⟧.calls result ≡ [] }
         ensures report { (⟦<RealDisk<'r, R, O, E> as Disk>⟧.texts result).report ≡ O.contents report }
         ensures complaint { (⟦<RealDisk<'r, R, O, E> as Disk>⟧.texts result).complaint ≡ E.contents complaint }
     {
-        let counts = Counts {
-            calls: 0,
-            errors: 0,
-        };
         RealDisk {
             files,
             report,
             complaint,
-            counts,
+            newest: 1,
+            log: Log::none(),
         }
     }
 }
 
 impl<'r, R: Files, O: Write + Drop, E: Write + Drop> Disk for RealDisk<'r, R, O, E> {
-    type File = R::File;
+    type File = RealFile<R::File>;
 
-    ghost asked = { λ disk. tally_of disk.counts };
+    ghost calls = { λ disk. disk.log.calls };
+
+    ghost number = { λ file. file.number };
 
     ghost texts = { λ disk. record { report = O.contents disk.report; complaint = E.contents disk.complaint } };
 
-    ghost left = { R.File.remaining };
+    ghost left = { λ file. R.File.remaining file.file };
 
-    ghost held = { R.File.contents };
+    ghost held = { λ file. R.File.contents file.file };
 
-    fn open(&mut self, name: &str) -> Result<R::File, Failed> {
-        self.counts.note(fs::open(self.files, name))
+    fn open(&mut self, name: &str) -> Result<RealFile<R::File>, Failed> {
+        let Ok(file) = fs::open(self.files, name) else {
+            self.log.note(Noted::NotOpened(name));
+            return Err(Failed);
+        };
+        self.newest = self.newest.wrapping_add(1);
+        self.log.note(Noted::Opened(name, self.newest));
+        let number = self.newest;
+        Ok(RealFile { file, number })
     }
 
-    fn create(&mut self, name: &str) -> Result<R::File, Failed> {
-        self.counts.note(fs::create(self.files, name))
+    fn create(&mut self, name: &str) -> Result<RealFile<R::File>, Failed> {
+        let Ok(file) = fs::create(self.files, name) else {
+            self.log.note(Noted::NotCreated(name));
+            return Err(Failed);
+        };
+        self.newest = self.newest.wrapping_add(1);
+        self.log.note(Noted::Created(name, self.newest));
+        let number = self.newest;
+        Ok(RealFile { file, number })
     }
 
-    fn read(&mut self, file: &mut R::File, buf: &mut [u8]) -> Result<usize, Failed> {
-        self.counts.note(read_some(file, buf))
+    fn read(&mut self, file: &mut RealFile<R::File>, buf: &mut [u8]) -> Result<usize, Failed> {
+        let room = buf.len();
+        let outcome = read_some(&mut file.file, buf);
+        match outcome {
+            Ok(count) => self.log.note(Noted::Read(file.number, room, &buf[..count])),
+            Err(_) => self.log.note(Noted::NotRead(file.number, room)),
+        }
+        outcome
     }
 
-    fn write(&mut self, file: &mut R::File, piece: &[u8]) -> Result<usize, Failed> {
-        self.counts.note(write_some(file, piece))
+    fn write(&mut self, file: &mut RealFile<R::File>, piece: &[u8]) -> Result<usize, Failed> {
+        let outcome = write_some(&mut file.file, piece);
+        note_write(&mut self.log, file.number, piece, outcome);
+        outcome
     }
 
-    fn flush(&mut self, file: &mut R::File) -> Result<(), Failed> {
-        self.counts.note(file.flush())
+    fn flush(&mut self, file: &mut RealFile<R::File>) -> Result<(), Failed> {
+        if file.file.flush().is_err() {
+            self.log.note(Noted::NotFinished(file.number));
+            return Err(Failed);
+        }
+        self.log.note(Noted::Finished(file.number));
+        Ok(())
     }
 
     fn report(&mut self, piece: &[u8]) -> Result<usize, Failed> {
-        self.counts.note(write_some(&mut self.report, piece))
+        let outcome = write_some(&mut self.report, piece);
+        note_write(&mut self.log, 0, piece, outcome);
+        outcome
     }
 
     fn complain(&mut self, piece: &[u8]) -> Result<usize, Failed> {
-        self.counts.note(write_some(&mut self.complaint, piece))
+        let outcome = write_some(&mut self.complaint, piece);
+        note_write(&mut self.log, 1, piece, outcome);
+        outcome
     }
 }

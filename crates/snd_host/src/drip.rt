@@ -50,7 +50,7 @@ impl Host for DripHost {
         ensures left { OnOk result (IfTold (drip_state self.old).holds (λ files. (drip_state self.new).left ≡ files name.now)) }
         ensures unread { OnErr result ((drip_state self.new).left ≡ (drip_state self.old).left) }
         ensures opened { OnOk result (Opens (record { name = name.now; read = 0 } ∷ []) (drip_state self.old) (drip_state self.new)) }
-        ensures not_opened { OnErr result (Opens [] (drip_state self.old) (drip_state self.new)) }
+        ensures not_opened { OnErr result ((drip_state self.new).opened ≡ (drip_state self.old).opened) }
         ensures others { ChangesInputs (drip_state self.old) (drip_state self.new) }
         ensures cause { HasCause (drip_state self.old).faults.inputs (drip_state self.new).faults.inputs result }
         ensures last { (drip_state self.new).failed_last ≡ is_err result }

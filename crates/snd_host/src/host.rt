@@ -37,7 +37,7 @@ pub trait Host {
         ensures left { OnOk result (IfTold (state self.old).holds (λ files. (state self.new).left ≡ files name.now)) }
         ensures unread { OnErr result ((state self.new).left ≡ (state self.old).left) }
         ensures opened { OnOk result (Opens (record { name = name.now; read = 0 } ∷ []) (state self.old) (state self.new)) }
-        ensures not_opened { OnErr result (Opens [] (state self.old) (state self.new)) }
+        ensures not_opened { OnErr result ((state self.new).opened ≡ (state self.old).opened) }
         ensures others { ChangesInputs (state self.old) (state self.new) }
         ensures cause { HasCause (state self.old).faults.inputs (state self.new).faults.inputs result }
         ensures last { (state self.new).failed_last ≡ is_err result }

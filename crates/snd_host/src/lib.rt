@@ -1,4 +1,4 @@
-//! The one trait of the outside, its hosts in memory, and the two loops over it.
+//! The one trait of the outside, its hosts in memory, and the two loops over it; a list of calls that only contracts see.
 #![tactic(auto)]
 
 mod calls;
@@ -6,11 +6,13 @@ mod drip;
 mod files;
 mod host;
 mod keeping;
+mod log;
 mod memory;
 mod readings;
 
 pub use calls::{MOST_READ_AT_ONCE, ReadRefusal, read_whole, write_all};
 pub use drip::DripHost;
 pub use host::{Failed, Host, InFile, OutFile};
+pub use log::{Log, Noted};
 pub use memory::MemHost;
 pub use std::alloc::AllocError as OutOfMemory;

@@ -274,7 +274,7 @@ impl Host for MemHost {
             IfTold (memory_state self.old).holds (λ files. (memory_state self.new).left ≡ files name.now)) }
         ensures unread { OnErr result ((memory_state self.new).left ≡ (memory_state self.old).left) }
         ensures opened { OnOk result (Opens (record { name = name.now; read = 0 } ∷ []) (memory_state self.old) (memory_state self.new)) }
-        ensures not_opened { OnErr result (Opens [] (memory_state self.old) (memory_state self.new)) }
+        ensures not_opened { OnErr result ((memory_state self.new).opened ≡ (memory_state self.old).opened) }
         ensures others { ChangesInputs (memory_state self.old) (memory_state self.new) }
         ensures cause { HasCause (memory_state self.old).faults.inputs (memory_state self.new).faults.inputs result }
         ensures last { (memory_state self.new).failed_last ≡ is_err result }

@@ -106,7 +106,7 @@ fn run_on_disk<R: Files>(
 ) -> Result<Status, Fail> {
     let report = fs::create(files, report)?;
     let complaint = fs::create(files, complaint)?;
-    let mut host = DiskHost::new(alloc, RealDisk::new(files, report, complaint));
+    let mut host = DiskHost::new(RealDisk::new(files, report, complaint));
     Ok(run(alloc, words, &mut host))
 }
 

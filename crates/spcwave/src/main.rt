@@ -42,7 +42,7 @@ fn main(rt: HostRuntime) -> ExitCode {
         fs::open(&rt, NOTHING),
     );
     let disk = RealDisk::new(&rt, rt.stdout(), rt.stderr());
-    let mut host = DiskHost::new(rt.alloc(), disk);
+    let mut host = DiskHost::new(disk);
     let given = given_of(words_of(rt.alloc(), &rt));
     ExitCode::from(run_given(rt.alloc(), &given, &mut host))
 }

@@ -1,13 +1,26 @@
-use Rattle.std.proofs.Common.{arith, ap}
-use Rattle.std.proofs.lemmas.Grind.{elements}
-use Rattle.std.proofs.Math.Seq.{map-set_same}
+use Rattle.std.proofs.Common.{refl, None}
+use Rattle.disk_host.proofs.Places.{here, flags_kept, told_here, told_after, told_other, told_kept}
 use Rattle.disk_host.proofs.host.write_created.Goals as goal
 
 pub returns-clause-flags : goal.returns-clause-flags
-returns-clause-flags g c = map-set_same (λ output. output.ended) c.args.created.now.items c.args.place _ c.in-Some.output.now (ap (λ output. output.ended) c.in-Some.ensures.value)
+returns-clause-flags g c =
+    let is = here _ _ c.in-Some.slot.now c.take.result c.in-Some-take.output (c.in-Some.ensures.variant.0 refl) c.in-Some.ensures.value c.take.ensures.value c.in-Some-take.is in
+    flags_kept c.args.created.now.items c.args.place _ _ is refl
 
 pub returns-clause-bytes : goal.returns-clause-bytes
-returns-clause-bytes g c = grind (arith, elements)
+returns-clause-bytes g c =
+    let is = here _ _ c.in-Some.slot.now c.take.result c.in-Some-take.output (c.in-Some.ensures.variant.0 refl) c.in-Some.ensures.value c.take.ensures.value c.in-Some-take.is in
+    rw (told_here g.D.Disk.held None c.args.created.now.items c.args.place _ is) (rw (told_after g.D.Disk.held None c.args.created.now.items c.args.place _ _ is) c.write-outcome.ensures.bytes)
 
 pub returns-clause-others : goal.returns-clause-others
-returns-clause-others g c = grind (arith, elements)
+returns-clause-others g c = told_other g.D.Disk.held None c.args.created.now.items c.args.place _
+
+pub returns-clause-files : goal.returns-clause-files
+returns-clause-files g c =
+    let is = here _ _ c.in-Some.slot.now c.take.result c.in-Some-take.output (c.in-Some.ensures.variant.0 refl) c.in-Some.ensures.value c.take.ensures.value c.in-Some-take.is in
+    told_kept g.D.Disk.number 0 c.args.created.now.items c.args.place _ _ is c.write-outcome.ensures.file
+
+pub returns-clause-asked : goal.returns-clause-asked
+returns-clause-asked g c =
+    let is = here _ _ c.in-Some.slot.now c.take.result c.in-Some-take.output (c.in-Some.ensures.variant.0 refl) c.in-Some.ensures.value c.take.ensures.value c.in-Some-take.is in
+    rw (told_here g.D.Disk.number 0 c.args.created.now.items c.args.place _ is) c.write-outcome.ensures.asked

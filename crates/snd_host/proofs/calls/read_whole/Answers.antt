@@ -2,7 +2,7 @@ use Rattle.std.proofs.Common.{rules, ◌≡◌, ◌+◌, ◌≤◌, ℕ, List, [
 use Rattle.std.proofs.lemmas.List.{drop-drop, places}
 use Rattle.snd_host.proofs.WholeInput.{some_is, none_unless, front_is_whole, is_some_and, length_front, read_more, inputs_then}
 use Rattle.snd_host.specs.Host.{next_count}
-use Rattle.snd_host.proofs.OpenedInputs.{opens_same, opens_read, in_order_part, in_order_whole}
+use Rattle.snd_host.proofs.OpenedInputs.{opens_nothing, opens_same, opens_read, in_order_none, in_order_part, in_order_whole}
 use Rattle.snd_host.proofs.WholeInput.{held_length}
 use Rattle.snd_host.proofs.calls.read_whole.Goals as goal
 
@@ -15,6 +15,11 @@ returns-in_err-count-clause-failed g c = λ _. record { once = c.in_err-count.en
 pub returns-in_err-file-clause-steady : goal.returns-in_err-file-clause-steady
 returns-in_err-file-clause-steady g c = λ _ steady files told.
     none_unless _ (λ there. let ok = c.in_err-file.ensures.steady steady files told there in search rules)
+
+pub returns-in_err-file-clause-opened : goal.returns-in_err-file-clause-opened
+returns-in_err-file-clause-opened g c = λ files told.
+    let before = g.H.Host.state c.args.host.now in
+    in_order_none _ _ before _ (opens_same [] before before _ (opens_nothing before) c.in_err-file.ensures.not_opened) (λ settled. settled.0 (search rules))
 
 pub returns-then-count-eq0-clause-whole : goal.returns-then-count-eq0-clause-whole
 returns-then-count-eq0-clause-whole g c = λ files told.

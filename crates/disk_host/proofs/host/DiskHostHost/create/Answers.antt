@@ -1,5 +1,7 @@
-use Rattle.std.proofs.Common.{arith}
-use Rattle.std.proofs.lemmas.Grind.{elements, common_steps}
+use Rattle.std.proofs.Common.{ℕ, ◌∷◌, sym, ap, ◌∙◌, arith}
+use Rattle.std.proofs.lemmas.Grind.{common_steps}
+use Rattle.snd_host.specs.Calls.{created}
+use Rattle.disk_host.proofs.Outputs.{number_last, outputs_but, holds_stay, not_full}
 use Rattle.disk_host.proofs.host.DiskHostHost.create.Goals as goal
 
 pub overflow_add-number : goal.overflow_add-number
@@ -8,11 +10,23 @@ overflow_add-number c = grind (arith, common_steps)
 pub overflow_cast-number : goal.overflow_cast-number
 overflow_cast-number c = grind (arith, common_steps)
 
-pub returns-in-Ok-clause-ended : goal.returns-in-Ok-clause-ended
-returns-in-Ok-clause-ended c = grind (arith, common_steps)
+pub returns-clause-ended : goal.returns-clause-ended
+returns-clause-ended c = grind (arith, common_steps)
 
-pub returns-in-Ok-clause-held : goal.returns-in-Ok-clause-held
-returns-in-Ok-clause-held c = grind (arith, elements)
+pub returns-clause-held : goal.returns-clause-held
+returns-clause-held g c =
+    holds_stay g.D.Disk.held g.D.Disk.texts c.args.self.now (record c.args.self.now { disk = c.create.new.self; created = c.push.new.self }) _ c.push.ensures.items c.in-Ok.ensures.texts
 
-pub returns-in-Ok-clause-number : goal.returns-in-Ok-clause-number
-returns-in-Ok-clause-number c = grind (arith, common_steps)
+pub returns-clause-number : goal.returns-clause-number
+returns-clause-number c = grind (arith, common_steps)
+
+pub returns-clause-asked : goal.returns-clause-asked
+returns-clause-asked g c = λ few.
+    let last = number_last g.D.Disk.number (record c.args.self.now { created = c.push.new.self }) c.args.self.now.created.items _ c.len.result c.push.ensures.items c.len.ensures.value in
+    c.in-Ok.ensures.asked ∙ ap (λ (n : ℕ). created c.args.name.now n ∷ g.D.Disk.calls c.args.self.now.disk) (sym last)
+
+pub returns-clause-no_place : goal.returns-clause-no_place
+returns-clause-no_place g c = λ most. absurd (not_full c.args.self.now.created.items c.is_full.result c.is_full.ensures.fits c.is_full.ensures.value c.if-is_full.false most)
+
+pub returns-clause-outputs : goal.returns-clause-outputs
+returns-clause-outputs g c = outputs_but g.D.Disk.number c.args.self.now (record c.args.self.now { created = c.push.new.self }) _ c.push.ensures.items

@@ -5,7 +5,6 @@ use Rattle.snd_host.specs.Memory.{memory_state, rooms_of}
 use Rattle.snd_host.proofs.Steady.{steady_of-same, no_failure_some}
 use Rattle.snd_host.specs.Files.{File, place_of}
 use Rattle.snd_host.proofs.KeptReadings.{opens_next, one_next, name_at-place_of}
-use Rattle.snd_host.proofs.OpenedInputs.{opens_nothing, opens_same}
 use Rattle.snd_host.proofs.memory.MemHostHost.open_in.Goals as goal
 
 pub returns-then-fails-clause-others : goal.returns-then-fails-clause-others
@@ -19,12 +18,6 @@ returns-clause-others c = record { holds = refl; given = refl; ended = refl; not
 
 pub returns-then-fails-clause-steady : goal.returns-then-fails-clause-steady
 returns-then-fails-clause-steady c = λ steady files told there. absurd (no_failure_some c.args.self.now.failing.items c.args.self.now.calls (rooms_of c.args.self.now) c.count_call-fails.result steady (c.count_call-fails.ensures.fails ∙ ap (λ (l : List ℕ). list_any (λ number. number == c.args.self.now.calls) l) c.as_slice.ensures.value) c.if-fails.true)
-
-pub returns-then-fails-clause-not_opened : goal.returns-then-fails-clause-not_opened
-returns-then-fails-clause-not_opened c = opens_same [] (memory_state c.args.self.now) (memory_state c.args.self.now) _ (opens_nothing (memory_state c.args.self.now)) refl
-
-pub returns-in_default-clause-not_opened : goal.returns-in_default-clause-not_opened
-returns-in_default-clause-not_opened c = opens_same [] (memory_state c.args.self.now) (memory_state c.args.self.now) _ (opens_nothing (memory_state c.args.self.now)) refl
 
 pub returns-clause-opened : goal.returns-clause-opened
 returns-clause-opened c =
