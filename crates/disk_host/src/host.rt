@@ -87,6 +87,19 @@ fn write_created<D: Disk>(
     outcome
 }
 
+/// Flushes the file of an output, which is ended where that succeeds.
+fn flush_output<D: Disk>(disk: &mut D, output: &mut Created<D::File>) -> Result<(), Failed>
+    ensures ended { output.new.ended ≡ is_ok result }
+    ensures bytes { Keeps (D.held output.old.file) (D.held output.new.file) }
+    ensures file { D.number output.new.file ≡ D.number output.old.file }
+    ensures asked { D.calls disk.new ≡ finish_call (D.number output.old.file) result ∷ D.calls disk.old }
+    ensures texts { D.texts disk.new ≡ D.texts disk.old }
+{
+    let outcome = disk.flush(&mut output.file);
+    output.ended = outcome.is_ok();
+    outcome
+}
+
 /// Ends a created output.
 fn end_created<D: Disk>(
     disk: &mut D,
@@ -106,8 +119,7 @@ fn end_created<D: Disk>(
     let Some(mut output) = slot.take() else {
         unreachable!()
     };
-    let outcome = disk.flush(&mut output.file);
-    output.ended = outcome.is_ok();
+    let outcome = flush_output(disk, &mut output);
     *slot = Some(output);
     outcome
 }
