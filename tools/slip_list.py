@@ -91,7 +91,8 @@ DIRECTORY = 'voice_unit/specs/Directory.antt'
 DIRECTORY_CODE = 'voice_unit/src/directory.rt'
 FIR = 'echo_unit/specs/Fir.antt'
 FILTER = 'echo_unit/src/filter.rt'
-WRAPPED = 'echo_unit/src/wrapped.rt'
+PARTS = 'echo_unit/src/parts.rt'
+ECHO_ROWS = 'echo_unit/src/rows.rt'
 ECHO = 'echo_unit/specs/Echo.antt'
 ECHO_CODE = 'echo_unit/src/echo.rt'
 CELL = 'echo_unit/src/cell.rt'
@@ -638,18 +639,23 @@ SLIPS = [
     # the echo's filter and its buffer, and what a batch can meet
     Slip('taps over 128', ['echo_unit'], ['worked_sounds'], [
         (FIR, 'scaled sample (sign8 coefficient) 6', 'scaled sample (sign8 coefficient) 7'), (FILTER, 'coefficients.now i)) 6)', 'coefficients.now i)) 7)'),
-        (WRAPPED, 'floor_shift v 6', 'floor_shift v 7'), (WRAPPED, 'v >> 6', 'v >> 7'), (WRAPPED, 'sample (pos 64)', 'sample (pos 128)'),
-        (WRAPPED, 'rem_euclid(64)', 'rem_euclid(128)'), (WRAPPED, 'scaled sample coefficient 6', 'scaled sample coefficient 7')]),
+        (FILTER, 'signed(coefficients[i]), 6)', 'signed(coefficients[i]), 7)'), (ECHO_ROWS, '(sign8 coefficient) 6)', '(sign8 coefficient) 7)'),
+        (ECHO_ROWS, 'over_64(by)', 'over_128(by)'), (ECHO_ROWS, '{add_row, over_64, over_128}', '{add_row, over_128}')]),
     Slip('coefficients without a sign', ['echo_unit'], ['worked_sounds'], [
         (FIR, '(sign8 coefficient)', '(pos coefficient)'), (FIR, ', clear_bit0, sign8}', ', clear_bit0}'),
         (FILTER, '(sign8 (slice_index coefficients.now i))', '(pos (slice_index coefficients.now i))'), (FILTER, '{scaled, sign8, wrap16}', '{scaled, wrap16}'),
-        (FILTER, '◌+◌, map,', '◌+◌, pos, map,'), (FILTER, 'signed(coefficients[i])', 'signed(coefficients[i]).rem_euclid(0x100)')]),
+        (FILTER, '◌+◌, map,', '◌+◌, pos, map,'), (FILTER, 'signed(coefficients[i])', 'signed(coefficients[i]).rem_euclid(0x100)'),
+        (ECHO_ROWS, '(sign8 coefficient)', '(pos coefficient)'), (ECHO_ROWS, '{scaled, sign8, wrap16}', '{scaled, wrap16}'),
+        (ECHO_ROWS, 'ℤ, ◌+ℤ◌, false', 'ℤ, pos, ◌+ℤ◌, false'), (ECHO_ROWS, 'let by = signed(coefficient)', 'let by = i16::from(coefficient)')]),
     Slip('the sum of the first seven taps limited', ['echo_unit'], ['worked_sounds'], [
         (FIR, 'fold (λ sum number. sum +ℤ number)', 'fold (λ sum number. clamp16 (sum +ℤ wrap16 number))'),
-        (FILTER, 'sum = wrapped_sum(sum,', 'sum = add_clamped(sum,'), (FILTER, '{over_64, wrapped_sum}', 'over_64')]),
+        (FILTER, 'sum = wrapped_sum(sum,', 'sum = add_clamped(sum,'), (FILTER, 'use crate::wrapped::wrapped_sum;\n', ''),
+        (PARTS, 'wrapped_sum(sums[j], high_product', 'add_clamped(sums[j], high_product'), (PARTS, 'wrapped_sum(sums[j], wrapped_product', 'add_clamped(sums[j], wrapped_product'),
+        (PARTS, '{high_product, wrapped_product, wrapped_sum}', '{high_product, wrapped_product}'), (PARTS, 'use num_fix::BATCH_SIZE', 'use num_fix::{BATCH_SIZE, add_clamped}')]),
     Slip('the sum with the newest tap wraps', ['echo_unit'], ['worked_sounds'], [
         (FIR, 'clear_bit0 (clamp16 (', 'clear_bit0 (wrap16 ('), (FIR, '{scaled, wrap16, clamp16, clear_bit0', '{scaled, wrap16, clear_bit0'),
-        (FILTER, 'add_clamped(sum, tap', 'wrapped_sum(sum, tap'), (FILTER, '{Frame, add_clamped, clear_bit0}', '{Frame, clear_bit0}')]),
+        (FILTER, 'add_clamped(sum, tap', 'wrapped_sum(sum, tap'), (FILTER, '{Frame, add_clamped, clear_bit0,', '{Frame, clear_bit0,'),
+        (ECHO_ROWS, 'add_clamped(sums[j], last[j])', 'sums[j].wrapping_add(last[j])')]),
     Slip('the right word of a cell first', ['echo_unit'], ['worked_sounds'], [
         (ECHO, 'left = halved_word memory address; right = halved_word memory ((address + 2) % 0x10000)',
          'left = halved_word memory ((address + 2) % 0x10000); right = halved_word memory address'),
@@ -664,6 +670,7 @@ SLIPS = [
     Slip('a word goes back with its bit 0', ['echo_unit'], ['worked_sounds'], [
         (ECHO, 'clear_bit0 (clamp16 (sent +ℤ at_volume echo efb))', 'clamp16 (sent +ℤ at_volume echo efb)'), (ECHO, 'clamp16, clear_bit0, sign8}', 'clamp16, sign8}'),
         (VOLUME, 'clear_bit0(add_clamped(sent, at_volume(echo, efb)))', 'add_clamped(sent, at_volume(echo, efb))'),
+        (ECHO_ROWS, 'clear_bit0(add_clamped(sent[j], words[j]))', 'add_clamped(sent[j], words[j])'),
         (VOLUME, 'add_clamped, clear_bit0, scaled', 'add_clamped, scaled')]),
     Slip('a product with a volume limited', ['echo_unit'], ['worked_sounds'], [
         (ECHO, 'wrap16 (scaled sample (sign8 volume) 7)', 'clamp16 (scaled sample (sign8 volume) 7)'), (ECHO, 'scaled, wrap16, clamp16', 'scaled, clamp16'),
@@ -801,10 +808,12 @@ SLIPS = [
         ('batch_rows/src/sums.rt', 'add_clamped(sum, add_clamped(out', 'sum.wrapping_add(add_clamped(out')]),
     Slip('an output that wraps', ['echo_unit'], ['worked_sounds'], [
         ('echo_unit/specs/Echo.antt', 'clamp16 (at_volume main main_volume', 'wrap16 (at_volume main main_volume'),
-        ('echo_unit/src/volume.rt', 'add_clamped(at_volume(main, main_volume), at_volume(echo, echo_volume))', 'at_volume(main, main_volume).wrapping_add(at_volume(echo, echo_volume))')]),
+        ('echo_unit/src/volume.rt', 'add_clamped(at_volume(main, main_volume), at_volume(echo, echo_volume))', 'at_volume(main, main_volume).wrapping_add(at_volume(echo, echo_volume))'),
+        (ECHO_ROWS, 'add_clamped(outputs[j], echoes[j])', 'outputs[j].wrapping_add(echoes[j])')]),
     Slip('what goes back to the echo wraps', ['echo_unit'], ['worked_sounds'], [
         ('echo_unit/specs/Echo.antt', 'clear_bit0 (clamp16 (sent', 'clear_bit0 (wrap16 (sent'),
-        ('echo_unit/src/volume.rt', 'clear_bit0(add_clamped(sent, at_volume(echo, efb)))', 'clear_bit0(sent.wrapping_add(at_volume(echo, efb)))')]),
+        ('echo_unit/src/volume.rt', 'clear_bit0(add_clamped(sent, at_volume(echo, efb)))', 'clear_bit0(sent.wrapping_add(at_volume(echo, efb)))'),
+        (ECHO_ROWS, 'add_clamped(sent[j], words[j])', 'sent[j].wrapping_add(words[j])')]),
     Slip('a write of a result stores nothing', ['dsp_state', 'dsp_core'], ['worked_sounds'], [
         ('dsp_state/specs/Outside.antt', 'if nat_le 0x80 address then s', 'if nat_le 0x80 address || nat_le 8 (address % 16) && nat_le (address % 16) 9 then s'),
         ('dsp_state/specs/Outside.antt', '◌==◌, nat_le', '◌==◌, ◌&&◌, ◌||◌, nat_le'),

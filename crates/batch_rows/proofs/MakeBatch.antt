@@ -1,7 +1,7 @@
 -- What the voices, the echo and the results leave of a batch by rows.
 use Rattle.std.proofs.Common.{◌≡◌, ℕ, zero, suc, ◌+◌, ◌-◌, ◌<◌, List, [], ◌∷◌, ℤ, pos, Bool, true, false, length, map, get_or, slice_index, slice_set, if◌then◌else◌, refl, ap, sym, ◌∙◌, arith}
 use Rattle.voice_unit.specs.Voice.{VoiceState}
-use Rattle.voice_unit.specs.declared.batch.BatchRows.{BatchRows}
+use Rattle.voice_unit.specs.declared.all_voices.BatchRows.{BatchRows}
 use Rattle.voice_unit.specs.declared.interface.VoiceOut.{VoiceOut}
 use Rattle.echo_unit.specs.EchoOverBatch.{main_of, sent_of, echo_over_sums}
 use Rattle.echo_unit.specs.declared.rows.SumRows.{SumRows}

@@ -5,7 +5,7 @@ use Rattle.rate_clock.specs.Counter.{counter_at}
 use Rattle.voice_unit.specs.Voice.{VoiceState}
 use Rattle.voice_unit.specs.Batch.{lane_input, lane_inputs, steps, answer_of_step}
 use Rattle.voice_unit.specs.Play.{Lane, answer_at, IsPlayed}
-use Rattle.voice_unit.specs.declared.batch.BatchRows.{BatchRows}
+use Rattle.voice_unit.specs.declared.all_voices.BatchRows.{BatchRows}
 use Rattle.voice_unit.specs.declared.interface.VoiceOut.{VoiceOut}
 use Rattle.dsp_state.specs.Registers.{voice_regs}
 use Rattle.dsp_state.specs.Settings.{voice_settings}

@@ -1,6 +1,6 @@
 -- The rows of keys and noise that the voices of a batch read.
 use Rattle.std.specs.Prelude.{◌≡◌, ℕ, suc, ◌+◌, ◌<◌, false, get_or, slice_index}
-use Rattle.voice_unit.specs.declared.batch.BatchRows.{BatchRows}
+use Rattle.voice_unit.specs.declared.all_voices.BatchRows.{BatchRows}
 use Rattle.dsp_state.specs.Sample.{is_polled}
 use Rattle.dsp_state.specs.declared.state.ChipState.{ChipState}
 use Rattle.batch_rows.specs.Rows.{keys_after}

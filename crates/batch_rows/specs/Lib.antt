@@ -1,6 +1,7 @@
 -- Lane: one voice over a batch, and all voices, each over the row of the one before.
 -- Rows: a batch by rows: voice by voice, and then the echo over the sums.
 -- Apart: that the voices of a batch read nothing that its echo writes.
+-- AddsEcho: what is there once the echo has played over a batch.
 -- Once: what a batch does once.
 -- Afar: what voices can read, from afar.
 -- CellLine: cells of the echo that stand one after another.
@@ -17,6 +18,7 @@
 pub mod Lane
 pub mod Rows
 pub mod Apart
+pub mod AddsEcho
 pub mod Once
 pub mod Afar
 pub mod CellLine

@@ -1,6 +1,6 @@
 -- What a batch does once: the results of its samples in the registers.
 use Rattle.std.specs.Prelude.{◌≡◌, ◌<◌, ℕ, zero, suc, List, false, get_or, slice_index, slice_set, if◌then◌else◌}
-use Rattle.voice_unit.specs.declared.batch.BatchRows.{BatchRows}
+use Rattle.voice_unit.specs.declared.all_voices.BatchRows.{BatchRows}
 use Rattle.voice_unit.specs.declared.interface.VoiceOut.{VoiceOut}
 use Rattle.dsp_state.specs.Results.{bits_from, with_levels_from, next_endx}
 use Rattle.dsp_state.specs.declared.registers.TheConstants.{ENDX}

@@ -1,9 +1,10 @@
 //! The echo of a batch, over its rows of sums.
 
-ghost use Rattle.std.specs.Prelude.{◌≡◌, ◌≤◌, ◌+◌, ◌++◌, length};
+ghost use Rattle.std.specs.Prelude.{◌≤◌, ◌+◌, length};
 ghost use Rattle.trace_form.specs.Rooms.{frame_room};
 ghost use Rattle.echo_unit.specs.EchoOverBatch.{echo_over_sums};
 ghost use Rattle.chip_form.specs.Limits.{most_samples_of_batch};
+ghost use Rattle.batch_rows.specs.AddsEcho.{AddsEcho};
 
 use aram_core::Aram;
 use echo_unit::{Echo, EchoRegs, SumRows};
@@ -20,9 +21,7 @@ pub fn play_echo(
 )
     requires few { n ≤ most_samples_of_batch }
     requires frame_room { length frames.old + n ≤ frame_room }
-    ensures echo { echo.new ≡ (echo_over_sums regs.now sums.now echo.old memory.old n).echo }
-    ensures memory { memory.new ≡ (echo_over_sums regs.now sums.now echo.old memory.old n).memory }
-    ensures frames { frames.new ≡ frames.old ++ (echo_over_sums regs.now sums.now echo.old memory.old n).frames }
+    ensures { AddsEcho (echo_over_sums regs.now sums.now echo.old memory.old n) echo.new memory.new frames.old frames.new }
 {
     let row = echo.play(n, regs, sums, memory);
     frames.extend(&row[..usize::from(n)]);

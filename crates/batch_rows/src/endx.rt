@@ -19,14 +19,10 @@ pub(crate) fn keyed_in(rows: &BatchRows, j: u8) -> u8
 }
 
 /// Whether no key-on is taken in any sample of a batch.
-fn are_none_taken(kon: &[u8; BATCH_SIZE]) -> bool
-    ensures { result ≡ true → (j : ℕ) → j < BATCH_SIZE → slice_index kon.now j ≡ 0 }
+fn are_none_taken(rows: &BatchRows) -> bool
+    ensures { result ≡ true → (j : ℕ) → j < BATCH_SIZE → slice_index rows.now.kon j ≡ 0 }
 {
-    let mut all = 0;
-    for j in 0..BATCH_SIZE {
-        all = all | kon[j];
-    }
-    all == 0
+    rows.any == 0
 }
 
 /// ENDX after n samples of a batch in which no voice is keyed: it gains the voices that ended.
@@ -47,7 +43,7 @@ pub fn endx_of_batch(endx: u8, n: u8, rows: &BatchRows, ends: &[u8; BATCH_SIZE])
     requires few { n ≤ most_samples_of_batch }
     ensures { (answers : ℕ → List VoiceOut) → AreBits n answers rows.now ends.now → result ≡ endx_after answers endx n }
 {
-    if are_none_taken(&rows.kon) {
+    if are_none_taken(rows) {
         return gained_endx(endx, n, rows, ends);
     }
     let mut now = endx;

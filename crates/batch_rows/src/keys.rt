@@ -145,11 +145,7 @@ fn idle_rows(state: &ChipState, number: u32) -> BatchRows
     ensures polls { (j : ℕ) → j < most_samples_of_batch → get_or result.poll j false ≡ is_polled (number + j) }
     ensures bound { state.now.hidden.noise < 0x8000 }
 {
-    BatchRows {
-        noise: [state.hidden.noise.value(); BATCH_SIZE],
-        poll: polls_from(number),
-        kon: [0; BATCH_SIZE],
-    }
+    BatchRows::unkeyed([state.hidden.noise.value(); BATCH_SIZE], polls_from(number))
 }
 
 /// The clock of the sample after those that were made.
@@ -180,9 +176,5 @@ pub fn step_keys(state: &mut ChipState, samples: &BatchSamples, rate: u8) -> Bat
     }
     let kon = poll_each(state, number, n);
     let noise = step_noise_each(&mut state.hidden.noise, n, rate, first);
-    BatchRows {
-        noise,
-        poll: polls_from(number),
-        kon,
-    }
+    BatchRows::new(noise, polls_from(number), kon)
 }

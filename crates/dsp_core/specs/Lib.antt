@@ -4,6 +4,7 @@
 -- DspChip: the S-DSP as a chip.
 -- DspLaws: it keeps the laws of a chip.
 -- VoicesOfSample: the voices of a sample, by the settings that the chip has read.
+-- MadeSample: what is there once one sample is made.
 -- Inside: what holds of the fields of each chip.
 -- InsideSaved: and of all that is saved of one.
 pub mod Chip
@@ -12,5 +13,6 @@ pub mod Saved
 pub mod DspChip
 pub mod DspLaws
 pub mod VoicesOfSample
+pub mod MadeSample
 pub mod Inside
 pub mod InsideSaved

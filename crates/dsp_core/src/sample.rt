@@ -2,8 +2,9 @@
 
 ghost use Rattle.std.specs.Prelude.{◌≡◌, length, map, pos, if◌then◌else◌};
 ghost use Rattle.rate_clock.specs.Counter.{counter_at};
-ghost use Rattle.dsp_state.specs.Sample.{is_polled, sample, results_from, shared_input, records_from};
+ghost use Rattle.dsp_state.specs.Sample.{is_polled, sample, results_from, shared_input};
 ghost use Rattle.dsp_state.specs.Settings.{settings_of};
+ghost use Rattle.dsp_core.specs.MadeSample.{IsMade};
 
 use crate::voices::{SampleReads, step_voices};
 use aram_core::Aram;
@@ -66,10 +67,7 @@ pub fn make_sample(
 ) -> Frame
     requires settings { settings.now ≡ settings_of state.old.registers state.old.muted }
     requires clock { clock.now ≡ counter_at number }
-    ensures state { state.new ≡ (sample number state.old memory.old).state }
-    ensures memory { memory.new ≡ (sample number state.old memory.old).memory }
-    ensures frame { result ≡ (sample number state.old memory.old).frame }
-    ensures answers { records_from number 0 answers.new ≡ (sample number state.old memory.old).records }
+    ensures { IsMade (sample number state.old memory.old) number state.new memory.new result answers.new }
 {
     poll(state, number);
     step_noise(state, settings.noise_rate, clock);

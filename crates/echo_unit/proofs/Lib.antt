@@ -1,4 +1,4 @@
--- Products: a product over 64, by a number's multiple of 64 and its rest, and sums of wrapped numbers.
+-- Products: a product over a power of 2, by the parts of a number, and sums of wrapped numbers.
 -- Taps: the taps of the filter, one by one. History: the last eight pairs in an array that turns.
 pub mod Products
 pub mod Taps

@@ -6,8 +6,8 @@ ghost use Rattle.echo_unit.specs.Fir.{filtered_sample, eight_from};
 ghost use Rattle.echo_unit.specs.Echo.{filtered_pair};
 
 use crate::volume::signed;
-use crate::wrapped::{over_64, wrapped_sum};
-use num_fix::{Frame, add_clamped, clear_bit0};
+use crate::wrapped::wrapped_sum;
+use num_fix::{Frame, add_clamped, clear_bit0, scaled, wrap16};
 
 /// One tap of the filter, over the samples of a row from a place on, in 16 bits.
 fn tap(row: &[i16], place: usize, coefficients: &[u8; 8], i: usize) -> i16
@@ -15,7 +15,7 @@ fn tap(row: &[i16], place: usize, coefficients: &[u8; 8], i: usize) -> i16
     requires row { place + 8 ≤ length row.now }
     ensures { result ≡ wrap16 (scaled (number_at row.now (place + i)) (sign8 (slice_index coefficients.now i)) 6) }
 {
-    over_64(row[place + i], signed(coefficients[i]))
+    wrap16(scaled(row[place + i], signed(coefficients[i]), 6))
 }
 
 /// The filter over the eight samples of a row from a place on.

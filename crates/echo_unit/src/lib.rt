@@ -7,6 +7,7 @@ mod echo;
 mod filter;
 mod flg;
 mod page;
+mod parts;
 mod regs;
 mod rows;
 mod volume;

@@ -6,7 +6,7 @@ use Rattle.voice_unit.specs.Voice.{VoiceState, is_modulated, voice_step, voice_a
 use Rattle.voice_unit.specs.declared.interface.VoiceRegs.{VoiceRegs}
 use Rattle.voice_unit.specs.declared.interface.VoiceIn.{VoiceIn}
 use Rattle.voice_unit.specs.declared.interface.VoiceOut.{VoiceOut}
-use Rattle.voice_unit.specs.declared.batch.BatchRows.{BatchRows}
+use Rattle.voice_unit.specs.declared.all_voices.BatchRows.{BatchRows}
 use Rattle.voice_unit.specs.declared.batch.VoiceView.{VoiceView}
 
 -- what a voice reads in sample j, after the output of the voice before it

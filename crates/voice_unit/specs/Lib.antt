@@ -1,7 +1,7 @@
 -- Directory: where a voice's sample begins and where it loops to.
 -- Voice: what a voice is, and its step as a sequence of changes.
 -- Inside: the fields of a voice, and what holds of them.
--- Batch: a voice over a batch of samples.
+-- KeyBits: the key-ons of all samples of a batch in one byte. Batch: a voice over a batch of samples.
 -- Calm: voices whose envelopes change by the envelopes' own steps alone.
 -- OneSample: one sample of a voice.
 -- Plain: a sample in which nothing but its blocks, its registers and the voice before tells what a voice plays.
@@ -10,6 +10,7 @@
 pub mod Directory
 pub mod Voice
 pub mod Inside
+pub mod KeyBits
 pub mod Batch
 pub mod Calm
 pub mod OneSample

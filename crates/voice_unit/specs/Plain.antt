@@ -3,7 +3,7 @@ use Rattle.std.specs.Prelude.{◌≡◌, ℕ, ◌<◌, ◌≤◌, ◌⊎◌, fal
 use Rattle.num_fix.specs.Arithmetic.{has_bit}
 use Rattle.voice_unit.specs.Voice.{is_keyed, is_modulated}
 use Rattle.voice_unit.specs.declared.batch.VoiceView.{VoiceView}
-use Rattle.voice_unit.specs.declared.batch.BatchRows.{BatchRows}
+use Rattle.voice_unit.specs.declared.all_voices.BatchRows.{BatchRows}
 use Rattle.voice_unit.specs.declared.interface.VoiceIn.{VoiceIn}
 use Rattle.voice_unit.specs.declared.plain.PlainSamples.{PlainSamples}
 

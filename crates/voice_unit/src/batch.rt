@@ -4,22 +4,12 @@ ghost use Rattle.std.specs.Prelude.{◌≡◌, ◌<◌, slice_index};
 ghost use Rattle.voice_unit.specs.Batch.{lane_input};
 ghost use Rattle.voice_unit.specs.Voice.{is_modulated};
 
+use crate::all_voices::BatchRows;
 use crate::interface::{VoiceIn, VoiceRegs, is_modulated};
 use aram_core::Aram;
 use gauss_table::GaussTable;
 use num_fix::{BATCH_SIZE, has_bit};
 use rate_clock::RateClock;
-
-/// What all voices read in each sample of a batch beside the registers.
-#[derive(Clone, Copy)]
-pub struct BatchRows {
-    /// The noise, at most 7FFFh.
-    pub noise: [u16; BATCH_SIZE],
-    /// The keys are looked at, as in every second sample.
-    pub poll: [bool; BATCH_SIZE],
-    /// The key-ons that the last poll took: bit v is voice v.
-    pub kon: [u8; BATCH_SIZE],
-}
 
 /// What a voice sees of the registers that all voices share, and its number, which tells its bits in them.
 #[derive(Clone, Copy)]

@@ -1,6 +1,7 @@
 //! One voice of the S-DSP: it reads its blocks, interpolates between its samples and follows its envelope.
 #![tactic(auto)]
 
+mod all_voices;
 mod batch;
 mod calm;
 mod course;
@@ -20,7 +21,8 @@ mod track;
 mod voice;
 mod workspace;
 
-pub use batch::{BatchRows, PlayedRows, VoiceReads, VoiceView};
+pub use all_voices::BatchRows;
+pub use batch::{PlayedRows, VoiceReads, VoiceView};
 pub use directory::{entry_address, loop_word, start_word};
 pub use interface::{UNHEARD, VoiceIn, VoiceOut, VoiceRegs, is_modulated};
 pub use laws::kept_rows;

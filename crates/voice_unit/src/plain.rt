@@ -4,7 +4,8 @@ ghost use Rattle.std.specs.Prelude.{◌≡◌, ◌<◌, ◌≤◌, ℕ, false, s
 ghost use Rattle.num_fix.specs.Arithmetic.{has_bit};
 ghost use Rattle.voice_unit.specs.Plain.{IsPlain, IsToldPlain};
 
-use crate::batch::{BatchRows, VoiceView};
+use crate::all_voices::BatchRows;
+use crate::batch::VoiceView;
 use num_fix::{BATCH_SIZE, has_bit};
 
 /// The sample after the last one of a batch.
@@ -18,15 +19,11 @@ pub(crate) struct PlainSamples {
 }
 
 /// Whether a key on of a voice is taken in any sample of a batch.
-fn is_ever_taken(kon: &[u8; BATCH_SIZE], voice: u8) -> bool
+fn is_ever_taken(rows: &BatchRows, voice: u8) -> bool
     requires { voice < 8 }
-    ensures { result ≡ false → (j : ℕ) → j < BATCH_SIZE → has_bit (slice_index kon.now j) voice ≡ false }
+    ensures { result ≡ false → (j : ℕ) → j < BATCH_SIZE → has_bit (slice_index rows.now.kon j) voice ≡ false }
 {
-    let mut all = 0;
-    for j in 0..BATCH_SIZE {
-        all = all | kon[j];
-    }
-    has_bit(all, voice)
+    has_bit(rows.any, voice)
 }
 
 /// The first sample of a batch in which a key on of a voice is taken; 64 if there is none.
@@ -80,7 +77,7 @@ impl VoiceView {
         requires { self.now.voice < 8 }
         ensures { (j : ℕ) → j < BATCH_SIZE → IsToldPlain result j → IsPlain self.now rows.now j }
     {
-        if !is_ever_taken(&rows.kon, self.voice) {
+        if !is_ever_taken(rows, self.voice) {
             return PlainSamples {
                 before: END,
                 from: END,

@@ -156,11 +156,7 @@ fn rows_with_a_key_on() -> BatchRows
     let mut kon = [0; 64];
     poll[0] = true;
     kon[0] = 0x08;
-    BatchRows {
-        noise: [0; 64],
-        poll,
-        kon,
-    }
+    BatchRows::new([0; 64], poll, kon)
 }
 
 /// What voice 3 reads in a batch, with those registers.

@@ -37,8 +37,8 @@ returns c =
     c.requires.batch.some eight long endx in
     record {
       made = record {
-        state_made = rw (c.put_all_levels.ensures, c.step_keys-rows.ensures.registers, registers, played.voices_are, c.play_echo.ensures.echo, regs, echo, ran, c.step_keys-rows.ensures.state) refl;
-        memory_made = rw (c.play_echo.ensures.memory, regs, echo, ran) refl;
-        frames_made = rw (c.play_echo.ensures.frames, regs, echo, ran) refl;
+        state_made = rw (c.put_all_levels.ensures, c.step_keys-rows.ensures.registers, registers, played.voices_are, c.play_echo.ensures.echo_made, regs, echo, ran, c.step_keys-rows.ensures.state) refl;
+        memory_made = rw (c.play_echo.ensures.memory_made, regs, echo, ran) refl;
+        frames_made = rw (c.play_echo.ensures.frames_made, regs, echo, ran) refl;
       };
     }

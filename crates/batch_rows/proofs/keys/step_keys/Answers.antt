@@ -42,7 +42,7 @@ returns-then-firing-n-clause-noise c j below =
     rw (c.idle_rows.ensures.noise, get_or-replicate 64 j c.args.state.now.hidden.noise 0 (omega (arith, below, c.requires.batch.few))) c.idle_rows.ensures.bound
 
 -- the noise is stepped from that of the state, which the polls left
-noise_is : (c : goal.After-polls_from) (j : ℕ) → noise_after c.args.rate c.args.samples.now.number c.poll_each-kon.new.state.hidden.noise j ≡ (keys_after c.args.samples.now.number c.args.state.now j).hidden.noise
+noise_is : (c : goal.After-new) (j : ℕ) → noise_after c.args.rate c.args.samples.now.number c.poll_each-kon.new.state.hidden.noise j ≡ (keys_after c.args.samples.now.number c.args.state.now j).hidden.noise
 noise_is c j =
     let kept : c.poll_each-kon.new.state.hidden.noise ≡ c.args.state.now.hidden.noise = ap (λ (s : ChipState). s.hidden.noise) c.poll_each-kon.ensures.state in
     rw (kept, c.requires.rate) (sym (noise-keys_after c.args.samples.now.number c.args.state.now j))
@@ -56,7 +56,10 @@ returns-clause-state c =
 
 pub returns-clause-rows : goal.returns-clause-rows
 returns-clause-rows c = record {
-  noise = λ j below. c.step_noise_each-noise.ensures.row c.args.samples.now.number j c.requires.batch.clock below ∙ noise_is c (suc j);
-  polls = λ j below. c.polls_from.ensures j (omega (arith, below, c.requires.batch.few));
-  taken = c.poll_each-kon.ensures.taken;
+  noise = λ j below. rw c.new.ensures.noise (c.step_noise_each-noise.ensures.row c.args.samples.now.number j c.requires.batch.clock below ∙ noise_is c (suc j));
+  polls = λ j below. rw c.new.ensures.poll (c.polls_from.ensures j (omega (arith, below, c.requires.batch.few)));
+  taken = λ j below. rw c.new.ensures.kon (c.poll_each-kon.ensures.taken j below);
 }
+
+pub returns-clause-noise : goal.returns-clause-noise
+returns-clause-noise c j below = rw c.new.ensures.noise (c.step_noise_each-noise.ensures.bound j below)

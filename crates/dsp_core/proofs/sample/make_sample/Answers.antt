@@ -22,31 +22,19 @@ finish_sample-requires c =
     rw (c.step_chip_voices.ensures.answers c.requires.clock)
     (keyed_bits shared voices c.keyed_voices-keyed.result eight below is)
 
-pub returns-clause-state : goal.returns-clause-state
+pub returns : goal.returns
 unfolding sample settings_of
-returns-clause-state c =
-    let now : c.step_noise.new.state ≡ before_voices c.args.state.now c.args.number = rw (← c.poll.ensures.state, ← c.requires.clock) c.step_noise.ensures.state in
-    let is : c.args.settings.now ≡ settings_of c.step_noise.new.state.registers c.step_noise.new.state.muted = search rules in
-    let regs : c.args.settings.now.echo ≡ echo_regs c.step_noise.new.state.registers = ap (λ (s : Settings). s.echo) is in
-    rw (← now, c.finish_sample.ensures.state, c.step_chip_voices.ensures.voices c.requires.clock, c.step_chip_voices.ensures.answers c.requires.clock, regs) refl
-
-pub returns-clause-memory : goal.returns-clause-memory
-unfolding sample settings_of
-returns-clause-memory c =
+returns c =
     let now : c.step_noise.new.state ≡ before_voices c.args.state.now c.args.number = rw (← c.poll.ensures.state, ← c.requires.clock) c.step_noise.ensures.state in
     let is : c.args.settings.now ≡ settings_of c.step_noise.new.state.registers c.step_noise.new.state.muted = search rules in
     let regs : c.args.settings.now.echo ≡ echo_regs c.step_noise.new.state.registers = ap (λ (s : Settings). s.echo) is in
     let volumes : c.args.settings.now.volumes ≡ all_volumes c.step_noise.new.state.registers c.step_noise.new.state.muted = ap (λ (s : Settings). s.volumes) is in
-    rw (← now, c.finish_sample.ensures.memory, c.step_chip_voices.ensures.voices c.requires.clock, regs, volumes, c.step_chip_voices.ensures.answers c.requires.clock) refl
-
-pub returns-clause-frame : goal.returns-clause-frame
-unfolding sample settings_of
-returns-clause-frame c =
-    let now : c.step_noise.new.state ≡ before_voices c.args.state.now c.args.number = rw (← c.poll.ensures.state, ← c.requires.clock) c.step_noise.ensures.state in
-    let is : c.args.settings.now ≡ settings_of c.step_noise.new.state.registers c.step_noise.new.state.muted = search rules in
-    let regs : c.args.settings.now.echo ≡ echo_regs c.step_noise.new.state.registers = ap (λ (s : Settings). s.echo) is in
-    let volumes : c.args.settings.now.volumes ≡ all_volumes c.step_noise.new.state.registers c.step_noise.new.state.muted = ap (λ (s : Settings). s.volumes) is in
-    rw (← now, c.finish_sample.ensures.frame, c.step_chip_voices.ensures.voices c.requires.clock, regs, volumes, c.step_chip_voices.ensures.answers c.requires.clock) refl
+    record {
+      state_made = rw (← now, c.finish_sample.ensures.state, c.step_chip_voices.ensures.voices c.requires.clock, c.step_chip_voices.ensures.answers c.requires.clock, regs) refl;
+      memory_made = rw (← now, c.finish_sample.ensures.memory, c.step_chip_voices.ensures.voices c.requires.clock, regs, volumes, c.step_chip_voices.ensures.answers c.requires.clock) refl;
+      frame_made = rw (← now, c.finish_sample.ensures.frame, c.step_chip_voices.ensures.voices c.requires.clock, regs, volumes, c.step_chip_voices.ensures.answers c.requires.clock) refl;
+      records_made = rw (← now, c.step_chip_voices.ensures.answers c.requires.clock) refl;
+    }
 
 pub step_noise-requires : goal.step_noise-requires
 unfolding settings_of

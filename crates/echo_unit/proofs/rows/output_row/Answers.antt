@@ -1,22 +1,16 @@
-use Rattle.std.proofs.Common.{rules, ◌<◌, ℕ, pos, length, ◌∙◌, arith}
-use Rattle.std.proofs.lemmas.List.{length-set}
-use Rattle.echo_unit.specs.Echo.{output_frame}
-use Rattle.echo_unit.specs.EchoOverBatch.{pair_of, main_of}
-use Rattle.echo_unit.proofs.Entries.{with_entry}
+use Rattle.std.proofs.Common.{◌≡◌, true, false, refl, sym, ◌∙◌}
+use Rattle.std.proofs.lemmas.List.{get_or-replicate}
+use Rattle.echo_unit.specs.Echo.{silent_frame, output_frame}
+use Rattle.echo_unit.specs.Flg.{is_muted}
 use Rattle.echo_unit.proofs.rows.output_row.Goals as goal
 
-pub loop-j-init : goal.loop-j-init
-loop-j-init c = record { done = λ i below. absurd (omega (arith, below)); long = search rules }
-
-pub loop-j-preserved : goal.loop-j-preserved
-loop-j-preserved c =
-    let j : ℕ = c.loop-j.j in
-    let within : j < length c.loop-j.frames = rw c.loop-j.invariant.long c.loop-j-test.true in
-    record {
-      done = with_entry (λ i. output_frame c.args.regs.now (main_of c.args.sums.now i) (pair_of c.args.heard.now.left c.args.heard.now.right i)) c.loop-j.frames j
-          c.output_frame.result (record { left = pos 0; right = pos 0 }) within c.loop-j.invariant.done (rw (c.frame_at-main.ensures, c.frame_at.ensures) at c.output_frame.ensures);
-      long = length-set c.loop-j.frames j c.output_frame.result ∙ c.loop-j.invariant.long;
-    }
+pub returns-then-is_muted : goal.returns-then-is_muted
+unfolding output_frame
+returns-then-is_muted c j below =
+    let muted : is_muted c.args.regs.now.flg ≡ true = sym c.is_muted.ensures ∙ c.if-is_muted.true in
+    get_or-replicate 64 j silent_frame silent_frame below ∙ rw muted refl
 
 pub returns : goal.returns
-returns c j below = c.loop-j.invariant.done j (omega (arith, below))
+returns c =
+    let loud : is_muted c.args.regs.now.flg ≡ false = sym c.is_muted.ensures ∙ c.if-is_muted.false in
+    c.row_of_frames.ensures loud

@@ -8,4 +8,4 @@ zeros (suc n) zero = refl
 zeros (suc n) (suc j) = zeros n j
 
 pub returns : goal.returns
-returns c j = rw (zeros 64 j) (omega arith)
+returns c j = rw (c.new.ensures.noise, zeros 64 j) (omega arith)

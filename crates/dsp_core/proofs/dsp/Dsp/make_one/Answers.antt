@@ -6,6 +6,6 @@ use Rattle.dsp_core.proofs.dsp.Dsp.make_one.Goals as goal
 pub invariant_of-self : goal.invariant_of-self
 invariant_of-self c = record {
   clock = search rules;
-  valid = rw c.make_sample-frame.ensures.state (is_valid-sample c.self.inside.number c.self.inside.state c.args.memory.now c.self.invariant.valid);
-  settings = λ fresh. rw c.make_sample-frame.ensures.state (c.self.invariant.settings fresh ∙ sym (settings_of-sample c.self.inside.number c.self.inside.state c.args.memory.now));
+  valid = rw c.make_sample-frame.ensures.state_made (is_valid-sample c.self.inside.number c.self.inside.state c.args.memory.now c.self.invariant.valid);
+  settings = λ fresh. rw c.make_sample-frame.ensures.state_made (c.self.invariant.settings fresh ∙ sym (settings_of-sample c.self.inside.number c.self.inside.state c.args.memory.now));
 }
