@@ -55,7 +55,7 @@ def sources_of(product):
     """The files of this repository that a product is made of, in order."""
     if product in OF_LIBRARY:
         named = [TOP / name for name in OF_LIBRARY[product][2]]
-        files = [file for path in named for file in ([path] if path.is_file() else sorted(path.iterdir())) if file.is_file()]
+        files = [file for path in named for file in ([path] if path.is_file() else sorted(path.iterdir())) if file.is_file() and file.name != 'test']
         return sources_of('library') + files
     table = {crate: below for crate, below, _ in lines_of_table()}
     folders = [TOP / 'crates' / crate for crate in sorted(all_below(CRATES[product], table))]
