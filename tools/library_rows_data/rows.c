@@ -25,6 +25,7 @@ static void row(int holds, const char *what) {
     if (!holds) { failures++; printf("FAILS: %s\n", what); }
 }
 static double now(void) { struct timespec t; clock_gettime(CLOCK_MONOTONIC, &t); return (double)t.tv_sec + 1e-9 * (double)t.tv_nsec; }
+static double least_of(double one, double other) { return one < other ? one : other; }
 static uint64_t seed = 1;
 static uint32_t below(uint32_t n) { seed = seed * 6364136223846793005u + 1442695040888963407u; return (uint32_t)((seed >> 33) % n); }
 
@@ -175,7 +176,7 @@ int main(int argc, char **argv) {
     row(spcwave_tag(player, 8, text, sizeof text) == 0 && text[0] == 0, "no tag has number 8");
     row(spcwave_free_pages(player) == 4096 - 256, "the mark of frame 0 has 256 pages");
     row(spcwave_position(player) == 0, "stands at 0");
-    double t = now();
+    double least, t = now();
     row(spcwave_play(player, got, count) == count, "plays all at once");
     t = now() - t;
     printf("played %u frames in %.3f s, %.1f ns a frame\n", count, t, 1e9 * t / count);
@@ -300,11 +301,20 @@ int main(int argc, char **argv) {
     }
     options.pages = 4096;
     options.mark_seconds = 0;
-    for (n = 0, t = now(); n < 100; n++) {
+    for (n = 0, least = 1; n < 100; n++) {
+        t = now();
         spcwave_close(&player);
         spcwave_open(&player, spc, spc_length, table, table_length, &options);
+        least = least_of(least, now() - t);
     }
-    printf("close and open: %.1f us\n", 1e4 * (now() - t));
+    printf("close and open: %.1f us at least\n", 1e6 * least);
+    for (n = 0, least = 60; n < 10 && count > 640000; n++) {
+        spcwave_seek(player, 640000);
+        t = now();
+        spcwave_mute(player, n % 2);
+        least = least_of(least, now() - t);
+    }
+    if (n > 0) printf("a voice muted at 20 s: %.1f ms at least\n", 1e3 * least);
     spcwave_close(&player);
     free(got); free(mine); free(spc); free(table); free(wave);
     printf("%d rows, %d fail\n", rows, failures);

@@ -17,19 +17,25 @@ export const columnOf = (lines, frame) => Math.floor((frame / lines.frames) * CO
 export const columnsDone = (lines) => (lines.frames === 0 ? 0 : columnOf(lines, lines.rendered));
 
 /** Adds the frames that come next, left and right by turns, and what shows of the voices behind them. A column has its greatest value, and of each voice its
- * greatest level with the pitch at that moment. */
+ * greatest level with the pitch at that moment. What shows behind a piece is also that of the columns which begin and end within it. */
 export function addPiece(lines, frames, voices) {
   frames.forEach((value, index) => {
     const column = columnOf(lines, lines.rendered + (index >> 1));
     lines.loudness[column] = Math.max(lines.loudness[column], Math.abs(value) / 32768);
   });
   const last = columnOf(lines, lines.rendered + frames.length / 2 - 1);
+  const first = Math.min(last, columnOf(lines, lines.rendered - 1) + 1);
+  for (let column = first; column <= last; column++) addVoices(lines, column, voices);
+  lines.rendered += frames.length / 2;
+}
+
+/** Has a column know what shows of the voices at a moment. */
+function addVoices(lines, column, voices) {
   for (let voice = 0; voice < VOICES; voice++) {
     const [level, pitch] = [voices[4 * voice], voices[4 * voice + 1]];
-    const index = voice * COLUMNS + last;
+    const index = voice * COLUMNS + column;
     if (level > lines.levels[index]) [lines.levels[index], lines.pitches[index]] = [level, pitch];
   }
-  lines.rendered += frames.length / 2;
 }
 
 /** The note of a voice in a column, or null where it is silent there. */

@@ -73,6 +73,12 @@ const TESTS = {
     same([noteAt(lines, 3, 0), noteAt(lines, 3, 1), noteAt(lines, 2, 0)], [72, 60, null]);
     same([notesOf(lines, 3), notesOf(lines, 2)], [{ least: 60, greatest: 72 }, null]);
   },
+  'a short tune has a note in each column': () => {
+    const lines = emptyLines(COLUMNS);
+    for (let start = 0; start < COLUMNS; start += 4) addPiece(lines, new Int16Array(8), shows(0, 1, 4096));
+    const columns = Array.from({ length: COLUMNS }, (_, column) => noteAt(lines, 0, column));
+    same([columnsDone(lines), columns.filter((note) => note !== 60).length], [COLUMNS, 0]);
+  },
   'a voice of one note is drawn in the middle of an octave': () => {
     const lines = emptyLines(COLUMNS);
     addPiece(lines, Int16Array.of(0, 0), shows(0, 1, 4096));
