@@ -70,11 +70,7 @@ fn play_through<C: Chip>(
 impl<C: Chip> Player<C> {
     /// A player over a server of a file's cuts, where that stands, with its marks and over its chip. It takes a mark by itself each so many
     /// seconds, at most 3,600; none at 0.
-    pub fn over(
-        server: CutServer<C>,
-        file: SpcFile,
-        mark_seconds: u32,
-    ) -> Player<C>
+    pub fn over(server: CutServer<C>, file: SpcFile, mark_seconds: u32) -> Player<C>
         requires { mark_seconds ≤ most_mark_seconds }
         ensures over { IsOver server file (spacing_of mark_seconds) result }
     {
