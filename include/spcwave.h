@@ -11,8 +11,9 @@
  *
  * What you hear is the run of the console's machine from the state in the file: its processor and S-DSP in lock step, with the voices that are
  * muted left out. Frame n is the same whatever was played, sought, marked or muted before: it depends on the file, on the table and on the voices
- * that are muted now. The contract of every exported call is proved: as long as you keep the rules, what it answers, what it writes and what it
- * leaves as it was are what stands below. What a null pointer does is only tested, and so is spcwave_status_text.
+ * that are muted now, and of spcwave_play_faded on the end and the fade too. The contract of every exported call is proved: as long as you keep the
+ * rules, what it answers, what it writes and what it leaves as it was are what stands below. Only tested are what a null pointer does,
+ * spcwave_status_text, and that SPCWAVE_OUT_OF_MEMORY is answered for want of memory alone.
  *
  * The rules. None of them is checked:
  *  - A player that is passed to a call was opened by spcwave_open and isn't closed yet.
@@ -90,8 +91,8 @@ typedef struct spcwave_frame {
 /* What a player is opened with beside its file: begin with SPCWAVE_OPTIONS and change what you want. */
 typedef struct spcwave_options {
     uint32_t size;          /* sizeof(spcwave_options) */
-    uint32_t pages;         /* 256 to 65,536 pages of 256 bytes for marks. The mark of frame 0 takes 256, each other as many as changed since
-                               the mark before */
+    uint32_t pages;         /* 256 to 65,536 pages of 256 bytes for marks. The mark of frame 0 takes 256, each other as many as differ from
+                               those of the newest mark that stands */
     uint32_t mark_seconds;  /* spcwave_play and spcwave_play_faded take a mark each so many seconds, 1 to 3,600; 0 for none */
     uint8_t muted;          /* voices that aren't heard: bit v is voice v */
 } spcwave_options;

@@ -1,4 +1,4 @@
--- What each chip keeps that is saved. A state is a fixed part, which no write and no sample changes, and what is saved of it.
+-- What each chip keeps that is saved. A state is a fixed part, which no write, no sample and no load changes, and what is saved of it.
 use Rattle.std.specs.Prelude.{◌≡◌, ℕ, List}
 use Rattle.chip_form.specs.ChipMeaning.{ChipMeaning}
 use Rattle.chip_form.specs.ChipSaving.{ChipSaving}

@@ -1,11 +1,10 @@
 -- The created outputs of a host of real files. Each stands at a place.
 use Rattle.std.specs.Prelude.{ℕ, Bool, true, List, Option, Some, None, map, slice_get}
-use Rattle.disk_host.specs.declared.host.TheConstants.{MOST_CREATED}
 use Rattle.disk_host.specs.declared.host.Created.{Created}
 
 -- how many outputs a host of real files can create
 abbrev pub most_created : ℕ
-most_created = MOST_CREATED
+most_created = 256
 
 -- An output was ended; where there is none, none can be written.
 abbrev pub is_ended : {F : Type 0} → Option (Created F) → Bool

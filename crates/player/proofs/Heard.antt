@@ -1,5 +1,5 @@
 -- Each mark that a player takes by itself stands where none was given up.
-use Rattle.std.proofs.Common.{◌≡◌, ◌∙◌, ◌⊎◌, refl, sym, ap, ℕ, zero, suc, ◌+◌, ◌-◌, ◌*◌, ◌/◌, ◌%◌, ◌<◌, ◌≤◌, true, false, ◌||◌, ◌==◌, nat_le, inl, inr, if◌then◌else◌, List, [], ◌∷◌, length, arith}
+use Rattle.std.proofs.Common.{◌≡◌, ◌∙◌, ◌⊎◌, refl, sym, ap, ℕ, zero, suc, ◌+◌, ◌-◌, ◌*◌, ◌/◌, ◌%◌, ◌<◌, ◌≤◌, true, false, ◌||◌, ◌==◌, nat_le, max, inl, inr, if◌then◌else◌, List, [], ◌∷◌, length, arith}
 use Rattle.std.proofs.Math.Nat.{mod-add-div'}
 use Rattle.std.proofs.lemmas.Nat.{mod-mul-add}
 use Rattle.std.proofs.lemmas.Bool.{cases_Bool}
@@ -108,4 +108,32 @@ heard_is_near room memory spacing from marks count has some stands at later with
       | inr ahead ↦
           let beyond : from < last_multiple spacing at = grind (arith, nat_tests, ahead) in
           (own_stands room memory spacing from marks count has (last_multiple spacing at) beyond (omega (arith, within)) (multiple_is_own spacing at some), near)
+    ]
+
+pub heard_from_a_mark : (room : ℕ) (memory : ℕ → List (List ℕ)) (spacing from : ℕ) (marks : List Checkpoint) (count : ℕ) → HasRoomForEach room memory spacing from marks count
+    → 0 < spacing → (mark : ℕ) → stands_at marks mark ≡ true → last_multiple spacing from ≤ mark → mark ≤ from
+    → (at : ℕ) → from ≤ at → at ≤ from + count
+    → (stands_at (marks_after room memory spacing from marks count) (max mark (last_multiple spacing at)) ≡ true)
+      × (max mark (last_multiple spacing at) ≤ at) × (at < max mark (last_multiple spacing at) + spacing)
+heard_from_a_mark room memory spacing from marks count has some mark stands late up_to at later within =
+    let near : at < last_multiple spacing at + spacing = omega (arith, some) in
+    elim (cases_Bool (nat_le (last_multiple spacing at) mark)) [
+      | inl behind ↦
+          let before : last_multiple spacing at ≤ mark = grind (arith, nat_tests, behind) in
+          let same : max mark (last_multiple spacing at) ≡ mark = omega (arith, before) in
+          (ap (stands_at (marks_after room memory spacing from marks count)) same ∙ marks_stay room memory spacing from marks count has mark stands,
+           omega (arith, same, up_to, later), omega (arith, same, before, near))
+      | inr ahead ↦
+          let after : mark < last_multiple spacing at = grind (arith, nat_tests, ahead) in
+          let same : max mark (last_multiple spacing at) ≡ last_multiple spacing at = omega (arith, after) in
+          let beyond : from < last_multiple spacing at = elim (cases_Bool (nat_le (last_multiple spacing at) from)) [
+            | inl low ↦
+                let up : last_multiple spacing at ≤ from = grind (arith, nat_tests, low) in
+                absurd (omega (arith, late, after, same_multiple spacing from at some later up))
+            | inr high ↦ grind (arith, nat_tests, high)
+          ] in
+          let is_up_to : last_multiple spacing at ≤ at = omega arith in
+          (ap (stands_at (marks_after room memory spacing from marks count)) same
+           ∙ own_stands room memory spacing from marks count has (last_multiple spacing at) beyond (omega (arith, within)) (multiple_is_own spacing at some),
+           omega (arith, same, is_up_to), omega (arith, same, near))
     ]

@@ -1,5 +1,5 @@
 -- That what was heard is near: laws of the marks that a player takes by itself.
-use Rattle.std.specs.Prelude.{◌≡◌, ◌⊎◌, ℕ, suc, ◌+◌, ◌-◌, ◌%◌, ◌<◌, ◌≤◌, true, List}
+use Rattle.std.specs.Prelude.{◌≡◌, ◌⊎◌, ℕ, suc, ◌+◌, ◌-◌, ◌%◌, ◌<◌, ◌≤◌, max, true, List}
 use Rattle.cut_form.specs.Checkpoints.{Checkpoint, has_room_for_one, stands_at}
 use Rattle.player.specs.OwnMarks.{is_own_mark, marks_after}
 
@@ -26,3 +26,11 @@ HeardIsNear =
     → 0 < spacing → stands_at marks (last_multiple spacing from) ≡ true
     → (at : ℕ) → from ≤ at → at ≤ from + count
     → (stands_at (marks_after room memory spacing from marks count) (last_multiple spacing at) ≡ true) × (at < last_multiple spacing at + spacing)
+
+-- The same of a play that begins at a mark or behind it, where that is no earlier than the last multiple: the nearest is then the later of the two.
+abbrev pub HeardFromAMarkIsNear : Type 0
+HeardFromAMarkIsNear =
+    (room : ℕ) (memory : ℕ → List (List ℕ)) (spacing from : ℕ) (marks : List Checkpoint) (count : ℕ) → HasRoomForEach room memory spacing from marks count
+    → 0 < spacing → (mark : ℕ) → stands_at marks mark ≡ true → last_multiple spacing from ≤ mark → mark ≤ from
+    → (at : ℕ) → from ≤ at → at ≤ from + count → let nearest = max mark (last_multiple spacing at) in
+    (stands_at (marks_after room memory spacing from marks count) nearest ≡ true) × (nearest ≤ at) × (at < nearest + spacing)

@@ -106,7 +106,7 @@ pub record KeepsPlayer {S V : Type 0} (chip : ChipMeaning S) (saving : ChipSavin
 
 -- A player began its tune anew over another chip at the opening, of which this was saved: what is fixed of its chip stays, and all else of the
 -- opening. It stands where it stood, has the mark of frame 0 alone, and made the frames from there.
-pub record IsAnew {S V : Type 0} (chip : ChipMeaning S) (saving : ChipSaving S V) (saved : V) (old new : PlayerState S V) : Type 0 where
+pub record IsRestarted {S V : Type 0} (chip : ChipMeaning S) (saving : ChipSaving S V) (saved : V) (old new : PlayerState S V) : Type 0 where
   pub start : opening_of chip saving new ≡ (let before = opening_of chip saving old in with_chip before (saving.loaded before.1.chip saved))
   pub position : position_of new ≡ position_of old
   pub marks : marks_of new ≡ with_checkpoint [] 0 (memory_of chip saving new 0)

@@ -8,11 +8,11 @@ ghost use Rattle.cut_form.specs.Slices.{slice_of};
 ghost use Rattle.cut_form.specs.GrowingFrames.{AreOfRun};
 ghost use Rattle.cut_server.specs.Server.{frames_to, KeepsTune};
 ghost use Rattle.cut_server.specs.ServerState.{book_of};
-ghost use Rattle.spc_form.specs.Tags.{length_of, text_of, has_tags, most_told_frames};
+ghost use Rattle.spc_form.specs.Tags.{field_size, length_of, text_of, has_tags, most_told_frames};
 ghost use Rattle.player.specs.Output.{stereo, with_text};
 ghost use Rattle.player.specs.OwnMarks.{most_mark_seconds, spacing_of, with_own_mark};
 ghost use Rattle.player.specs.Player.{frames_of, memory_of, position_of, chip_here, marks_of, room_of, marking, marks_played, made_of};
-ghost use Rattle.player.specs.Player.{frames_sought, sought_some, SeekIsNear, faded_frames_played, opening_of, IsOver, IsAnew, KeepsPlayer};
+ghost use Rattle.player.specs.Player.{frames_sought, sought_some, SeekIsNear, faded_frames_played, opening_of, IsOver, IsRestarted, KeepsPlayer};
 
 use crate::output::{StereoFrame, fade_frames, put_frames, put_text};
 use crate::own_marks::{MOST_AT_ONCE, frames_at_once, is_own_mark};
@@ -123,6 +123,7 @@ impl<C: Chip> Player<C> {
     pub fn tag(&self, tag: Tag, out: &mut [u8]) -> usize
         ensures text { out.new ≡ with_text (text_of self.now.file tag) out.old }
         ensures length { result ≡ length (text_of self.now.file tag) }
+        ensures short { result ≤ field_size tag }
     {
         let text = self.file.text(tag);
         put_text(text, out);
@@ -204,7 +205,7 @@ impl<C: Chip> Player<C> {
     /// mark of frame 0 is left.
     pub fn restart(&mut self, chip: C::Saved)
         requires { C.saving.number chip ≡ 0 }
-        ensures { IsAnew C.meaning C.saving chip self.old self.new }
+        ensures { IsRestarted C.meaning C.saving chip self.old self.new }
     {
         let here = self.server.at();
         self.server.restart(chip);

@@ -1,6 +1,5 @@
 -- The outside of a program as contracts see it: what its inputs hold, what its outputs were given, and how often its calls failed.
 use Rattle.std.specs.Prelude.{◌≡◌, ◌≢◌, ℕ, zero, suc, ◌+◌, ◌-◌, ◌^◌, ◌≤◌, min, Bool, true, false, List, [], ◌∷◌, ◌++◌, length, Option, Some, Result, IsOk, OnOk, OnErr, is_err, slice_get, slice_index, slice_set}
-use Rattle.snd_host.specs.declared.host.TheConstants.{LONGEST_OUTPUT_NAME}
 
 -- What names hold: no bytes, some, or the name is not there.
 abbrev pub Files : Type 0
@@ -63,7 +62,7 @@ most_outputs = 4294967000
 
 -- the bytes of the longest name of an output that a steady host takes
 abbrev pub longest_output_name : ℕ
-longest_output_name = LONGEST_OUTPUT_NAME
+longest_output_name = 200
 
 -- the greatest limit up to which an input is read whole
 abbrev pub greatest_limit : ℕ

@@ -1,12 +1,11 @@
 -- Which inputs were opened, and how far each was read.
 use Rattle.std.specs.Prelude.{◌≡◌, ◌≢◌, ℕ, ◌+◌, ◌≤◌, min, List, [], ◌∷◌, ◌++◌, length, Some, IsSome, unwrap_or}
 use Rattle.std.specs.Option.{option_map}
-use Rattle.snd_host.specs.declared.readings.TheConstants.{MOST_TOLD}
 use Rattle.snd_host.specs.Host.{HostState, Files, OpenedInput, IfTold}
 
 -- A host that tells which inputs were opened goes on to tell it while they are no more than so many.
 abbrev pub most_told : ℕ
-most_told = MOST_TOLD
+most_told = 16
 
 -- an input as it is read whole: to its end, or to its limit and one byte
 abbrev pub whole_input : Files → (name : List ℕ) → (limit : ℕ) → OpenedInput

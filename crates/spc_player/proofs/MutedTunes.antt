@@ -14,10 +14,10 @@ use Rattle.cut_server.specs.ServerState.{book_of, slots_of}
 use Rattle.tune_opening.specs.Tune.{opened_tune, tune_pages}
 use Rattle.tune_opening.proofs.Served.{frames_served, pages_served, chip_served}
 use Rattle.player.specs.OwnMarks.{spacing_of}
-use Rattle.player.specs.Player.{IsOver, IsAnew}
+use Rattle.player.specs.Player.{IsOver, IsRestarted}
 use Rattle.spc_player.specs.declared.options.PlayerOptions.{PlayerOptions}
 use Rattle.spc_player.specs.Inputs.{Inputs, IsOfTune, IsAtOpening, IsMuted, with_voices_muted}
-use Rattle.spc_player.specs.Player.{SpcPlayer, opening_of, KeepsPlayer}
+use Rattle.spc_player.specs.Player.{SpcPlayer, opening_of}
 
 pub of_tune : (inputs : Inputs) (muted : ℕ) (player : SpcPlayer) → player.file ≡ inputs.file → opening_of player ≡ opened_tune inputs.file inputs.weights muted 0 → IsOfTune inputs muted player
 of_tune inputs muted player file start = record {
@@ -28,14 +28,9 @@ of_tune inputs muted player file start = record {
   chip = chip_served inputs.file inputs.weights muted (opening_of player) start;
 }
 
-pub tune_stays : (inputs : Inputs) (muted : ℕ) (old new : SpcPlayer) → KeepsPlayer old new → IsOfTune inputs muted old → IsOfTune inputs muted new
-tune_stays inputs muted old new keeps of = record {
-  file = keeps.file ∙ of.file;
-  start = keeps.start ∙ of.start;
-  frames = keeps.frames ∙ of.frames;
-  memory = keeps.memory ∙ of.memory;
-  chip = keeps.chips ∙ of.chip;
-}
+pub tune_stays : (inputs : Inputs) (muted : ℕ) (old new : SpcPlayer) → opening_of new ≡ opening_of old → new.file ≡ old.file
+    → IsOfTune inputs muted old → IsOfTune inputs muted new
+tune_stays inputs muted old new start file of = of_tune inputs muted new (file ∙ of.file) (start ∙ of.start)
 
 -- a player over the server of a tune at its opening
 pub at_opening : (inputs : Inputs) (options : PlayerOptions) (server : ChipServer ChipState SavedDsp) (player : SpcPlayer) → IsOver server inputs.file (spacing_of options.mark_seconds) player
@@ -64,7 +59,7 @@ opening_muted : (file : List ℕ) (table : List ℤ) (before muted : ℕ) → wi
 unfolding opened_state
 opening_muted file table before muted = refl
 
-pub is_muted : (muted : ℕ) (saved : SavedDsp) (old new : SpcPlayer) → saved ≡ muted_chip (opening_of old) muted → IsAnew dsp_chip dsp_saving saved old new → IsMuted muted old new
+pub is_muted : (muted : ℕ) (saved : SavedDsp) (old new : SpcPlayer) → saved ≡ muted_chip (opening_of old) muted → IsRestarted dsp_chip dsp_saving saved old new → IsMuted muted old new
 is_muted muted saved old new is anew =
     let start : opening_of new ≡ with_voices_muted (opening_of old) muted =
     anew.start ∙ ap (λ s. with_chip (opening_of old) (dsp_saving.loaded (opening_of old).1.chip s)) is in

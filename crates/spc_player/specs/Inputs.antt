@@ -17,7 +17,7 @@ use Rattle.spc_player.specs.declared.options.PlayerOptions.{PlayerOptions}
 use Rattle.player.specs.OwnMarks.{spacing_of}
 use Rattle.spc_player.specs.Refusals.{of_spc, of_table}
 use Rattle.player.specs.Player.{position_of, marks_of, room_of, made_of}
-use Rattle.spc_player.specs.Player.{SpcPlayer, opening_of, frames_of, memory_of, chip_of, KeepsPlayer}
+use Rattle.spc_player.specs.Player.{SpcPlayer, opening_of, frames_of, memory_of, chip_of}
 
 pub record Inputs : Type 0 where
   -- the padded bytes of the file, and the 512 weights
@@ -42,9 +42,11 @@ pub record IsOfTune (inputs : Inputs) (muted : ℕ) (player : SpcPlayer) : Type 
   pub memory : memory_of player ≡ tune_pages inputs.file inputs.weights muted
   pub chip : chip_of player ≡ tune_chip inputs.file inputs.weights muted
 
--- what keeps a player keeps its tune
+-- a player whose opening and file stay stays one of its tune
 abbrev pub TuneStays : Type 0
-TuneStays = (inputs : Inputs) (muted : ℕ) (old new : SpcPlayer) → KeepsPlayer old new → IsOfTune inputs muted old → IsOfTune inputs muted new
+TuneStays =
+    (inputs : Inputs) (muted : ℕ) (old new : SpcPlayer) → opening_of new ≡ opening_of old → new.file ≡ old.file
+    → IsOfTune inputs muted old → IsOfTune inputs muted new
 
 -- A player stands at the opening of a tune, with the voices of its options muted, where its one mark is, and has made no frame.
 pub record IsAtOpening (inputs : Inputs) (options : PlayerOptions) (player : SpcPlayer) : Type 0 where

@@ -9,7 +9,7 @@ use exit_status::Status;
 use snd_host::MemHost;
 use std::alloc::Global;
 use std::process::Abort;
-use std::rt::{Env, Files};
+use std::rt::Env;
 use std::test::Fail;
 use std::{env, fs};
 use test_support::{
@@ -97,9 +97,9 @@ fn render_words(alloc: Global, names: &Names) -> Result<Vec<String>, Fail> {
 const KEYED_LINES: &[u8] = b"V 0 0 0 0 0000 k-\nV 0 1 0 0 0000 k-\nV 0 2 0 0 0000 k-\n";
 
 /// Runs these words over real files, the report and the complaint of these names among them.
-fn run_on_disk<R: Files>(
+fn run_on_disk(
     alloc: Global,
-    files: &R,
+    files: &HostRuntime,
     words: &[String],
     report: &str,
     complaint: &str,
@@ -111,9 +111,9 @@ fn run_on_disk<R: Files>(
 }
 
 /// Runs the words of a render, or of what it needs.
-fn run_for_render<R: Files>(
+fn run_for_render(
     alloc: Global,
-    files: &R,
+    files: &HostRuntime,
     names: &Names,
     words: &[String],
 ) -> Result<Status, Fail> {
@@ -127,20 +127,20 @@ fn run_for_render<R: Files>(
 }
 
 /// Writes the table of straight lines.
-fn write_table<R: Files>(alloc: Global, files: &R, names: &Names) -> Result<(), Fail> {
+fn write_table(alloc: Global, files: &HostRuntime, names: &Names) -> Result<(), Fail> {
     let table = straight_table(alloc)?;
     fs::write(files, names.table.as_str(), table.as_slice())?;
     Ok(())
 }
 
 /// Has the program write the demo file of 7.
-fn write_tune<R: Files>(alloc: Global, files: &R, names: &Names) -> Result<Status, Fail> {
+fn write_tune(alloc: Global, files: &HostRuntime, names: &Names) -> Result<Status, Fail> {
     let words = list_words(alloc, &["demo", "7", names.tune.as_str()])?;
     run_for_render(alloc, files, names, words.as_slice())
 }
 
 /// Has it render that file.
-fn render_on_disk<R: Files>(alloc: Global, files: &R, names: &Names) -> Result<Status, Fail> {
+fn render_on_disk(alloc: Global, files: &HostRuntime, names: &Names) -> Result<Status, Fail> {
     let words = render_words(alloc, names)?;
     run_for_render(alloc, files, names, words.as_slice())
 }
@@ -156,7 +156,7 @@ struct Held {
     complaint: Vec<u8>,
 }
 
-fn read_all<R: Files + AllocGlobal>(files: &R, names: &Names) -> Result<Held, Fail> {
+fn read_all(files: &HostRuntime, names: &Names) -> Result<Held, Fail> {
     Ok(Held {
         tune: fs::read(files, names.tune.as_str())?,
         table: fs::read(files, names.table.as_str())?,
@@ -167,7 +167,7 @@ fn read_all<R: Files + AllocGlobal>(files: &R, names: &Names) -> Result<Held, Fa
     })
 }
 
-fn remove_all<R: Files>(files: &R, names: &Names) -> Result<(), Fail> {
+fn remove_all(files: &HostRuntime, names: &Names) -> Result<(), Fail> {
     for name in [
         &names.tune,
         &names.table,
@@ -233,9 +233,9 @@ fn a_render_over_real_files_is_that_in_memory(rt: HostRuntime) -> Result<(), Fai
 }
 
 /// Runs these words over the real files of a sound.
-fn run_for_sound<R: Files>(
+fn run_for_sound(
     alloc: Global,
-    files: &R,
+    files: &HostRuntime,
     names: &SoundNames,
     words: &[&str],
 ) -> Result<Status, Fail> {
@@ -250,8 +250,8 @@ fn run_for_sound<R: Files>(
 }
 
 /// Whether the real files hold this sound file, this report and no complaint.
-fn hold_the_sound<R: Files + AllocGlobal>(
-    files: &R,
+fn hold_the_sound(
+    files: &HostRuntime,
     names: &SoundNames,
     wave: &[u8],
     report: &[u8],
@@ -263,7 +263,7 @@ fn hold_the_sound<R: Files + AllocGlobal>(
     )
 }
 
-fn remove_sound<R: Files>(files: &R, names: &SoundNames) -> Result<(), Fail> {
+fn remove_sound(files: &HostRuntime, names: &SoundNames) -> Result<(), Fail> {
     for name in [&names.input, &names.wave, &names.report, &names.complaint] {
         fs::remove_file(files, name.as_str())?;
     }
@@ -271,7 +271,7 @@ fn remove_sound<R: Files>(files: &R, names: &SoundNames) -> Result<(), Fail> {
 }
 
 /// Decodes the block of a real file.
-fn decode_on_disk<R: Files>(alloc: Global, files: &R, names: &SoundNames) -> Result<Status, Fail> {
+fn decode_on_disk(alloc: Global, files: &HostRuntime, names: &SoundNames) -> Result<Status, Fail> {
     fs::write(files, names.input.as_str(), BLOCK)?;
     let words = ["brr", names.input.as_str(), names.wave.as_str()];
     run_for_sound(alloc, files, names, &words)
@@ -307,9 +307,9 @@ const LAST: Pieces = &[
 const LAST_REPORT: &[u8] = b"entry ff start 0500 blocks 1 loop 0 worst 0 squares 0\nentries 1\n";
 
 /// Rips a tune in a real file, whose voices name the last entry alone; the name of its output begins with a text.
-fn rip_on_disk<R: Files>(
+fn rip_on_disk(
     alloc: Global,
-    files: &R,
+    files: &HostRuntime,
     names: &SoundNames,
     front: &str,
 ) -> Result<Status, Fail> {
@@ -354,9 +354,9 @@ fn cut_names_of(alloc: Global, front: &str) -> Result<CutNames, Fail> {
     })
 }
 
-fn write_cut_inputs<R: Files>(
+fn write_cut_inputs(
     alloc: Global,
-    files: &R,
+    files: &HostRuntime,
     names: &CutNames,
     lines: &[u8],
 ) -> Result<(), Fail> {
@@ -369,9 +369,9 @@ fn write_cut_inputs<R: Files>(
 }
 
 /// Has a command play these lines over those inputs.
-fn play_on_disk<R: Files>(
+fn play_on_disk(
     alloc: Global,
-    files: &R,
+    files: &HostRuntime,
     names: &CutNames,
     command: &str,
     lines: &[u8],
@@ -395,9 +395,9 @@ fn play_on_disk<R: Files>(
 }
 
 /// Whether the sound file of that name has these frames, the inputs are as they were, and no complaint was written.
-fn hold_the_cuts<R: Files + AllocGlobal>(
+fn hold_the_cuts(
     alloc: Global,
-    files: &R,
+    files: &HostRuntime,
     names: &CutNames,
     lines: &[u8],
     frames: Frames,
@@ -412,7 +412,7 @@ fn hold_the_cuts<R: Files + AllocGlobal>(
     )
 }
 
-fn remove_cuts<R: Files>(files: &R, names: &CutNames) -> Result<(), Fail> {
+fn remove_cuts(files: &HostRuntime, names: &CutNames) -> Result<(), Fail> {
     for name in [
         &names.tune,
         &names.table,

@@ -1,5 +1,5 @@
 use Rattle.spc_player.proofs.MutedTunes.{tune_stays}
-use Rattle.spc_player.proofs.laws.what_keeps_a_player_keeps_its_tune.Goals as goal
+use Rattle.spc_player.proofs.laws.the_opening_and_the_file_tell_the_tune.Goals as goal
 
 pub returns : goal.returns
 returns c = tune_stays
