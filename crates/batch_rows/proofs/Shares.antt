@@ -29,6 +29,14 @@ no_share sum out limited =
     let same : sum +ℤ pos 0 ≡ sum = omega (arith, ints) in
     rw (nothing, same) limited
 
+-- of an output that is 0 a sum gets nothing either
+pub no_share_of_silence : (sum out volume : ℤ) → out ≡ pos 0 → clamp16 sum ≡ sum → clamp16 (sum +ℤ scaled out volume 7) ≡ sum
+unfolding scaled
+no_share_of_silence sum out volume silent limited =
+    let nothing : floor_shift (pos 0 *ℤ volume) 7 ≡ pos 0 = shift_is 7 (pos 0 *ℤ volume) (pos 0) 0 (omega arith) (omega (arith, ints)) in
+    let same : sum +ℤ pos 0 ≡ sum = omega (arith, ints) in
+    rw (silent, nothing, same) limited
+
 -- an output and its share at a volume are its share at a volume that is higher by 128
 pub share_with_output : (out rest : ℤ) → out +ℤ scaled out (rest *ℤ pos 512) 16 ≡ scaled out (rest +ℤ pos 128) 7
 unfolding scaled

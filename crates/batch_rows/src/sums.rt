@@ -1,10 +1,10 @@
 //! The sums over the voices, as rows.
 
-ghost use Rattle.std.specs.Prelude.{◌≡◌, ◌<◌, ℕ, ℤ, pos, ◌+ℤ◌, ◌*ℤ◌, neg_ℤ, ◌≤ℤ◌, ◌<ℤ◌, replicate, unsigned_abs};
+ghost use Rattle.std.specs.Prelude.{◌≡◌, ◌<◌, ℕ, ℤ, pos, ◌+ℤ◌, ◌*ℤ◌, neg_ℤ, ◌≤ℤ◌, ◌<ℤ◌, replicate, true, unsigned_abs};
 ghost use Rattle.num_fix.specs.Arithmetic.{clamp16, scaled};
 ghost use Rattle.num_fix.specs.SignedWords.{number_at};
 ghost use Rattle.chip_form.specs.Limits.{most_samples_of_batch};
-ghost use Rattle.batch_rows.specs.SumRows.{HasShares};
+ghost use Rattle.batch_rows.specs.SumRows.{HasShares, IsSilentRow};
 
 use dsp_state::{Volumes, with_share};
 use echo_unit::SumRows;
@@ -84,13 +84,28 @@ fn is_limited(sum: i16)
     ensures { clamp16 sum ≡ sum }
 {}
 
-/// Leaves the sums as they are, as shares at volume 0 do. Nothing runs.
-fn add_silent_row(sums: &[i16; BATCH_SIZE], outs: &[i16; BATCH_SIZE])
-    ensures { HasShares outs.now (pos 0) sums.now sums.now }
+/// The sums of a row are within the limits of 16 bits. Nothing runs.
+fn are_limited(sums: &[i16; BATCH_SIZE])
+    ensures { (j : ℕ) → j < most_samples_of_batch → clamp16 (number_at sums.now j) ≡ number_at sums.now j }
 {
     for j in 0..BATCH_SIZE {
         is_limited(sums[j]);
     }
+}
+
+/// Leaves the sums as they are, as shares at volume 0 do. Nothing runs.
+fn add_silent_row(sums: &[i16; BATCH_SIZE], outs: &[i16; BATCH_SIZE])
+    ensures { HasShares outs.now (pos 0) sums.now sums.now }
+{
+    are_limited(sums);
+}
+
+/// Leaves the sums as they are, as shares of a silent row do. Nothing runs.
+fn leave_row(sums: &[i16; BATCH_SIZE], outs: &[i16; BATCH_SIZE], volume: i16)
+    requires { IsSilentRow outs.now }
+    ensures { HasShares outs.now volume sums.now sums.now }
+{
+    are_limited(sums);
 }
 
 /// Adds the shares of a voice at a volume. Inlined with them.
@@ -122,13 +137,40 @@ pub(crate) fn clear_sums(sums: &mut SumRows)
     };
 }
 
-/// Adds the shares of a voice.
+/// Whether each output of a row is 0.
+fn is_silent_row(outs: &[i16; BATCH_SIZE]) -> bool
+    ensures { result ≡ true → IsSilentRow outs.now }
+{
+    let mut silent = true;
+    for j in 0..BATCH_SIZE {
+        if outs[j] != 0 {
+            silent = false;
+        }
+    }
+    silent
+}
+
+/// Whether each output of a row is 0. Most rows of voices that sound are told by their first output.
+fn is_silent(outs: &[i16; BATCH_SIZE]) -> bool
+    ensures { result ≡ true → IsSilentRow outs.now }
+{
+    outs[0] == 0 && is_silent_row(outs)
+}
+
+/// Adds the shares of a voice. A silent one has none.
 pub(crate) fn add_shares(sums: &mut SumRows, outs: &[i16; BATCH_SIZE], volumes: &Volumes)
     ensures main_left { HasShares outs.now volumes.now.left sums.old.main_left sums.new.main_left }
     ensures main_right { HasShares outs.now volumes.now.right sums.old.main_right sums.new.main_right }
     ensures sent_left { HasShares outs.now volumes.now.sent_left sums.old.sent_left sums.new.sent_left }
     ensures sent_right { HasShares outs.now volumes.now.sent_right sums.old.sent_right sums.new.sent_right }
 {
+    if is_silent(outs) {
+        leave_row(&sums.main_left, outs, volumes.left);
+        leave_row(&sums.main_right, outs, volumes.right);
+        leave_row(&sums.sent_left, outs, volumes.sent_left);
+        leave_row(&sums.sent_right, outs, volumes.sent_right);
+        return;
+    }
     add_row(&mut sums.main_left, outs, volumes.left);
     add_row(&mut sums.main_right, outs, volumes.right);
     add_row(&mut sums.sent_left, outs, volumes.sent_left);
