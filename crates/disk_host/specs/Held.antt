@@ -10,11 +10,11 @@ use Rattle.disk_host.specs.Untold.{untold_state}
 use Rattle.disk_host.specs.Created.{flags_of, told_or, told_at}
 use Rattle.disk_host.specs.declared.host.DiskHost.{DiskHost}
 
--- the host at a moment: its current input, which created outputs have ended, its counts of faults, and whether its last call failed; it tells no
--- bytes and no rooms
+-- the host at a moment: the calls that were made of it, its current input, which created outputs have ended, its counts of faults, and whether its last
+-- call failed; it tells no bytes and no rooms
 abbrev pub disk_state : {D F : Type 0} → DiskHost D F → HostState
 disk_state host =
-    untold_state (option_map (λ _. host.newest) host.input) (flags_of host.created.items) host.in_faults host.note_faults host.out_faults host.failed_last
+    untold_state host.log.calls (option_map (λ _. host.newest) host.input) (flags_of host.created.items) host.in_faults host.note_faults host.out_faults host.failed_last
 
 -- the disk of a host
 abbrev pub disk_of : {D F : Type 0} → DiskHost D F → D

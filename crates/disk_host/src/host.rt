@@ -8,7 +8,9 @@ ghost use Rattle.std.specs.Io.KnownBytes.{Keeps, WriteAppends};
 
 use crate::Disk;
 use arrayvec::ArrayVec;
-use snd_host::{Failed, Host, InFile, OutFile};
+use snd_host::{
+    Failed, Host, InFile, Log, OutFile, note_create, note_finish, note_open, note_read, note_write,
+};
 
 /// How many outputs a host of real files can create: a tune has 256 samples at most, and a rip makes a file of each.
 const MOST_CREATED: usize = 256;
@@ -34,6 +36,7 @@ pub struct DiskHost<D: Disk + Drop> {
     note_faults: u64,
     out_faults: u64,
     failed_last: bool,
+    log: Log,
 }
 
 impl<D: Disk + Drop> DiskHost<D> {
@@ -41,7 +44,7 @@ impl<D: Disk + Drop> DiskHost<D> {
 
     /// A host without inputs, outputs or faults, which has asked the disk of nothing.
     pub fn new(disk: D) -> Self
-        ensures state { ⟦<DiskHost<D> as Host>⟧.state result ≡ untold_state None [] 0 0 0 false }
+        ensures state { ⟦<DiskHost<D> as Host>⟧.state result ≡ untold_state [] None [] 0 0 0 false }
         ensures disk { disk_of result ≡ disk }
         ensures report { held_by D.held D.texts result 0 ≡ (D.texts disk).report }
         ensures complaint { held_by D.held D.texts result 1 ≡ (D.texts disk).complaint }
@@ -55,6 +58,7 @@ impl<D: Disk + Drop> DiskHost<D> {
             note_faults: 0,
             out_faults: 0,
             failed_last: false,
+            log: Log::none(),
         }
     }
 }
@@ -147,6 +151,7 @@ impl<D: Disk + Drop> Host for DiskHost<D> {
         ensures others { ChangesInputs (disk_state self.old) (disk_state self.new) }
         ensures cause { HasCause (disk_state self.old).faults.inputs (disk_state self.new).faults.inputs result }
         ensures last { (disk_state self.new).failed_last ≡ is_err result }
+        ensures made { (disk_state self.new).calls ≡ open_call (λ file. file.0) name.now result ∷ (disk_state self.old).calls }
         // A steady host fails only at a name that is not there.
         ensures steady { IsSome (disk_state self.old).steady →
             IfTold (disk_state self.old).holds (λ files. IsSome (files name.now) → IsOk result) }
@@ -158,6 +163,7 @@ impl<D: Disk + Drop> Host for DiskHost<D> {
     {
         self.input = None;
         let Ok(file) = self.disk.open(name) else {
+            note_open(&mut self.log, name, Err(Failed));
             self.in_faults = self.in_faults.saturating_add(1);
             self.failed_last = true;
             return Err(Failed);
@@ -165,11 +171,12 @@ impl<D: Disk + Drop> Host for DiskHost<D> {
         self.newest = self.newest.wrapping_add(1);
         self.input = Some(file);
         self.failed_last = false;
+        note_open(&mut self.log, name, Ok(InFile(self.newest)));
         Ok(InFile(self.newest))
     }
 
-    fn read(&mut self, _file: InFile, buf: &mut [u8]) -> Result<usize, Failed>
-        requires { (disk_state self.old).current ≡ Some _file.0 }
+    fn read(&mut self, file: InFile, buf: &mut [u8]) -> Result<usize, Failed>
+        requires { (disk_state self.old).current ≡ Some file.0 }
         ensures within { IfOk result (λ count. count ≤ length buf.old) }
         ensures after { IfOk result (λ count. drop count buf.new ≡ drop count buf.old) }
         ensures front { IfOk result (λ count.
@@ -185,6 +192,7 @@ impl<D: Disk + Drop> Host for DiskHost<D> {
         ensures others { ChangesInputs (disk_state self.old) (disk_state self.new) }
         ensures cause { HasCause (disk_state self.old).faults.inputs (disk_state self.new).faults.inputs result }
         ensures last { (disk_state self.new).failed_last ≡ is_err result }
+        ensures made { (disk_state self.new).calls ≡ read_call file.0 (length buf.old) buf.new result ∷ (disk_state self.old).calls }
         ensures steady { IsSome (disk_state self.old).steady → IsOk result }
         // Where the file knows its bytes, these are the next ones, and none come only at its end.
         ensures bytes { ReadsOn D.left buf.new self.old self.new result }
@@ -194,13 +202,16 @@ impl<D: Disk + Drop> Host for DiskHost<D> {
         ensures same_input { KeepsInput D.number self.old self.new }
         ensures outputs { KeepsOutputs D.number self.old self.new }
     {
-        let Some(file) = &mut self.input else {
+        let room = buf.len();
+        let Some(input) = &mut self.input else {
             unreachable!()
         };
-        if let Ok(count) = self.disk.read(file, buf) {
+        if let Ok(count) = self.disk.read(input, buf) {
+            note_read(&mut self.log, file.0 as u64, room, buf, Ok(count));
             self.failed_last = false;
             return Ok(count);
         }
+        note_read(&mut self.log, file.0 as u64, room, buf, Err(Failed));
         self.in_faults = self.in_faults.saturating_add(1);
         self.failed_last = true;
         Err(Failed)
@@ -218,6 +229,7 @@ impl<D: Disk + Drop> Host for DiskHost<D> {
         ensures notes { (disk_state self.new).faults.notes ≡ (disk_state self.old).faults.notes }
         ensures cause { HasCause (disk_state self.old).faults.outputs (disk_state self.new).faults.outputs result }
         ensures last { (disk_state self.new).failed_last ≡ is_err result }
+        ensures made { (disk_state self.new).calls ≡ create_call (λ file. file.0) name.now result ∷ (disk_state self.old).calls }
         // A steady host fails only past its rooms or at a name that is longer than the longest.
         ensures steady { IfTold (disk_state self.old).steady (λ rooms.
             length (disk_state self.old).ended + 2 < length rooms → length name.now ≤ longest_output_name → IsOk result) }
@@ -236,16 +248,19 @@ impl<D: Disk + Drop> Host for DiskHost<D> {
     {
         let number = self.created.len() as u32 + 2;
         if self.created.is_full() {
+            note_create(&mut self.log, name, Err(Failed));
             self.out_faults = self.out_faults.saturating_add(1);
             self.failed_last = true;
             return Err(Failed);
         }
         let Ok(file) = self.disk.create(name) else {
+            note_create(&mut self.log, name, Err(Failed));
             self.out_faults = self.out_faults.saturating_add(1);
             self.failed_last = true;
             return Err(Failed);
         };
         self.created.push(Some(Created { file, ended: false }));
+        note_create(&mut self.log, name, Ok(OutFile(number)));
         self.failed_last = false;
         Ok(OutFile(number))
     }
@@ -258,6 +273,7 @@ impl<D: Disk + Drop> Host for DiskHost<D> {
         ensures unwritten { OnErr result (Writes file.0 [] (disk_state self.old) (disk_state self.new)) }
         ensures cause { CountsWrite file.0 (disk_state self.old).faults (disk_state self.new).faults result }
         ensures last { EndsByWrite file.0 (disk_state self.old) (disk_state self.new) result }
+        ensures made { (disk_state self.new).calls ≡ write_call file.0 piece.now result ∷ (disk_state self.old).calls }
         ensures steady { IfTold (disk_state self.old).steady (λ rooms. length piece.now ≤ slice_index rooms file.0 → IsOk result) }
         // Where the output knows its bytes, those taken come after them, and no other output changes.
         ensures bytes { WritesOn D.held D.texts file.0 piece.now self.old self.new result }
@@ -270,26 +286,32 @@ impl<D: Disk + Drop> Host for DiskHost<D> {
     {
         if file.0 == 1 {
             if let Ok(count) = self.disk.complain(piece) {
+                note_write(&mut self.log, 1, piece, Ok(count));
                 return Ok(count);
             }
+            note_write(&mut self.log, 1, piece, Err(Failed));
             self.note_faults = self.note_faults.saturating_add(1);
             return Err(Failed);
         }
         if file.0 == 0 {
             let Ok(count) = self.disk.report(piece) else {
+                note_write(&mut self.log, 0, piece, Err(Failed));
                 self.out_faults = self.out_faults.saturating_add(1);
                 self.failed_last = true;
                 return Err(Failed);
             };
+            note_write(&mut self.log, 0, piece, Ok(count));
             self.failed_last = false;
             return Ok(count);
         }
         let place = (file.0 - 2) as usize;
         let Ok(count) = write_created(&mut self.disk, &mut self.created, place, piece) else {
+            note_write(&mut self.log, file.0 as u64, piece, Err(Failed));
             self.out_faults = self.out_faults.saturating_add(1);
             self.failed_last = true;
             return Err(Failed);
         };
+        note_write(&mut self.log, file.0 as u64, piece, Ok(count));
         self.failed_last = false;
         Ok(count)
     }
@@ -304,6 +326,7 @@ impl<D: Disk + Drop> Host for DiskHost<D> {
         ensures notes { (disk_state self.new).faults.notes ≡ (disk_state self.old).faults.notes }
         ensures cause { HasCause (disk_state self.old).faults.outputs (disk_state self.new).faults.outputs result }
         ensures last { (disk_state self.new).failed_last ≡ is_err result }
+        ensures made { (disk_state self.new).calls ≡ finish_call file.0 result ∷ (disk_state self.old).calls }
         ensures steady { IsSome (disk_state self.old).steady → IsOk result }
         ensures rooms { KeepsRooms (disk_state self.old) (disk_state self.new) }
         // No output changes.
@@ -316,9 +339,11 @@ impl<D: Disk + Drop> Host for DiskHost<D> {
         ensures outputs { KeepsOutputs D.number self.old self.new }
     {
         if end_created(&mut self.disk, &mut self.created, (file.0 - 2) as usize).is_ok() {
+            note_finish(&mut self.log, file.0 as u64, Ok(()));
             self.failed_last = false;
             return Ok(());
         }
+        note_finish(&mut self.log, file.0 as u64, Err(Failed));
         self.out_faults = self.out_faults.saturating_add(1);
         self.failed_last = true;
         Err(Failed)

@@ -1,10 +1,9 @@
 // The disk of the standard library. It is the trusted edge: that it asks the library what it notes, and gives its answer, is seen by reading it.
-ghost use Rattle.std.specs.Prelude.{◌≡◌, ◌<◌, ◌≤◌, ◌∷◌, [], length, drop, IfOk};
+ghost use Rattle.std.specs.Prelude.{◌≡◌, ◌<◌, ◌≤◌, [], length, drop, IfOk};
 ghost use Rattle.std.specs.Io.KnownBytes.{Keeps, ReadConsumes, WriteAppends};
-ghost use Rattle.snd_host.specs.Calls.{write_call};
 
 use crate::Disk;
-use snd_host::{Failed, Log, MOST_READ_AT_ONCE, Noted};
+use snd_host::{Failed, Log, MOST_READ_AT_ONCE, Noted, note_write};
 use std::fs;
 use std::io::{Read, Write};
 use std::rt::Files;
@@ -40,17 +39,6 @@ fn read_some<F: Read>(file: &mut F, buf: &mut [u8]) -> Result<usize, Failed>
     };
     buf[..count].copy_from_slice(&chunk[..count]);
     Ok(count)
-}
-
-/// Notes a write of this piece to the file of this number, with its outcome.
-fn note_write(log: &mut Log, number: u64, piece: &[u8], outcome: Result<usize, Failed>)
-    requires { IfOk outcome (λ count. count ≤ length piece.now) }
-    ensures { log.new.calls ≡ write_call number piece.now outcome ∷ log.old.calls }
-{
-    match outcome {
-        Ok(count) => log.note(Noted::Wrote(number, &piece[..count])),
-        Err(_) => log.note(Noted::NotWritten(number, piece)),
-    }
 }
 
 /// A file of the standard library, with its number: the first one that was opened or created has 2, the next one 3.

@@ -3,7 +3,7 @@ use Rattle.std.proofs.Common.{◌≡◌, ℕ, ◌+◌, ◌≤◌, List, [], ◌�
 use Rattle.std.specs.Option.{option_map}
 use Rattle.std.proofs.lemmas.List.{append-nil}
 use Rattle.snd_host.specs.Host.{HostState, OpenedInput}
-use Rattle.snd_host.specs.OpenedInputs.{most_told, read_more, Opens, ReadsMore, AreBegun, OpensInOrder}
+use Rattle.snd_host.specs.OpenedInputs.{read_more, Opens, ReadsMore, AreBegun, OpensInOrder}
 use Rattle.snd_host.proofs.WholeInput.{some_is}
 
 inside : (xs ys : List OpenedInput) → Some xs ≡ Some ys → xs ≡ ys

@@ -8,6 +8,6 @@ use Rattle.snd_host.specs.declared.drip.DripHost.{DripHost}
 abbrev pub inside : DripHost → MemHost
 inside host = host.host
 
--- It is at a moment what the host inside is.
+-- It is at a moment what the host inside is, but for its calls: those are the ones that were made of it.
 abbrev pub drip_state : DripHost → HostState
-drip_state host = memory_state (inside host)
+drip_state host = record (memory_state (inside host)) { calls = host.log.calls }

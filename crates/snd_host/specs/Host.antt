@@ -1,5 +1,6 @@
 -- The outside of a program as contracts see it: what its inputs hold, what its outputs were given, and how often its calls failed.
 use Rattle.std.specs.Prelude.{◌≡◌, ◌≢◌, ℕ, zero, suc, ◌+◌, ◌-◌, ◌^◌, ◌≤◌, min, Bool, true, false, List, [], ◌∷◌, ◌++◌, length, Option, Some, Result, IsOk, OnOk, OnErr, is_err, slice_get, slice_index, slice_set}
+use Rattle.snd_host.specs.Calls.{Call}
 
 -- What names hold: no bytes, some, or the name is not there.
 abbrev pub Files : Type 0
@@ -32,6 +33,8 @@ pub record Faults : Type 0 where
 
 -- A host at one moment. An implementation tells `holds`, `left`, `opened`, `given` and `steady`, or it doesn't.
 pub record HostState : Type 0 where
+  -- the calls that were made of it, the newest first, each with what came of it
+  pub calls : List Call
   pub holds : Option Files
   -- what is left of the input that was opened last
   pub left : Option (List ℕ)

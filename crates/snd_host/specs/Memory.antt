@@ -33,6 +33,7 @@ rooms_of host = host.report.room ∷ host.complaint.room ∷ (map (λ slot. slot
 
 abbrev pub memory_state : MemHost → HostState
 memory_state host = record {
+  calls = host.log.calls;
   holds = Some (content_of host.files.items);
   left = Some (left_of host.files.items host.last);
   opened = opened_of host.files.items host.past host.last;
@@ -86,6 +87,7 @@ opening_rooms rooms = slice_index rooms 0 ∷ slice_index rooms 1 ∷ drop 2 roo
 -- a new host: steady where no call is to fail
 abbrev pub opening_state : List File → List ℕ → List ℕ → HostState
 opening_state files failing rooms = record {
+  calls = [];
   holds = Some (content_of files);
   left = Some [];
   opened = Some [];

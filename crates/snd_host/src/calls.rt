@@ -1,7 +1,9 @@
 // The two loops over a host: a whole piece is written, and a whole input is read.
 ghost use Rattle.std.specs.Prelude.{◌≡◌, ◌≢◌, ◌+◌, ◌<◌, ◌≤◌, ℕ, List, [], ◌∷◌, length, drop, Option, Some, IsSome, IsOk, IsErrOf, IsSomeAnd, IfOk, OnOk, OnErr, slice_index, vec_len};
 ghost use Rattle.snd_host.specs.Host.{HostState, IfTold, IsOpen, ChangesInputs, InputFailed, WritesAll, greatest_limit};
+ghost use Rattle.snd_host.specs.Follows.{AreWrites, Follows};
 ghost use Rattle.snd_host.specs.OpenedInputs.{whole_input, OpensInOrder};
+ghost use Rattle.snd_host.specs.Takes.{ReadsWhole};
 ghost use Rattle.snd_host.specs.WholeReads.{IsRead};
 ghost use Rattle.snd_host.specs.declared.calls.ReadRefusal.TheVariants.{Failed as Fault, OutOfMemory as NoMemory};
 
@@ -14,7 +16,9 @@ pub const MOST_READ_AT_ONCE: usize = 4096;
 /// Writes all of the piece, or a prefix of it where a write fails.
 pub fn write_all<H: Host>(host: &mut H, out: OutFile, piece: &[u8]) -> Result<(), Failed>
     requires { IsOpen (H.state host.old).ended out.0 }
-    ensures { WritesAll out.0 piece.now (H.state host.old) (H.state host.new) result }
+    ensures wrote { WritesAll out.0 piece.now (H.state host.old) (H.state host.new) result }
+    // It makes writes of some bytes and no other call, up to one that fails.
+    ensures calls { Follows (AreWrites out.0 piece.now) (H.state host.old) (H.state host.new) result }
 {
     let mut done = 0;
     while done < piece.len() {
@@ -72,6 +76,9 @@ pub fn read_whole<H: Host>(
     // It is opened once, and that is all that is opened.
     ensures opened { IfTold (H.state host.old).holds (λ files.
         OpensInOrder (whole_input files name.now limit ∷ []) (IsRead result) (H.state host.old) (H.state host.new)) }
+
+    // It makes no read after the one that gave the end, nor after one that failed.
+    ensures calls { ReadsWhole name.now limit (H.state host.old) (H.state host.new) result }
 
     // A call fails at `Failed` alone, it is the last one, and nothing but the inputs has changed.
     ensures failed { IsErrOf result ReadRefusal.Failed → InputFailed (H.state host.old) (H.state host.new) }

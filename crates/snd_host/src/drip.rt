@@ -1,25 +1,32 @@
 // A host in memory that gives and takes one byte at a time.
-ghost use Rattle.std.specs.Prelude.{◌≡◌, ◌≤◌};
+ghost use Rattle.std.specs.Prelude.{◌≡◌, ◌≤◌, []};
 ghost use Rattle.snd_host.specs.Memory.{memory_state};
 ghost use Rattle.snd_host.specs.Drip.{drip_state, inside};
 
-use crate::{Failed, Host, InFile, MemHost, OutFile};
+use crate::{
+    Failed, Host, InFile, Log, MemHost, OutFile, note_create, note_finish, note_open, note_read,
+    note_write,
+};
 
 /// A host in memory whose reads give at most one byte, and whose writes take at most one.
 ///
-/// It tells all that the host inside tells, and counts faults as that host does.
+/// It tells all that the host inside tells, and counts faults as that host does. Its calls are those that were made of it.
 #[derive(Drop)]
 pub struct DripHost {
     host: MemHost,
+    log: Log,
 }
 
 impl DripHost {
-    /// This host, one byte at a time.
+    /// This host, one byte at a time, of which no call was made yet.
     pub fn new(host: MemHost) -> DripHost
-        ensures state { drip_state result ≡ memory_state host }
+        ensures state { drip_state result ≡ record (memory_state host) { calls = [] } }
         ensures inside { inside result ≡ host }
     {
-        DripHost { host }
+        DripHost {
+            host,
+            log: Log::none(),
+        }
     }
 
     /// The host inside.
@@ -33,7 +40,8 @@ impl DripHost {
 // The clauses of each call are the trait's, and then that the host inside counts it as one call; of `read` and `write`, that
 // they move at most one byte.
 impl Host for DripHost {
-    ghost use Rattle.std.specs.Prelude.{◌≢◌, ◌-◌, ◌+◌, ◌<◌, [], ◌∷◌, ◌++◌, false, true, length, take, drop, Some, None, IsSome, IsOk, IfOk, OnOk, OnErr, is_err, slice_get, slice_index, slice_set};
+    ghost use Rattle.std.specs.Prelude.{◌≢◌, ◌-◌, ◌+◌, ◌<◌, ◌∷◌, ◌++◌, false, true, length, take, drop, Some, None, IsSome, IsOk, IfOk, OnOk, OnErr, is_err, slice_get, slice_index, slice_set};
+    ghost use Rattle.snd_host.specs.Calls.{open_call, read_call, create_call, write_call, finish_call};
     ghost use Rattle.snd_host.specs.OpenedInputs.{Opens, ReadsMore};
     ghost use Rattle.snd_host.specs.Host.{IfTold, HasCause, CountsWrite, EndsByWrite, IsOpen, ChangesInputs, ChangesOutputs, KeepsRooms, Writes, most_outputs, longest_output_name};
     ghost use Rattle.snd_host.specs.Memory.{tells_each_lem, CountsCall};
@@ -54,11 +62,14 @@ impl Host for DripHost {
         ensures others { ChangesInputs (drip_state self.old) (drip_state self.new) }
         ensures cause { HasCause (drip_state self.old).faults.inputs (drip_state self.new).faults.inputs result }
         ensures last { (drip_state self.new).failed_last ≡ is_err result }
+        ensures made { (drip_state self.new).calls ≡ open_call (λ file. file.0) name.now result ∷ (drip_state self.old).calls }
         ensures steady { IsSome (drip_state self.old).steady →
             IfTold (drip_state self.old).holds (λ files. IsSome (files name.now) → IsOk result) }
         ensures counted { CountsCall (inside self.old) (inside self.new) }
     {
-        self.host.open_in(name)
+        let outcome = self.host.open_in(name);
+        note_open(&mut self.log, name, outcome);
+        outcome
     }
 
     fn read(&mut self, file: InFile, buf: &mut [u8]) -> Result<usize, Failed>
@@ -78,12 +89,16 @@ impl Host for DripHost {
         ensures others { ChangesInputs (drip_state self.old) (drip_state self.new) }
         ensures cause { HasCause (drip_state self.old).faults.inputs (drip_state self.new).faults.inputs result }
         ensures last { (drip_state self.new).failed_last ≡ is_err result }
+        ensures made { (drip_state self.new).calls ≡ read_call file.0 (length buf.old) buf.new result ∷ (drip_state self.old).calls }
         ensures steady { IsSome (drip_state self.old).steady → IsOk result }
         ensures at_most_one { IfOk result (λ count. count ≤ 1) }
         ensures counted { CountsCall (inside self.old) (inside self.new) }
     {
-        let most = buf.len().min(1);
-        self.host.read(file, &mut buf[..most])
+        let room = buf.len();
+        let most = room.min(1);
+        let outcome = self.host.read(file, &mut buf[..most]);
+        note_read(&mut self.log, file.0 as u64, room, buf, outcome);
+        outcome
     }
 
     fn create(&mut self, name: &str) -> Result<OutFile, Failed>
@@ -98,12 +113,15 @@ impl Host for DripHost {
         ensures notes { (drip_state self.new).faults.notes ≡ (drip_state self.old).faults.notes }
         ensures cause { HasCause (drip_state self.old).faults.outputs (drip_state self.new).faults.outputs result }
         ensures last { (drip_state self.new).failed_last ≡ is_err result }
+        ensures made { (drip_state self.new).calls ≡ create_call (λ file. file.0) name.now result ∷ (drip_state self.old).calls }
         ensures steady { IfTold (drip_state self.old).steady (λ rooms.
             length (drip_state self.old).ended + 2 < length rooms → length name.now ≤ longest_output_name → IsOk result) }
         ensures rooms { KeepsRooms (drip_state self.old) (drip_state self.new) }
         ensures counted { CountsCall (inside self.old) (inside self.new) }
     {
-        self.host.create(name)
+        let outcome = self.host.create(name);
+        note_create(&mut self.log, name, outcome);
+        outcome
     }
 
     fn write(&mut self, file: OutFile, piece: &[u8]) -> Result<usize, Failed>
@@ -114,12 +132,15 @@ impl Host for DripHost {
         ensures unwritten { OnErr result (Writes file.0 [] (drip_state self.old) (drip_state self.new)) }
         ensures cause { CountsWrite file.0 (drip_state self.old).faults (drip_state self.new).faults result }
         ensures last { EndsByWrite file.0 (drip_state self.old) (drip_state self.new) result }
+        ensures made { (drip_state self.new).calls ≡ write_call file.0 piece.now result ∷ (drip_state self.old).calls }
         ensures steady { IfTold (drip_state self.old).steady (λ rooms. length piece.now ≤ slice_index rooms file.0 → IsOk result) }
         ensures at_most_one { IfOk result (λ count. count ≤ 1) }
         ensures counted { CountsCall (inside self.old) (inside self.new) }
     {
         let most = piece.len().min(1);
-        self.host.write(file, &piece[..most])
+        let outcome = self.host.write(file, &piece[..most]);
+        note_write(&mut self.log, file.0 as u64, piece, outcome);
+        outcome
     }
 
     fn finish(&mut self, file: OutFile) -> Result<(), Failed>
@@ -132,10 +153,13 @@ impl Host for DripHost {
         ensures notes { (drip_state self.new).faults.notes ≡ (drip_state self.old).faults.notes }
         ensures cause { HasCause (drip_state self.old).faults.outputs (drip_state self.new).faults.outputs result }
         ensures last { (drip_state self.new).failed_last ≡ is_err result }
+        ensures made { (drip_state self.new).calls ≡ finish_call file.0 result ∷ (drip_state self.old).calls }
         ensures steady { IsSome (drip_state self.old).steady → IsOk result }
         ensures rooms { KeepsRooms (drip_state self.old) (drip_state self.new) }
         ensures counted { CountsCall (inside self.old) (inside self.new) }
     {
-        self.host.finish(file)
+        let outcome = self.host.finish(file);
+        note_finish(&mut self.log, file.0 as u64, outcome);
+        outcome
     }
 }

@@ -1,5 +1,6 @@
 // The outside as the program sees it: inputs that are read by name, and outputs that are written in order.
 ghost use Rattle.std.specs.Prelude.{◌≡◌, ◌≢◌, ◌+◌, ◌-◌, ◌<◌, ◌≤◌, ℕ, List, [], ◌∷◌, ◌++◌, length, take, drop, true, false, Option, Some, IsSome, IsOk, IfOk, OnOk, OnErr, is_err, slice_get, slice_index, slice_set};
+ghost use Rattle.snd_host.specs.Calls.{open_call, read_call, create_call, write_call, finish_call};
 ghost use Rattle.snd_host.specs.OpenedInputs.{Opens, ReadsMore};
 ghost use Rattle.snd_host.specs.Host.{HostState, Given, IfTold, HasCause, CountsWrite, EndsByWrite, IsOpen, ChangesInputs, ChangesOutputs, KeepsRooms, Writes, most_outputs, longest_output_name};
 
@@ -23,6 +24,8 @@ pub const LONGEST_OUTPUT_NAME: usize = 200;
 /// A call that answers `Failed` is counted once, among those of its kind, and no other is; and a host tells whether its last
 /// call failed, of all but the writes to the complaint. A failed call changes, of what is told, these two alone, but that no
 /// input is current after a failed `open_in`; what a failed `read` leaves in the buffer is not told.
+///
+/// Each call is noted once, with what came of it, and those that were noted before it stay.
 pub trait Host {
     /// What contracts see of a host at one moment.
     ghost state: { Self → HostState };
@@ -41,6 +44,7 @@ pub trait Host {
         ensures others { ChangesInputs (state self.old) (state self.new) }
         ensures cause { HasCause (state self.old).faults.inputs (state self.new).faults.inputs result }
         ensures last { (state self.new).failed_last ≡ is_err result }
+        ensures made { (state self.new).calls ≡ open_call (λ file. file.0) name.now result ∷ (state self.old).calls }
         // A steady host fails only at a name that is not there.
         ensures steady { IsSome (state self.old).steady →
             IfTold (state self.old).holds (λ files. IsSome (files name.now) → IsOk result) };
@@ -63,6 +67,7 @@ pub trait Host {
         ensures others { ChangesInputs (state self.old) (state self.new) }
         ensures cause { HasCause (state self.old).faults.inputs (state self.new).faults.inputs result }
         ensures last { (state self.new).failed_last ≡ is_err result }
+        ensures made { (state self.new).calls ≡ read_call file.0 (length buf.old) buf.new result ∷ (state self.old).calls }
         ensures steady { IsSome (state self.old).steady → IsOk result };
 
     /// Empties or makes the named file, and adds an output of this name, without bytes and not ended.
@@ -78,6 +83,7 @@ pub trait Host {
         ensures notes { (state self.new).faults.notes ≡ (state self.old).faults.notes }
         ensures cause { HasCause (state self.old).faults.outputs (state self.new).faults.outputs result }
         ensures last { (state self.new).failed_last ≡ is_err result }
+        ensures made { (state self.new).calls ≡ create_call (λ file. file.0) name.now result ∷ (state self.old).calls }
         // A steady host fails only past its rooms or at a name that is longer than the longest.
         ensures steady { IfTold (state self.old).steady (λ rooms.
             length (state self.old).ended + 2 < length rooms → length name.now ≤ longest_output_name → IsOk result) }
@@ -92,6 +98,7 @@ pub trait Host {
         ensures unwritten { OnErr result (Writes file.0 [] (state self.old) (state self.new)) }
         ensures cause { CountsWrite file.0 (state self.old).faults (state self.new).faults result }
         ensures last { EndsByWrite file.0 (state self.old) (state self.new) result }
+        ensures made { (state self.new).calls ≡ write_call file.0 piece.now result ∷ (state self.old).calls }
         // A steady host fails only at a piece that is longer than the room.
         ensures steady { IfTold (state self.old).steady (λ rooms. length piece.now ≤ slice_index rooms file.0 → IsOk result) };
 
@@ -106,6 +113,7 @@ pub trait Host {
         ensures notes { (state self.new).faults.notes ≡ (state self.old).faults.notes }
         ensures cause { HasCause (state self.old).faults.outputs (state self.new).faults.outputs result }
         ensures last { (state self.new).failed_last ≡ is_err result }
+        ensures made { (state self.new).calls ≡ finish_call file.0 result ∷ (state self.old).calls }
         ensures steady { IsSome (state self.old).steady → IsOk result }
         ensures rooms { KeepsRooms (state self.old) (state self.new) };
 

@@ -8,6 +8,7 @@ mod host;
 mod keeping;
 mod log;
 mod memory;
+mod noting;
 mod readings;
 
 pub use calls::{MOST_READ_AT_ONCE, ReadRefusal, read_whole, write_all};
@@ -15,4 +16,5 @@ pub use drip::DripHost;
 pub use host::{Failed, Host, InFile, OutFile};
 pub use log::{Log, Noted};
 pub use memory::MemHost;
+pub use noting::{note_create, note_finish, note_open, note_read, note_write};
 pub use std::alloc::AllocError as OutOfMemory;

@@ -7,7 +7,10 @@ use crate::files::{bytes_of, copy_front, count_call, find_file};
 use crate::host::LONGEST_OUTPUT_NAME;
 use crate::keeping::with_reading;
 use crate::readings::{Reading, Readings};
-use crate::{Failed, Host, InFile, OutFile, OutOfMemory};
+use crate::{
+    Failed, Host, InFile, Log, OutFile, OutOfMemory, note_create, note_finish, note_open,
+    note_read, note_write,
+};
 use std::alloc::Global;
 use std::collections::VecDeque;
 
@@ -67,6 +70,7 @@ pub struct MemHost {
     note_faults: u64,
     out_faults: u64,
     failed_last: bool,
+    log: Log,
     ghost created_reserved: { vec_len created + deque_len spare ≤ vec_capacity created },
 }
 
@@ -213,6 +217,7 @@ impl MemHost {
             note_faults: 0,
             out_faults: 0,
             failed_last: false,
+            log: Log::none(),
         })
     }
 
@@ -257,6 +262,7 @@ impl MemHost {
 // to the rooms.
 impl Host for MemHost {
     ghost use Rattle.std.specs.Prelude.{◌≢◌, ◌-◌, ◌<◌, ◌∷◌, ◌++◌, ◌||◌, not, true, false, nat_lt, length, take, drop, Option, Some, None, IsSome, is_err, IsOk, IfOk, OnOk, OnErr, slice_get, slice_index, slice_set};
+    ghost use Rattle.snd_host.specs.Calls.{open_call, read_call, create_call, write_call, finish_call};
     ghost use Rattle.snd_host.specs.OpenedInputs.{Opens, ReadsMore};
     ghost use Rattle.snd_host.specs.Host.{IfTold, HasCause, CountsWrite, EndsByWrite, IsOpen, ChangesInputs, ChangesOutputs, KeepsRooms, Writes, rooms_less, most_outputs};
     ghost use Rattle.snd_host.specs.Memory.{memory_state, tells_each_lem, rooms_of, is_listed, CountsCall, has_input, is_full};
@@ -278,6 +284,7 @@ impl Host for MemHost {
         ensures others { ChangesInputs (memory_state self.old) (memory_state self.new) }
         ensures cause { HasCause (memory_state self.old).faults.inputs (memory_state self.new).faults.inputs result }
         ensures last { (memory_state self.new).failed_last ≡ is_err result }
+        ensures made { (memory_state self.new).calls ≡ open_call (λ file. file.0) name.now result ∷ (memory_state self.old).calls }
         ensures steady { IsSome (memory_state self.old).steady →
             IfTold (memory_state self.old).holds (λ files. IsSome (files name.now) → IsOk result) }
         // It fails exactly where its number is listed or no input has the name.
@@ -289,11 +296,13 @@ impl Host for MemHost {
         let found = find_file(self.files.as_slice(), name);
         self.is_open = false;
         if fails {
+            note_open(&mut self.log, name, Err(Failed));
             self.in_faults = self.in_faults.saturating_add(1);
             self.failed_last = true;
             return Err(Failed);
         }
         let Some(index) = found else {
+            note_open(&mut self.log, name, Err(Failed));
             self.in_faults = self.in_faults.saturating_add(1);
             self.failed_last = true;
             return Err(Failed);
@@ -303,6 +312,7 @@ impl Host for MemHost {
         self.last = Some(Reading { index, at: 0 });
         self.is_open = true;
         self.failed_last = false;
+        note_open(&mut self.log, name, Ok(InFile(self.newest)));
         Ok(InFile(self.newest))
     }
 
@@ -323,6 +333,7 @@ impl Host for MemHost {
         ensures others { ChangesInputs (memory_state self.old) (memory_state self.new) }
         ensures cause { HasCause (memory_state self.old).faults.inputs (memory_state self.new).faults.inputs result }
         ensures last { (memory_state self.new).failed_last ≡ is_err result }
+        ensures made { (memory_state self.new).calls ≡ read_call file.0 (length buf.old) buf.new result ∷ (memory_state self.old).calls }
         ensures steady { IsSome (memory_state self.old).steady → IsOk result }
         // It fails exactly where its number is listed.
         ensures fails { is_err result ≡ is_listed self.old }
@@ -333,8 +344,10 @@ impl Host for MemHost {
         let Some(reading) = self.last else {
             unreachable!()
         };
+        let room = buf.len();
         self.failed_last = fails;
         if fails {
+            note_read(&mut self.log, file.0 as u64, room, buf, Err(Failed));
             self.in_faults = self.in_faults.saturating_add(1);
             return Err(Failed);
         }
@@ -345,6 +358,7 @@ impl Host for MemHost {
             index: reading.index,
             at: reading.at + count,
         });
+        note_read(&mut self.log, file.0 as u64, room, buf, Ok(count));
         Ok(count)
     }
 
@@ -362,6 +376,7 @@ impl Host for MemHost {
         ensures notes { (memory_state self.new).faults.notes ≡ (memory_state self.old).faults.notes }
         ensures cause { HasCause (memory_state self.old).faults.outputs (memory_state self.new).faults.outputs result }
         ensures last { (memory_state self.new).failed_last ≡ is_err result }
+        ensures made { (memory_state self.new).calls ≡ create_call (λ file. file.0) name.now result ∷ (memory_state self.old).calls }
         ensures steady { IfTold (memory_state self.old).steady (λ rooms.
             length (memory_state self.old).ended + 2 < length rooms → length name.now ≤ longest_output_name → IsOk result) }
         ensures rooms { KeepsRooms (memory_state self.old) (memory_state self.new) }
@@ -372,6 +387,7 @@ impl Host for MemHost {
     {
         let fails = count_call(&mut self.calls, self.failing.as_slice());
         if fails || name.len() > LONGEST_OUTPUT_NAME || self.spare.is_empty() {
+            note_create(&mut self.log, name, Err(Failed));
             self.out_faults = self.out_faults.saturating_add(1);
             self.failed_last = true;
             return Err(Failed);
@@ -379,6 +395,7 @@ impl Host for MemHost {
         let spare = self.spare.pop_front().unwrap();
         let number = self.created.len() as u32 + 2;
         self.created.push(spare.into_slot(name)).unwrap();
+        note_create(&mut self.log, name, Ok(OutFile(number)));
         self.failed_last = false;
         Ok(OutFile(number))
     }
@@ -392,6 +409,7 @@ impl Host for MemHost {
         ensures unwritten { OnErr result (Writes file.0 [] (memory_state self.old) (memory_state self.new)) }
         ensures cause { CountsWrite file.0 (memory_state self.old).faults (memory_state self.new).faults result }
         ensures last { EndsByWrite file.0 (memory_state self.old) (memory_state self.new) result }
+        ensures made { (memory_state self.new).calls ≡ write_call file.0 piece.now result ∷ (memory_state self.old).calls }
         ensures steady { IfTold (memory_state self.old).steady (λ rooms.
             length piece.now ≤ slice_index rooms file.0 → IsOk result) }
         // It fails exactly where its number is listed or the piece is longer than the room.
@@ -404,6 +422,7 @@ impl Host for MemHost {
         let fails = count_call(&mut self.calls, self.failing.as_slice());
         let room = self.room(file.0);
         if fails || room < piece.len() {
+            note_write(&mut self.log, file.0 as u64, piece, Err(Failed));
             if file.0 == 1 {
                 self.note_faults = self.note_faults.saturating_add(1);
             } else {
@@ -412,6 +431,7 @@ impl Host for MemHost {
             }
             return Err(Failed);
         }
+        note_write(&mut self.log, file.0 as u64, piece, Ok(piece.len()));
         match file.0 {
             0 => {
                 self.report.put(piece);
@@ -437,6 +457,7 @@ impl Host for MemHost {
         ensures notes { (memory_state self.new).faults.notes ≡ (memory_state self.old).faults.notes }
         ensures cause { HasCause (memory_state self.old).faults.outputs (memory_state self.new).faults.outputs result }
         ensures last { (memory_state self.new).failed_last ≡ is_err result }
+        ensures made { (memory_state self.new).calls ≡ finish_call file.0 result ∷ (memory_state self.old).calls }
         ensures steady { IsSome (memory_state self.old).steady → IsOk result }
         ensures rooms { KeepsRooms (memory_state self.old) (memory_state self.new) }
         // It fails exactly where its number is listed.
@@ -447,9 +468,11 @@ impl Host for MemHost {
         let fails = count_call(&mut self.calls, self.failing.as_slice());
         self.failed_last = fails;
         if fails {
+            note_finish(&mut self.log, file.0 as u64, Err(Failed));
             self.out_faults = self.out_faults.saturating_add(1);
             return Err(Failed);
         }
+        note_finish(&mut self.log, file.0 as u64, Ok(()));
         let slot = &mut self.created[(file.0 - 2) as usize];
         slot.ended = true;
         Ok(())

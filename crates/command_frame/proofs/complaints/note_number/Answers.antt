@@ -10,14 +10,14 @@ pub returns-in_err-write_all-2 : goal.returns-in_err-write_all-2
 returns-in_err-write_all-2 g c =
     let p = err_from_is_err_and c.from_residual-in_err-write_all-2.result c.from_residual-in_err-write_all-2.ensures.1 in
     let text : c.as_bytes.result.now ≡ decimal c.args.number = search rules in
-    let number = subst (λ (l : List ℕ). WritesAll 1 l (g.H.Host.state c.write_all.new.host) (g.H.Host.state c.write_all-2.new.host) (Err c.in_err-write_all-2.field-0.0)) text c.in_err-write_all-2.ensures in
-    rw (p.1) (failed_first _ (c.args.head.now ++ decimal c.args.number) c.args.tail.now _ _ _ (then_second _ c.args.head.now (decimal c.args.number) _ _ _ _ _ c.in_ok-write_all.ensures number))
+    let number = subst (λ (l : List ℕ). WritesAll 1 l (g.H.Host.state c.write_all.new.host) (g.H.Host.state c.write_all-2.new.host) (Err c.in_err-write_all-2.field-0.0)) text c.in_err-write_all-2.ensures.wrote in
+    rw (p.1) (failed_first _ (c.args.head.now ++ decimal c.args.number) c.args.tail.now _ _ _ (then_second _ c.args.head.now (decimal c.args.number) _ _ _ _ _ c.in_ok-write_all.ensures.wrote number))
 
 pub returns : goal.returns
 returns g c =
     let text : c.as_bytes.result.now ≡ decimal c.args.number = search rules in
-    let number = subst (λ (l : List ℕ). WritesAll 1 l (g.H.Host.state c.write_all.new.host) (g.H.Host.state c.write_all-2.new.host) (Ok c.in_ok-write_all-2.field-0)) text c.in_ok-write_all-2.ensures in
-    then_second _ (c.args.head.now ++ decimal c.args.number) c.args.tail.now _ _ _ _ _ (then_second _ c.args.head.now (decimal c.args.number) _ _ _ _ _ c.in_ok-write_all.ensures number) c.write_all-3.ensures
+    let number = subst (λ (l : List ℕ). WritesAll 1 l (g.H.Host.state c.write_all.new.host) (g.H.Host.state c.write_all-2.new.host) (Ok c.in_ok-write_all-2.field-0)) text c.in_ok-write_all-2.ensures.wrote in
+    then_second _ (c.args.head.now ++ decimal c.args.number) c.args.tail.now _ _ _ _ _ (then_second _ c.args.head.now (decimal c.args.number) _ _ _ _ _ c.in_ok-write_all.ensures.wrote number) c.write_all-3.ensures.wrote
 
 pub returns-in_err-write_all : goal.returns-in_err-write_all
 returns-in_err-write_all g c = grind (arith, common_steps)

@@ -18,5 +18,5 @@ returns-in-Some g c =
 pub returns-in-None : goal.returns-in-None
 returns-in-None g c =
     let report : c.as_slice-in-None.result.now ≡ c.args.plan.now.report.items = search rules in
-    let wrote = subst (λ (l : List ℕ). WritesAll 0 l (g.H.Host.state c.args.host.now) (g.H.Host.state c.write_all.new.host) c.write_all.result) report c.write_all.ensures in
+    let wrote = subst (λ (l : List ℕ). WritesAll 0 l (g.H.Host.state c.args.host.now) (g.H.Host.state c.write_all.new.host) c.write_all.result) report c.write_all.ensures.wrote in
     rw c.in-None.is (then_report _ _ _ _ _ (tt {0}) _ (no_outputs _ (tt {0})) wrote)

@@ -15,8 +15,8 @@ pub returns-clause-delivers : goal.returns-clause-delivers
 returns-clause-delivers g c =
     then_report _ (g.P.Pieces.report c.args.source.now) _ (g.H.Host.state c.fill_outputs.new.host) _ _ _
     (delivered _ _ _ (tt {0}) c.in_ok-fill_outputs.ensures.fills.ok)
-    (subst (λ (l : List ℕ). WritesAll 0 l (g.H.Host.state c.fill_outputs.new.host) (g.H.Host.state c.write_all.new.host) c.write_all.result) (c.report.ensures ∙ c.in_ok-fill_outputs.ensures.report) c.write_all.ensures)
+    (subst (λ (l : List ℕ). WritesAll 0 l (g.H.Host.state c.fill_outputs.new.host) (g.H.Host.state c.write_all.new.host) c.write_all.result) (c.report.ensures ∙ c.in_ok-fill_outputs.ensures.report) c.write_all.ensures.wrote)
 
 pub returns-clause-at_once : goal.returns-clause-at_once
 returns-clause-at_once g c =
-    at_once_reported _ _ (g.H.Host.state c.args.host.now) (g.H.Host.state c.fill_outputs.new.host) (g.H.Host.state c.write_all.new.host) _ c.in_ok-fill_outputs.ensures.at_once c.write_all.ensures
+    at_once_reported _ _ (g.H.Host.state c.args.host.now) (g.H.Host.state c.fill_outputs.new.host) (g.H.Host.state c.write_all.new.host) _ c.in_ok-fill_outputs.ensures.at_once c.write_all.ensures.wrote

@@ -4,10 +4,10 @@ use Rattle.snd_host.specs.Host.{WritesAll}
 use Rattle.exit_status.proofs.lines.note_cause.Goals as goal
 
 pub returns-in-WavForm : goal.returns-in-WavForm
-returns-in-WavForm g c = rw c.in-WavForm.is c.write_all.ensures
+returns-in-WavForm g c = rw c.in-WavForm.is c.write_all.ensures.wrote
 
 pub returns-in-InputTooLong : goal.returns-in-InputTooLong
-returns-in-InputTooLong g c = rw c.in-InputTooLong.is c.write_all-in-InputTooLong.ensures
+returns-in-InputTooLong g c = rw c.in-InputTooLong.is c.write_all-in-InputTooLong.ensures.wrote
 
 pub returns-in-SpcSignature : goal.returns-in-SpcSignature
 returns-in-SpcSignature g c = rw c.in-SpcSignature.is c.note_number-in-SpcSignature.ensures

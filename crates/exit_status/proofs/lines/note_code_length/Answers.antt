@@ -16,11 +16,11 @@ pub returns-in_err-write_all : goal.returns-in_err-write_all
 returns-in_err-write_all g c =
     let p = err_from_is_err_and c.from_residual-in_err-write_all.result c.from_residual-in_err-write_all.ensures.1 in
     let head : List ℕ = codes "spcwave: " ++ decimal c.args.length ++ codes " bytes do not fit at " in
-    let digits = subst (λ (l : List ℕ). WritesAll 1 l (g.H.Host.state c.note_number.new.host) (g.H.Host.state c.write_all.new.host) (Err c.in_err-write_all.field-0.0)) c.four_digits.ensures c.in_err-write_all.ensures in
+    let digits = subst (λ (l : List ℕ). WritesAll 1 l (g.H.Host.state c.note_number.new.host) (g.H.Host.state c.write_all.new.host) (Err c.in_err-write_all.field-0.0)) c.four_digits.ensures c.in_err-write_all.ensures.wrote in
     rw (p.1) (failed_first _ (head ++ four_digits c.args.origin) (codes "\n") _ _ _ (then_second _ head (four_digits c.args.origin) _ _ _ _ _ c.in_ok-note_number.ensures digits))
 
 pub returns : goal.returns
 returns g c =
     let head : List ℕ = codes "spcwave: " ++ decimal c.args.length ++ codes " bytes do not fit at " in
-    let digits = subst (λ (l : List ℕ). WritesAll 1 l (g.H.Host.state c.note_number.new.host) (g.H.Host.state c.write_all.new.host) (Ok c.in_ok-write_all.field-0)) c.four_digits.ensures c.in_ok-write_all.ensures in
-    then_second _ (head ++ four_digits c.args.origin) (codes "\n") _ _ _ _ _ (then_second _ head (four_digits c.args.origin) _ _ _ _ _ c.in_ok-note_number.ensures digits) c.write_all-2.ensures
+    let digits = subst (λ (l : List ℕ). WritesAll 1 l (g.H.Host.state c.note_number.new.host) (g.H.Host.state c.write_all.new.host) (Ok c.in_ok-write_all.field-0)) c.four_digits.ensures c.in_ok-write_all.ensures.wrote in
+    then_second _ (head ++ four_digits c.args.origin) (codes "\n") _ _ _ _ _ (then_second _ head (four_digits c.args.origin) _ _ _ _ _ c.in_ok-note_number.ensures digits) c.write_all-2.ensures.wrote

@@ -1,5 +1,9 @@
-use Rattle.std.proofs.Common.{rules, ◌≡◌, ◌+◌, ◌≤◌, ℕ, List, [], Some, Ok, length, take, drop, sym, ◌∙◌, ap, refl, arith, length-drop, length-take, vec_len}
-use Rattle.std.proofs.lemmas.List.{drop-drop, places}
+use Rattle.std.proofs.Common.{rules, ◌≡◌, ◌+◌, ◌≤◌, ◌++◌, ◌∷◌, ℕ, List, [], Some, Ok, length, take, drop, sym, ◌∙◌, ap, refl, arith, length-drop, length-take, vec_len}
+use Rattle.std.proofs.lemmas.List.{drop-drop, places, length-append}
+use Rattle.std.proofs.lemmas.Result.{err_from_is_err_and}
+use Rattle.snd_host.specs.Calls.{read, opened as opened_file}
+use Rattle.snd_host.proofs.CallsInOrder.{since_more}
+use Rattle.snd_host.proofs.Taking.{open_failed, read_failed, read_ended, too_long, no_memory, each_more, joined_more, some_front, length_taken, same_front}
 use Rattle.snd_host.proofs.WholeInput.{some_is, none_unless, front_is_whole, is_some_and, length_front, read_more, inputs_then}
 use Rattle.snd_host.specs.Host.{next_count}
 use Rattle.snd_host.proofs.OpenedInputs.{opens_nothing, opens_same, opens_read, in_order_none, in_order_part, in_order_whole}
@@ -48,6 +52,11 @@ reading-preserved g c =
           let available = c.in_ok-count.ensures.available _ (c.reading.invariant.left files whole told is) in
           let before = c.reading.invariant.available files whole told is in
           omega (arith, more, length-drop (vec_len c.reading.bytes) whole);
+      reads = c.reading.invariant.reads ++ read c.in_ok-file.file.0 _ (take c.in_ok-count.count c.read.new.buf) ∷ [];
+      since = since_more (opened_file c.args.name.now c.in_ok-file.file.0 ∷ c.reading.invariant.reads) (read c.in_ok-file.file.0 _ (take c.in_ok-count.count c.read.new.buf)) _ _ _ c.reading.invariant.since c.in_ok-count.ensures.made;
+      each = each_more c.in_ok-file.file.0 c.reading.invariant.reads _ _ c.reading.invariant.each (some_front c.in_ok-count.count _ c.read.new.buf c.if-count-eq0.false within refl);
+      joined = joined_more c.in_ok-file.file.0 c.reading.invariant.reads _ c.reading.bytes.items (take c.in_ok-count.count c.read.new.buf) c.reading.invariant.joined
+          ∙ ap (λ (l : List ℕ). c.reading.bytes.items ++ l) (same_front c.read.new.buf _ c.in_ok-count.count within) ∙ sym c.in_ok-extend_from_slice.ensures.items;
     }
 
 pub returns-clause-too_long : goal.returns-clause-too_long
@@ -110,3 +119,36 @@ returns-clause-opened g c = λ files told.
     let available = c.reading.invariant.available files whole.0 told whole.1 in
     in_order_whole (record { name = c.args.name.now; read = vec_len c.reading.bytes }) _ _ (g.H.Host.state c.args.host.now) (g.H.Host.state c.reading.host) c.reading.invariant.opened
     (ap (λ (n : ℕ). record { name = c.args.name.now; read = n }) (omega arith))
+
+pub returns-in_err-file-clause-calls : goal.returns-in_err-file-clause-calls
+returns-in_err-file-clause-calls g c =
+    let p = err_from_is_err_and c.from_residual.result c.from_residual.ensures.1 in
+    rw (p.1, p.2) (open_failed c.args.name.now c.args.limit _ _ c.in_err-file.ensures.made)
+
+pub returns-in_err-count-clause-calls : goal.returns-in_err-count-clause-calls
+returns-in_err-count-clause-calls g c =
+    let p = err_from_is_err_and c.from_residual-in_err-count.result c.from_residual-in_err-count.ensures.1 in
+    let so_far = c.reading.invariant in
+    rw (p.1, p.2) (read_failed c.args.name.now c.args.limit c.in_ok-file.file.0 so_far.reads c.reading.bytes.items _ _ so_far.since so_far.each so_far.joined _ _ (search (rules, places)) (omega arith) c.in_err-count.ensures.made)
+
+pub returns-then-count-eq0-clause-calls : goal.returns-then-count-eq0-clause-calls
+returns-then-count-eq0-clause-calls g c =
+    let so_far = c.reading.invariant in
+    read_ended c.args.name.now c.args.limit c.in_ok-file.file.0 so_far.reads c.reading.bytes.items _ _ so_far.since so_far.each so_far.joined _ _ _ c.reading.bytes refl (omega arith) (search (rules, places))
+    (ap (λ (n : ℕ). take n c.read.new.buf) c.if-count-eq0.true) c.in_ok-count.ensures.made
+
+pub returns-in_err-extend_from_slice-clause-calls : goal.returns-in_err-extend_from_slice-clause-calls
+returns-in_err-extend_from_slice-clause-calls g c =
+    let p = err_from_is_err_and c.from_residual-in_err-extend_from_slice.result c.from_residual-in_err-extend_from_slice.ensures.1 in
+    let so_far = c.reading.invariant in
+    let count = c.in_ok-count.count in
+    let within : count ≤ length c.read.new.buf = omega (arith, c.in_ok-count.ensures.within, c.read.auto.buf) in
+    let long = length_taken c.read.new.buf count within in
+    let all = length-append c.reading.bytes.items (take count c.read.new.buf) in
+    rw (p.1, p.2) (no_memory c.args.name.now c.args.limit c.in_ok-file.file.0 so_far.reads c.reading.bytes.items _ _ so_far.since so_far.each so_far.joined _ _ _ (some_front count _ c.read.new.buf c.if-count-eq0.false within refl)
+    (omega (arith, all, long, c.in_ok-count.ensures.within, length-take c.min-room.result c.reading.buffer)) c.in_ok-count.ensures.made)
+
+pub returns-clause-calls : goal.returns-clause-calls
+returns-clause-calls g c =
+    let so_far = c.reading.invariant in
+    too_long c.args.name.now c.args.limit c.in_ok-file.file.0 so_far.reads c.reading.bytes.items _ _ so_far.since so_far.each so_far.joined _ (omega arith) (omega arith) refl

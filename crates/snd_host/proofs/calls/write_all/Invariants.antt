@@ -1,4 +1,6 @@
-use Rattle.std.proofs.Common.{length, take, ◌-◌, ◌≡◌, ◌≤◌}
+use Rattle.std.proofs.Common.{length, take, ◌-◌, ◌≡◌, ◌≤◌, List}
+use Rattle.snd_host.specs.Calls.{Call}
+use Rattle.snd_host.specs.Follows.{AreWrites, Since}
 use Rattle.snd_host.specs.Host.{Writes}
 use Rattle.snd_host.proofs.calls.write_all.Given as goal
 
@@ -10,6 +12,9 @@ invariant-loop-done g l = record {
   notes : (g.H.Host.state l.host).faults.notes ≡ (g.H.Host.state l.fn.host).faults.notes;
   outputs : (g.H.Host.state l.host).faults.outputs ≡ (g.H.Host.state l.fn.host).faults.outputs;
   last : l.out.0 ≡ 1 → (g.H.Host.state l.host).failed_last ≡ (g.H.Host.state l.fn.host).failed_last;
+  made : List Call;
+  since : Since made (g.H.Host.state l.fn.host) (g.H.Host.state l.host);
+  writes : AreWrites l.out.0 (take l.done l.piece) made;
 }
 
 abbrev pub decreases-loop-done : goal.decreases-loop-done

@@ -1,13 +1,13 @@
 use Rattle.exit_status.proofs.lines.CauseComplaint.write_line.Goals as goal
 
 pub returns-in-Usage : goal.returns-in-Usage
-returns-in-Usage g c = rw c.in-Usage.is c.write_all.ensures
+returns-in-Usage g c = rw c.in-Usage.is c.write_all.ensures.wrote
 
 pub returns-in-ReadFault : goal.returns-in-ReadFault
-returns-in-ReadFault g c = rw c.in-ReadFault.is c.write_all-in-ReadFault.ensures
+returns-in-ReadFault g c = rw c.in-ReadFault.is c.write_all-in-ReadFault.ensures.wrote
 
 pub returns-in-WriteFault : goal.returns-in-WriteFault
-returns-in-WriteFault g c = rw c.in-WriteFault.is c.write_all-in-WriteFault.ensures
+returns-in-WriteFault g c = rw c.in-WriteFault.is c.write_all-in-WriteFault.ensures.wrote
 
 pub returns-in-OutOfMemory : goal.returns-in-OutOfMemory
-returns-in-OutOfMemory g c = rw c.in-OutOfMemory.is c.write_all-in-OutOfMemory.ensures
+returns-in-OutOfMemory g c = rw c.in-OutOfMemory.is c.write_all-in-OutOfMemory.ensures.wrote
