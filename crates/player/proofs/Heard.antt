@@ -114,15 +114,17 @@ pub heard_from_a_mark : (room : ℕ) (memory : ℕ → List (List ℕ)) (spacing
     → 0 < spacing → (mark : ℕ) → stands_at marks mark ≡ true → last_multiple spacing from ≤ mark → mark ≤ from
     → (at : ℕ) → from ≤ at → at ≤ from + count
     → (stands_at (marks_after room memory spacing from marks count) (max mark (last_multiple spacing at)) ≡ true)
-      × (max mark (last_multiple spacing at) ≤ at) × (at < max mark (last_multiple spacing at) + spacing)
+    × (max mark (last_multiple spacing at) ≤ at) × (at < max mark (last_multiple spacing at) + spacing)
 heard_from_a_mark room memory spacing from marks count has some mark stands late up_to at later within =
     let near : at < last_multiple spacing at + spacing = omega (arith, some) in
     elim (cases_Bool (nat_le (last_multiple spacing at) mark)) [
       | inl behind ↦
           let before : last_multiple spacing at ≤ mark = grind (arith, nat_tests, behind) in
-          let same : max mark (last_multiple spacing at) ≡ mark = omega (arith, before) in
-          (ap (stands_at (marks_after room memory spacing from marks count)) same ∙ marks_stay room memory spacing from marks count has mark stands,
-           omega (arith, same, up_to, later), omega (arith, same, before, near))
+          let same : max mark (last_multiple spacing at) ≡ mark = omega (arith, before) in (
+            ap (stands_at (marks_after room memory spacing from marks count)) same ∙ marks_stay room memory spacing from marks count has mark stands,
+            omega (arith, same, up_to, later),
+            omega (arith, same, before, near),
+          )
       | inr ahead ↦
           let after : mark < last_multiple spacing at = grind (arith, nat_tests, ahead) in
           let same : max mark (last_multiple spacing at) ≡ last_multiple spacing at = omega (arith, after) in
@@ -132,8 +134,10 @@ heard_from_a_mark room memory spacing from marks count has some mark stands late
                 absurd (omega (arith, late, after, same_multiple spacing from at some later up))
             | inr high ↦ grind (arith, nat_tests, high)
           ] in
-          let is_up_to : last_multiple spacing at ≤ at = omega arith in
-          (ap (stands_at (marks_after room memory spacing from marks count)) same
-           ∙ own_stands room memory spacing from marks count has (last_multiple spacing at) beyond (omega (arith, within)) (multiple_is_own spacing at some),
-           omega (arith, same, is_up_to), omega (arith, same, near))
+          let is_up_to : last_multiple spacing at ≤ at = omega arith in (
+            ap (stands_at (marks_after room memory spacing from marks count)) same
+                ∙ own_stands room memory spacing from marks count has (last_multiple spacing at) beyond (omega (arith, within)) (multiple_is_own spacing at some),
+            omega (arith, same, is_up_to),
+            omega (arith, same, near),
+          )
     ]
