@@ -12,15 +12,15 @@
  * What you hear is the run of the console's machine from the state in the file: its processor and S-DSP in lock step, with the voices that are
  * muted left out. Frame n is the same whatever was played, sought, marked or muted before: it depends on the file, on the table and on the voices
  * that are muted now, and of spcwave_play_faded on the end and the fade too. The contract of every exported call is proved: as long as you keep the
- * rules, what it answers, what it writes and what it leaves as it was are what stands below. Only tested are what a null pointer does,
- * spcwave_status_text, and that SPCWAVE_OUT_OF_MEMORY is answered for want of memory alone.
+ * rules, what it answers, what it writes and what it leaves as it was are what stands below. Only tested are what a null pointer does, that the
+ * stack below is enough, spcwave_status_text, and that SPCWAVE_OUT_OF_MEMORY is answered for want of memory alone.
  *
  * The rules. None of them is checked:
  *  - A player that is passed to a call was opened by spcwave_open and isn't closed yet.
  *  - One call at a time uses a player; this holds for the calls that take a const player too. A player may go from one thread to another by a lock,
  *    by the start or the end of a thread, or by a sequentially consistent atomic. Two players have nothing in common: each may be used in a
  *    thread of its own.
- *  - A pointer leads to as many bytes as the call says. During the call no other thread writes them, or reads those that the call writes; so two
+ *  - A pointer leads to as many bytes as the call says. During the call no other thread writes them, or reads those that the call may write; so two
  *    threads may open players from the same file and table. Two pointers of one call lead to different bytes. A null pointer is fine where its
  *    length, count or size is 0, and only there.
  *  - malloc, realloc and free are of one allocator, and malloc and realloc align a block to each power of two up to 16 that divides its size.
