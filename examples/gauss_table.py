@@ -31,6 +31,9 @@ def table():
 
 
 def main():
+    if sys.argv[1:] in (['-h'], ['--help']):
+        print(__doc__)
+        return
     if len(sys.argv) > 2:
         sys.exit(__doc__)
     beside = os.path.join(os.path.dirname(os.path.abspath(__file__)), 'gauss.table')

@@ -204,6 +204,9 @@ def spc_file(memory):
 
 
 def main():
+    if sys.argv[1:] in (['-h'], ['--help']):
+        print(__doc__)
+        return
     if len(sys.argv) > 3:
         sys.exit(__doc__)
     here = os.path.dirname(os.path.abspath(__file__))

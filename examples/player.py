@@ -125,6 +125,9 @@ class Player:
 
 
 def main():
+    if sys.argv[1:] in (['-h'], ['--help']):
+        print(__doc__)
+        return
     if not 5 <= len(sys.argv) <= 7:
         sys.exit('usage: player.py LIBRARY TUNE.spc TABLE OUT.wav [FROM_SECOND [SECONDS]]')
     library, tune, table, out = sys.argv[1:5]
