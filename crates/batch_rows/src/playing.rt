@@ -100,11 +100,17 @@ fn play_each(
     let mut previous = [0; BATCH_SIZE];
     for v in 0..8u8 {
         let place = usize::from(v);
-        let mut voice = voices[place];
-        let answer = play_voice(&mut voice, v, n, reads, &previous, work, &mut made.rows);
+        let answer = play_voice(
+            &mut voices[place],
+            v,
+            n,
+            reads,
+            &previous,
+            work,
+            &mut made.rows,
+        );
         let own = volumes[place];
         add_shares(&mut made.sums, &made.rows.outs, &own);
-        voices[place] = voice;
         made.last[place] = answer;
         previous = made.rows.outs;
     }

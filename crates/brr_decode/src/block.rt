@@ -17,7 +17,7 @@ fn digit(byte: u8) -> i16
 /// Decodes a group under the filter of its header. Where the filter is a constant, the code is straight.
 /// All four digits are shifted before the first sample is kept, so that one test of the shift is enough.
 #[inline(always)]
-fn group_under(filter: u8, header: u8, b0: u8, b1: u8, p1: i16, p2: i16) -> [i16; 4]
+pub(crate) fn group_under(filter: u8, header: u8, b0: u8, b1: u8, p1: i16, p2: i16) -> [i16; 4]
     requires { filter ≡ filter_of header }
     ensures { (samples : List ℤ) → EndsWith samples p2 p1 → with_group samples header b0 b1 ≡ samples ++ result }
 {

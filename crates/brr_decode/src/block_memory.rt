@@ -1,11 +1,14 @@
 //! Blocks that were decoded, kept by what they were decoded from: a voice that loops, and each voice that plays the same sample, comes to
 //! the same blocks again and again.
 ghost use Rattle.std.specs.Prelude.{◌≡◌, ◌<◌, ◌≤◌, ◌+◌, ◌*◌, ℕ, true, length, take};
+ghost use Rattle.brr_decode.specs.Header.{filter_of};
 ghost use Rattle.brr_decode.specs.Known.{WasDecodedFrom};
 ghost use Rattle.brr_decode.specs.Remembered.{with_groups};
 
+use crate::OutOfMemory;
+use crate::block::group_under;
+use crate::digit::filter_of;
 use crate::remembered::{RememberedBlock, byte_of};
-use crate::{OutOfMemory, decode_group};
 use std::alloc::Global;
 use std::marker::Model;
 
@@ -20,9 +23,18 @@ fn place_of(address: u16) -> usize
 }
 
 impl RememberedBlock {
-    /// Decodes a block from one of its groups on.
-    fn decoded(header: u8, digits: u64, group: u8, p1: i16, p2: i16) -> RememberedBlock
-        requires { group < 4 }
+    /// Decodes a block under the filter of its header, from one of its groups on. Where the filter is a constant, the code of each group is straight.
+    #[inline(always)]
+    fn decoded_under(
+        filter: u8,
+        header: u8,
+        digits: u64,
+        group: u8,
+        p1: i16,
+        p2: i16,
+    ) -> RememberedBlock
+        requires group { group < 4 }
+        requires filter { filter ≡ filter_of header }
         ensures { WasDecodedFrom result header digits group p1 p2 }
     {
         let mut row = [0; 32];
@@ -33,7 +45,7 @@ impl RememberedBlock {
             let at = 4 * usize::from(g);
             let high = byte_of(digits, 2 * g);
             let low = byte_of(digits, 2 * g + 1);
-            let kept = decode_group(header, high, low, row[at + 1], row[at]);
+            let kept = group_under(filter, header, high, low, row[at + 1], row[at]);
             row[at + 2..at + 6].copy_from_slice(&kept);
         }
         RememberedBlock {
@@ -41,6 +53,19 @@ impl RememberedBlock {
             header,
             from: group,
             row,
+        }
+    }
+
+    /// Decodes a block from one of its groups on. Its filter is told apart once for all of them.
+    fn decoded(header: u8, digits: u64, group: u8, p1: i16, p2: i16) -> RememberedBlock
+        requires { group < 4 }
+        ensures { WasDecodedFrom result header digits group p1 p2 }
+    {
+        match filter_of(header) {
+            0 => RememberedBlock::decoded_under(0, header, digits, group, p1, p2),
+            1 => RememberedBlock::decoded_under(1, header, digits, group, p1, p2),
+            2 => RememberedBlock::decoded_under(2, header, digits, group, p1, p2),
+            _ => RememberedBlock::decoded_under(3, header, digits, group, p1, p2),
         }
     }
 
@@ -116,7 +141,7 @@ impl BlockMemory {
     }
 
     /// Puts the rest of a block, from one of its groups on, after `len` kept samples of a row. It is decoded unless it is remembered. Sixteen numbers
-    /// are put, so that they are copied at once; those after the block are of no account.
+    /// are put, so that they are copied at once, by way of a place of their own, which lies apart from both rows; those after the block are of no account.
     #[inline(always)]
     pub fn read_rest(
         &mut self,
@@ -136,6 +161,8 @@ impl BlockMemory {
     {
         let known = self.recall(address, header, digits, group, row[len - 1], row[len - 2]);
         let from = 4 * usize::from(group) + 2;
-        row[len..len + 16].copy_from_slice(&known.row[from..from + 16]);
+        let mut kept = [0; 16];
+        kept.copy_from_slice(&known.row[from..from + 16]);
+        row[len..len + 16].copy_from_slice(&kept);
     }
 }

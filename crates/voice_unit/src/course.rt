@@ -1,16 +1,18 @@
 //! The course of a calm voice over the groups of a stretch of samples.
 
 ghost use Rattle.std.specs.Prelude.{◌≡◌, ◌<◌, ◌≤◌, ◌+◌, ◌*◌, ◌^◌, ◌-◌, ℕ, true, false, slice_index, take};
+ghost use Rattle.aram_core.specs.Memory.{byte_at};
+ghost use Rattle.voice_unit.specs.Voice.{is_silencing};
 ghost use Rattle.voice_unit.specs.Row.{IsGroup, next_place, last_of, kept_row, groups_before};
 ghost use Rattle.voice_unit.specs.Track.{point_at};
 ghost use Rattle.voice_unit.specs.Course.{IsCourse, IsStretch, AreEndsMarked, LeavesSounding, place_at, ends_at, ended_at};
 
 use crate::calm::is_silencing;
 use crate::play::mark_ended;
-use crate::row::{Place, ROW_SIZE, groups_left, is_end, next_place, read_rest};
+use crate::row::{Headed, Place, ROW_SIZE, groups_left, read_rest};
 use crate::track::Track;
 use aram_core::Aram;
-use brr_decode::BlockMemory;
+use brr_decode::{BlockMemory, has_end};
 use envelope::Envelope;
 use num_fix::BATCH_SIZE;
 
@@ -51,65 +53,71 @@ pub(crate) struct Stretch {
 pub(crate) struct NextBlock {
     /// Its first group.
     pub first: Place,
-    /// Its header silences the voice while it sounds.
+    /// Its header.
+    pub header: u8,
+    /// The header silences the voice while it sounds.
     pub silencing: bool,
 }
 
 impl<'a> Course<'a> {
-    /// Adds the bit of the voice in the sample of a stretch from sample `at` on in which it reads a group that ends a block with its end bit.
+    /// Adds the bit of the voice in the sample of a stretch from sample `at` on in which it reads the last group of a block, where that has its end bit.
     fn mark_end(
         &self,
         at: u8,
         n: u8,
         group: u8,
-        place: &Place,
+        last: &Headed,
         memory: &Aram,
         ends: &mut [u8; BATCH_SIZE],
     )
         requires course { IsCourse self.now n }
+        requires header { last.now.header ≡ byte_at memory.now last.now.block }
         requires few { at + n ≤ BATCH_SIZE }
         requires read { group < groups_before (point_at self.now.track) n }
         requires lower { (j : ℕ) → j < n → groups_before (point_at self.now.track) j ≡ group → slice_index ends.old (at + j) < 2 ^ self.now.voice }
-        ensures { AreEndsMarked at n self.now.voice (ends_at self.now memory.now place.now group) ends.old ends.new }
+        ensures { AreEndsMarked at n self.now.voice (ends_at self.now memory.now (last_of last.now.block) group) ends.old ends.new }
     {
-        if is_end(place, memory) {
+        if has_end(last.header) {
             let j = self.track.reading_sample(group, n);
             mark_ended(ends, at + j, true, self.voice);
         }
     }
 
-    /// Whether the header of a group silences the voice while it sounds.
-    fn is_silenced_at(&self, place: &Place, memory: &Aram) -> bool
-        ensures { result ≡ false → LeavesSounding self.now memory.now place.now.block }
+    /// Whether a header silences the voice while it sounds.
+    fn is_silenced_by(&self, header: u8) -> bool
+        ensures { result ≡ false → is_silencing self.now.reset header ≡ true → self.now.silent ≡ true }
     {
-        !self.silent && is_silencing(self.reset, memory.get(place.block))
+        !self.silent && is_silencing(self.reset, header)
     }
 
-    /// Goes on after the last group of a block. The end of the block is marked, and the header of the next one is looked at.
+    /// Goes on after the last group of a block whose header is known. The end of the block is marked, and the header of the next one is looked at.
     fn next_block(
         &self,
         at: u8,
         n: u8,
         group: u8,
-        block: u16,
+        last: &Headed,
         memory: &Aram,
         ends: &mut [u8; BATCH_SIZE],
     ) -> NextBlock
         requires course { IsCourse self.now n }
+        requires header { last.now.header ≡ byte_at memory.now last.now.block }
         requires few { at + n ≤ BATCH_SIZE }
         requires read { group < groups_before (point_at self.now.track) n }
         requires lower { (j : ℕ) → j < n → groups_before (point_at self.now.track) j ≡ group → slice_index ends.old (at + j) < 2 ^ self.now.voice }
-        ensures first { result.first ≡ next_place memory.now self.now.loop_word (last_of block) }
+        ensures first { result.first ≡ next_place memory.now self.now.loop_word (last_of last.now.block) }
         ensures group { IsGroup result.first }
+        ensures header { result.header ≡ byte_at memory.now result.first.block }
         ensures quiet { result.silencing ≡ false → LeavesSounding self.now memory.now result.first.block }
-        ensures ends { AreEndsMarked at n self.now.voice (ends_at self.now memory.now (last_of block) group) ends.old ends.new }
+        ensures ends { AreEndsMarked at n self.now.voice (ends_at self.now memory.now (last_of last.now.block) group) ends.old ends.new }
     {
-        let place = Place { block, offset: 7 };
-        self.mark_end(at, n, group, &place, memory, ends);
-        let first = next_place(place, self.loop_word, memory);
+        self.mark_end(at, n, group, last, memory, ends);
+        let block = last.next_block(self.loop_word);
+        let header = memory.get(block);
         NextBlock {
-            first,
-            silencing: self.is_silenced_at(&first, memory),
+            first: Place { block, offset: 1 },
+            header,
+            silencing: self.is_silenced_by(header),
         }
     }
 
@@ -137,10 +145,11 @@ impl<'a> Course<'a> {
     {
         let count = self.track.groups_in(n);
         let mut place = self.first;
+        let mut header = memory.get(place.block);
         let mut d = 0;
         'blocks: while d < count {
             let len = 12 + 4 * usize::from(d);
-            read_rest(row, len, &place, memory, blocks);
+            read_rest(row, len, &place, header, memory, blocks);
             let left = groups_left(&place);
             if count - d < left {
                 return Stretch {
@@ -150,12 +159,17 @@ impl<'a> Course<'a> {
                 };
             }
             d += left;
-            let next = self.next_block(at, n, d - 1, place.block, memory, ends);
+            let last = Headed {
+                block: place.block,
+                header,
+            };
+            let next = self.next_block(at, n, d - 1, &last, memory, ends);
             place = next.first;
+            header = next.header;
             if next.silencing {
-                let last = self.track.reading_sample(d - 1, n);
+                let sample = self.track.reading_sample(d - 1, n);
                 return Stretch {
-                    samples: last + 1,
+                    samples: sample + 1,
                     groups: d,
                     next: place,
                 };

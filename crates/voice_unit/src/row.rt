@@ -2,8 +2,9 @@
 
 ghost use Rattle.std.specs.Prelude.{◌≡◌, ◌<◌, ◌≤◌, ◌+◌, ◌*◌, ℕ, length, slice_index, take};
 ghost use Rattle.aram_core.specs.Memory.{byte_at};
+ghost use Rattle.brr_decode.specs.Header.{next_block};
 ghost use Rattle.brr_decode.specs.Remembered.{byte_of};
-ghost use Rattle.voice_unit.specs.Row.{IsGroup, next_place, groups_left, further, kept_row, is_end};
+ghost use Rattle.voice_unit.specs.Row.{IsGroup, groups_left, further, kept_row};
 
 use aram_core::Aram;
 use brr_decode::{BlockMemory, has_end};
@@ -93,49 +94,44 @@ fn digit_bytes(block: u16, memory: &Aram) -> u64
     eight_bytes(memory.page((at / 0x100) as u8), place)
 }
 
-/// Puts the kept samples of a group, and of those that follow it in its block, after so many.
+/// Puts the kept samples of a group, and of those that follow it in its block, after so many. The header of its block is known.
 pub(crate) fn read_rest(
     row: &mut [i16; ROW_SIZE],
     len: usize,
     at: &Place,
+    header: u8,
     memory: &Aram,
     blocks: &mut BlockMemory,
 )
     requires group { IsGroup at.now }
+    requires header { header ≡ byte_at memory.now at.now.block }
     requires some { 2 ≤ len }
     requires room { len + 16 ≤ ROW_SIZE }
     ensures { (loop_word groups : ℕ) → groups ≤ groups_left at.now
         → take (len + 4 * groups) row.new ≡ kept_row memory.now loop_word at.now (take len row.old) groups }
 {
-    let header = memory.get(at.block);
     let digits = digit_bytes(at.block, memory);
     blocks.read_rest(at.block, header, digits, at.offset / 2, row, len);
 }
 
-/// Whether a group is the last of a block that has its end bit.
-pub(crate) fn is_end(at: &Place, memory: &Aram) -> bool
-    ensures { result ≡ is_end memory.now at.now }
-{
-    at.offset == 7 && has_end(memory.get(at.block))
+/// A block, and the header that stands at its start.
+#[derive(Clone, Copy)]
+pub(crate) struct Headed {
+    /// Its address.
+    pub block: u16,
+    /// Its header.
+    pub header: u8,
 }
 
-/// The group that follows.
-pub(crate) fn next_place(at: Place, loop_word: u16, memory: &Aram) -> Place
-    requires { IsGroup at }
-    ensures place { result ≡ next_place memory.now loop_word at }
-    ensures group { IsGroup result }
-{
-    if at.offset != 7 {
-        return Place {
-            block: at.block,
-            offset: at.offset + 2,
-        };
+impl Headed {
+    /// The block that follows.
+    pub(crate) fn next_block(&self, loop_word: u16) -> u16
+        ensures { result ≡ next_block self.now.header self.now.block loop_word }
+    {
+        if has_end(self.header) {
+            loop_word
+        } else {
+            self.block.wrapping_add(9)
+        }
     }
-    let header = memory.get(at.block);
-    let block = if has_end(header) {
-        loop_word
-    } else {
-        at.block.wrapping_add(9)
-    };
-    Place { block, offset: 1 }
 }

@@ -326,7 +326,8 @@ impl Voice {
         self.position = (self.position % 0x4000 + pitch).min(0x7fff);
     }
 
-    /// One step: the next voice, and what it gives.
+    /// One step: the next voice, and what it gives. Inlined, so that what it reads and gives need not stand in memory.
+    #[inline(always)]
     #[tactic(auto, unfolding(crate::specs::Voice::voice_step, crate::specs::Voice::voice_answer, crate::specs::Voice::after_envelope))]
     pub fn step(
         &mut self,

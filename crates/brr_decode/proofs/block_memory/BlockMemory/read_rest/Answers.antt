@@ -13,7 +13,7 @@ returns-clause-row c d few =
     let len : ℕ = c.args.len in
     let row : List ℤ = c.recall-known.result.now.row in
     let old : List ℤ = c.args.row.now in
-    let put : List ℤ = c.copy_from_slice.new.self in
+    let put : List ℤ = c.copy_from_slice-2.new.self in
     let known = c.recall-known.ensures in
     let long : length row ≡ 32 = search rules in
     let last : to_z w16 (of_z w16 (number_at old (len - 1))) ≡ number_at old (len - 1) = search rules in
@@ -21,7 +21,7 @@ returns-clause-row c d few =
     let from : c.from.result ≡ g = search rules in
     let sixteen : length put ≡ 16 = search rules in
     let width : 4 * g + 2 + 16 - (4 * g + 2) ≡ 16 = omega arith in
-    let copied : put ≡ take 16 (drop (4 * g + 2) row) = rw (from, width) at c.copy_from_slice.ensures.after in
+    let copied : put ≡ take 16 (drop (4 * g + 2) row) = c.copy_from_slice-2.ensures.after ∙ rw (from, width) at c.copy_from_slice.ensures.after in
     let reaches : (k : ℕ) → g ≤ k → k < 4 → IsGroupAt c.args.header c.args.digits row k =
     λ k above below. rw (known.header_is, known.digits_are) at (c.recall-known.result.now.is_block k (omega (arith, known.reaches_back, above)) below) in
     let ends : EndsWith (take len old) (number_at row (4 * g)) (number_at row (4 * g + 1)) =

@@ -15,6 +15,7 @@ blocks-2-init c = record {
   row = sym (kept_row-zero _ _ _ _);
   there = sym (place_after-zero _ _ _);
   group = c.requires.course.group;
+  header = c.get-header.ensures;
   marks = λ j below.
       let none = marked-none c.args.memory.now c.args.self.now.loop_word c.args.self.now.first (point_at c.args.self.now.track) c.args.self.now.voice j in
       rw none (omega arith);
@@ -42,6 +43,7 @@ blocks-2-preserved c =
           (λ e few. rw c.from.ensures at (c.read_rest.ensures loop_word e few)) left (omega arith);
       there = c.next_block-next.ensures.first ∙ sym (after_block memory loop_word first d at there group left all);
       group = c.next_block-next.ensures.group;
+      header = c.next_block-next.ensures.header;
       marks = λ j below. marks_with_block memory loop_word first d at there group left all (point_at c.args.self.now.track) c.args.self.now.voice j _ _ _
           (c.next_block-next.ensures.ends.marks j below) (c.blocks-2.invariant.marks j below);
       before = λ i below. c.next_block-next.ensures.ends.before_it i below ∙ c.blocks-2.invariant.before i below;
@@ -110,8 +112,8 @@ returns-then-count-d-clause-quiet c awake j below loud =
 pub returns-then-next-clause-stretch : goal.returns-then-next-clause-stretch
 returns-then-next-clause-stretch c = record {
   some = omega arith;
-  few = omega (arith, c.reading_sample-last.ensures.within);
-  groups = omega (arith, c.reading_sample-last.ensures.after, c.groups_left-left.ensures.some);
+  few = omega (arith, c.reading_sample-sample.ensures.within);
+  groups = omega (arith, c.reading_sample-sample.ensures.after, c.groups_left-left.ensures.some);
   few_groups = omega (arith, c.groups_in-count.ensures.few, c.blocks-2.invariant.few, c.if-count-d.false);
   next = c.next_block-next.ensures.first ∙ sym (after_block c.args.memory.now c.args.self.now.loop_word c.args.self.now.first c.blocks-2.d c.blocks-2.place c.blocks-2.invariant.there
       c.blocks-2.invariant.group c.groups_left-left.result c.groups_left-left.ensures.value);
@@ -141,10 +143,10 @@ returns-then-next-clause-ends c = record {
     d = c.blocks-2.d + c.groups_left-left.result
 
     q : ℕ
-    q = c.reading_sample-last.result
+    q = c.reading_sample-sample.result
 
     after : groups_before points (q + 1) ≡ d
-    after = omega (arith, c.reading_sample-last.ensures.after, c.groups_left-left.ensures.some)
+    after = omega (arith, c.reading_sample-sample.ensures.after, c.groups_left-left.ensures.some)
 
     grown : (j : ℕ) → j < c.args.n → slice_index c.next_block-next.new.ends (c.args.at + j) ≡ slice_index c.args.ends.now (c.args.at + j)
         + bit_if (marked c.args.memory.now c.args.self.now.loop_word c.args.self.now.first points v d j) v
@@ -154,9 +156,9 @@ returns-then-next-clause-ends c = record {
     marks : (j : ℕ) → j < q + 1 → slice_index c.next_block-next.new.ends (c.args.at + j) ≡ slice_index c.args.ends.now (c.args.at + j)
         + bit_if (ended_in c.args.memory.now c.args.self.now.loop_word c.args.self.now.first points j) v
     marks j below =
-        let within : j < c.args.n = omega (arith, below, c.reading_sample-last.ensures.within) in
+        let within : j < c.args.n = omega (arith, below, c.reading_sample-sample.ensures.within) in
         let all = rw after at (marked-all c.args.memory.now c.args.self.now.loop_word c.args.self.now.first points v (q + 1) j
-        (fewer points c.args.n (q + 1) (omega (arith, c.reading_sample-last.ensures.within)) c.requires.course.track.moves) below) in
+        (fewer points c.args.n (q + 1) (omega (arith, c.reading_sample-sample.ensures.within)) c.requires.course.track.moves) below) in
         grown j within ∙ ap (λ (b : Bool). slice_index c.args.ends.now (c.args.at + j) + bit_if b v) all
 
     later : (i : ℕ) → c.args.at + (q + 1) ≤ i → slice_index c.next_block-next.new.ends i ≡ slice_index c.args.ends.now i
@@ -179,11 +181,11 @@ returns-then-next-clause-ends c = record {
 
 pub returns-then-next-clause-quiet : goal.returns-then-next-clause-quiet
 returns-then-next-clause-quiet c awake j below loud =
-    let rise = groups_before-rise (point_at c.args.self.now.track) c.args.n c.requires.course.track.moves j c.reading_sample-last.result (omega (arith, below))
-    (omega (arith, c.reading_sample-last.ensures.within)) in
+    let rise = groups_before-rise (point_at c.args.self.now.track) c.args.n c.requires.course.track.moves j c.reading_sample-sample.result (omega (arith, below))
+    (omega (arith, c.reading_sample-sample.ensures.within)) in
     quiet_in_block c.args.memory.now c.args.self.now.loop_word c.args.self.now.first c.blocks-2.d c.blocks-2.place c.blocks-2.invariant.there c.blocks-2.invariant.group
     c.groups_left-left.result c.groups_left-left.ensures.value c.args.self.now.reset c.args.self.now.silent (c.blocks-2.invariant.quiet awake) _
-    (omega (arith, rise, c.reading_sample-last.ensures.before, c.groups_left-left.ensures.some)) loud
+    (omega (arith, rise, c.reading_sample-sample.ensures.before, c.groups_left-left.ensures.some)) loud
 
 -- all groups of the stretch are read, and a block ends with them
 pub returns-clause-ends : goal.returns-clause-ends

@@ -12,6 +12,7 @@ invariant-blocks-2 l = record {
   row : take (12 + 4 * l.d) l.row ≡ kept_row l.memory l.self.loop_word l.self.first (take 12 l.initial.row) l.d;
   there : l.place ≡ place_after l.memory l.self.loop_word l.self.first l.d;
   group : IsGroup l.place;
+  header : l.header ≡ byte_at l.memory l.place.block;
   marks : (j : ℕ) → j < l.n → slice_index l.ends (l.at + j)
       ≡ slice_index l.initial.ends (l.at + j) + bit_if (marked l.memory l.self.loop_word l.self.first (point_at l.self.track) l.self.voice l.d j) l.self.voice;
   before : (i : ℕ) → i < l.at → slice_index l.ends i ≡ slice_index l.initial.ends i;

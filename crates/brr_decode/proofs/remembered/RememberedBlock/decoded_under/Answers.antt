@@ -5,7 +5,7 @@ use Rattle.num_fix.specs.SignedWords.{number_at}
 use Rattle.brr_decode.specs.Kept.{EndsWith, with_group}
 use Rattle.brr_decode.specs.Remembered.{byte_of}
 use Rattle.brr_decode.proofs.GroupsOfBlock.{groups_more, entry_before}
-use Rattle.brr_decode.proofs.remembered.RememberedBlock.decoded.Goals as goal
+use Rattle.brr_decode.proofs.remembered.RememberedBlock.decoded_under.Goals as goal
 
 pub loop-g-preserved : goal.loop-g-preserved
 loop-g-preserved c =
@@ -18,11 +18,11 @@ loop-g-preserved c =
     let high : c.byte_of-high.result ≡ byte_of c.args.digits (2 * g) = search rules in
     let low : c.byte_of-low.result ≡ byte_of c.args.digits (2 * g + 1) = search rules in
     let four : length kept ≡ 4 = search rules in
-    let same : kept ≡ c.decode_group-kept.result = search rules in
+    let same : kept ≡ c.group_under-kept.result = search rules in
     let within : 4 * g + 6 ≤ length row = omega (arith, c.loop-g.invariant.long, c.loop-g-test.true) in
     let made : (samples : List ℤ) → EndsWith samples (number_at row (4 * g)) (number_at row (4 * g + 1))
     → with_group samples c.args.header (byte_of c.args.digits (2 * g)) (byte_of c.args.digits (2 * g + 1)) ≡ samples ++ kept =
-    λ samples ends. rw same (rw (at, last, before, high, low) at c.decode_group-kept.ensures samples ends) in
+    λ samples ends. rw same (rw (at, last, before, high, low) at c.group_under-kept.ensures samples ends) in
     let rest : List ℤ = drop 4 (drop (4 * g + 2) row) in
     let size : 4 * g + 6 - (4 * g + 2) ≡ 4 = omega arith in
     let first : 4 * c.args.group + 1 < 4 * g + 2 = omega arith in

@@ -1,7 +1,7 @@
 use Rattle.std.proofs.Common.{◌≡◌, ◌<◌, ◌≤◌, ◌+◌, ◌*◌, ℕ, length}
 use Rattle.num_fix.specs.SignedWords.{number_at}
 use Rattle.brr_decode.specs.Remembered.{IsGroupAt}
-use Rattle.brr_decode.proofs.remembered.RememberedBlock.decoded.Given as goal
+use Rattle.brr_decode.proofs.remembered.RememberedBlock.decoded_under.Given as goal
 
 abbrev pub invariant-loop-g : goal.invariant-loop-g
 invariant-loop-g l = record {
