@@ -550,7 +550,7 @@ SLIPS = [
     Slip('a block without an end bit tells in ENDX, too', ['voice_unit'], ['worked_sounds'], [
         (VOICE, 'is_at_last_group v && has_end header', 'is_at_last_group v'),
         ('voice_unit/specs/Row.antt', 'at.offset == 7 && has_end (byte_at memory at.block)', 'at.offset == 7'),
-        ('voice_unit/src/row.rt', 'at.offset == 7 && has_end(memory.get(at.block))', 'at.offset == 7'),
+        ('voice_unit/src/course.rt', 'if has_end(last.header) {', 'if true {'),
         (VOICE_CODE, 'self.offset == LAST_GROUP && has_end(header)', 'self.offset == LAST_GROUP')]),
     Slip('a key on looks at the header of the block before it', ['voice_unit'], ['worked_sounds'], [
         (VOICE, 'if v.delay == 5 then 0 else byte_at memory v.block', 'byte_at memory v.block'),
