@@ -1,5 +1,5 @@
 -- What is held while samples are pending, and what it comes to once they are made.
-use Rattle.std.specs.Prelude.{◌≡◌, ◌<◌, ◌≤◌, ℕ, ◌+◌, ◌*◌, List, [], ◌++◌, length, slice_index_or, true, false, ◌||◌, ◌==◌, if◌then◌else◌, None, IfSome}
+use Rattle.std.specs.Prelude.{◌≡◌, ◌⊎◌, ◌<◌, ◌≤◌, ℕ, ◌+◌, ◌*◌, List, [], ◌++◌, length, slice_index_or, true, false, ◌||◌, ◌==◌, if◌then◌else◌, None, IfSome}
 use Rattle.std.specs.List.{filter}
 use Rattle.std.specs.FinSet as set
 use Rattle.num_fix.specs.declared.Frame.{Frame}
@@ -82,11 +82,17 @@ pub record IsKnown (reach : ReachPages) (known : KnownReach) : Type 0 where
   pub unwritten : AreMarks (λ page. set.contains reach.write_pages page ≡ false) known.unwritten
   -- and they don't read one that is marked as unread, so that a write to it is nothing to them
   pub unread : AreMarks (λ page. (reach.entangled || set.contains reach.read_pages page) ≡ false) known.unread
-  -- where no more was kept than the mark of one page as unwritten, there is no other
-  pub single : known.is_single ≡ true
-      → (known.entangled ≡ None) × AreMarks (λ page. page ≡ known.page) known.unwritten × AreMarks (λ page. ⊥) known.unread
+  -- where no more was kept than the marks of two pages as unwritten, there is no other
+  pub few : known.is_few ≡ true
+      → (known.entangled ≡ None) × AreMarks (λ page. (page ≡ known.page) ⊎ (page ≡ known.other)) known.unwritten × AreMarks (λ page. ⊥) known.unread
   -- where nothing was kept there is no mark
   pub none : known.is_any ≡ false → (known.entangled ≡ None) × AreMarks (λ page. ⊥) known.unwritten × AreMarks (λ page. ⊥) known.unread
+
+-- A page becomes the one that is marked last, and the one that was so the other one. What is kept is the same, and of no more pages if it was of these two.
+pub record IsPutLast (old : KnownReach) (page : ℕ) (new : KnownReach) : Type 0 where
+  pub same : new ≡ record old { is_few = new.is_few; page = page; other = new.other }
+  pub few : new.is_few ≡ true → (old.is_few ≡ true)
+      × ((place : ℕ) → 0 < slice_index_or old.unwritten place 0 → (place ≡ old.page) ⊎ (place ≡ old.other) → (place ≡ page) ⊎ (place ≡ new.other))
 
 -- what was asked of a reach is answered, and what is kept of it is so
 pub record IsAnswered {A : Type 0} (reach : ReachPages) (kept : KnownReach) (question : ReachPages → A) (result : A) : Type 0 where

@@ -3,7 +3,7 @@ ghost use Rattle.std.specs.Prelude.{◌≡◌, ◌/◌, true, false};
 ghost use Rattle.std.specs.FinSet as set;
 ghost use Rattle.chip_form.specs.declared.pages.ReachPages.{ReachPages};
 ghost use Rattle.lag_bus.specs.Book.{may_be_read, may_be_written};
-ghost use Rattle.lag_bus.specs.Held.{end_of_memory_alone, IsMemoryAlone, IsKnown, IsAnswered, IsKeptThroughWrite};
+ghost use Rattle.lag_bus.specs.Held.{end_of_memory_alone, IsPutLast, IsMemoryAlone, IsKnown, IsAnswered, IsKeptThroughWrite};
 
 use aram_core::{Aram, PAGE_COUNT, page_of};
 use chip_form::Chip;
@@ -15,10 +15,12 @@ use chip_form::Chip;
 pub struct KnownReach {
     /// Whether anything of it was kept.
     is_any: bool,
-    /// Whether no more was kept than the mark of one page as unwritten.
-    is_single: bool,
+    /// Whether no more was kept than the marks of two pages as unwritten.
+    is_few: bool,
     /// The page that was marked last as unwritten.
     page: u8,
+    /// The page that was marked before it. Mostly one of both is the program's, and the other one that of its data.
+    other: u8,
     entangled: Option<bool>,
     unwritten: [u16; PAGE_COUNT],
     unread: [u16; PAGE_COUNT],
@@ -38,8 +40,9 @@ impl KnownReach {
     {
         KnownReach {
             is_any: false,
-            is_single: true,
+            is_few: true,
             page: 0,
+            other: 0,
             entangled: None,
             unwritten: [0; PAGE_COUNT],
             unread: [0; PAGE_COUNT],
@@ -54,10 +57,11 @@ impl KnownReach {
     {
         if self.is_any {
             self.is_any = false;
-            if self.is_single {
+            if self.is_few {
                 self.unwritten[usize::from(self.page)] = 0;
+                self.unwritten[usize::from(self.other)] = 0;
             } else {
-                self.is_single = true;
+                self.is_few = true;
                 self.entangled = None;
                 self.unwritten = [0; PAGE_COUNT];
                 self.unread = [0; PAGE_COUNT];
@@ -65,12 +69,13 @@ impl KnownReach {
         }
     }
 
-    /// Asks of the page that was marked last as unwritten: mostly it is read next.
+    /// Asks of the two pages that were marked last as unwritten: mostly they are read next.
     pub fn mark_last<C: Chip>(&mut self, chip: &C, memory: &Aram)
         requires { IsKnown (C.meaning.reach (C.state chip.now) memory.now) self.old }
         ensures { IsKnown (C.meaning.reach (C.state chip.now) memory.now) self.new }
     {
-        let page = self.page;
+        let (page, other) = (self.page, self.other);
+        self.ask_written(chip, memory, other);
         self.ask_written(chip, memory, page);
     }
 
@@ -121,7 +126,7 @@ impl KnownReach {
             None => {
                 let entangled = chip.is_entangled(memory);
                 self.is_any = true;
-                self.is_single = false;
+                self.is_few = false;
                 self.entangled = Some(entangled);
                 entangled
             }
@@ -140,7 +145,7 @@ impl KnownReach {
             return true;
         }
         self.is_any = true;
-        self.is_single = false;
+        self.is_few = false;
         self.unread[usize::from(page_of(at))] = end_of_memory_alone(page_of(at));
         false
     }
@@ -161,21 +166,33 @@ impl KnownReach {
         if chip.writes_page(memory, page) {
             return true;
         }
-        self.is_single = self.is_single && (!self.is_any || self.page == page);
+        self.put_last(page);
         self.is_any = true;
-        self.page = page;
         self.unwritten[usize::from(page)] = end_of_memory_alone(page);
         false
     }
 
+    /// Takes a page for the one that is marked last.
+    #[inline]
+    fn put_last(&mut self, page: u8)
+        ensures { IsPutLast self.old page self.new }
+    {
+        if page != self.page {
+            let goes = self.other;
+            self.is_few = self.is_few && (goes == page || self.unwritten[usize::from(goes)] == 0);
+            self.other = self.page;
+            self.page = page;
+        }
+    }
+
     /// Makes ready for a write at an address while no sample is pending: what was kept goes where the write may make the reach another one.
-    /// The mark of one page goes without asking.
+    /// The marks of two pages go without asking.
     #[inline]
     pub fn before_write<C: Chip>(&mut self, chip: &C, memory: &Aram, at: u16)
         requires { IsKnown (C.meaning.reach (C.state chip.now) memory.now) self.old }
         ensures { IsKeptThroughWrite (C.meaning.reach (C.state chip.now) memory.now) at self.new }
     {
-        if self.is_single {
+        if self.is_few {
             self.forget();
         } else if self.may_be_read(chip, memory, at) {
             self.forget();
