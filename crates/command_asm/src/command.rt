@@ -1,7 +1,8 @@
 // The command `asm`: a source to code.
 ghost use Rattle.std.specs.Prelude.{◌≡◌, ◌≤◌, length, IfOk, [], ◌∷◌};
-ghost use Rattle.snd_host.specs.Host.{HostState, Files};
+ghost use Rattle.snd_host.specs.Host.{HostState};
 ghost use Rattle.input_files.specs.Reading.{input_limit, input_up_to};
+ghost use Rattle.command_frame.specs.NamedInputs.{Held, first};
 ghost use Rattle.command_frame.specs.Conduct.{Plans, Prepares, Attempts};
 ghost use Rattle.command_frame.specs.Delivery.{CanDeliver};
 ghost use Rattle.command_frame.specs.Plan.{plan_makes};
@@ -78,7 +79,7 @@ fn prepare<'a, H: Host>(
     origin: u16,
     output: &'a str,
 ) -> Result<Plan<'a>, Refusal<Cause>>
-    ensures { let answer = λ (files : Files). asm_answer origin output.now (files input.now) in
+    ensures { let answer = λ (held : Held). asm_answer origin output.now (first held) in
         Prepares plan_makes answer (input_up_to input_limit input.now ∷ []) (H.state host.old) (H.state host.new) result }
 {
     let bytes = read_input(alloc, host, input, INPUT_LIMIT, Cause::InputTooLong)?;
@@ -95,7 +96,7 @@ pub fn asm<H: Host>(
     output: &str,
 ) -> Option<Refusal<Cause>>
     requires { CanDeliver (H.state host.old) }
-    ensures attempts { let answer = λ (files : Files). asm_answer origin output.now (files input.now) in
+    ensures attempts { let answer = λ (held : Held). asm_answer origin output.now (first held) in
         Attempts answer (input_up_to input_limit input.now ∷ []) result (H.state host.old) (H.state host.new) }
     ensures not_usage { result ≡ Some Refusal.Usage → ⊥ }
 {

@@ -2,8 +2,9 @@
 ghost use Rattle.std.specs.Prelude.{◌≡◌, ◌≤◌, ◌++◌, length, codes, decimal, IfOk, [], ◌∷◌};
 ghost use Rattle.num_fix.specs.Limits.{most_frames};
 ghost use Rattle.wav_form.specs.Wave.{mono_wave};
-ghost use Rattle.snd_host.specs.Host.{HostState, Files};
+ghost use Rattle.snd_host.specs.Host.{HostState};
 ghost use Rattle.input_files.specs.Reading.{input_limit, input_up_to};
+ghost use Rattle.command_frame.specs.NamedInputs.{Held, first};
 ghost use Rattle.command_frame.specs.Conduct.{Plans, Prepares, Attempts};
 ghost use Rattle.command_frame.specs.Delivery.{CanDeliver};
 ghost use Rattle.command_frame.specs.Plan.{plan_makes};
@@ -73,7 +74,7 @@ fn prepare<'a, H: Host>(
     input: &str,
     output: &'a str,
 ) -> Result<Plan<'a>, Refusal<Cause>>
-    ensures { let answer = λ (files : Files). brr_answer output.now (files input.now) in
+    ensures { let answer = λ (held : Held). brr_answer output.now (first held) in
         Prepares plan_makes answer (input_up_to input_limit input.now ∷ []) (H.state host.old) (H.state host.new) result }
 {
     let bytes = read_input(alloc, host, input, INPUT_LIMIT, Cause::InputTooLong)?;
@@ -88,7 +89,7 @@ pub fn brr<H: Host>(
     output: &str,
 ) -> Option<Refusal<Cause>>
     requires { CanDeliver (H.state host.old) }
-    ensures attempts { let answer = λ (files : Files). brr_answer output.now (files input.now) in
+    ensures attempts { let answer = λ (held : Held). brr_answer output.now (first held) in
         Attempts answer (input_up_to input_limit input.now ∷ []) result (H.state host.old) (H.state host.new) }
     ensures not_usage { result ≡ Some Refusal.Usage → ⊥ }
 {

@@ -2,7 +2,8 @@
 ghost use Rattle.std.specs.Prelude.{◌≡◌, ◌≤◌, IfOk, length, []};
 ghost use Rattle.dsp_core.specs.DspChip.{dsp_chip};
 ghost use Rattle.render_core.specs.RenderState.{frames_to_come, counts_to_come};
-ghost use Rattle.snd_host.specs.Host.{HostState, Files};
+ghost use Rattle.snd_host.specs.Host.{HostState};
+ghost use Rattle.command_frame.specs.NamedInputs.{Held};
 ghost use Rattle.command_frame.specs.Answer.{done};
 ghost use Rattle.command_frame.specs.Conduct.{Plans, Attempts};
 ghost use Rattle.command_frame.specs.Delivery.{CanDeliver};
@@ -107,7 +108,7 @@ fn plan<'a>(alloc: Global, number: u32) -> Result<Plan<'a>, Refusal<Cause>>
 /// Reports sums over the frames of the demo file of a number, rendered for ten seconds, and its batches.
 pub fn check<H: Host>(alloc: Global, host: &mut H, number: u32) -> Option<Refusal<Cause>>
     requires { CanDeliver (H.state host.old) }
-    ensures attempts { let answer = λ (files : Files). check_answer number in
+    ensures attempts { let answer = λ (held : Held). check_answer number in
         Attempts answer [] result (H.state host.old) (H.state host.new) }
     ensures not_usage { result ≡ Some Refusal.Usage → ⊥ }
 {

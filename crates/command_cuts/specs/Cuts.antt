@@ -1,12 +1,11 @@
 -- What `cuts` answers: the frames of the cuts of a list, each a slice of the tune's run, and the book of the list.
 use Rattle.std.specs.Prelude.{ℕ, ℤ, List, [], ◌∷◌, None, Option}
 use Rattle.wav_form.specs.Wave.{stereo_wave}
-use Rattle.snd_host.specs.Host.{Files}
 use Rattle.cut_form.specs.declared.cut.Cut.{Cut}
 use Rattle.cut_form.specs.CutBook.{cut_book}
 use Rattle.cut_form.specs.Slices.{cut_frames}
 use Rattle.command_frame.specs.Answer.{Answer, done}
-use Rattle.command_frame.specs.NamedInputs.{NamedInput}
+use Rattle.command_frame.specs.NamedInputs.{NamedInput, Held, first, second, third}
 use Rattle.command_frame.specs.Stream.{pair}
 use Rattle.exit_status.specs.declared.cause.Cause.{Cause}
 use Rattle.input_files.specs.Reading.{answer_from, input_limit, input_up_to}
@@ -32,8 +31,8 @@ abbrev pub cuts_answer : (wave : List ℕ) → (muted : ℕ) → (held_file held
 cuts_answer wave muted held_file held_table held_list = answer_from (file_in held_file) (file_answer wave muted held_table held_list)
 
 -- what is answered, by what the inputs of these names hold
-abbrev pub cuts_over : (wave : List ℕ) → (muted : ℕ) → (file table list : List ℕ) → Files → Answer Cause
-cuts_over wave muted file table list = λ files. cuts_answer wave muted (files file) (files table) (files list)
+abbrev pub cuts_over : (wave : List ℕ) → (muted : ℕ) → Held → Answer Cause
+cuts_over wave muted = λ held. cuts_answer wave muted (first held) (second held) (third held)
 
 -- the inputs of these names, in the order in which they are read
 abbrev pub cuts_inputs : (file table list : List ℕ) → List NamedInput

@@ -2,9 +2,10 @@
 ghost use Rattle.std.specs.Prelude.{◌≡◌, ◌++◌, IfOk, [], ◌∷◌};
 ghost use Rattle.wav_form.specs.Wave.{header_of, stereo_wave};
 ghost use Rattle.dsp_core.specs.DspChip.{dsp_chip, dsp_saving};
-ghost use Rattle.snd_host.specs.Host.{HostState, Files};
+ghost use Rattle.snd_host.specs.Host.{HostState};
 ghost use Rattle.input_files.specs.Reading.{input_limit, input_up_to};
 ghost use Rattle.input_files.specs.Inputs.{table_input};
+ghost use Rattle.command_frame.specs.NamedInputs.{Held, first, second};
 ghost use Rattle.command_frame.specs.Conduct.{Plans, Prepares, Attempts};
 ghost use Rattle.command_frame.specs.Delivery.{CanDeliver};
 ghost use Rattle.command_frame.specs.Plan.{stream_makes};
@@ -86,7 +87,7 @@ fn prepare_list<'a, H: Host>(
     names: Names<'a>,
     muted: u8,
 ) -> Result<StreamedPlan<'a, CutFiles<Dsp>>, Refusal<Cause>>
-    ensures { let answer = λ (files : Files). table_answer names.entry.wave.now muted (files names.entry.list.now) file.now table in
+    ensures { let answer = λ (held : Held). table_answer names.entry.wave.now muted (first held) file.now table in
         Prepares (stream_makes (to_come_of dsp_chip dsp_saving) (report_of dsp_chip dsp_saving)) answer
         (input_up_to input_limit names.entry.list.now ∷ []) (H.state host.old) (H.state host.new) result }
 {
@@ -102,7 +103,7 @@ fn prepare_table<'a, H: Host>(
     names: Names<'a>,
     muted: u8,
 ) -> Result<StreamedPlan<'a, CutFiles<Dsp>>, Refusal<Cause>>
-    ensures { let answer = λ (files : Files). file_answer names.entry.wave.now muted (files names.entry.table.now) (files names.entry.list.now) file.now in
+    ensures { let answer = λ (held : Held). file_answer names.entry.wave.now muted (first held) (second held) file.now in
         Prepares (stream_makes (to_come_of dsp_chip dsp_saving) (report_of dsp_chip dsp_saving)) answer
         (table_input names.entry.table.now ∷ input_up_to input_limit names.entry.list.now ∷ []) (H.state host.old) (H.state host.new) result }
 {
@@ -117,7 +118,7 @@ fn prepare<'a, H: Host>(
     names: Names<'a>,
     muted: u8,
 ) -> Result<StreamedPlan<'a, CutFiles<Dsp>>, Refusal<Cause>>
-    ensures { let answer = cuts_over names.entry.wave.now muted names.entry.file.now names.entry.table.now names.entry.list.now in
+    ensures { let answer = cuts_over names.entry.wave.now muted in
         Prepares (stream_makes (to_come_of dsp_chip dsp_saving) (report_of dsp_chip dsp_saving)) answer
         (cuts_inputs names.entry.file.now names.entry.table.now names.entry.list.now) (H.state host.old) (H.state host.new) result }
 {
@@ -137,7 +138,7 @@ pub fn cuts<H: Host>(
     muted: u8,
 ) -> Option<Refusal<Cause>>
     requires outputs { CanDeliver (H.state host.old) }
-    ensures attempts { let answer = cuts_over wave.now muted file.now table.now list.now in
+    ensures attempts { let answer = cuts_over wave.now muted in
         Attempts answer (cuts_inputs file.now table.now list.now) result (H.state host.old) (H.state host.new) }
     ensures not_usage { result ≡ Some Refusal.Usage → ⊥ }
 {

@@ -28,7 +28,7 @@ pub(crate) fn read_list<H: Host>(
     host: &mut H,
     name: &str,
 ) -> Result<CutList, Refusal<Cause>>
-    ensures { Reads name.now input_limit (λ files. cuts_in (files name.now)) (H.state host.old) (H.state host.new) result }
+    ensures { Reads name.now input_limit cuts_in (H.state host.old) (H.state host.new) result }
 {
     let bytes = read_input(alloc, host, name, INPUT_LIMIT, Cause::InputTooLong)?;
     accept_list(alloc, bytes.as_slice())

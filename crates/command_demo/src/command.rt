@@ -1,7 +1,8 @@
 // The command `demo`: a demo file.
 ghost use Rattle.std.specs.Prelude.{◌≡◌, IfOk, []};
+ghost use Rattle.command_frame.specs.NamedInputs.{Held};
 ghost use Rattle.command_frame.specs.Answer.{done};
-ghost use Rattle.snd_host.specs.Host.{HostState, Files};
+ghost use Rattle.snd_host.specs.Host.{HostState};
 ghost use Rattle.command_frame.specs.Conduct.{Plans, Attempts};
 ghost use Rattle.command_frame.specs.Delivery.{CanDeliver};
 ghost use Rattle.command_frame.specs.Plan.{plan_makes};
@@ -44,7 +45,7 @@ pub fn demo<H: Host>(
     output: &str,
 ) -> Option<Refusal<Cause>>
     requires { CanDeliver (H.state host.old) }
-    ensures attempts { let answer = λ (files : Files). demo_answer number output.now in
+    ensures attempts { let answer = λ (held : Held). demo_answer number output.now in
         Attempts answer [] result (H.state host.old) (H.state host.new) }
     ensures not_usage { result ≡ Some Refusal.Usage → ⊥ }
 {

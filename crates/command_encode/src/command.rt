@@ -1,7 +1,8 @@
 // The command `encode`: a sound file of one channel to blocks of BRR.
 ghost use Rattle.std.specs.Prelude.{◌≡◌, ◌++◌, OnOk, IfOk, [], ◌∷◌};
-ghost use Rattle.snd_host.specs.Host.{HostState, Files};
+ghost use Rattle.snd_host.specs.Host.{HostState};
 ghost use Rattle.input_files.specs.Reading.{wave_limit, input_up_to};
+ghost use Rattle.command_frame.specs.NamedInputs.{Held, first};
 ghost use Rattle.command_frame.specs.Conduct.{Plans, Prepares, Attempts};
 ghost use Rattle.command_frame.specs.Delivery.{CanDeliver};
 ghost use Rattle.command_frame.specs.Plan.{plan_makes};
@@ -119,7 +120,7 @@ fn prepare<'a, H: Host>(
     options: EncodeOptions,
 ) -> Result<Plan<'a>, Refusal<Cause>>
     requires { AreInRange options }
-    ensures { let answer = λ (files : Files). encode_answer output.now options (files input.now) in
+    ensures { let answer = λ (held : Held). encode_answer output.now options (first held) in
         Prepares plan_makes answer (input_up_to wave_limit input.now ∷ []) (H.state host.old) (H.state host.new) result }
 {
     let bytes = read_input(alloc, host, input, WAVE_LIMIT, Cause::InputTooLong)?;
@@ -138,7 +139,7 @@ pub fn encode<H: Host>(
 ) -> Option<Refusal<Cause>>
     requires deliver { CanDeliver (H.state host.old) }
     requires in_range { AreInRange options }
-    ensures attempts { let answer = λ (files : Files). encode_answer output.now options (files input.now) in
+    ensures attempts { let answer = λ (held : Held). encode_answer output.now options (first held) in
         Attempts answer (input_up_to wave_limit input.now ∷ []) result (H.state host.old) (H.state host.new) }
     ensures not_usage { result ≡ Some Refusal.Usage → ⊥ }
 {

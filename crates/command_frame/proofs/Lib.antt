@@ -1,11 +1,17 @@
+pub mod Attempting
 pub mod Delivering
 pub mod Leaving
 pub mod Listing
 pub mod Making
 pub mod Obeying
+pub mod OutputBytes
+pub mod OutputsMade
 pub mod Places
+pub mod PlainRuns
 pub mod Refusing
+pub mod Sequences
 pub mod Standing
 pub mod Streams
 pub mod Unread
+pub mod Woven
 pub mod Writing

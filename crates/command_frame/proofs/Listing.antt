@@ -21,6 +21,10 @@ gains_then xs ys us vs a b c one two = record {
 many_since : (xs : List Output) (a b : HostState) → AreDone xs a b → length b.ended ≡ length a.ended + length xs
 many_since xs a b s = ap (length {A = Bool}) s.made.ended ∙ length-append a.ended (all_ended xs) ∙ ap (λ (k : ℕ). length a.ended + k) (length-all_ended xs)
 
+-- the number of the output after them
+pub next_place : (xs : List Output) (a b : HostState) → AreDone xs a b → length b.ended + 2 ≡ length a.ended + 2 + length xs
+next_place xs a b s = omega (arith, many_since xs a b s)
+
 -- outputs that are done after others
 pub done_then : (xs ys : List Output) (a b c : HostState) → AreDone xs a b → AreDone ys b c → AreDone (xs ++ ys) a c
 done_then xs ys a b c one two = record {

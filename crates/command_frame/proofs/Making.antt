@@ -8,7 +8,7 @@ use Rattle.command_frame.specs.Answer.{Answer, outputs_of}
 use Rattle.command_frame.specs.Conduct.{Delivery, Prepares, CarriesOut, WritesComplaint}
 use Rattle.command_frame.specs.Delivery.{Gains, IsBegun, AreEndedInOrder, all_ended}
 use Rattle.command_frame.specs.Making.{AreEmpty, AreWhole, MadeAtOnce, MadeInTurn, new_output}
-use Rattle.command_frame.specs.NamedInputs.{NamedInput}
+use Rattle.command_frame.specs.NamedInputs.{NamedInput, Held, held_by}
 use Rattle.command_frame.specs.Stream.{AreDone, Fills}
 use Rattle.command_frame.specs.declared.refusals.Refusal.{Refusal}
 
@@ -140,8 +140,8 @@ in_turn_one o a b (Err e) fills =
     }
 
 -- what was prepared by reading is made at once
-pub prepared_at_once : {P C : Type 0} {inputs : List NamedInput} (makes : P → Delivery) (answer : Files → Answer C) (x y z : HostState) (prepared passed : Result P (Refusal C)) (refusal : Option (Refusal C))
-    → Prepares makes answer inputs x y prepared → CarriesOut makes passed y z refusal → IfOk passed (λ plan. MadeAtOnce (makes plan).outputs y z) → passed ≡ prepared → (files : Files) → x.holds ≡ Some files → MadeAtOnce (outputs_of (answer files)) x z
+pub prepared_at_once : {P C : Type 0} {inputs : List NamedInput} (makes : P → Delivery) (answer : Held → Answer C) (x y z : HostState) (prepared passed : Result P (Refusal C)) (refusal : Option (Refusal C))
+    → Prepares makes answer inputs x y prepared → CarriesOut makes passed y z refusal → IfOk passed (λ plan. MadeAtOnce (makes plan).outputs y z) → passed ≡ prepared → (files : Files) → x.holds ≡ Some files → MadeAtOnce (outputs_of (answer (held_by files inputs))) x z
 prepared_at_once {P = P} {C = C} {inputs = inputs} makes answer x y z prepared passed refusal p c made same files told =
     by prepared p (subst (λ (r : Result P (Refusal C)). CarriesOut makes r y z refusal) same c) (subst (λ (r : Result P (Refusal C)). IfOk r (λ plan. MadeAtOnce (makes plan).outputs y z)) same made)
   where
@@ -151,7 +151,7 @@ prepared_at_once {P = P} {C = C} {inputs = inputs} makes answer x y z prepared p
     earlier outputs given ended (inr (inl created)) = inr (inl (created ∙ ap (λ (l : List Bool). l ++ replicate (length outputs) false) ended))
     earlier outputs given ended (inr (inr whole)) = inr (inr (λ before told_before. whole before (given ∙ told_before)))
 
-    by : (r : Result P (Refusal C)) → Prepares makes answer inputs x y r → CarriesOut makes r y z refusal → IfOk r (λ plan. MadeAtOnce (makes plan).outputs y z) → MadeAtOnce (outputs_of (answer files)) x z
+    by : (r : Result P (Refusal C)) → Prepares makes answer inputs x y r → CarriesOut makes r y z refusal → IfOk r (λ plan. MadeAtOnce (makes plan).outputs y z) → MadeAtOnce (outputs_of (answer (held_by files inputs))) x z
     by (Ok plan) ready carried at_once =
         subst (λ (a : Answer C). MadeAtOnce (outputs_of a) x z) (sym (ready.ok files told)) (earlier (makes plan).outputs ready.others.given ready.others.ended at_once)
     by (Err why) ready carried at_once = inl (none_created x z (ap (λ (s : HostState). s.given) carried.err.1 ∙ ready.others.given) (ap (λ (s : HostState). s.ended) carried.err.1 ∙ ready.others.ended))

@@ -7,10 +7,13 @@ use Rattle.snd_host.proofs.Writes.{rose}
 use Rattle.snd_host.specs.declared.host.Failed.{Failed}
 use Rattle.command_frame.specs.declared.refusals.Refusal.{Refusal}
 use Rattle.command_frame.specs.declared.refusals.Refusal.TheVariants.{Usage, ReadFault, WriteFault, OutOfMemory}
-use Rattle.command_frame.specs.NamedInputs.{NamedInput}
+use Rattle.command_frame.specs.NamedInputs.{NamedInput, Held, held_by}
+use Rattle.command_frame.specs.OutputCalls.{Order, DeliversAs}
+use Rattle.snd_host.specs.Follows.{Follows}
 use Rattle.command_frame.specs.Delivery.{Gains, HaveRooms, Delivers, all_ended}
 use Rattle.command_frame.specs.Answer.{Answer, done, refused, refusal_of, outputs_of, report_of, line_of, delivery_refusal}
-use Rattle.command_frame.specs.Conduct.{Delivery, NoneRose, EndsAs, IsSettled, IsOfDelivery, ReadsReached, Attempts, WritesComplaint, Obeys, Prepares, CarriesOut}
+use Rattle.command_frame.specs.Conduct.{Delivery, NoneRose, EndsAs, IsSettled, IsOfDelivery, ReadsReached, AttemptsAs, WritesComplaint, Obeys, Prepares, CarriesOutAs}
+use Rattle.command_frame.proofs.Attempting.{attempts_by_refusal, attempts_by_delivery, attempts_by_nothing}
 use Rattle.command_frame.proofs.Delivering.{gains_nothing}
 use Rattle.command_frame.proofs.Places.{none_in_order}
 
@@ -124,9 +127,10 @@ not_read {C = C} a x y reads steadily = record {
 note_room_kept : {T E : Type 0} (outputs : List Output) (report : List ℕ) (x y z : HostState) (r : Result T E) → ChangesInputs x y → Delivers outputs report y z r → (rooms : List ℕ) → x.steady ≡ Some rooms → (after : List ℕ) × (z.steady ≡ Some after) × (get_or after 1 0 ≡ get_or rooms 1 0)
 note_room_kept outputs report x y z r reads d rooms told = let after = d.rooms rooms (reads.rooms rooms told) in (after.0, after.1, after.3)
 
-module _ {P C : Type 0} {inputs : List NamedInput} (makes : P → Delivery) (answer : Files → Answer C) (x y z : HostState) where
-  attempts_done : (plan : P) (refusal : Option (Refusal C)) (p : Prepares makes answer inputs x y (Ok plan)) (outcome : Result (Unit {0}) Failed) → refusal ≡ delivery_refusal outcome → Delivers (makes plan).outputs (makes plan).report y z outcome → Attempts answer inputs refusal x z
-  attempts_done plan refusal p (Ok t) is d = subst (λ (r : Option (Refusal C)). Attempts answer inputs r x z) (sym is) (record {
+module _ {P C : Type 0} {inputs : List NamedInput} (makes : P → Delivery) (answer : Held → Answer C) (x y z : HostState) where
+  attempts_done : {order : Order} (plan : P) (refusal : Option (Refusal C)) (p : Prepares makes answer inputs x y (Ok plan)) (outcome : Result (Unit {0}) Failed) → refusal ≡ delivery_refusal outcome → Delivers (makes plan).outputs (makes plan).report y z outcome →
+      Follows (DeliversAs order (length y.ended + 2) (makes plan).outputs (makes plan).report) y z outcome → AttemptsAs order answer inputs refusal x z
+  attempts_done {order = order} plan refusal p (Ok t) is d f = subst (λ (r : Option (Refusal C)). AttemptsAs order answer inputs r x z) (sym is) (record {
     report = d.reported;
     outputs = d.begun;
     ended = d.ended;
@@ -144,11 +148,12 @@ module _ {P C : Type 0} {inputs : List NamedInput} (makes : P → Delivery) (ans
     notes = d.notes ∙ p.others.notes;
     note_room = note_room_kept (makes plan).outputs (makes plan).report x y z (Ok t) p.others d;
     answered = λ files told. subst (λ (a : Answer C). EndsAs a None d.reported d.begun d.ended x z) (sym (p.ok files told)) (all_done (makes plan).outputs (makes plan).report x y z t p.others no_fault d);
+    calls = attempts_by_delivery order makes answer inputs plan x y z p.others.ended p.calls (Ok t) f;
   })
     where
       no_fault : y.faults.inputs ≡ x.faults.inputs
       no_fault = p.no_fault (λ wrong. absurd (cc))
-  attempts_done plan refusal p (Err e) is d = subst (λ (r : Option (Refusal C)). Attempts answer inputs r x z) (sym is) (record {
+  attempts_done {order = order} plan refusal p (Err e) is d f = subst (λ (r : Option (Refusal C)). AttemptsAs order answer inputs r x z) (sym is) (record {
     report = d.reported;
     outputs = d.begun;
     ended = d.ended;
@@ -166,12 +171,13 @@ module _ {P C : Type 0} {inputs : List NamedInput} (makes : P → Delivery) (ans
     notes = d.notes ∙ p.others.notes;
     note_room = note_room_kept (makes plan).outputs (makes plan).report x y z (Err e) p.others d;
     answered = λ files told. subst (λ (a : Answer C). EndsAs a (Some WriteFault) d.reported d.begun d.ended x z) (sym (p.ok files told)) (part_done (makes plan).outputs (makes plan).report x y z e p.others no_fault d);
+    calls = attempts_by_delivery order makes answer inputs plan x y z p.others.ended p.calls (Err e) f;
   })
     where
       no_fault : y.faults.inputs ≡ x.faults.inputs
       no_fault = p.no_fault (λ wrong. absurd (cc))
 
-  refused_answer : (why : Refusal C) (p : Prepares makes answer inputs x y (Err why)) (files : Files) → x.holds ≡ Some files → EndsAs (answer files) (Some why) [] [] [] x y
+  refused_answer : (why : Refusal C) (p : Prepares makes answer inputs x y (Err why)) (files : Files) → x.holds ≡ Some files → EndsAs (answer (held_by files inputs)) (Some why) [] [] [] x y
   refused_answer why p files told = by (p.err files told)
     where
       no_write : why ≡ WriteFault → ⊥
@@ -180,13 +186,13 @@ module _ {P C : Type 0} {inputs : List NamedInput} (makes : P → Delivery) (ans
       no_fault : (why ≡ ReadFault → ⊥) → y.faults.inputs ≡ x.faults.inputs
       no_fault other = p.no_fault (λ is. other cc)
 
-      by : (answer files ≡ refused why) ⊎ ((why ≡ ReadFault) ⊎ (why ≡ OutOfMemory)) → EndsAs (answer files) (Some why) [] [] [] x y
+      by : (answer (held_by files inputs) ≡ refused why) ⊎ ((why ≡ ReadFault) ⊎ (why ≡ OutOfMemory)) → EndsAs (answer (held_by files inputs)) (Some why) [] [] [] x y
       by (inl is) = subst (λ (a : Answer C). EndsAs a (Some why) [] [] [] x y) (sym is) (refused_so why x y no_write p.others no_fault)
-      by (inr (inl is)) = subst (λ (r : Refusal C). EndsAs (answer files) (Some r) [] [] [] x y) (sym is) (not_read (answer files) x y p.others (λ steady. p.steady (ap (λ (r : Refusal C). Err r) is) steady files told))
-      by (inr (inr is)) = subst (λ (r : Refusal C). EndsAs (answer files) (Some r) [] [] [] x y) (sym is) (no_memory (answer files) x y p.others (no_fault (λ wrong. absurd (cc))))
+      by (inr (inl is)) = subst (λ (r : Refusal C). EndsAs (answer (held_by files inputs)) (Some r) [] [] [] x y) (sym is) (not_read (answer (held_by files inputs)) x y p.others (λ steady. p.steady (ap (λ (r : Refusal C). Err r) is) steady files told))
+      by (inr (inr is)) = subst (λ (r : Refusal C). EndsAs (answer (held_by files inputs)) (Some r) [] [] [] x y) (sym is) (no_memory (answer (held_by files inputs)) x y p.others (no_fault (λ wrong. absurd (cc))))
 
-  attempts_refused : (why : Refusal C) (p : Prepares makes answer inputs x y (Err why)) → Attempts answer inputs (Some why) x y
-  attempts_refused why p = record {
+  attempts_refused : {order : Order} (why : Refusal C) (p : Prepares makes answer inputs x y (Err why)) → AttemptsAs order answer inputs (Some why) x y
+  attempts_refused {order = order} why p = record {
     report = [];
     outputs = [];
     ended = [];
@@ -204,23 +210,24 @@ module _ {P C : Type 0} {inputs : List NamedInput} (makes : P → Delivery) (ans
     notes = p.others.notes;
     note_room = λ rooms told. (rooms, p.others.rooms rooms told, refl);
     answered = refused_answer why p;
+    calls = attempts_by_refusal order makes answer inputs why x y (λ is. p.no_write (ap (λ (r : Refusal C). Err r) is)) p.calls;
   }
 
-  attempts_carried : (prepared : Result P (Refusal C)) (refusal : Option (Refusal C)) → Prepares makes answer inputs x y prepared → CarriesOut makes prepared y z refusal → Attempts answer inputs refusal x z
-  attempts_carried (Ok plan) refusal p c = attempts_done plan refusal p c.ok.0 c.ok.1 c.ok.2
-  attempts_carried (Err why) refusal p c =
-      subst (λ (s : HostState). Attempts answer inputs refusal x s) (sym c.err.1) (subst (λ (r : Option (Refusal C)). Attempts answer inputs r x y) (sym c.err.0) (attempts_refused why p))
+  attempts_carried : {order : Order} (prepared : Result P (Refusal C)) (refusal : Option (Refusal C)) → Prepares makes answer inputs x y prepared → CarriesOutAs order makes prepared y z refusal → AttemptsAs order answer inputs refusal x z
+  attempts_carried {order = order} (Ok plan) refusal p c = attempts_done plan refusal p c.ok.0 c.ok.1 c.ok.2 c.ok.3
+  attempts_carried {order = order} (Err why) refusal p c =
+      subst (λ (s : HostState). AttemptsAs order answer inputs refusal x s) (sym c.err.1) (subst (λ (r : Option (Refusal C)). AttemptsAs order answer inputs r x y) (sym c.err.0) (attempts_refused why p))
 
   -- a command that answers what the frame's call answers
-  pub attempts : (prepared : Result P (Refusal C)) (carried refusal : Option (Refusal C)) → Prepares makes answer inputs x y prepared → CarriesOut makes prepared y z carried → carried ≡ refusal → Attempts answer inputs refusal x z
-  attempts prepared carried refusal p c is = subst (λ (r : Option (Refusal C)). Attempts answer inputs r x z) is (attempts_carried prepared carried p c)
+  pub attempts : {order : Order} (prepared : Result P (Refusal C)) (carried refusal : Option (Refusal C)) → Prepares makes answer inputs x y prepared → CarriesOutAs order makes prepared y z carried → carried ≡ refusal → AttemptsAs order answer inputs refusal x z
+  attempts {order = order} prepared carried refusal p c is = subst (λ (r : Option (Refusal C)). AttemptsAs order answer inputs r x z) is (attempts_carried prepared carried p c)
 
 -- what was carried out is what was prepared, or whatever equals it
-pub carries_same : {P C : Type 0} (makes : P → Delivery) (prepared passed : Result P (Refusal C)) (y z : HostState) (refusal : Option (Refusal C)) → CarriesOut makes passed y z refusal → passed ≡ prepared → CarriesOut makes prepared y z refusal
-carries_same {P = P} {C = C} makes prepared passed y z refusal c same = subst (λ (r : Result P (Refusal C)). CarriesOut makes r y z refusal) same c
+pub carries_same : {P C : Type 0} {order : Order} (makes : P → Delivery) (prepared passed : Result P (Refusal C)) (y z : HostState) (refusal : Option (Refusal C)) → CarriesOutAs order makes passed y z refusal → passed ≡ prepared → CarriesOutAs order makes prepared y z refusal
+carries_same {P = P} {C = C} {order = order} makes prepared passed y z refusal c same = subst (λ (r : Result P (Refusal C)). CarriesOutAs order makes r y z refusal) same c
 
 -- the attempt, and then its complaint
-pub obeys : {C : Type 0} (line : Refusal C → List ℕ) (answer : Files → Answer C) (named : List NamedInput) (refusal : Option (Refusal C)) (x y z : HostState) → Attempts answer named refusal x y → WritesComplaint (line_of line refusal) y z → (refusal ≡ None → z ≡ y) → Obeys line answer named refusal x z
+pub obeys : {C : Type 0} {order : Order} (line : Refusal C → List ℕ) (answer : Held → Answer C) (named : List NamedInput) (refusal : Option (Refusal C)) (x y z : HostState) → AttemptsAs order answer named refusal x y → WritesComplaint (line_of line refusal) y z → (refusal ≡ None → z ≡ y) → Obeys line answer named refusal x z
 obeys {C = C} line answer named refusal x y z t c silent = record {
   report = t.report;
   complaint = c.complaint;
@@ -248,8 +255,8 @@ obeys {C = C} line answer named refusal x y z t c silent = record {
     once = subst (λ (n : ℕ). (z.faults.notes ≡ n) ⊎ (z.faults.notes ≡ next_count n)) t.notes c.complains.once;
     steady = λ rooms told fits. let after = t.note_room rooms told in c.complains.steady after.0 after.1 (subst (λ (n : ℕ). length (line_of line refusal) ≤ n) (sym after.2) fits) ∙ t.notes;
   };
-  answered = λ files told. same (answer files) (t.answered files told);
-  complete = λ files told no_fault. complete (answer files) (t.answered files told) no_fault;
+  answered = λ files told. same (answer (held_by files named)) (t.answered files told);
+  complete = λ files told no_fault. complete (answer (held_by files named)) (t.answered files told) no_fault;
 }
   where
     no_read : refusal ≡ None → refusal ≡ Some ReadFault → ⊥
@@ -282,11 +289,12 @@ obeys {C = C} line answer named refusal x y z t c silent = record {
     complete : (a : Answer C) → EndsAs a refusal t.report t.outputs t.ended x y → NoneRose x z → (refusal ≡ refusal_of a) ⊎ (refusal ≡ Some OutOfMemory)
     complete a d no_fault = by_cause a no_fault d.truthful
 
-pub carried_out : {P C : Type 0} (makes : P → Delivery) (plan : P) (x y : HostState) (outcome : Result (Unit {0}) Failed) → Delivers (makes plan).outputs (makes plan).report x y outcome → CarriesOut {C = C} makes (Ok plan) x y (delivery_refusal outcome)
-carried_out makes plan x y outcome d = record { ok = (outcome, refl, d); err = tt }
+pub carried_out : {P C : Type 0} {order : Order} (makes : P → Delivery) (plan : P) (x y : HostState) (outcome : Result (Unit {0}) Failed) → Delivers (makes plan).outputs (makes plan).report x y outcome →
+    Follows (DeliversAs order (length x.ended + 2) (makes plan).outputs (makes plan).report) x y outcome → CarriesOutAs {C = C} order makes (Ok plan) x y (delivery_refusal outcome)
+carried_out makes plan x y outcome d f = record { ok = (outcome, refl, d, f); err = tt }
 
-pub attempts_no_usage : {P C : Type 0} {inputs : List NamedInput} (makes : P → Delivery) (answer : Files → Answer C) (x y z : HostState) (prepared : Result P (Refusal C)) (carried refusal : Option (Refusal C))
-    → Prepares makes answer inputs x y prepared → CarriesOut makes prepared y z carried → carried ≡ refusal → refusal ≡ Some Usage → ⊥
+pub attempts_no_usage : {P C : Type 0} {inputs : List NamedInput} {order : Order} (makes : P → Delivery) (answer : Held → Answer C) (x y z : HostState) (prepared : Result P (Refusal C)) (carried refusal : Option (Refusal C))
+    → Prepares makes answer inputs x y prepared → CarriesOutAs order makes prepared y z carried → carried ≡ refusal → refusal ≡ Some Usage → ⊥
 attempts_no_usage {P = P} {C = C} {inputs = inputs} makes answer x y z (Ok plan) carried refusal p c same is = not_fault c.ok.0 (sym c.ok.1 ∙ same ∙ is)
   where
     not_fault : (outcome : Result (Unit {0}) Failed) → delivery_refusal {C = C} outcome ≡ Some Usage → ⊥
@@ -298,8 +306,8 @@ attempts_no_usage {P = P} {C = C} {inputs = inputs} makes answer x y z (Err why)
     inside r h = cc
 
 -- words that say no command
-pub attempts_usage : {C : Type 0} (x : HostState) → Attempts {C = C} (λ (files : Files). refused Usage) [] (Some Usage) x x
-attempts_usage x = record {
+pub attempts_usage : {C : Type 0} {order : Order} (x : HostState) → AttemptsAs {C = C} order (λ (held : Held). refused Usage) [] (Some Usage) x x
+attempts_usage {order = order} x = record {
   report = [];
   outputs = [];
   ended = [];
@@ -326,4 +334,5 @@ attempts_usage x = record {
     steady_inputs = λ steady other. refl;
     enough = λ rooms told have fits. (inl refl, refl);
   };
+  calls = attempts_by_nothing order x;
 }

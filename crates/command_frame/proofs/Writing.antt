@@ -3,8 +3,13 @@ use Rattle.std.proofs.Common.{inl, inr, Result, Ok, Err, ℕ, List, [], ◌++◌
 use Rattle.std.proofs.lemmas.List.{append-nil}
 use Rattle.snd_host.specs.Host.{HostState, Faults, HasCause, CountsWrite, WritesAll, IsPrefix, rooms_less}
 use Rattle.snd_host.proofs.Writes.{wrote_then, wrote_nothing, counts_ok, index-rooms_less, rose}
-use Rattle.command_frame.specs.Conduct.{WritesComplaint}
+use Rattle.snd_host.specs.Follows.{AreWrites, Follows}
+use Rattle.snd_host.specs.declared.host.Failed.{Failed}
+use Rattle.snd_host.proofs.CallsInOrder.{no_writes}
+use Rattle.command_frame.specs.InOrder.{Then}
+use Rattle.command_frame.specs.Conduct.{WritesComplaint, WritesLine}
 use Rattle.command_frame.proofs.Places.{prefix_after}
+use Rattle.command_frame.proofs.Sequences.{can_write, joined_writes, follows_as, follows_then, follows_failed}
 
 -- a prefix of a front is a prefix of the whole
 front_prefix : (part front back : List ℕ) → IsPrefix part front → IsPrefix part (front ++ back)
@@ -50,15 +55,35 @@ then_second {T = T} {T' = T'} {E = E} file xs ys a b c x (Err e) first second = 
   steady = λ rooms told fits. second.steady (rooms_less rooms file (length xs)) (first.wrote.rooms rooms told) (omega (arith, index-rooms_less rooms file (length xs), length-append xs ys));
 }
 
-pub complained : {T E : Type 0} (line : List ℕ) (a b : HostState) (r : Result T E) → WritesAll 1 line a b r → WritesComplaint line a b
-complained line a b (Ok x) w = record {
+-- a line is written in pieces
+
+pub line_of_write : {T : Type 0} (line : List ℕ) (a b : HostState) (r : Result T Failed) → WritesAll 1 line a b r → Follows (AreWrites 1 line) a b r → WritesLine line a b r
+line_of_write line a b r wrote calls = record { wrote = wrote; calls = calls }
+
+pub line_failed : {T : Type 0} (xs ys : List ℕ) (a b : HostState) (e : Failed) → WritesLine {T = T} xs a b (Err e) → WritesLine {T = T} (xs ++ ys) a b (Err e)
+line_failed {T = T} xs ys a b e w = record {
+  wrote = failed_first 1 xs ys a b e w.wrote;
+  calls = follows_as {T = T} (Then (AreWrites 1 xs) (AreWrites 1 ys)) (AreWrites 1 (xs ++ ys)) a b (Err e) (joined_writes 1 xs ys)
+      (follows_failed {T = T} {U = T} (AreWrites 1 xs) (AreWrites 1 ys) a b e e w.calls (can_write 1 ys));
+}
+
+pub line_then : {T U : Type 0} (xs ys : List ℕ) (a b c : HostState) (x : T) (r : Result U Failed) → WritesLine {T = T} xs a b (Ok x) → WritesLine ys b c r → WritesLine (xs ++ ys) a c r
+line_then {T = T} {U = U} xs ys a b c x r first second = record {
+  wrote = then_second 1 xs ys a b c x r first.wrote second.wrote;
+  calls = follows_as (Then (AreWrites 1 xs) (AreWrites 1 ys)) (AreWrites 1 (xs ++ ys)) a c r (joined_writes 1 xs ys)
+      (follows_then {T = T} {U = U} (AreWrites 1 xs) (AreWrites 1 ys) a b c x r first.calls second.calls);
+}
+
+complained_by : {T : Type 0} (line : List ℕ) (a b : HostState) (r : Result T Failed) → WritesAll 1 line a b r → Follows (AreWrites 1 line) a b r → WritesComplaint line a b
+complained_by line a b (Ok x) w f = record {
   complaint = line;
   complains = record { part = record { rest = []; split = append-nil line }; all = λ no_fault. refl; once = inl (w.cause.notes refl).same; steady = λ rooms told fits. (w.cause.notes refl).same };
   wrote = w.wrote;
   outputs = w.cause.outputs_kept refl;
   last = w.last_kept refl;
+  calls = record { note = f.calls; since = f.since; noted = inl f.does };
 }
-complained line a b (Err e) w = record {
+complained_by line a b (Err e) w f = record {
   complaint = w.part.part;
   complains = record {
     part = w.part.prefix;
@@ -69,7 +94,11 @@ complained line a b (Err e) w = record {
   wrote = w.part.wrote;
   outputs = w.cause.outputs_kept refl;
   last = w.last_kept refl;
+  calls = record { note = f.calls; since = f.since; noted = inr f.does };
 }
+
+pub complained : {T : Type 0} (line : List ℕ) (a b : HostState) (r : Result T Failed) → WritesLine line a b r → WritesComplaint line a b
+complained line a b r w = complained_by line a b r w.wrote w.calls
 
 pub silent : (a : HostState) → WritesComplaint [] a a
 silent a = record {
@@ -78,4 +107,5 @@ silent a = record {
   wrote = wrote_nothing 1 a;
   outputs = refl;
   last = refl;
+  calls = record { note = []; since = refl; noted = inl (no_writes 1) };
 }

@@ -1,10 +1,14 @@
--- How a command may end, and what it leaves on the host. `answer` is what it answers, by what the names of its inputs hold.
+-- How a command may end, and what it leaves on the host. `answer` is what it answers, by what its inputs hold, in their order.
 use Rattle.std.specs.Prelude.{◌≡◌, ◌≢◌, ℕ, ◌+◌, ◌≤◌, ◌⊎◌, Bool, List, [], length, Option, Some, None, Result, Ok, Err, IfOk, IfErr, IsSome, IsTrue, slice_index}
-use Rattle.snd_host.specs.Host.{HostState, Files, Output, IfTold, next_count, Rose, InputFailed, OutputFailed, IsPrefix, ChangesInputs, Writes}
+use Rattle.snd_host.specs.Calls.{Call}
+use Rattle.snd_host.specs.Follows.{Since, AreWrites, Follows}
+use Rattle.snd_host.specs.Host.{HostState, Files, Output, IfTold, next_count, Rose, InputFailed, OutputFailed, IsPrefix, ChangesInputs, Writes, WritesAll}
 use Rattle.snd_host.specs.OpenedInputs.{OpensInOrder}
 use Rattle.snd_host.specs.declared.host.Failed.{Failed}
 use Rattle.command_frame.specs.Delivery.{Gains, IsBegun, EndedAreWhole, AreEndedInOrder, HaveRooms, Delivers, all_ended}
-use Rattle.command_frame.specs.NamedInputs.{NamedInput, are_some, inputs_read, inputs_reached}
+use Rattle.command_frame.specs.NamedInputs.{NamedInput, Held, are_some, inputs_read, inputs_reached, held_by, held_of, TakesInOrder}
+use Rattle.command_frame.specs.OutputCalls.{Order, at_once, in_turn, DeliversAs}
+use Rattle.command_frame.specs.RunCalls.{EndsRefused, AttemptsBy, NotesLine}
 use Rattle.command_frame.specs.Answer.{Answer, done, refused, refusal_of, outputs_of, report_of, line_of, delivery_refusal}
 use Rattle.command_frame.specs.declared.refusals.Refusal.{Refusal}
 use Rattle.command_frame.specs.declared.refusals.Refusal.TheVariants.{Usage, ReadFault, WriteFault, OutOfMemory}
@@ -65,8 +69,9 @@ pub record ReadsReached {C : Type 0} (files : Files) (inputs : List NamedInput) 
 abbrev pub ReadsInOrder : {C : Type 0} → (inputs : List NamedInput) → (refusal : Option (Refusal C)) → (old new : HostState) → Type 0
 ReadsInOrder inputs refusal old new = IfTold old.holds (λ files. ReadsReached files inputs refusal old new)
 
--- What a command of these inputs did before its complaint.
-pub record Attempts {C : Type 0} (answer : Files → Answer C) (inputs : List NamedInput) (refusal : Option (Refusal C)) (old new : HostState) : Type 0 where
+-- What a command of these inputs did before its complaint. Its outputs are made in this order.
+pub record AttemptsAs {C : Type 0} (order : Order) (answer : Held → Answer C) (inputs : List NamedInput) (refusal : Option (Refusal C))
+    (old new : HostState) : Type 0 where
   pub report : List ℕ
   pub outputs : List Output
   pub ended : List Bool
@@ -76,7 +81,22 @@ pub record Attempts {C : Type 0} (answer : Files → Answer C) (inputs : List Na
   pub notes : new.faults.notes ≡ old.faults.notes
   pub note_room : IfTold old.steady (λ rooms. (after : List ℕ) × (new.steady ≡ Some after) × (slice_index after 1 ≡ slice_index rooms 1))
   -- where it is told what names hold
-  pub answered : IfTold old.holds (λ files. EndsAs (answer files) refusal report outputs ended old new)
+  pub answered : IfTold old.holds (λ files. EndsAs (answer (held_by files inputs)) refusal report outputs ended old new)
+  -- the calls that it made
+  pub calls : AttemptsBy order answer inputs refusal old new
+
+-- The same of a command that makes its outputs at once,
+abbrev pub Attempts : {C : Type 0} → (answer : Held → Answer C) → (inputs : List NamedInput) → (refusal : Option (Refusal C)) → (old new : HostState) → Type 0
+Attempts answer inputs refusal old new = AttemptsAs at_once answer inputs refusal old new
+
+-- and of one that makes them one after another.
+abbrev pub AttemptsInTurn : {C : Type 0} → (answer : Held → Answer C) → (inputs : List NamedInput) → (refusal : Option (Refusal C)) → (old new : HostState) → Type 0
+AttemptsInTurn answer inputs refusal old new = AttemptsAs in_turn answer inputs refusal old new
+
+-- A line of complaint is written whole, or a prefix of it where a write fails.
+pub record WritesLine {T : Type 0} (line : List ℕ) (old new : HostState) (result : Result T Failed) : Type 0 where
+  pub wrote : WritesAll 1 line old new result
+  pub calls : Follows (AreWrites 1 line) old new result
 
 -- The complaint grew by a prefix of its line, and by all of it where no write to it failed; at most one failed. A steady host with room for it
 -- fails none.
@@ -93,9 +113,10 @@ pub record WritesComplaint (line : List ℕ) (old new : HostState) : Type 0 wher
   pub wrote : Writes 1 complaint old new
   pub outputs : new.faults.outputs ≡ old.faults.outputs
   pub last : new.failed_last ≡ old.failed_last
+  pub calls : NotesLine line old new
 
 -- What a command of these inputs did, its complaint included. `line` is the line of a refusal.
-pub record Obeys {C : Type 0} (line : Refusal C → List ℕ) (answer : Files → Answer C) (inputs : List NamedInput) (refusal : Option (Refusal C))
+pub record Obeys {C : Type 0} (line : Refusal C → List ℕ) (answer : Held → Answer C) (inputs : List NamedInput) (refusal : Option (Refusal C))
     (old new : HostState) : Type 0 where
   pub report : List ℕ
   pub complaint : List ℕ
@@ -107,8 +128,8 @@ pub record Obeys {C : Type 0} (line : Refusal C → List ℕ) (answer : Files �
   pub ok : refusal ≡ None → new.faults ≡ old.faults
   pub complains : HasComplaint (line_of line refusal) complaint old new
   -- where it is told what names hold
-  pub answered : IfTold old.holds (λ files. EndsAs (answer files) refusal report outputs ended old new)
-  pub complete : IfTold old.holds (λ files. NoneRose old new → (refusal ≡ refusal_of (answer files)) ⊎ (refusal ≡ Some OutOfMemory))
+  pub answered : IfTold old.holds (λ files. EndsAs (answer (held_by files inputs)) refusal report outputs ended old new)
+  pub complete : IfTold old.holds (λ files. NoneRose old new → (refusal ≡ refusal_of (answer (held_by files inputs))) ⊎ (refusal ≡ Some OutOfMemory))
 
 -- the outputs and the report that a plan makes
 pub record Delivery : Type 0 where
@@ -128,8 +149,24 @@ abbrev pub refusal_in : {P C : Type 0} → Result P (Refusal C) → Option (Refu
 refusal_in (Ok plan) = None
 refusal_in (Err refusal) = Some refusal
 
+-- How the calls for inputs ended that gave these bytes: all were made, and the plan is what is answered by the bytes, or there is none.
+abbrev pub EndsPrepared : {P C : Type 0} → (makes : P → Delivery) → (answer : Held → Answer C) → List NamedInput → Result P (Refusal C)
+    → (given : List (List ℕ)) → (taken : List Call) → Type 0
+EndsPrepared makes answer inputs (Ok plan) given taken =
+    TakesInOrder inputs given taken × (answer (held_of given) ≡ done (makes plan).outputs (makes plan).report)
+EndsPrepared makes answer inputs (Err why) given taken =
+    EndsRefused (TakesInOrder inputs given) (answer (held_of given) ≡ refused why) why taken
+
+-- The calls for inputs were made, and no others.
+pub record PreparesBy {P C : Type 0} (makes : P → Delivery) (answer : Held → Answer C) (inputs : List NamedInput) (old new : HostState)
+    (result : Result P (Refusal C)) : Type 0 where
+  pub given : List (List ℕ)
+  pub taken : List Call
+  pub since : Since taken old new
+  pub ends : EndsPrepared makes answer inputs result given taken
+
 -- Inputs were read and a plan was made by them, or it is told why there is none; nothing was written.
-pub record Prepares {P C : Type 0} (makes : P → Delivery) (answer : Files → Answer C) (inputs : List NamedInput) (old new : HostState)
+pub record Prepares {P C : Type 0} (makes : P → Delivery) (answer : Held → Answer C) (inputs : List NamedInput) (old new : HostState)
     (result : Result P (Refusal C)) : Type 0 where
   pub others : ChangesInputs old new
   pub opened : ReadsInOrder inputs (refusal_in result) old new
@@ -137,17 +174,28 @@ pub record Prepares {P C : Type 0} (makes : P → Delivery) (answer : Files → 
   pub no_fault : (result ≡ Err ReadFault → ⊥) → new.faults.inputs ≡ old.faults.inputs
   pub no_usage : result ≡ Err Usage → ⊥
   pub no_write : result ≡ Err WriteFault → ⊥
-  pub ok : IfOk result (λ plan. IfTold old.holds (λ files. answer files ≡ done (makes plan).outputs (makes plan).report))
-  pub err : IfErr result (λ refusal. IfTold old.holds (λ files. (answer files ≡ refused refusal) ⊎ (refusal ≡ ReadFault) ⊎ (refusal ≡ OutOfMemory)))
-  pub steady : result ≡ Err ReadFault → IsSome old.steady → IfTold old.holds (λ files. answer files ≡ refused ReadFault)
+  pub ok : IfOk result (λ plan. IfTold old.holds (λ files. answer (held_by files inputs) ≡ done (makes plan).outputs (makes plan).report))
+  pub err : IfErr result (λ refusal. IfTold old.holds (λ files.
+      (answer (held_by files inputs) ≡ refused refusal) ⊎ (refusal ≡ ReadFault) ⊎ (refusal ≡ OutOfMemory)))
+  pub steady : result ≡ Err ReadFault → IsSome old.steady → IfTold old.holds (λ files. answer (held_by files inputs) ≡ refused ReadFault)
+  pub calls : PreparesBy makes answer inputs old new result
 
--- a delivery was made, and ended as the refusal says
-abbrev pub IsDelivered : {C : Type 0} → Delivery → (old new : HostState) → Option (Refusal C) → Type 0
-IsDelivered delivery old new refusal =
+-- a delivery was made, its outputs in this order, and ended as the refusal says
+abbrev pub IsDelivered : {C : Type 0} → Order → Delivery → (old new : HostState) → Option (Refusal C) → Type 0
+IsDelivered order delivery old new refusal =
     (outcome : Result (Unit {0}) Failed) × (refusal ≡ delivery_refusal outcome) × Delivers delivery.outputs delivery.report old new outcome
+    × Follows (DeliversAs order (length old.ended + 2) delivery.outputs delivery.report) old new outcome
 
--- A plan was carried out, or there was none.
-pub record CarriesOut {P C : Type 0} (makes : P → Delivery) (prepared : Result P (Refusal C)) (old new : HostState)
+-- A plan was carried out, its outputs made in this order, or there was none.
+pub record CarriesOutAs {P C : Type 0} (order : Order) (makes : P → Delivery) (prepared : Result P (Refusal C)) (old new : HostState)
     (refusal : Option (Refusal C)) : Type 0 where
-  pub ok : IfOk prepared (λ plan. IsDelivered (makes plan) old new refusal)
+  pub ok : IfOk prepared (λ plan. IsDelivered order (makes plan) old new refusal)
   pub err : IfErr prepared (λ why. (refusal ≡ Some why) × (new ≡ old))
+
+-- The same of outputs that are made at once,
+abbrev pub CarriesOut : {P C : Type 0} → (makes : P → Delivery) → (prepared : Result P (Refusal C)) → (old new : HostState) → Option (Refusal C) → Type 0
+CarriesOut makes prepared old new refusal = CarriesOutAs at_once makes prepared old new refusal
+
+-- and of those that are made one after another.
+abbrev pub CarriesOutInTurn : {P C : Type 0} → (makes : P → Delivery) → (prepared : Result P (Refusal C)) → (old new : HostState) → Option (Refusal C) → Type 0
+CarriesOutInTurn makes prepared old new refusal = CarriesOutAs in_turn makes prepared old new refusal

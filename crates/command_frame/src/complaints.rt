@@ -1,8 +1,8 @@
 // The line of complaint.
 ghost use Rattle.std.specs.Prelude.{◌≡◌, ℕ, List, ◌++◌, Option, None, decimal};
-ghost use Rattle.snd_host.specs.Host.{HostState, WritesAll};
+ghost use Rattle.snd_host.specs.Host.{HostState};
 ghost use Rattle.command_frame.specs.Answer.{line_of};
-ghost use Rattle.command_frame.specs.Conduct.{WritesComplaint};
+ghost use Rattle.command_frame.specs.Conduct.{WritesComplaint, WritesLine};
 ghost use Rattle.command_frame.specs.declared.refusals.Refusal.{Refusal};
 
 use crate::Refusal;
@@ -18,7 +18,7 @@ pub trait Complaint: Sized {
 
     /// Writes the line of a refusal, or a prefix of it where a write fails.
     fn write_line<H: Host>(refusal: &Refusal<Self>, host: &mut H) -> Result<(), Failed>
-        ensures { WritesAll 1 (line refusal.now) (H.state host.old) (H.state host.new) result };
+        ensures { WritesLine (line refusal.now) (H.state host.old) (H.state host.new) result };
 }
 
 /// Writes a number between two texts to the complaint, in decimal digits.
@@ -28,7 +28,7 @@ pub fn note_number<H: Host>(
     number: usize,
     tail: &[u8],
 ) -> Result<(), Failed>
-    ensures { WritesAll 1 (head.now ++ decimal number ++ tail.now) (H.state host.old) (H.state host.new) result }
+    ensures { WritesLine (head.now ++ decimal number ++ tail.now) (H.state host.old) (H.state host.new) result }
 {
     write_all(host, COMPLAINT, head)?;
     let mut buffer = itoa::Buffer::new();

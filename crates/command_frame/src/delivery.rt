@@ -1,9 +1,11 @@
 // Plans, and how they are carried out: the outputs are created, written and ended, and then the report is written.
-ghost use Rattle.std.specs.Prelude.{◌≡◌, ◌<◌, length, IfOk};
+ghost use Rattle.std.specs.Prelude.{◌≡◌, ◌+◌, ◌<◌, length, IfOk};
+ghost use Rattle.snd_host.specs.Follows.{Follows};
 ghost use Rattle.snd_host.specs.Host.{HostState};
 ghost use Rattle.command_frame.specs.Conduct.{CarriesOut};
 ghost use Rattle.command_frame.specs.Delivery.{CanDeliver, Delivers};
 ghost use Rattle.command_frame.specs.Making.{MadeAtOnce};
+ghost use Rattle.command_frame.specs.OutputCalls.{at_once as made_at_once, DeliversAs};
 ghost use Rattle.command_frame.specs.Plan.{planned_outputs, plan_makes, stream_makes};
 
 use crate::pieces::NoPieces;
@@ -38,7 +40,9 @@ pub struct StreamedPlan<'a, P: Pieces + Drop> {
 /// Writes the output, if there is one, and then the report.
 fn deliver<H: Host>(host: &mut H, plan: &Plan<'_>) -> Result<(), Failed>
     requires { CanDeliver (H.state host.old) }
-    ensures { Delivers (planned_outputs plan.now.output) plan.now.report.items (H.state host.old) (H.state host.new) result }
+    ensures delivers { Delivers (planned_outputs plan.now.output) plan.now.report.items (H.state host.old) (H.state host.new) result }
+    ensures calls { let outputs = planned_outputs plan.now.output in
+        Follows (DeliversAs made_at_once (length (H.state host.old).ended + 2) outputs plan.now.report.items) (H.state host.old) (H.state host.new) result }
 {
     match &plan.output {
         Some(output) => stream(

@@ -1,10 +1,12 @@
 // Outputs of a list, which are created, written and ended one after another, and then the report.
 ghost use Rattle.std.specs.Prelude.{◌≡◌, ◌+◌, ◌<◌, [], ◌∷◌, length, map, IfOk};
+ghost use Rattle.snd_host.specs.Follows.{Follows};
 ghost use Rattle.snd_host.specs.Host.{HostState};
-ghost use Rattle.command_frame.specs.Conduct.{CarriesOut};
+ghost use Rattle.command_frame.specs.Conduct.{CarriesOutInTurn};
 ghost use Rattle.command_frame.specs.Delivery.{CanDeliverAll, Delivers};
 ghost use Rattle.command_frame.specs.Listed.{listed_output, list_makes};
 ghost use Rattle.command_frame.specs.Making.{MadeInTurn};
+ghost use Rattle.command_frame.specs.OutputCalls.{MakesAtOnce, MakesInTurn, in_turn as made_in_turn, DeliversAs};
 ghost use Rattle.command_frame.specs.Stream.{Fills};
 
 use crate::streaming::{REPORT, fill_outputs};
@@ -31,6 +33,8 @@ fn fill_one<H: Host, P: Pieces + Drop>(host: &mut H, output: ListedOutput<P>) ->
     requires { CanDeliverAll 1 (H.state host.old) }
     ensures fills { Fills (listed_output P.to_come output ∷ []) (H.state host.old) (H.state host.new) result }
     ensures in_turn { MadeInTurn (H.state host.old) (H.state host.new) }
+    ensures calls { let made = listed_output P.to_come output ∷ [] in
+        Follows (MakesAtOnce (length (H.state host.old).ended + 2) made) (H.state host.old) (H.state host.new) result }
 {
     let ListedOutput {
         name,
@@ -48,6 +52,8 @@ fn fill_all<H: Host, P: Pieces + Drop>(
     requires { CanDeliverAll (length outputs.items) (H.state host.old) }
     ensures fills { Fills (map (listed_output P.to_come) outputs.items) (H.state host.old) (H.state host.new) result }
     ensures in_turn { MadeInTurn (H.state host.old) (H.state host.new) }
+    ensures calls { let made = map (listed_output P.to_come) outputs.items in
+        Follows (MakesInTurn (length (H.state host.old).ended + 2) made) (H.state host.old) (H.state host.new) result }
 {
     for output in outputs {
         fill_one(host, output)?;
@@ -62,6 +68,8 @@ fn deliver_all<H: Host, P: Pieces + Drop>(host: &mut H, plan: ListPlan<P>) -> Re
     ensures delivers { let makes = list_makes P.to_come plan in
         Delivers makes.outputs makes.report (H.state host.old) (H.state host.new) result }
     ensures in_turn { MadeInTurn (H.state host.old) (H.state host.new) }
+    ensures calls { let makes = list_makes P.to_come plan in
+        Follows (DeliversAs made_in_turn (length (H.state host.old).ended + 2) makes.outputs makes.report) (H.state host.old) (H.state host.new) result }
 {
     let ListPlan { outputs, report } = plan;
     fill_all(host, outputs)?;
@@ -74,7 +82,7 @@ pub fn carry_all<H: Host, P: Pieces + Drop, C: Drop>(
     prepared: Result<ListPlan<P>, Refusal<C>>,
 ) -> Option<Refusal<C>>
     requires { IfOk prepared (λ plan. CanDeliverAll (length plan.outputs.items) (H.state host.old)) }
-    ensures carries { CarriesOut (list_makes P.to_come) prepared (H.state host.old) (H.state host.new) result }
+    ensures carries { CarriesOutInTurn (list_makes P.to_come) prepared (H.state host.old) (H.state host.new) result }
     ensures in_turn { MadeInTurn (H.state host.old) (H.state host.new) }
 {
     match prepared {

@@ -1,10 +1,12 @@
 // Two outputs that are created, written piece by piece and ended, and then the report.
-ghost use Rattle.std.specs.Prelude.{◌≡◌, ◌≢◌, ◌-◌, ◌<◌, ◌≤◌, ◌++◌, [], length, true, false, Option, Some, option_map, OnOk, slice_get};
+ghost use Rattle.std.specs.Prelude.{◌≡◌, ◌≢◌, ◌+◌, ◌-◌, ◌<◌, ◌≤◌, ◌++◌, [], ◌∷◌, length, true, false, Option, Some, option_map, OnOk, slice_get};
+ghost use Rattle.snd_host.specs.Follows.{Follows};
 ghost use Rattle.snd_host.specs.Host.{HostState};
 ghost use Rattle.command_frame.specs.Delivery.{CanDeliver, Delivers};
 ghost use Rattle.command_frame.specs.Ending.{FinishesInTurn};
 ghost use Rattle.command_frame.specs.Making.{AreEmpty, MadeAtOnce};
-ghost use Rattle.command_frame.specs.Stream.{Begins, Puts, Ends, Fills, AreOpen, stream_outputs};
+ghost use Rattle.command_frame.specs.OutputCalls.{both, AreWoven, AreCreations, AreEndings, MakesAtOnce, at_once as made_at_once, DeliversAs};
+ghost use Rattle.command_frame.specs.Stream.{Begins, Puts, Ends, Fills, AreOpen, pair, stream_outputs};
 
 use crate::Pieces;
 use snd_host::{Failed, Host, OutFile, write_all};
@@ -23,6 +25,8 @@ fn begin<H: Host>(host: &mut H, wave: &str, trace: Option<&str>) -> Result<Targe
     requires { CanDeliver (H.state host.old) }
     ensures begins { Begins wave.now (option_map (λ name. name.now) trace.entry) (H.state host.old) (H.state host.new) result }
     ensures empty { AreEmpty (H.state host.old) (H.state host.new) }
+    ensures calls { let outputs = pair wave.now (option_map (λ name. name.now) trace.entry) [] [] in
+        Follows (AreCreations (length (H.state host.old).ended + 2) outputs) (H.state host.old) (H.state host.new) result }
 {
     let wave = host.create(wave)?;
     match trace {
@@ -40,7 +44,9 @@ fn begin<H: Host>(host: &mut H, wave: &str, trace: Option<&str>) -> Result<Targe
 /// Writes a piece of each output.
 fn put<H: Host>(host: &mut H, targets: Targets, wave: &[u8], trace: &[u8]) -> Result<(), Failed>
     requires { AreOpen (H.state host.old).ended targets }
-    ensures { Puts targets wave.now trace.now (H.state host.old) (H.state host.new) result }
+    ensures puts { Puts targets wave.now trace.now (H.state host.old) (H.state host.new) result }
+    ensures calls { let all = both targets.wave.0 (option_map (λ file. file.0) targets.trace) wave.now trace.now in
+        Follows (AreWoven all) (H.state host.old) (H.state host.new) result }
 {
     write_all(host, targets.wave, wave)?;
     match targets.trace {
@@ -54,6 +60,9 @@ fn pump<H: Host, P: Pieces>(host: &mut H, targets: Targets, source: &mut P) -> R
     requires { AreOpen (H.state host.old).ended targets }
     ensures puts { let made = P.to_come source.old in
         Puts targets made.wave made.trace (H.state host.old) (H.state host.new) result }
+    ensures calls { let made = P.to_come source.old in
+        let all = both targets.wave.0 (option_map (λ file. file.0) targets.trace) made.wave made.trace in
+        Follows (AreWoven all) (H.state host.old) (H.state host.new) result }
     ensures report { P.report source.new ≡ P.report source.old }
     ensures is_done { OnOk result (P.is_done source.new ≡ true) }
 {
@@ -73,7 +82,8 @@ fn end_in_turn<H: Host>(host: &mut H, earlier: OutFile, later: OutFile) -> Resul
     requires apart { earlier.0 ≢ later.0 }
     requires earlier_open { slice_get (H.state host.old).ended (earlier.0 - 2) ≡ Some false }
     requires later_open { slice_get (H.state host.old).ended (later.0 - 2) ≡ Some false }
-    ensures { FinishesInTurn earlier.0 later.0 (H.state host.old) (H.state host.new) result }
+    ensures finishes { FinishesInTurn earlier.0 later.0 (H.state host.old) (H.state host.new) result }
+    ensures calls { Follows (AreEndings ((earlier.0, []) ∷ (later.0, []) ∷ [])) (H.state host.old) (H.state host.new) result }
 {
     host.finish(earlier)?;
     host.finish(later)
@@ -82,7 +92,9 @@ fn end_in_turn<H: Host>(host: &mut H, earlier: OutFile, later: OutFile) -> Resul
 /// Ends the outputs, in their order.
 fn end<H: Host>(host: &mut H, targets: Targets) -> Result<(), Failed>
     requires { AreOpen (H.state host.old).ended targets }
-    ensures { Ends targets (H.state host.old) (H.state host.new) result }
+    ensures ends { Ends targets (H.state host.old) (H.state host.new) result }
+    ensures calls { let all = both targets.wave.0 (option_map (λ file. file.0) targets.trace) [] [] in
+        Follows (AreEndings all) (H.state host.old) (H.state host.new) result }
 {
     match targets.trace {
         Some(file) => end_in_turn(host, targets.wave, file),
@@ -103,6 +115,8 @@ pub(crate) fn fill_outputs<H: Host, P: Pieces>(
         Fills outputs (H.state host.old) (H.state host.new) result }
     ensures at_once { let outputs = stream_outputs wave.now (option_map (λ name. name.now) trace.entry) head.now (P.to_come source.old) in
         MadeAtOnce outputs (H.state host.old) (H.state host.new) }
+    ensures calls { let outputs = stream_outputs wave.now (option_map (λ name. name.now) trace.entry) head.now (P.to_come source.old) in
+        Follows (MakesAtOnce (length (H.state host.old).ended + 2) outputs) (H.state host.old) (H.state host.new) result }
     ensures report { OnOk result (P.report source.new ≡ P.report source.old) }
     ensures is_done { OnOk result (P.is_done source.new ≡ true) }
 {
@@ -125,6 +139,8 @@ pub fn stream<H: Host, P: Pieces>(
         Delivers outputs (P.report source.old) (H.state host.old) (H.state host.new) result }
     ensures at_once { let outputs = stream_outputs wave.now (option_map (λ name. name.now) trace.entry) head.now (P.to_come source.old) in
         MadeAtOnce outputs (H.state host.old) (H.state host.new) }
+    ensures calls { let outputs = stream_outputs wave.now (option_map (λ name. name.now) trace.entry) head.now (P.to_come source.old) in
+        Follows (DeliversAs made_at_once (length (H.state host.old).ended + 2) outputs (P.report source.old)) (H.state host.old) (H.state host.new) result }
 {
     fill_outputs(host, wave, trace, head, source)?;
     write_all(host, REPORT, source.report())

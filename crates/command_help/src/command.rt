@@ -1,6 +1,7 @@
 // The commands `help` and `version`: texts that need no input.
 ghost use Rattle.std.specs.Prelude.{◌≡◌, []};
-ghost use Rattle.snd_host.specs.Host.{HostState, Files};
+ghost use Rattle.snd_host.specs.Host.{HostState};
+ghost use Rattle.command_frame.specs.NamedInputs.{Held};
 ghost use Rattle.command_frame.specs.Conduct.{Plans, Attempts};
 ghost use Rattle.command_frame.specs.Delivery.{CanDeliver};
 ghost use Rattle.command_frame.specs.Plan.{plan_makes};
@@ -50,7 +51,7 @@ fn plan<'a>(alloc: Global, text: &[u8]) -> Result<Plan<'a>, Refusal<Cause>>
 /// Reports the commands with their words, and where the formats are described.
 pub fn help<H: Host>(alloc: Global, host: &mut H) -> Option<Refusal<Cause>>
     requires { CanDeliver (H.state host.old) }
-    ensures attempts { let answer = λ (files : Files). help_answer in
+    ensures attempts { let answer = λ (held : Held). help_answer in
         Attempts answer [] result (H.state host.old) (H.state host.new) }
     ensures not_usage { result ≡ Some Refusal.Usage → ⊥ }
 {
@@ -61,7 +62,7 @@ pub fn help<H: Host>(alloc: Global, host: &mut H) -> Option<Refusal<Cause>>
 /// Reports the program's name and number.
 pub fn version<H: Host>(alloc: Global, host: &mut H) -> Option<Refusal<Cause>>
     requires { CanDeliver (H.state host.old) }
-    ensures attempts { let answer = λ (files : Files). version_answer in
+    ensures attempts { let answer = λ (held : Held). version_answer in
         Attempts answer [] result (H.state host.old) (H.state host.new) }
     ensures not_usage { result ≡ Some Refusal.Usage → ⊥ }
 {

@@ -1,7 +1,8 @@
 // The command `info`: the fields of an SPC file.
 ghost use Rattle.std.specs.Prelude.{◌≡◌, ◌++◌, OnOk, IfOk, length, codes, [], ◌∷◌};
-ghost use Rattle.snd_host.specs.Host.{HostState, Files};
+ghost use Rattle.snd_host.specs.Host.{HostState};
 ghost use Rattle.input_files.specs.Inputs.{spc_input};
+ghost use Rattle.command_frame.specs.NamedInputs.{Held, first};
 ghost use Rattle.command_frame.specs.Conduct.{Plans, Prepares, Attempts};
 ghost use Rattle.command_frame.specs.Delivery.{CanDeliver};
 ghost use Rattle.command_frame.specs.Plan.{plan_makes};
@@ -144,7 +145,7 @@ fn prepare<H: Host>(
     host: &mut H,
     input: &str,
 ) -> Result<Plan<'static>, Refusal<Cause>>
-    ensures { let answer = λ (files : Files). info_answer (files input.now) in
+    ensures { let answer = λ (held : Held). info_answer (first held) in
         Prepares plan_makes answer (spc_input input.now ∷ []) (H.state host.old) (H.state host.new) result }
 {
     let bytes = read_input(
@@ -160,7 +161,7 @@ fn prepare<H: Host>(
 /// Reports the fields of the SPC file that the input holds.
 pub fn info<H: Host>(alloc: Global, host: &mut H, input: &str) -> Option<Refusal<Cause>>
     requires { CanDeliver (H.state host.old) }
-    ensures attempts { let answer = λ (files : Files). info_answer (files input.now) in
+    ensures attempts { let answer = λ (held : Held). info_answer (first held) in
         Attempts answer (spc_input input.now ∷ []) result (H.state host.old) (H.state host.new) }
     ensures not_usage { result ≡ Some Refusal.Usage → ⊥ }
 {

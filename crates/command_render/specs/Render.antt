@@ -2,13 +2,12 @@
 use Rattle.std.specs.Prelude.{ℕ, ℤ, List, [], ◌∷◌, Option, Some, None, is_some, unwrap_or}
 use Rattle.std.specs.Option.{option_map}
 use Rattle.wav_form.specs.Wave.{stereo_wave}
-use Rattle.snd_host.specs.Host.{Files}
 use Rattle.lock_step.specs.declared.counts.Counts.{Counts}
 use Rattle.render_core.specs.Fade.{faded_frames}
 use Rattle.spc_form.specs.Tags.{length_of}
 use Rattle.spc_form.specs.declared.tags.Length.{Length}
 use Rattle.command_frame.specs.Answer.{Answer, done}
-use Rattle.command_frame.specs.NamedInputs.{NamedInput}
+use Rattle.command_frame.specs.NamedInputs.{NamedInput, Held, first, second}
 use Rattle.command_frame.specs.Stream.{pair}
 use Rattle.input_files.specs.Reading.{answer_from}
 use Rattle.input_files.specs.Inputs.{spc_input, table_input, file_in, table_in}
@@ -66,8 +65,8 @@ render_answer wave options held_file held_table =
     answer_from (file_in held_file) (file_answer wave options held_table)
 
 -- what is answered, by what the inputs of these names hold
-abbrev pub render_over : (wave : List ℕ) → Options → (file table : List ℕ) → Files → Answer Cause
-render_over wave options file table = λ files. render_answer wave options (files file) (files table)
+abbrev pub render_over : (wave : List ℕ) → Options → Held → Answer Cause
+render_over wave options = λ held. render_answer wave options (first held) (second held)
 
 -- the inputs of these names, in the order in which they are read
 abbrev pub render_inputs : (file table : List ℕ) → List NamedInput

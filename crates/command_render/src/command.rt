@@ -2,8 +2,9 @@
 ghost use Rattle.std.specs.Prelude.{◌≡◌, ◌≤◌, ◌++◌, IfOk, is_some, unwrap_or, [], ◌∷◌};
 ghost use Rattle.wav_form.specs.Wave.{header_of};
 ghost use Rattle.dsp_core.specs.DspChip.{dsp_chip};
-ghost use Rattle.snd_host.specs.Host.{HostState, Files, IfTold};
+ghost use Rattle.snd_host.specs.Host.{HostState, IfTold};
 ghost use Rattle.input_files.specs.Inputs.{table_input};
+ghost use Rattle.command_frame.specs.NamedInputs.{Held, first, held_by};
 ghost use Rattle.command_frame.specs.Answer.{outputs_of};
 ghost use Rattle.command_frame.specs.Conduct.{Plans, Prepares, Attempts};
 ghost use Rattle.command_frame.specs.Delivery.{CanDeliver};
@@ -114,7 +115,7 @@ fn prepare_with<'a, H: Host>(
     options: RenderOptions<'a>,
 ) -> Result<StreamedPlan<'a, RenderFiles<Dsp>>, Refusal<Cause>>
     requires { SamplesWithinHour options.samples }
-    ensures { let answer = λ (files : Files). file_answer wave.now (options_of options.entry) (files table.now) file.now in
+    ensures { let answer = λ (held : Held). file_answer wave.now (options_of options.entry) (first held) file.now in
         Prepares (stream_makes (to_come_of dsp_chip) (report_of dsp_chip)) answer
         (table_input table.now ∷ []) (H.state host.old) (H.state host.new) result }
 {
@@ -132,7 +133,7 @@ fn prepare<'a, H: Host>(
     options: RenderOptions<'a>,
 ) -> Result<StreamedPlan<'a, RenderFiles<Dsp>>, Refusal<Cause>>
     requires { SamplesWithinHour options.samples }
-    ensures { let answer = render_over wave.now (options_of options.entry) file.now table.now in
+    ensures { let answer = render_over wave.now (options_of options.entry) in
         Prepares (stream_makes (to_come_of dsp_chip) (report_of dsp_chip)) answer
         (render_inputs file.now table.now) (H.state host.old) (H.state host.new) result }
 {
@@ -151,10 +152,11 @@ pub fn render<H: Host>(
 ) -> Option<Refusal<Cause>>
     requires outputs { CanDeliver (H.state host.old) }
     requires within_hour { SamplesWithinHour options.samples }
-    ensures attempts { let answer = render_over wave.now (options_of options.entry) file.now table.now in
+    ensures attempts { let answer = render_over wave.now (options_of options.entry) in
         Attempts answer (render_inputs file.now table.now) result (H.state host.old) (H.state host.new) }
-    ensures at_once { let answer = render_over wave.now (options_of options.entry) file.now table.now in
-        IfTold (H.state host.old).holds (λ files. MadeAtOnce (outputs_of (answer files)) (H.state host.old) (H.state host.new)) }
+    ensures at_once { let answer = render_over wave.now (options_of options.entry) in
+        IfTold (H.state host.old).holds (λ files.
+        MadeAtOnce (outputs_of (answer (held_by files (render_inputs file.now table.now)))) (H.state host.old) (H.state host.new)) }
     ensures not_usage { result ≡ Some Refusal.Usage → ⊥ }
 {
     let prepared = prepare(alloc, host, file, table, wave, options);

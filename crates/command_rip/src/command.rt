@@ -3,10 +3,11 @@ ghost use Rattle.std.specs.Prelude.{◌≡◌, ◌+◌, ◌<◌, ◌≤◌, ◌+
 ghost use Rattle.spc_form.specs.Layout.{dsp_of};
 ghost use Rattle.sample_rip.specs.Entries.{most_entries};
 ghost use Rattle.spc_form.specs.Opening.{opening_memory};
-ghost use Rattle.snd_host.specs.Host.{HostState, Files};
+ghost use Rattle.snd_host.specs.Host.{HostState};
 ghost use Rattle.input_files.specs.Inputs.{spc_input};
+ghost use Rattle.command_frame.specs.NamedInputs.{Held, first};
 ghost use Rattle.command_frame.specs.Answer.{done};
-ghost use Rattle.command_frame.specs.Conduct.{Plans, Attempts};
+ghost use Rattle.command_frame.specs.Conduct.{Plans, AttemptsInTurn};
 ghost use Rattle.command_frame.specs.Delivery.{CanDeliverAll};
 ghost use Rattle.command_frame.specs.Listed.{listed_output, list_makes};
 ghost use Rattle.command_frame.specs.Making.{MadeInTurn};
@@ -137,8 +138,8 @@ pub fn rip<H: Host>(
     range: Option<(u8, u8)>,
 ) -> Option<Refusal<Cause>>
     requires { CanDeliverAll most_entries (H.state host.old) }
-    ensures attempts { let answer = λ (files : Files). rip_answer prefix.now range (files input.now) in
-        Attempts answer (spc_input input.now ∷ []) result (H.state host.old) (H.state host.new) }
+    ensures attempts { let answer = λ (held : Held). rip_answer prefix.now range (first held) in
+        AttemptsInTurn answer (spc_input input.now ∷ []) result (H.state host.old) (H.state host.new) }
     ensures in_turn { MadeInTurn (H.state host.old) (H.state host.new) }
     ensures not_usage { result ≡ Some Refusal.Usage → ⊥ }
 {

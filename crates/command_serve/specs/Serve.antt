@@ -1,7 +1,6 @@
 -- What `serve` answers: the frames that a session plays, each cut a slice of the tune's run, and a reply to each line of its script.
 use Rattle.std.specs.Prelude.{ℕ, ◌≤◌, ℤ, List, [], ◌∷◌, None, Option}
 use Rattle.wav_form.specs.Wave.{stereo_wave}
-use Rattle.snd_host.specs.Host.{Files}
 use Rattle.page_pool.specs.Pool.{most_pages}
 use Rattle.cut_form.specs.declared.script.ScriptLine.{ScriptLine}
 use Rattle.cut_form.specs.declared.script.Reply.{Reply}
@@ -9,7 +8,7 @@ use Rattle.cut_form.specs.Checkpoints.{fewest_pages}
 use Rattle.cut_form.specs.Session.{opened_session, replies, played_cuts}
 use Rattle.cut_form.specs.Slices.{cut_frames}
 use Rattle.command_frame.specs.Answer.{Answer, done}
-use Rattle.command_frame.specs.NamedInputs.{NamedInput}
+use Rattle.command_frame.specs.NamedInputs.{NamedInput, Held, first, second, third}
 use Rattle.command_frame.specs.Stream.{pair}
 use Rattle.exit_status.specs.declared.cause.Cause.{Cause}
 use Rattle.input_files.specs.Reading.{answer_from, input_limit, input_up_to}
@@ -50,8 +49,8 @@ abbrev pub serve_answer : (wave : List ℕ) → SessionOptions → (held_file he
 serve_answer wave options held_file held_table held_script = answer_from (file_in held_file) (file_answer wave options held_table held_script)
 
 -- what is answered, by what the inputs of these names hold
-abbrev pub serve_over : (wave : List ℕ) → SessionOptions → (file table script : List ℕ) → Files → Answer Cause
-serve_over wave options file table script = λ files. serve_answer wave options (files file) (files table) (files script)
+abbrev pub serve_over : (wave : List ℕ) → SessionOptions → Held → Answer Cause
+serve_over wave options = λ held. serve_answer wave options (first held) (second held) (third held)
 
 -- the inputs of these names, in the order in which they are read
 abbrev pub serve_inputs : (file table script : List ℕ) → List NamedInput

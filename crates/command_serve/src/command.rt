@@ -2,9 +2,10 @@
 ghost use Rattle.std.specs.Prelude.{◌≡◌, ◌++◌, IfOk, [], ◌∷◌};
 ghost use Rattle.wav_form.specs.Wave.{header_of, stereo_wave};
 ghost use Rattle.dsp_core.specs.DspChip.{dsp_chip, dsp_saving};
-ghost use Rattle.snd_host.specs.Host.{HostState, Files};
+ghost use Rattle.snd_host.specs.Host.{HostState};
 ghost use Rattle.input_files.specs.Reading.{input_limit, input_up_to};
 ghost use Rattle.input_files.specs.Inputs.{table_input};
+ghost use Rattle.command_frame.specs.NamedInputs.{Held, first, second};
 ghost use Rattle.command_frame.specs.Conduct.{Plans, Prepares, Attempts};
 ghost use Rattle.command_frame.specs.Delivery.{CanDeliver};
 ghost use Rattle.command_frame.specs.Plan.{stream_makes};
@@ -91,7 +92,7 @@ fn prepare_script<'a, H: Host>(
     options: SessionOptions,
 ) -> Result<StreamedPlan<'a, SessionFiles<Dsp>>, Refusal<Cause>>
     requires { AreOptionsInRange options }
-    ensures { let answer = λ (files : Files). table_answer names.entry.wave.now options (files names.entry.script.now) file.now table in
+    ensures { let answer = λ (held : Held). table_answer names.entry.wave.now options (first held) file.now table in
         Prepares (stream_makes (to_come_of dsp_chip dsp_saving) (report_of dsp_chip dsp_saving)) answer
         (input_up_to input_limit names.entry.script.now ∷ []) (H.state host.old) (H.state host.new) result }
 {
@@ -108,7 +109,7 @@ fn prepare_table<'a, H: Host>(
     options: SessionOptions,
 ) -> Result<StreamedPlan<'a, SessionFiles<Dsp>>, Refusal<Cause>>
     requires { AreOptionsInRange options }
-    ensures { let answer = λ (files : Files). file_answer names.entry.wave.now options (files names.entry.table.now) (files names.entry.script.now) file.now in
+    ensures { let answer = λ (held : Held). file_answer names.entry.wave.now options (first held) (second held) file.now in
         Prepares (stream_makes (to_come_of dsp_chip dsp_saving) (report_of dsp_chip dsp_saving)) answer
         (table_input names.entry.table.now ∷ input_up_to input_limit names.entry.script.now ∷ []) (H.state host.old) (H.state host.new) result }
 {
@@ -124,7 +125,7 @@ fn prepare<'a, H: Host>(
     options: SessionOptions,
 ) -> Result<StreamedPlan<'a, SessionFiles<Dsp>>, Refusal<Cause>>
     requires { AreOptionsInRange options }
-    ensures { let answer = serve_over names.entry.wave.now options names.entry.file.now names.entry.table.now names.entry.script.now in
+    ensures { let answer = serve_over names.entry.wave.now options in
         Prepares (stream_makes (to_come_of dsp_chip dsp_saving) (report_of dsp_chip dsp_saving)) answer
         (serve_inputs names.entry.file.now names.entry.table.now names.entry.script.now) (H.state host.old) (H.state host.new) result }
 {
@@ -145,7 +146,7 @@ pub fn serve<H: Host>(
 ) -> Option<Refusal<Cause>>
     requires outputs { CanDeliver (H.state host.old) }
     requires pages { AreOptionsInRange options }
-    ensures attempts { let answer = serve_over wave.now options file.now table.now script.now in
+    ensures attempts { let answer = serve_over wave.now options in
         Attempts answer (serve_inputs file.now table.now script.now) result (H.state host.old) (H.state host.new) }
     ensures not_usage { result ≡ Some Refusal.Usage → ⊥ }
 {

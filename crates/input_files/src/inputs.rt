@@ -30,7 +30,7 @@ pub fn read_file<H: Host>(
     host: &mut H,
     name: &str,
 ) -> Result<SpcFile, Refusal<Cause>>
-    ensures { Reads name.now input_limit (λ files. file_in (files name.now)) (H.state host.old) (H.state host.new) result }
+    ensures { Reads name.now input_limit file_in (H.state host.old) (H.state host.new) result }
 {
     let too_long = Cause::SpcLength(INPUT_LIMIT + 1);
     let bytes = read_input(alloc, host, name, INPUT_LIMIT, too_long)?;
@@ -54,7 +54,7 @@ pub fn read_table<H: Host>(
     host: &mut H,
     name: &str,
 ) -> Result<GaussTable, Refusal<Cause>>
-    ensures { Reads name.now input_limit (λ files. table_in (files name.now)) (H.state host.old) (H.state host.new) result }
+    ensures { Reads name.now input_limit table_in (H.state host.old) (H.state host.new) result }
 {
     let bytes = read_input(alloc, host, name, INPUT_LIMIT, Cause::InputTooLong)?;
     accept_table(alloc, bytes.as_slice())

@@ -47,7 +47,7 @@ pub fn read_input<H: Host, C: Drop>(
     too_long: C,
 ) -> Result<InputBytes, Refusal<C>>
     requires { limit ≤ wave_limit }
-    ensures reads { Reads name.now limit (λ files. bytes_in limit too_long (files name.now)) (H.state host.old) (H.state host.new) result }
+    ensures reads { Reads name.now limit (bytes_in limit too_long) (H.state host.old) (H.state host.new) result }
     ensures bounded { IfOk result (λ bytes. length bytes ≤ limit) }
 {
     match read_whole(alloc, host, name, limit) {

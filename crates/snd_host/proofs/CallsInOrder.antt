@@ -5,7 +5,7 @@ use Rattle.std.proofs.lemmas.List.{append_assoc, append-nil, take-append-drop}
 use Rattle.snd_host.specs.Calls.{Call, opened, not_opened, read, not_read, created, not_created, wrote, not_written, finished, not_finished}
 use Rattle.snd_host.specs.Follows.{pushed, IsCut, IsWrite, AreWrites, bytes_written}
 
-pushed_more : (xs ys before : List Call) → pushed (xs ++ ys) before ≡ pushed ys (pushed xs before)
+pub pushed_more : (xs ys before : List Call) → pushed (xs ++ ys) before ≡ pushed ys (pushed xs before)
 pushed_more [] ys before = refl
 pushed_more (x ∷ xs) ys before = pushed_more xs ys (x ∷ before)
 
@@ -32,10 +32,10 @@ bytes_more (not_written n piece ∷ xs) ys = bytes_more xs ys
 bytes_more (finished n ∷ xs) ys = bytes_more xs ys
 bytes_more (not_finished n ∷ xs) ys = bytes_more xs ys
 
-one_write : (file : ℕ) (bytes : List ℕ) → bytes ≢ [] → AreWrites file bytes (wrote file bytes ∷ [])
+pub one_write : (file : ℕ) (bytes : List ℕ) → bytes ≢ [] → AreWrites file bytes (wrote file bytes ∷ [])
 one_write file bytes some = record { each = ((refl, some), tt); joined = append-nil bytes }
 
-writes_then : (file : ℕ) (p q : List ℕ) (xs ys : List Call) → AreWrites file p xs → AreWrites file q ys → AreWrites file (p ++ q) (xs ++ ys)
+pub writes_then : (file : ℕ) (p q : List ℕ) (xs ys : List Call) → AreWrites file p xs → AreWrites file q ys → AreWrites file (p ++ q) (xs ++ ys)
 writes_then file p q xs ys first second = record {
   each = each_more file xs ys first.each second.each;
   joined = bytes_more xs ys ∙ ap (λ (l : List ℕ). l ++ bytes_written ys) first.joined ∙ ap (λ (l : List ℕ). p ++ l) second.joined;

@@ -11,7 +11,7 @@ use Rattle.snd_host.specs.Takes.{GivesSome, bytes_read, AreEnded, ReadsWhole}
 use Rattle.snd_host.specs.declared.calls.ReadRefusal.TheVariants.{Failed, TooLong, OutOfMemory}
 use Rattle.snd_host.proofs.CallsInOrder.{since_more}
 
-either : (n limit : ℕ) → (n ≤ limit) ⊎ (limit < n)
+pub either : (n limit : ℕ) → (n ≤ limit) ⊎ (limit < n)
 either zero limit = inl (omega arith)
 either (suc n) zero = inr (omega arith)
 either (suc n) (suc limit) = elim (either n limit) [
@@ -19,7 +19,7 @@ either (suc n) (suc limit) = elim (either n limit) [
   | inr h ↦ inr (omega arith)
 ]
 
-ends_short : (file limit room : ℕ) (bytes : List ℕ) → 0 < room → length bytes ≤ limit → AreEnded file limit bytes (read file room [] ∷ [])
+pub ends_short : (file limit room : ℕ) (bytes : List ℕ) → 0 < room → length bytes ≤ limit → AreEnded file limit bytes (read file room [] ∷ [])
 ends_short file limit room bytes some short = record { whole = λ h. (room, some, refl); long = λ h. absurd (omega arith) }
 
 ends_long : (file limit : ℕ) (bytes : List ℕ) → limit < length bytes → AreEnded file limit bytes []

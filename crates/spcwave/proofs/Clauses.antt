@@ -1,14 +1,15 @@
 -- The clauses of a run, from what its command did.
-use Rattle.std.proofs.Common.{◌≡◌, ◌≢◌, ◌⊎◌, inl, inr, ℕ, ◌≤◌, List, length, Option, Some, None, Bool, [], refl, sym, ◌∙◌, ap, subst}
+use Rattle.std.proofs.Common.{◌≡◌, ◌≢◌, ◌⊎◌, inl, inr, ℕ, ◌≤◌, List, ◌++◌, length, Option, Some, None, Bool, [], refl, sym, ◌∙◌, ap, subst}
 use Rattle.std.specs.Prelude.{unwrap_or, slice_index, ◌↔◌}
 use Rattle.snd_host.specs.Host.{HostState, Files, Output}
 use Rattle.snd_host.proofs.OpenedInputs.{in_order_same}
 use Rattle.command_frame.specs.Answer.{Answer, refusal_of, outputs_of, report_of}
-use Rattle.command_frame.specs.Conduct.{IsOfDelivery, WritesComplaint, Obeys}
+use Rattle.command_frame.specs.Conduct.{IsOfDelivery, AttemptsAs, WritesComplaint, Obeys}
 use Rattle.command_frame.specs.Delivery.{all_ended}
 use Rattle.command_frame.specs.Leaves.{Leaves, LeavesNothing, LeavesAll, Complains}
 use Rattle.command_frame.specs.declared.refusals.Refusal.{Refusal}
 use Rattle.command_frame.specs.declared.refusals.Refusal.TheVariants.{Usage, ReadFault, WriteFault, OutOfMemory, Input}
+use Rattle.command_frame.proofs.Sequences.{since_then}
 use Rattle.command_frame.proofs.Making.{at_once_complained, in_turn_complained}
 use Rattle.command_frame.proofs.Leaving.{leaves, complains, reports_last, reports_behind_ended}
 use Rattle.exit_status.specs.declared.cause.Cause.{Cause}
@@ -16,13 +17,13 @@ use Rattle.exit_status.specs.declared.cause.Cause.TheVariants.{SpcLength, SpcSig
 use Rattle.exit_status.specs.declared.status.Status.{Status}
 use Rattle.exit_status.specs.declared.status.Status.TheVariants as statuses
 use Rattle.command_line.specs.Command.{Command, usage, render, rip}
-use Rattle.spcwave.specs.Answers.{answer_of, inputs_of}
+use Rattle.spcwave.specs.Answers.{answer_by, answer_of, inputs_of, order_of}
 use Rattle.exit_status.specs.Statuses.{status_of, answer_status, end_without_numbers}
 use Rattle.exit_status.specs.Lines.{end_line, refusal_line}
 use Rattle.spcwave.specs.RunClauses as clause
 
 -- a status without numbers tells its end
-plain_is : (r p : Option (Refusal Cause)) → end_without_numbers (status_of r) ≡ Some p → r ≡ p
+pub plain_is : (r p : Option (Refusal Cause)) → end_without_numbers (status_of r) ≡ Some p → r ≡ p
 plain_is None p h = cc
 plain_is (Some Usage) p h = cc
 plain_is (Some ReadFault) p h = cc
@@ -77,6 +78,22 @@ same_end r a (inr (inl is)) equal = is ∙ sym (plain_is (refusal_of a) (Some Re
 same_end r a (inr (inr (inl is))) equal = is ∙ sym (plain_is (refusal_of a) (Some WriteFault) (ap end_without_numbers (sym equal ∙ ap status_of is)))
 same_end r a (inr (inr (inr is))) equal = is ∙ sym (plain_is (refusal_of a) (Some OutOfMemory) (ap end_without_numbers (sym equal ∙ ap status_of is)))
 
+-- the calls of the attempt, and then those of its complaint
+pub calls : (command : Command) (r : Option (Refusal Cause)) (x y z : HostState) (status : Status) → status ≡ status_of r → AttemptsAs (order_of command) (answer_by command) (inputs_of command) r x y → WritesComplaint (end_line r) y z →
+    ((r ≡ Some Usage) ↔ (command ≡ usage)) → clause.MakesCalls command x z status
+calls command r x y z status is t c misread = record {
+  refusal = r;
+  status_is = is;
+  given = t.calls.given;
+  taken = t.calls.taken;
+  made = t.calls.made;
+  note = c.calls.note;
+  since = since_then (t.calls.taken ++ t.calls.made) c.calls.note x y z t.calls.since c.calls.since;
+  ends = t.calls.ends;
+  complaint = c.calls.noted;
+  misread = misread;
+}
+
 -- the complaint changes no output
 pub makes : (command : Command) (line : List ℕ) (x y z : HostState) → clause.MakesOutputs command x y → WritesComplaint line y z → clause.MakesOutputs command x z
 makes (render file table wave options) line x y z made c = λ files told. at_once_complained (outputs_of (answer_of (render file table wave options) files)) line x y z (made files told) c
@@ -84,7 +101,7 @@ makes (rip file prefix range) line x y z made c = in_turn_complained line x y z 
 makes command line x y z made c = tt
 
 module _ (command : Command) (r : Option (Refusal Cause)) (x z : HostState) (status : Status) (is : status ≡ status_of r)
-    (o : Obeys refusal_line (answer_of command) (inputs_of command) r x z) (misread : (r ≡ Some Usage) ↔ (command ≡ usage)) where
+    (o : Obeys refusal_line (answer_by command) (inputs_of command) r x z) (misread : (r ≡ Some Usage) ↔ (command ≡ usage)) where
   end_of : (p : Option (Refusal Cause)) (s : Status) → end_without_numbers s ≡ Some p → status ≡ s → r ≡ p
   end_of p s plain same = plain_is r p (ap end_without_numbers (sym is ∙ same) ∙ plain)
 

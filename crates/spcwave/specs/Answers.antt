@@ -1,7 +1,8 @@
 -- What the commands answer, and which inputs they read.
 use Rattle.std.specs.Prelude.{List, [], ◌∷◌}
 use Rattle.snd_host.specs.Host.{Files}
-use Rattle.command_frame.specs.NamedInputs.{NamedInput}
+use Rattle.command_frame.specs.NamedInputs.{NamedInput, Held, first, held_by}
+use Rattle.command_frame.specs.OutputCalls.{Order, at_once, in_turn}
 use Rattle.input_files.specs.Reading.{input_limit, wave_limit, input_up_to}
 use Rattle.input_files.specs.Inputs.{spc_input}
 use Rattle.command_frame.specs.Answer.{Answer, refused}
@@ -38,19 +39,28 @@ inputs_of (rip file prefix range) = spc_input file ∷ []
 inputs_of (cuts file table list wave muted) = cuts_inputs file table list
 inputs_of (serve file table script wave options) = serve_inputs file table script
 
--- what a command answers, by what the names hold
+-- In which order a command makes its outputs: `rip` one after another, and every other command at once.
+abbrev pub order_of : Command → Order
+order_of (rip file prefix range) = in_turn
+order_of command = at_once
+
+-- what a command answers, by what its inputs hold, in their order
+abbrev pub answer_by : Command → Held → Answer Cause
+answer_by usage held = refused Usage
+answer_by help held = help_answer
+answer_by version held = version_answer
+answer_by (brr input output) held = brr_answer output (first held)
+answer_by (info input) held = info_answer (first held)
+answer_by (encode input output options) held = encode_answer output options (first held)
+answer_by (render file table wave options) held = render_over wave options held
+answer_by (demo number output) held = demo_answer number output
+answer_by (check number) held = check_answer number
+answer_by (asm input origin output) held = asm_answer origin output (first held)
+answer_by (dis input origin output) held = dis_answer origin output (first held)
+answer_by (rip file prefix range) held = rip_answer prefix range (first held)
+answer_by (cuts file table list wave muted) held = cuts_over wave muted held
+answer_by (serve file table script wave options) held = serve_over wave options held
+
+-- the same by what the names hold
 abbrev pub answer_of : Command → Files → Answer Cause
-answer_of usage files = refused Usage
-answer_of help files = help_answer
-answer_of version files = version_answer
-answer_of (brr input output) files = brr_answer output (files input)
-answer_of (info input) files = info_answer (files input)
-answer_of (encode input output options) files = encode_answer output options (files input)
-answer_of (render file table wave options) files = render_over wave options file table files
-answer_of (demo number output) files = demo_answer number output
-answer_of (check number) files = check_answer number
-answer_of (asm input origin output) files = asm_answer origin output (files input)
-answer_of (dis input origin output) files = dis_answer origin output (files input)
-answer_of (rip file prefix range) files = rip_answer prefix range (files file)
-answer_of (cuts file table list wave muted) files = cuts_over wave muted file table list files
-answer_of (serve file table script wave options) files = serve_over wave options file table script files
+answer_of command files = answer_by command (held_by files (inputs_of command))

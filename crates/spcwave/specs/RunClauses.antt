@@ -1,5 +1,7 @@
 -- What a run of the program does. The answer meant is that of the command, by what the names hold at the call.
-use Rattle.std.specs.Prelude.{ℕ, ◌≡◌, ◌≢◌, ◌↔◌, ◌+◌, ◌<◌, ◌≤◌, ◌⊎◌, length, IsTrue, IsSome, slice_index}
+use Rattle.std.specs.Prelude.{ℕ, ◌≡◌, ◌≢◌, ◌↔◌, ◌+◌, ◌<◌, ◌≤◌, ◌⊎◌, List, ◌++◌, length, Option, Some, IsTrue, IsSome, slice_index}
+use Rattle.snd_host.specs.Calls.{Call}
+use Rattle.snd_host.specs.Follows.{Since}
 use Rattle.snd_host.specs.Host.{HostState, IfTold, InputFailed, OutputFailed}
 use Rattle.snd_host.specs.OpenedInputs.{OpensInOrder}
 use Rattle.command_frame.specs.NamedInputs.{are_some, inputs_read, inputs_reached}
@@ -7,12 +9,16 @@ use Rattle.command_frame.specs.Answer.{outputs_of, report_of}
 use Rattle.command_frame.specs.Conduct.{NoneRose}
 use Rattle.command_frame.specs.Delivery.{HaveRooms}
 use Rattle.command_frame.specs.Making.{MadeAtOnce, MadeInTurn}
+use Rattle.command_frame.specs.RunCalls.{EndsBy, AreNoted}
+use Rattle.command_frame.specs.declared.refusals.Refusal.{Refusal}
+use Rattle.command_frame.specs.declared.refusals.Refusal.TheVariants.{Usage}
+use Rattle.exit_status.specs.declared.cause.Cause.{Cause}
 use Rattle.command_frame.specs.Leaves.{LeavesNothing, LeavesAll, LeavesPart, ReportsLast, ReportsAfterEnded, Complains}
 use Rattle.exit_status.specs.declared.status.Status.{Status}
 use Rattle.exit_status.specs.declared.status.Status.TheVariants as statuses
 use Rattle.command_line.specs.Command.{Command, usage, render, rip}
-use Rattle.spcwave.specs.Answers.{answer_of, inputs_of}
-use Rattle.exit_status.specs.Statuses.{answer_status, end_without_numbers}
+use Rattle.spcwave.specs.Answers.{answer_by, answer_of, inputs_of, order_of}
+use Rattle.exit_status.specs.Statuses.{status_of, answer_status, end_without_numbers}
 use Rattle.exit_status.specs.Lines.{end_line, status_line}
 
 -- a run is begun on a host on which fewer outputs were created than this: what it creates is far below what is left
@@ -22,6 +28,22 @@ most_outputs_before = 4000000000
 -- fewer than that were created on the host
 abbrev pub HasFewOutputs : HostState → Type 0
 HasFewOutputs state = length state.ended < most_outputs_before
+
+-- The calls that a run makes, in their order: those for its inputs, those for its outputs and its report, those for its line of complaint, and no
+-- others. So nothing comes after a call that failed but the complaint. What is answered goes by the bytes that the inputs gave.
+pub record MakesCalls (command : Command) (old new : HostState) (status : Status) : Type 0 where
+  pub refusal : Option (Refusal Cause)
+  pub status_is : status ≡ status_of refusal
+  -- the bytes that each input gave
+  pub given : List (List ℕ)
+  pub taken : List Call
+  pub made : List Call
+  pub note : List Call
+  pub since : Since (taken ++ made ++ note) old new
+  pub ends : EndsBy (order_of command) (answer_by command) (inputs_of command) refusal (length old.ended + 2) given taken made
+  pub complaint : AreNoted (end_line refusal) note
+  -- Words that say no command end as such, whatever memory there is.
+  pub misread : (refusal ≡ Some Usage) ↔ (command ≡ usage)
 
 -- What stands on the host where the status is the answer's, and the complaint of every status.
 pub record Content (command : Command) (old new : HostState) (status : Status) : Type 0 where
@@ -116,6 +138,8 @@ pub record Untold (command : Command) (old new : HostState) (status : Status) : 
 
 -- What a run does: all of this.
 pub record IsRun (command : Command) (old new : HostState) (status : Status) : Type 0 where
+  -- which calls are made
+  pub calls : MakesCalls command old new status
   -- what stands where the status is the answer's, and the line of complaint
   pub content : Content command old new status
   -- which inputs are opened, and how far each is read

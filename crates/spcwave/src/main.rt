@@ -10,6 +10,7 @@ mod failing_tests;
 mod given;
 #[cfg(test)]
 mod hostile_tests;
+mod laws;
 mod run;
 #[cfg(test)]
 mod runs;

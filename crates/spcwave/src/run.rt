@@ -1,9 +1,9 @@
 // The whole program over any host.
 ghost use Rattle.std.specs.Prelude.{◌≡◌, ◌↔◌, map, string_bytes};
 ghost use Rattle.snd_host.specs.Host.{HostState};
-ghost use Rattle.command_frame.specs.Conduct.{Attempts};
+ghost use Rattle.command_frame.specs.Conduct.{AttemptsAs};
 ghost use Rattle.command_line.specs.Command.{command_of, usage};
-ghost use Rattle.spcwave.specs.Answers.{answer_of, inputs_of};
+ghost use Rattle.spcwave.specs.Answers.{answer_by, inputs_of, order_of};
 ghost use Rattle.spcwave.specs.RunClauses.{HasFewOutputs, MakesOutputs, IsRun};
 
 use command_asm::asm;
@@ -28,7 +28,7 @@ use std::alloc::Global;
 fn attempt<H: Host>(alloc: Global, words: &[String], host: &mut H) -> Option<Refusal<Cause>>
     requires { HasFewOutputs (H.state host.old) }
     ensures attempts { let command = command_of (map string_bytes words.now) in
-        Attempts (answer_of command) (inputs_of command) result (H.state host.old) (H.state host.new) }
+        AttemptsAs (order_of command) (answer_by command) (inputs_of command) result (H.state host.old) (H.state host.new) }
     ensures making { MakesOutputs (command_of (map string_bytes words.now)) (H.state host.old) (H.state host.new) }
     ensures misread { (result ≡ Some Refusal.Usage) ↔ (command_of (map string_bytes words.now) ≡ usage) }
 {

@@ -1,5 +1,5 @@
 use Rattle.std.proofs.Common.{rules}
-use Rattle.snd_host.specs.Host.{Files}
+use Rattle.command_frame.specs.NamedInputs.{Held, first}
 use Rattle.command_frame.specs.Plan.{plan_makes}
 use Rattle.command_frame.proofs.Obeying.{attempts, attempts_no_usage}
 use Rattle.command_asm.specs.Asm.{asm_answer}
@@ -7,10 +7,10 @@ use Rattle.command_asm.proofs.command.asm.Goals as goal
 
 pub returns-clause-attempts : goal.returns-clause-attempts
 returns-clause-attempts g c =
-    attempts plan_makes (λ (files : Files). asm_answer c.args.origin c.args.output.now (files c.args.input.now)) (g.H.Host.state c.args.host.now) (g.H.Host.state c.prepare-prepared.new.host) (g.H.Host.state c.carry_out.new.host)
+    attempts plan_makes (λ (held : Held). asm_answer c.args.origin c.args.output.now (first held)) (g.H.Host.state c.args.host.now) (g.H.Host.state c.prepare-prepared.new.host) (g.H.Host.state c.carry_out.new.host)
     c.prepare-prepared.result c.carry_out.result _ c.prepare-prepared.ensures c.carry_out.ensures (search rules)
 
 pub returns-clause-not_usage : goal.returns-clause-not_usage
 returns-clause-not_usage g c =
-    attempts_no_usage plan_makes (λ (files : Files). asm_answer c.args.origin c.args.output.now (files c.args.input.now)) (g.H.Host.state c.args.host.now) (g.H.Host.state c.prepare-prepared.new.host) (g.H.Host.state c.carry_out.new.host)
+    attempts_no_usage plan_makes (λ (held : Held). asm_answer c.args.origin c.args.output.now (first held)) (g.H.Host.state c.args.host.now) (g.H.Host.state c.prepare-prepared.new.host) (g.H.Host.state c.carry_out.new.host)
     c.prepare-prepared.result c.carry_out.result _ c.prepare-prepared.ensures c.carry_out.ensures (search rules)

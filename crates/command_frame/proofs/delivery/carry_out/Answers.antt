@@ -4,7 +4,7 @@ use Rattle.command_frame.proofs.Obeying.{carried_out}
 use Rattle.command_frame.proofs.delivery.carry_out.Goals as goal
 
 pub returns-in-Ok-deliver : goal.returns-in-Ok-deliver
-returns-in-Ok-deliver g c = rw c.in-Ok.is (carried_out plan_makes c.in-Ok.plan _ _ (Ok (tt {0})) c.in-Ok-deliver.ensures)
+returns-in-Ok-deliver g c = rw c.in-Ok.is (carried_out plan_makes c.in-Ok.plan _ _ (Ok (tt {0})) c.in-Ok-deliver.ensures.delivers c.in-Ok-deliver.ensures.calls)
 
 pub returns-in-Ok : goal.returns-in-Ok
-returns-in-Ok g c = rw c.in-Ok.is (carried_out plan_makes c.in-Ok.plan _ _ (Err c.in-Err-deliver.field-0) c.in-Err-deliver.ensures)
+returns-in-Ok g c = rw c.in-Ok.is (carried_out plan_makes c.in-Ok.plan _ _ (Err c.in-Err-deliver.field-0) c.in-Err-deliver.ensures.delivers c.in-Err-deliver.ensures.calls)

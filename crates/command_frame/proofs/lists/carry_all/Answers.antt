@@ -4,7 +4,7 @@ use Rattle.command_frame.proofs.Obeying.{carried_out}
 use Rattle.command_frame.proofs.lists.carry_all.Goals as goal
 
 pub returns-in-Ok-deliver_all-clause-carries : goal.returns-in-Ok-deliver_all-clause-carries
-returns-in-Ok-deliver_all-clause-carries g c = rw c.in-Ok.is (carried_out (list_makes g.P.Pieces.to_come) c.in-Ok.plan _ _ (Ok (tt {0})) c.in-Ok-deliver_all.ensures.delivers)
+returns-in-Ok-deliver_all-clause-carries g c = rw c.in-Ok.is (carried_out (list_makes g.P.Pieces.to_come) c.in-Ok.plan _ _ (Ok (tt {0})) c.in-Ok-deliver_all.ensures.delivers c.in-Ok-deliver_all.ensures.calls)
 
 pub returns-in-Err-deliver_all-clause-carries : goal.returns-in-Err-deliver_all-clause-carries
-returns-in-Err-deliver_all-clause-carries g c = rw c.in-Ok.is (carried_out (list_makes g.P.Pieces.to_come) c.in-Ok.plan _ _ (Err c.in-Err-deliver_all.field-0) c.in-Err-deliver_all.ensures.delivers)
+returns-in-Err-deliver_all-clause-carries g c = rw c.in-Ok.is (carried_out (list_makes g.P.Pieces.to_come) c.in-Ok.plan _ _ (Err c.in-Err-deliver_all.field-0) c.in-Err-deliver_all.ensures.delivers c.in-Err-deliver_all.ensures.calls)

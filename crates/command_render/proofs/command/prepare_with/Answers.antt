@@ -1,6 +1,6 @@
 use Rattle.std.proofs.Common.{Err, ap, ◌∙◌}
 use Rattle.std.proofs.lemmas.Result.{err_from_is_err_and}
-use Rattle.snd_host.specs.Host.{Files}
+use Rattle.command_frame.specs.NamedInputs.{Held}
 use Rattle.command_frame.specs.Plan.{stream_makes}
 use Rattle.command_frame.specs.declared.refusals.Refusal.{Refusal}
 use Rattle.dsp_core.specs.DspChip.{dsp_chip}
@@ -14,12 +14,12 @@ use Rattle.command_render.proofs.command.prepare_with.Goals as goal
 
 pub returns : goal.returns
 returns g c =
-    reads_plan (stream_makes (to_come_of dsp_chip) (report_of dsp_chip)) (λ (files : Files). table_in (files c.args.table.now)) (rendering_answer c.args.wave.now (options_of c.args.options) c.args.file.now)
+    reads_plan (stream_makes (to_come_of dsp_chip) (report_of dsp_chip)) table_in (rendering_answer c.args.wave.now (options_of c.args.options) c.args.file.now)
     (g.H.Host.state c.args.host.now) (g.H.Host.state c.read_table.new.host) c.in_ok-table.table c.plan.result c.in_ok-table.ensures c.plan.ensures
 
 pub returns-in_err-table : goal.returns-in_err-table
 returns-in_err-table g c =
     let p = err_from_is_err_and c.from_residual.result c.from_residual.ensures.1 in
     rw (p.1 ∙ ap (λ (why : Refusal Cause). Err why) p.2)
-    (reads_declined (stream_makes (to_come_of dsp_chip) (report_of dsp_chip)) (λ (files : Files). table_in (files c.args.table.now)) (λ (files : Files). rendering_answer c.args.wave.now (options_of c.args.options) c.args.file.now)
+    (reads_declined (stream_makes (to_come_of dsp_chip) (report_of dsp_chip)) table_in (λ (held : Held). rendering_answer c.args.wave.now (options_of c.args.options) c.args.file.now)
     (g.H.Host.state c.args.host.now) (g.H.Host.state c.read_table.new.host) _ c.in_err-table.ensures)

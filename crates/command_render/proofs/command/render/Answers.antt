@@ -10,20 +10,20 @@ use Rattle.command_render.proofs.command.render.Goals as goal
 
 pub returns-clause-attempts : goal.returns-clause-attempts
 returns-clause-attempts g c =
-    attempts (stream_makes (to_come_of dsp_chip) (report_of dsp_chip)) (render_over c.args.wave.now (options_of c.args.options) c.args.file.now c.args.table.now)
+    attempts (stream_makes (to_come_of dsp_chip) (report_of dsp_chip)) (render_over c.args.wave.now (options_of c.args.options))
     (g.H.Host.state c.args.host.now) (g.H.Host.state c.prepare-prepared.new.host) (g.H.Host.state c.carry_stream.new.host)
     c.prepare-prepared.result c.carry_stream.result _ c.prepare-prepared.ensures
     (carries_same (stream_makes (to_come_of dsp_chip) (report_of dsp_chip)) c.prepare-prepared.result _ _ _ _ c.carry_stream.ensures.carries (search rules)) (search rules)
 
 pub returns-clause-not_usage : goal.returns-clause-not_usage
 returns-clause-not_usage g c = λ usage.
-    attempts_no_usage (stream_makes (to_come_of dsp_chip) (report_of dsp_chip)) (render_over c.args.wave.now (options_of c.args.options) c.args.file.now c.args.table.now)
+    attempts_no_usage (stream_makes (to_come_of dsp_chip) (report_of dsp_chip)) (render_over c.args.wave.now (options_of c.args.options))
     (g.H.Host.state c.args.host.now) (g.H.Host.state c.prepare-prepared.new.host) (g.H.Host.state c.carry_stream.new.host)
     c.prepare-prepared.result c.carry_stream.result c.carry_stream.result c.prepare-prepared.ensures
     (carries_same (stream_makes (to_come_of dsp_chip) (report_of dsp_chip)) c.prepare-prepared.result _ _ _ _ c.carry_stream.ensures.carries (search rules)) refl (search rules)
 
 pub returns-clause-at_once : goal.returns-clause-at_once
 returns-clause-at_once g c =
-    prepared_at_once (stream_makes (to_come_of dsp_chip) (report_of dsp_chip)) (render_over c.args.wave.now (options_of c.args.options) c.args.file.now c.args.table.now)
+    prepared_at_once (stream_makes (to_come_of dsp_chip) (report_of dsp_chip)) (render_over c.args.wave.now (options_of c.args.options))
     (g.H.Host.state c.args.host.now) (g.H.Host.state c.prepare-prepared.new.host) (g.H.Host.state c.carry_stream.new.host)
     c.prepare-prepared.result _ c.carry_stream.result c.prepare-prepared.ensures c.carry_stream.ensures.carries c.carry_stream.ensures.at_once (search rules)

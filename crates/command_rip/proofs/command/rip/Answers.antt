@@ -1,5 +1,5 @@
 use Rattle.std.proofs.Common.{Some, Err, rules, refl}
-use Rattle.snd_host.specs.Host.{Files}
+use Rattle.command_frame.specs.NamedInputs.{Held, first}
 use Rattle.command_frame.specs.Listed.{list_makes}
 use Rattle.command_frame.specs.declared.refusals.Refusal.TheVariants.{OutOfMemory}
 use Rattle.command_frame.proofs.Making.{in_turn_nothing, in_turn_prepared}
@@ -15,51 +15,51 @@ pub returns-in-Err-clause-attempts : goal.returns-in-Err-clause-attempts
 returns-in-Err-clause-attempts g c =
     let x = g.H.Host.state c.args.host.now in
     let y = g.H.Host.state c.read_file.new.host in
-    attempts (list_makes to_come_of) (λ (files : Files). rip_answer c.args.prefix.now c.args.range (files c.args.input.now)) x y y (Err c.in-Err.refusal) (Some c.in-Err.refusal) _
-    (reads_declined (list_makes to_come_of) (λ (files : Files). file_in (files c.args.input.now)) (λ (files : Files). file_answer c.args.prefix.now c.args.range) x y c.in-Err.refusal c.in-Err.ensures)
+    attempts (list_makes to_come_of) (λ (held : Held). rip_answer c.args.prefix.now c.args.range (first held)) x y y (Err c.in-Err.refusal) (Some c.in-Err.refusal) _
+    (reads_declined (list_makes to_come_of) file_in (λ (held : Held). file_answer c.args.prefix.now c.args.range) x y c.in-Err.refusal c.in-Err.ensures)
     (not_carried c.in-Err.refusal y) refl
 
 pub returns-in_default-clause-attempts : goal.returns-in_default-clause-attempts
 returns-in_default-clause-attempts g c =
     let x = g.H.Host.state c.args.host.now in
     let y = g.H.Host.state c.read_file.new.host in
-    attempts (list_makes to_come_of) (λ (files : Files). rip_answer c.args.prefix.now c.args.range (files c.args.input.now)) x y y (Err OutOfMemory) (Some OutOfMemory) _
-    (reads_plan (list_makes to_come_of) (λ (files : Files). file_in (files c.args.input.now)) (file_answer c.args.prefix.now c.args.range) x y c.in-Ok.file (Err OutOfMemory) c.in-Ok.ensures (plans_nothing (file_answer c.args.prefix.now c.args.range c.in-Ok.file)))
+    attempts (list_makes to_come_of) (λ (held : Held). rip_answer c.args.prefix.now c.args.range (first held)) x y y (Err OutOfMemory) (Some OutOfMemory) _
+    (reads_plan (list_makes to_come_of) file_in (file_answer c.args.prefix.now c.args.range) x y c.in-Ok.file (Err OutOfMemory) c.in-Ok.ensures (plans_nothing (file_answer c.args.prefix.now c.args.range c.in-Ok.file)))
     (not_carried OutOfMemory y) refl
 
 pub returns-clause-attempts : goal.returns-clause-attempts
 returns-clause-attempts g c =
     let x = g.H.Host.state c.args.host.now in
     let y = g.H.Host.state c.read_file.new.host in
-    attempts (list_makes to_come_of) (λ (files : Files). rip_answer c.args.prefix.now c.args.range (files c.args.input.now)) x y (g.H.Host.state c.carry_all.new.host) c.plan_file-planned.result c.carry_all.result _
-    (reads_plan (list_makes to_come_of) (λ (files : Files). file_in (files c.args.input.now)) (file_answer c.args.prefix.now c.args.range) x y c.in-Ok.file c.plan_file-planned.result c.in-Ok.ensures c.plan_file-planned.ensures.plans)
+    attempts (list_makes to_come_of) (λ (held : Held). rip_answer c.args.prefix.now c.args.range (first held)) x y (g.H.Host.state c.carry_all.new.host) c.plan_file-planned.result c.carry_all.result _
+    (reads_plan (list_makes to_come_of) file_in (file_answer c.args.prefix.now c.args.range) x y c.in-Ok.file c.plan_file-planned.result c.in-Ok.ensures c.plan_file-planned.ensures.plans)
     (carries_same (list_makes to_come_of) c.plan_file-planned.result _ _ _ _ c.carry_all.ensures.carries (search rules)) (search rules)
 
 pub returns-clause-not_usage : goal.returns-clause-not_usage
 returns-clause-not_usage g c = λ usage.
     let x = g.H.Host.state c.args.host.now in
     let y = g.H.Host.state c.read_file.new.host in
-    attempts_no_usage (list_makes to_come_of) (λ (files : Files). rip_answer c.args.prefix.now c.args.range (files c.args.input.now)) x y (g.H.Host.state c.carry_all.new.host) c.plan_file-planned.result c.carry_all.result c.carry_all.result
-    (reads_plan {input = spc_input c.args.input.now} (list_makes to_come_of) (λ (files : Files). file_in (files c.args.input.now)) (file_answer c.args.prefix.now c.args.range) x y c.in-Ok.file c.plan_file-planned.result c.in-Ok.ensures c.plan_file-planned.ensures.plans)
+    attempts_no_usage (list_makes to_come_of) (λ (held : Held). rip_answer c.args.prefix.now c.args.range (first held)) x y (g.H.Host.state c.carry_all.new.host) c.plan_file-planned.result c.carry_all.result c.carry_all.result
+    (reads_plan {input = spc_input c.args.input.now} (list_makes to_come_of) file_in (file_answer c.args.prefix.now c.args.range) x y c.in-Ok.file c.plan_file-planned.result c.in-Ok.ensures c.plan_file-planned.ensures.plans)
     (carries_same (list_makes to_come_of) c.plan_file-planned.result _ _ _ _ c.carry_all.ensures.carries (search rules)) refl (search rules)
 
 pub returns-in-Err-clause-in_turn : goal.returns-in-Err-clause-in_turn
 returns-in-Err-clause-in_turn g c =
     let x = g.H.Host.state c.args.host.now in
     let y = g.H.Host.state c.read_file.new.host in
-    let reads = reads_declined {input = spc_input c.args.input.now} (list_makes to_come_of) (λ (files : Files). file_in (files c.args.input.now)) (λ (files : Files). file_answer c.args.prefix.now c.args.range) x y c.in-Err.refusal c.in-Err.ensures in
+    let reads = reads_declined {input = spc_input c.args.input.now} (list_makes to_come_of) file_in (λ (held : Held). file_answer c.args.prefix.now c.args.range) x y c.in-Err.refusal c.in-Err.ensures in
     in_turn_nothing x y reads.others.ended
 
 pub returns-in_default-clause-in_turn : goal.returns-in_default-clause-in_turn
 returns-in_default-clause-in_turn g c =
     let x = g.H.Host.state c.args.host.now in
     let y = g.H.Host.state c.read_file.new.host in
-    let reads = reads_plan {input = spc_input c.args.input.now} (list_makes to_come_of) (λ (files : Files). file_in (files c.args.input.now)) (file_answer c.args.prefix.now c.args.range) x y c.in-Ok.file (Err OutOfMemory) c.in-Ok.ensures (plans_nothing (file_answer c.args.prefix.now c.args.range c.in-Ok.file)) in
+    let reads = reads_plan {input = spc_input c.args.input.now} (list_makes to_come_of) file_in (file_answer c.args.prefix.now c.args.range) x y c.in-Ok.file (Err OutOfMemory) c.in-Ok.ensures (plans_nothing (file_answer c.args.prefix.now c.args.range c.in-Ok.file)) in
     in_turn_nothing x y reads.others.ended
 
 pub returns-clause-in_turn : goal.returns-clause-in_turn
 returns-clause-in_turn g c =
     let x = g.H.Host.state c.args.host.now in
     let y = g.H.Host.state c.read_file.new.host in
-    let reads = reads_plan {input = spc_input c.args.input.now} (list_makes to_come_of) (λ (files : Files). file_in (files c.args.input.now)) (file_answer c.args.prefix.now c.args.range) x y c.in-Ok.file c.plan_file-planned.result c.in-Ok.ensures c.plan_file-planned.ensures.plans in
+    let reads = reads_plan {input = spc_input c.args.input.now} (list_makes to_come_of) file_in (file_answer c.args.prefix.now c.args.range) x y c.in-Ok.file c.plan_file-planned.result c.in-Ok.ensures c.plan_file-planned.ensures.plans in
     in_turn_prepared x y (g.H.Host.state c.carry_all.new.host) reads.others.ended c.carry_all.ensures.in_turn

@@ -1,6 +1,6 @@
-use Rattle.std.proofs.Common.{List, ℤ, Err, refl, ap, ◌∙◌}
+use Rattle.std.proofs.Common.{ℕ, Option, List, ℤ, Err, refl, ap, ◌∙◌}
 use Rattle.std.proofs.lemmas.Result.{err_from_is_err_and}
-use Rattle.snd_host.specs.Host.{Files}
+use Rattle.command_frame.specs.NamedInputs.{Held, first}
 use Rattle.command_frame.specs.Plan.{stream_makes}
 use Rattle.command_frame.specs.declared.refusals.Refusal.{Refusal}
 use Rattle.dsp_core.specs.DspChip.{dsp_chip, dsp_saving}
@@ -13,15 +13,15 @@ use Rattle.command_serve.proofs.command.prepare_table.Goals as goal
 
 pub returns : goal.returns
 returns g c =
-    reads_then (stream_makes (to_come_of dsp_chip dsp_saving) (report_of dsp_chip dsp_saving)) (λ (files : Files). table_in (files c.args.names.table.now))
-    (λ (files : Files) (table : List ℤ). table_answer c.args.names.wave.now c.args.options (files c.args.names.script.now) c.args.file.now table)
+    reads_then (stream_makes (to_come_of dsp_chip dsp_saving) (report_of dsp_chip dsp_saving)) table_in
+    (λ (held : Held) (table : List ℤ). table_answer c.args.names.wave.now c.args.options (first held) c.args.file.now table)
     (g.H.Host.state c.args.host.now) (g.H.Host.state c.read_table.new.host) (g.H.Host.state c.prepare_script.new.host) c.in_ok-table.table c.prepare_script.result
-    (λ (files : Files). refl) c.in_ok-table.ensures c.prepare_script.ensures
+    (λ (held : Option (List ℕ)). refl) c.in_ok-table.ensures c.prepare_script.ensures
 
 pub returns-in_err-table : goal.returns-in_err-table
 returns-in_err-table g c =
     let p = err_from_is_err_and c.from_residual.result c.from_residual.ensures.1 in
     rw (p.1 ∙ ap (λ (why : Refusal Cause). Err why) p.2)
-    (reads_declined_before (stream_makes (to_come_of dsp_chip dsp_saving) (report_of dsp_chip dsp_saving)) (λ (files : Files). table_in (files c.args.names.table.now))
-    (λ (files : Files) (table : List ℤ). table_answer c.args.names.wave.now c.args.options (files c.args.names.script.now) c.args.file.now table)
-    (g.H.Host.state c.args.host.now) (g.H.Host.state c.read_table.new.host) _ (λ (files : Files). refl) c.in_err-table.ensures)
+    (reads_declined_before (stream_makes (to_come_of dsp_chip dsp_saving) (report_of dsp_chip dsp_saving)) table_in
+    (λ (held : Held) (table : List ℤ). table_answer c.args.names.wave.now c.args.options (first held) c.args.file.now table)
+    (g.H.Host.state c.args.host.now) (g.H.Host.state c.read_table.new.host) _ (λ (held : Option (List ℕ)). refl) c.in_err-table.ensures)

@@ -8,12 +8,12 @@ use Rattle.command_serve.proofs.command.serve.Goals as goal
 
 pub returns-clause-attempts : goal.returns-clause-attempts
 returns-clause-attempts g c =
-    attempts (stream_makes (to_come_of dsp_chip dsp_saving) (report_of dsp_chip dsp_saving)) (serve_over c.args.wave.now c.args.options c.args.file.now c.args.table.now c.args.script.now)
+    attempts (stream_makes (to_come_of dsp_chip dsp_saving) (report_of dsp_chip dsp_saving)) (serve_over c.args.wave.now c.args.options)
     (g.H.Host.state c.args.host.now) (g.H.Host.state c.prepare-prepared.new.host) (g.H.Host.state c.carry_stream.new.host)
     c.prepare-prepared.result c.carry_stream.result _ c.prepare-prepared.ensures c.carry_stream.ensures.carries (search rules)
 
 pub returns-clause-not_usage : goal.returns-clause-not_usage
 returns-clause-not_usage g c =
-    attempts_no_usage (stream_makes (to_come_of dsp_chip dsp_saving) (report_of dsp_chip dsp_saving)) (serve_over c.args.wave.now c.args.options c.args.file.now c.args.table.now c.args.script.now)
+    attempts_no_usage (stream_makes (to_come_of dsp_chip dsp_saving) (report_of dsp_chip dsp_saving)) (serve_over c.args.wave.now c.args.options)
     (g.H.Host.state c.args.host.now) (g.H.Host.state c.prepare-prepared.new.host) (g.H.Host.state c.carry_stream.new.host)
     c.prepare-prepared.result c.carry_stream.result _ c.prepare-prepared.ensures c.carry_stream.ensures.carries (search rules)

@@ -8,6 +8,7 @@ returns g c =
     let attempt = c.attempt-refusal.ensures in
     let o = obeys refusal_line _ _ c.attempt-refusal.result _ _ _ attempt.attempts c.complain.ensures.complained c.complain.ensures.silent in
     record {
+      calls = clauses.calls _ _ _ _ _ _ c.status_for.ensures attempt.attempts c.complain.ensures.complained attempt.misread;
       content = clauses.content _ _ _ _ _ c.status_for.ensures o attempt.misread;
       reading = clauses.reading _ _ _ _ _ c.status_for.ensures o attempt.misread;
       read_fault = clauses.read_fault _ _ _ _ _ c.status_for.ensures o attempt.misread;
